@@ -1,0 +1,43 @@
+# make demo    builds the proved program as bin/tables and cuts the samples with it
+# make test    the whole gate: every proof from nothing, each test, each program, the must-fail edits
+# make bench   measures bin/tables against cp on a stream of about 250 MB, and on a tenth of it
+
+RT ?= rt
+PYTHON ?= python3 -B
+PROGRAM = crates/tables_program
+
+.PHONY: demo test bench program clean
+
+demo: program
+	@echo
+	$(PYTHON) tools/streams.py show samples/steps.stream
+	bin/tables cut 3 4 samples/steps.stream bin/cut.stream
+	$(PYTHON) tools/streams.py show bin/cut.stream
+	@echo
+	bin/tables cut 0 2 samples/example.stream bin/same.stream
+	cmp samples/example.stream bin/same.stream
+	bin/tables cut 1 1 samples/example.stream bin/null.stream
+	od -A d -t x1 bin/null.stream
+	@echo
+	@echo "A range outside the rows is refused:"
+	bin/tables cut 8 5 samples/usual.stream bin/none.stream; test $$? -eq 2 && test ! -e bin/none.stream
+
+# A program is built only once it and all below it are proved. It is then run without words, and
+# its status is 3.
+program:
+	@mkdir -p bin
+	@rm -f bin/tables $(PROGRAM)/out/tables_program bin/none.stream
+	@echo "proving and building $(PROGRAM); bin/build.log says how far it is"
+	@cd $(PROGRAM) && { $(RT) run > ../../bin/build.log 2>&1; test $$? -eq 3; } \
+		|| { tail -n 20 ../../bin/build.log; exit 1; }
+	cp $(PROGRAM)/out/tables_program bin/tables
+
+test:
+	$(PYTHON) tools/streams.py check crates/tables_files/data crates/tables_files/stdout
+	$(RT) ci
+
+bench: program
+	$(PYTHON) tools/bench.py bin/tables bin
+
+clean:
+	rm -rf bin

@@ -1,0 +1,10 @@
+pub use Rattle.columnar_memory_content.specs.Clones
+pub use Rattle.columnar_memory_content.specs.Pairs
+pub use Rattle.columnar_memory_content.specs.Sameness
+pub use Rattle.columnar_memory_content.specs.TextHashes
+pub use Rattle.columnar_memory_content.specs.formers
+pub use Rattle.columnar_memory_schema.specs.Conversions
+pub use Rattle.columnar_memory_schema.specs.Equality
+pub use Rattle.columnar_memory_schema.specs.Layouts
+pub use Rattle.columnar_memory_schema.specs.SchemaEquality
+pub use Rattle.columnar_memory_types.specs.Error

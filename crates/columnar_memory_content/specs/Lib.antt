@@ -1,0 +1,5 @@
+pub mod Clones
+pub mod Pairs
+pub mod Sameness
+pub mod TextHashes
+pub mod formers

@@ -1,0 +1,4 @@
+pub mod Conversions
+pub mod Equality
+pub mod Layouts
+pub mod SchemaEquality

@@ -1,0 +1,16 @@
+pub use Rattle.ipc_format_flatbuffers.specs.Reading
+pub use Rattle.ipc_format_flatbuffers.specs.FlatBuffers
+pub use Rattle.ipc_format_flatbuffers.specs.Laying
+pub use Rattle.ipc_format_flatbuffers.specs.Objects
+pub use Rattle.ipc_format_flatbuffers.specs.Views
+pub use Rattle.ipc_format_grammar.specs.Messages
+pub use Rattle.ipc_format_grammar.specs.Types
+pub use Rattle.ipc_format_grammar.specs.Schemas
+pub use Rattle.ipc_format_grammar.specs.SchemaGrammar
+pub use Rattle.ipc_format_grammar.specs.Writable
+pub use Rattle.ipc_format_grammar.specs.Numbers
+pub use Rattle.ipc_format_grammar.specs.Columns
+pub use Rattle.ipc_format_grammar.specs.Framing
+pub use Rattle.ipc_format_grammar.specs.Streams
+pub use Rattle.ipc_format_grammar.specs.SchemaObjects
+pub use Rattle.ipc_format_grammar.specs.Written

@@ -1,0 +1,5 @@
+pub mod Text
+pub mod Numbers
+pub mod Rest
+pub mod Slots
+pub mod References

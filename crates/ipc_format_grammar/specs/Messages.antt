@@ -1,0 +1,122 @@
+-- Messages and record batches in their metadata (Arrow IPC, "Encapsulated message format", "RecordBatch message", "Dictionary Messages";
+-- Message.fbs). Each word gives nothing where the bytes break a rule of the format; what has to be there and is absent breaks one.
+use Rattle.std.specs.Prelude.{◌≡◌, ℕ, zero, suc, ◌+◌, ◌*◌, ◌≤◌, ℤ, pos, negsuc, Bool, true, false, List, length, Option, Some, None, nat_le, nat_lt, is_some, if◌then◌else◌}
+use Rattle.std.specs.Int.{w8, w16, w64}
+use Rattle.ipc_format_flatbuffers.specs.Reading.{◌>>=◌, guard}
+use Rattle.ipc_format_flatbuffers.specs.FlatBuffers.{Table, Vector, number_field, signed_field, truth_field, signed_at, table_field, vector_field, root_of}
+
+-- a version of Arrow's metadata
+pub data Version : Type 0 where
+  V1 : Version
+  V2 : Version
+  V3 : Version
+  V4 : Version
+  V5 : Version
+
+-- the versions by their numbers
+abbrev pub version_of : ℤ → Option Version
+version_of (pos zero) = Some V1
+version_of (pos (suc zero)) = Some V2
+version_of (pos (suc (suc zero))) = Some V3
+version_of (pos (suc (suc (suc zero)))) = Some V4
+version_of (pos (suc (suc (suc (suc zero))))) = Some V5
+version_of _ = None
+
+-- what a message carries, by the table of its header
+pub data Header : Type 0 where
+  schema : Table → Header
+  dictionary_batch : Table → Header
+  record_batch : Table → Header
+
+-- the kinds of header by their tags; any other is refused
+abbrev pub header_of : ℕ → Table → Option Header
+header_of (suc zero) table = Some (schema table)
+header_of (suc (suc zero)) table = Some (dictionary_batch table)
+header_of (suc (suc (suc zero))) table = Some (record_batch table)
+header_of _ table = None
+
+-- a message's header, and how many bytes its body has
+pub record Message : Type 0 where
+  pub header : Header
+  pub body_length : ℤ
+
+-- the message of some metadata
+unfoldable pub message_in : List ℕ → Option Message
+message_in bytes = do
+  root ← root_of bytes
+  tag ← number_field w8 bytes root 1 0
+  found ← table_field bytes root 2
+  table ← found
+  body_length ← signed_field w64 bytes root 3 (pos 0)
+  header ← header_of tag table
+  Some (record { header = header; body_length = body_length })
+
+-- the version that some metadata states
+unfoldable pub version_in : List ℕ → Option Version
+version_in bytes = do
+  root ← root_of bytes
+  number ← signed_field w16 bytes root 0 (pos 0)
+  version_of number
+
+-- where the nodes and buffers of a batch stand, and whether its buffers are compressed
+pub record RecordBatch : Type 0 where
+  pub nodes : Vector
+  pub buffers : Vector
+  pub is_compressed : Bool
+
+-- a record batch; both vectors must be there, each with structs of 16 bytes
+unfoldable pub record_batch_in : List ℕ → Table → Option RecordBatch
+record_batch_in bytes table = do
+  found_nodes ← vector_field bytes table 1 16
+  nodes ← found_nodes
+  found_buffers ← vector_field bytes table 2 16
+  buffers ← found_buffers
+  compression ← table_field bytes table 3
+  Some (record { nodes = nodes; buffers = buffers; is_compressed = is_some compression })
+
+-- a dictionary's id, its values as a record batch, and whether they are added to earlier ones
+pub record DictionaryBatch : Type 0 where
+  pub id : ℤ
+  pub values : Table
+  pub is_delta : Bool
+
+unfoldable pub dictionary_batch_in : List ℕ → Table → Option DictionaryBatch
+dictionary_batch_in bytes table = do
+  id ← signed_field w64 bytes table 0 (pos 0)
+  found ← table_field bytes table 1
+  values ← found
+  is_delta ← truth_field bytes table 2
+  Some (record { id = id; values = values; is_delta = is_delta })
+
+-- two signed numbers of eight bytes, one behind the other
+pub record Pair : Type 0 where
+  pub first : ℤ
+  pub second : ℤ
+
+unfoldable pub pair_at : List ℕ → ℕ → Option Pair
+pair_at bytes place = do
+  first ← signed_at w64 bytes place
+  second ← signed_at w64 bytes (place + 8)
+  Some (record { first = first; second = second })
+
+-- element k of a vector of such structs: of a node its length and how many slots are null, of a buffer its offset and length
+unfoldable pub struct_at : List ℕ → Vector → ℕ → Option Pair
+struct_at bytes vector k = if nat_lt k vector.count then pair_at bytes (vector.place + 16 * k) else None
+
+-- a number that isn't negative
+abbrev pub natural : ℤ → Option ℕ
+natural (pos n) = Some n
+natural (negsuc n) = None
+
+-- how many bytes n buffers state together; none of them may be negative
+abbrev pub lengths_from : List ℕ → ℕ → ℕ → Option ℕ
+lengths_from bytes place zero = Some 0
+lengths_from bytes place (suc n) = do
+  buffer ← pair_at bytes place
+  length ← natural buffer.second
+  others ← lengths_from bytes (place + 16) n
+  Some (length + others)
+
+-- the same of all buffers of a vector
+unfoldable pub lengths_sum : List ℕ → Vector → Option ℕ
+lengths_sum bytes buffers = lengths_from bytes buffers.place buffers.count

@@ -1,0 +1,191 @@
+-- The types of columns in metadata (Schema.fbs, union Type and its tables).
+use Rattle.std.specs.Prelude.{ℕ, zero, suc, ◌+◌, ◌*◌, ℤ, pos, negsuc, Bool, true, false, List, [], ◌∷◌, Option, Some, None, if◌then◌else◌}
+use Rattle.std.specs.Ordering.{int_eq}
+use Rattle.std.specs.Int.{w16, w32}
+use Rattle.ipc_format_flatbuffers.specs.Reading.{◌>>=◌}
+use Rattle.ipc_format_flatbuffers.specs.FlatBuffers.{Table, Vector, signed_field, truth_field, signed_at, string_field, vector_field}
+use Rattle.columnar_memory.specs.declared.DataType.{DataType}
+use Rattle.columnar_memory.specs.declared.DataType.TheVariants as types
+use Rattle.columnar_memory.specs.declared.TimeUnit.{TimeUnit}
+use Rattle.columnar_memory.specs.declared.TimeUnit.TheVariants as units
+use Rattle.columnar_memory.specs.declared.IntervalUnit.{IntervalUnit}
+use Rattle.columnar_memory.specs.declared.IntervalUnit.TheVariants as intervals
+use Rattle.columnar_memory.specs.declared.IntegerType.{IntegerType}
+use Rattle.columnar_memory.specs.declared.IntegerType.TheVariants as integers
+use Rattle.columnar_memory.specs.declared.UnionMode.{UnionMode}
+use Rattle.columnar_memory.specs.declared.UnionMode.TheVariants as modes
+use Rattle.ipc_format_grammar.specs.Messages.{natural}
+
+-- the tags of the union Type
+pub data Tag : Type 0 where
+  null : Tag
+  int : Tag
+  floating_point : Tag
+  binary : Tag
+  utf8 : Tag
+  bool : Tag
+  decimal : Tag
+  date : Tag
+  time : Tag
+  timestamp : Tag
+  interval : Tag
+  list : Tag
+  struct : Tag
+  union : Tag
+  fixed_size_binary : Tag
+  fixed_size_list : Tag
+  map : Tag
+  duration : Tag
+  large_binary : Tag
+  large_utf8 : Tag
+  large_list : Tag
+
+-- what stands at a place of a list
+abbrev pub at_place : {A : Type 0} → List A → ℕ → Option A
+at_place [] k = None
+at_place (x ∷ xs) zero = Some x
+at_place (x ∷ xs) (suc k) = at_place xs k
+
+-- the tags in the order of their numbers, from 1 on; another number is no type
+abbrev pub tags : List Tag
+tags = null ∷ int ∷ floating_point ∷ binary ∷ utf8 ∷ bool ∷ decimal ∷ date ∷ time ∷ timestamp ∷ interval ∷ list ∷ struct ∷ union ∷ fixed_size_binary ∷ fixed_size_list ∷ map ∷ duration ∷ large_binary ∷ large_utf8 ∷ large_list ∷ []
+
+abbrev pub tag_of : ℕ → Option Tag
+tag_of zero = None
+tag_of (suc n) = at_place tags n
+
+-- the units of time by their numbers
+abbrev pub time_unit_of : ℤ → Option TimeUnit
+time_unit_of (pos zero) = Some units.Second
+time_unit_of (pos (suc zero)) = Some units.Millisecond
+time_unit_of (pos (suc (suc zero))) = Some units.Microsecond
+time_unit_of (pos (suc (suc (suc zero)))) = Some units.Nanosecond
+time_unit_of _ = None
+
+-- the whole numbers by their bits, signed and unsigned
+abbrev pub signed_of : ℤ → Option IntegerType
+signed_of bits =
+  if int_eq bits (pos 8) then Some integers.Int8 else if int_eq bits (pos 16) then Some integers.Int16 else
+  if int_eq bits (pos 32) then Some integers.Int32 else if int_eq bits (pos 64) then Some integers.Int64 else None
+
+abbrev pub unsigned_of : ℤ → Option IntegerType
+unsigned_of bits =
+  if int_eq bits (pos 8) then Some integers.UInt8 else if int_eq bits (pos 16) then Some integers.UInt16 else
+  if int_eq bits (pos 32) then Some integers.UInt32 else if int_eq bits (pos 64) then Some integers.UInt64 else None
+
+abbrev pub integer_of : ℤ → Bool → Option IntegerType
+integer_of bits true = signed_of bits
+integer_of bits false = unsigned_of bits
+
+-- an Int table: how many bits, and whether signed
+unfoldable pub integer_in : List ℕ → Table → Option IntegerType
+integer_in bytes table = do
+  bits ← signed_field w32 bytes table 0 (pos 0)
+  is_signed ← truth_field bytes table 1
+  integer_of bits is_signed
+
+-- the type of a column of whole numbers
+abbrev pub type_of_integer : IntegerType → DataType
+type_of_integer integers.Int8 = types.Int8
+type_of_integer integers.Int16 = types.Int16
+type_of_integer integers.Int32 = types.Int32
+type_of_integer integers.Int64 = types.Int64
+type_of_integer integers.UInt8 = types.UInt8
+type_of_integer integers.UInt16 = types.UInt16
+type_of_integer integers.UInt32 = types.UInt32
+type_of_integer integers.UInt64 = types.UInt64
+
+-- a number of bytes or items, from 1 on
+abbrev pub size_of : ℤ → Option ℕ
+size_of (pos (suc n)) = Some (suc n)
+size_of _ = None
+
+-- decimals of 128 and 256 bits
+abbrev pub decimal_of : ℤ → ℕ → ℕ → Option DataType
+decimal_of bits precision scale =
+  if int_eq bits (pos 128) then Some (types.Decimal precision scale) else
+  if int_eq bits (pos 256) then Some (types.Decimal256 precision scale) else None
+
+unfoldable pub decimal_in : List ℕ → Table → Option DataType
+decimal_in bytes table = do
+  stated_precision ← signed_field w32 bytes table 0 (pos 0)
+  precision ← natural stated_precision
+  stated_scale ← signed_field w32 bytes table 1 (pos 0)
+  scale ← natural stated_scale
+  bits ← signed_field w32 bytes table 2 (pos 128)
+  decimal_of bits precision scale
+
+-- dates by their unit: days or milliseconds
+abbrev pub date_of : ℤ → Option DataType
+date_of (pos zero) = Some types.Date32
+date_of (pos (suc zero)) = Some types.Date64
+date_of _ = None
+
+-- the time of a day: seconds and milliseconds in 32 bits, microseconds and nanoseconds in 64
+abbrev pub short_time_of : TimeUnit → Option DataType
+short_time_of units.Second = Some (types.Time32 units.Second)
+short_time_of units.Millisecond = Some (types.Time32 units.Millisecond)
+short_time_of _ = None
+
+abbrev pub long_time_of : TimeUnit → Option DataType
+long_time_of units.Microsecond = Some (types.Time64 units.Microsecond)
+long_time_of units.Nanosecond = Some (types.Time64 units.Nanosecond)
+long_time_of _ = None
+
+abbrev pub time_of : ℤ → TimeUnit → Option DataType
+time_of bits unit =
+  if int_eq bits (pos 32) then short_time_of unit else if int_eq bits (pos 64) then long_time_of unit else None
+
+unfoldable pub time_in : List ℕ → Table → Option DataType
+time_in bytes table = do
+  number ← signed_field w16 bytes table 0 (pos 1)
+  unit ← time_unit_of number
+  bits ← signed_field w32 bytes table 1 (pos 32)
+  time_of bits unit
+
+unfoldable pub timestamp_in : List ℕ → Table → Option DataType
+timestamp_in bytes table = do
+  number ← signed_field w16 bytes table 0 (pos 0)
+  unit ← time_unit_of number
+  timezone ← string_field bytes table 1
+  Some (types.Timestamp unit timezone)
+
+-- intervals by their unit
+abbrev pub interval_of : ℤ → Option DataType
+interval_of (pos zero) = Some (types.Interval intervals.YearMonth)
+interval_of (pos (suc zero)) = Some (types.Interval intervals.DayTime)
+interval_of (pos (suc (suc zero))) = Some (types.Interval intervals.MonthDayNano)
+interval_of _ = None
+
+-- unions by their mode
+abbrev pub mode_of : ℤ → Option UnionMode
+mode_of (pos zero) = Some modes.Sparse
+mode_of (pos (suc zero)) = Some modes.Dense
+mode_of _ = None
+
+-- n signed numbers of four bytes from a place on
+abbrev pub numbers_from : List ℕ → ℕ → ℕ → Option (List ℤ)
+numbers_from bytes place zero = Some []
+numbers_from bytes place (suc n) = do
+  first ← signed_at w32 bytes place
+  others ← numbers_from bytes (place + 4) n
+  Some (first ∷ others)
+
+abbrev pub numbers_of : List ℕ → Option Vector → Option (Option (List ℤ))
+numbers_of bytes None = Some None
+numbers_of bytes (Some vector) = do
+  numbers ← numbers_from bytes vector.place vector.count
+  Some (Some numbers)
+
+-- a union's mode, and the ids of its children where they are given
+pub record UnionTable : Type 0 where
+  pub mode : UnionMode
+  pub ids : Option (List ℤ)
+
+unfoldable pub union_in : List ℕ → Table → Option UnionTable
+union_in bytes table = do
+  number ← signed_field w16 bytes table 0 (pos 0)
+  mode ← mode_of number
+  vector ← vector_field bytes table 1 4
+  ids ← numbers_of bytes vector
+  Some (record { mode = mode; ids = ids })

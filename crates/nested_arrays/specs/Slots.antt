@@ -1,0 +1,36 @@
+-- The values of columns, whatever their layout in memory (Arrow columnar format, "Physical memory layout").
+use Rattle.std.specs.Prelude.{ℕ, zero, suc, ◌+◌, ℤ, Bool, List, [], ◌∷◌}
+use Rattle.columnar_memory.specs.declared.DataType.{DataType}
+use Rattle.columnar_memory.specs.declared.PrimitiveType.{PrimitiveType}
+
+mutual
+  -- one value of a column
+  pub data Slot : Type 0 where
+    -- no value
+    null : Slot
+    truth : Bool → Slot
+    -- a whole number of a physical kind
+    number : PrimitiveType → ℤ → Slot
+    -- a pair of whole numbers of a physical kind: days and milliseconds
+    pair : PrimitiveType → ℤ → ℤ → Slot
+    -- three whole numbers of a physical kind: months, days and nanoseconds
+    triple : PrimitiveType → ℤ → ℤ → ℤ → Slot
+    -- the bytes of a text in UTF-8
+    text : List ℕ → Slot
+    bytes : List ℕ → Slot
+    -- a list of values
+    items : Slots → Slot
+    -- a value for each field of a struct
+    fields : Slots → Slot
+    -- a union's value: the type of its child, and the value there
+    pick : DataType → Slot → Slot
+
+  -- values one after another
+  pub data Slots : Type 0 where
+    no_slot : Slots
+    slot_then : Slot → Slots → Slots
+
+-- the values of a function at n places, from a first one on
+abbrev pub window : {A : Type 0} → (ℕ → A) → ℕ → ℕ → List A
+window f first zero = []
+window f first (suc n) = f first ∷ window f (first + 1) n

@@ -1,0 +1,4 @@
+pub mod Texts
+pub mod Frames
+pub mod Batches
+pub mod Tables

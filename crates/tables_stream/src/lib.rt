@@ -1,0 +1,19 @@
+//! Tables of 32-bit integers, and Arrow's streams of them.
+//!
+//! This is a part of `tables`, which passes it on.
+#![tactic(auto)]
+
+mod batches;
+mod columns;
+mod cuts;
+mod fault;
+mod framing;
+mod output;
+mod reading;
+mod table;
+mod writing;
+
+pub use fault::{Fault, SealBar};
+pub use output::Faults;
+pub use reading::Form;
+pub use table::Table;

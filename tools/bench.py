@@ -1,0 +1,60 @@
+#!/usr/bin/env python3
+"""Measures `tables cut` on nearly all of a large stream, against `cp` of the same file.
+
+    bench.py PROGRAM FOLDER     the streams are made in FOLDER and taken away at the end
+"""
+
+import os
+import statistics
+import subprocess
+import sys
+import time
+
+TOOLS = os.path.dirname(os.path.abspath(__file__))
+ROUNDS = 3
+
+
+def measured(command):
+    """Wall seconds and peak bytes of a command that has to succeed."""
+    start = time.perf_counter()
+    process = subprocess.Popen(command)
+    _, status, usage = os.wait4(process.pid, 0)
+    seconds = time.perf_counter() - start
+    process.returncode = os.waitstatus_to_exitcode(status)
+    if process.returncode != 0:
+        sys.exit("%s: status %d" % (" ".join(command), process.returncode))
+    return seconds, usage.ru_maxrss * 1024
+
+
+def median(command):
+    rounds = [measured(command) for _ in range(ROUNDS)]
+    return statistics.median(seconds for seconds, _ in rounds), max(peak for _, peak in rounds)
+
+
+def measure(program, folder, batches):
+    """Seconds of the program and of cp, and peak over size, on a stream of so many batches."""
+    given, output = os.path.join(folder, "bench.stream"), os.path.join(folder, "bench.out")
+    make = [sys.executable, "-B", os.path.join(TOOLS, "streams.py"), "bench", given, str(batches)]
+    rows = int(subprocess.run(make, check=True, stdout=subprocess.PIPE).stdout)
+    size = os.path.getsize(given)
+    copying, _ = median(["cp", given, output])
+    cutting, peak = median([program, "cut", "1", str(rows - 2), given, output])
+    os.remove(given)
+    os.remove(output)
+    print(
+        "%6.1f MB: tables %.3f s, cp %.3f s, ratio %.1f, peak memory %.2f times the input"
+        % (size / 1e6, cutting, copying, cutting / copying, peak / size)
+    )
+    return cutting
+
+
+def main(program, folder):
+    tenth = measure(program, folder, 46)
+    whole = measure(program, folder, 460)
+    print("ten times the input takes %.1f times as long" % (whole / tenth))
+
+
+if __name__ == "__main__":
+    if len(sys.argv) != 3:
+        sys.exit(__doc__)
+    main(sys.argv[1], sys.argv[2])
