@@ -2,20 +2,24 @@
 """Measures `tables cut` on nearly all of a large stream, against `cp` of the same file.
 
     bench.py PROGRAM FOLDER     the streams are made in FOLDER and taken away at the end
+
+Times are the best of five rounds.
 """
 
 import os
-import statistics
 import subprocess
 import sys
 import time
 
 TOOLS = os.path.dirname(os.path.abspath(__file__))
-ROUNDS = 3
+ROUNDS = 5
 
 
-def measured(command):
-    """Wall seconds and peak bytes of a command that has to succeed."""
+def measured(command, output):
+    """Wall seconds and peak bytes of a command that has to succeed, and makes its output anew."""
+    if os.path.exists(output):
+        os.remove(output)
+    os.sync()
     start = time.perf_counter()
     process = subprocess.Popen(command)
     _, status, usage = os.wait4(process.pid, 0)
@@ -26,9 +30,10 @@ def measured(command):
     return seconds, usage.ru_maxrss * 1024
 
 
-def median(command):
-    rounds = [measured(command) for _ in range(ROUNDS)]
-    return statistics.median(seconds for seconds, _ in rounds), max(peak for _, peak in rounds)
+def best(command, output):
+    """The least seconds of a few rounds, and the most bytes."""
+    rounds = [measured(command, output) for _ in range(ROUNDS)]
+    return min(seconds for seconds, _ in rounds), max(peak for _, peak in rounds)
 
 
 def measure(program, folder, batches):
@@ -37,8 +42,8 @@ def measure(program, folder, batches):
     make = [sys.executable, "-B", os.path.join(TOOLS, "streams.py"), "bench", given, str(batches)]
     rows = int(subprocess.run(make, check=True, stdout=subprocess.PIPE).stdout)
     size = os.path.getsize(given)
-    copying, _ = median(["cp", given, output])
-    cutting, peak = median([program, "cut", "1", str(rows - 2), given, output])
+    copying, _ = best(["cp", given, output], output)
+    cutting, peak = best([program, "cut", "1", str(rows - 2), given, output], output)
     os.remove(given)
     os.remove(output)
     print(

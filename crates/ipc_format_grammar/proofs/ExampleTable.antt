@@ -26,20 +26,20 @@ use Rattle.ipc_format_grammar.specs.Examples.{x_int32, example_batch, example_by
 use Rattle.ipc_format_grammar.proofs.Cuts.{no_messages}
 
 -- the metadata of its two messages, and the body of the second
-abbrev schema_bytes : List ℕ
+abbrev pub schema_bytes : List ℕ
 schema_bytes = 24 ∷ 0 ∷ 0 ∷ 0 ∷ 0 ∷ 0 ∷ 0 ∷ 0 ∷ 14 ∷ 0 ∷ 24 ∷ 0 ∷ 4 ∷ 0 ∷ 6 ∷ 0 ∷ 8 ∷ 0 ∷ 16 ∷ 0 ∷ 0 ∷ 0 ∷ 0 ∷ 0 ∷ 16 ∷ 0 ∷ 0 ∷ 0 ∷ 4 ∷ 0 ∷ 1 ∷ 0 ∷ 32 ∷ 0 ∷ 0 ∷ 0 ∷ 0 ∷ 0 ∷ 0 ∷ 0 ∷ 0 ∷ 0 ∷ 0 ∷ 0 ∷ 0 ∷ 0 ∷ 0 ∷ 0 ∷ 12 ∷ 0 ∷ 12 ∷ 0 ∷ 4 ∷ 0 ∷ 8 ∷ 0 ∷ 0 ∷ 0 ∷ 0 ∷ 0 ∷ 0 ∷ 0 ∷ 0 ∷ 0 ∷ 16 ∷ 0 ∷ 0 ∷ 0 ∷ 0 ∷ 0 ∷ 0 ∷ 0 ∷ 12 ∷ 0 ∷ 0 ∷ 0 ∷ 0 ∷ 0 ∷ 0 ∷ 0 ∷ 0 ∷ 0 ∷ 0 ∷ 0 ∷ 1 ∷ 0 ∷ 0 ∷ 0 ∷ 32 ∷ 0 ∷ 0 ∷ 0 ∷ 0 ∷ 0 ∷ 0 ∷ 0 ∷ 18 ∷ 0 ∷ 20 ∷ 0 ∷ 4 ∷ 0 ∷ 8 ∷ 0 ∷ 9 ∷ 0 ∷ 12 ∷ 0 ∷ 0 ∷ 0 ∷ 16 ∷ 0 ∷ 0 ∷ 0 ∷ 0 ∷ 0 ∷ 0 ∷ 0 ∷ 0 ∷ 0 ∷ 24 ∷ 0 ∷ 0 ∷ 0 ∷ 24 ∷ 0 ∷ 0 ∷ 0 ∷ 1 ∷ 2 ∷ 0 ∷ 0 ∷ 36 ∷ 0 ∷ 0 ∷ 0 ∷ 52 ∷ 0 ∷ 0 ∷ 0 ∷ 0 ∷ 0 ∷ 0 ∷ 0 ∷ 0 ∷ 0 ∷ 0 ∷ 0 ∷ 1 ∷ 0 ∷ 0 ∷ 0 ∷ 120 ∷ 0 ∷ 0 ∷ 0 ∷ 0 ∷ 0 ∷ 0 ∷ 0 ∷ 8 ∷ 0 ∷ 9 ∷ 0 ∷ 4 ∷ 0 ∷ 8 ∷ 0 ∷ 8 ∷ 0 ∷ 0 ∷ 0 ∷ 32 ∷ 0 ∷ 0 ∷ 0 ∷ 1 ∷ 0 ∷ 0 ∷ 0 ∷ 0 ∷ 0 ∷ 0 ∷ 0 ∷ 0 ∷ 0 ∷ 0 ∷ 0 ∷ 0 ∷ 0 ∷ 0 ∷ 0 ∷ []
 
-abbrev batch_bytes : List ℕ
+abbrev pub batch_bytes : List ℕ
 batch_bytes = 24 ∷ 0 ∷ 0 ∷ 0 ∷ 0 ∷ 0 ∷ 0 ∷ 0 ∷ 14 ∷ 0 ∷ 24 ∷ 0 ∷ 4 ∷ 0 ∷ 6 ∷ 0 ∷ 8 ∷ 0 ∷ 16 ∷ 0 ∷ 0 ∷ 0 ∷ 0 ∷ 0 ∷ 16 ∷ 0 ∷ 0 ∷ 0 ∷ 4 ∷ 0 ∷ 3 ∷ 0 ∷ 32 ∷ 0 ∷ 0 ∷ 0 ∷ 0 ∷ 0 ∷ 0 ∷ 0 ∷ 128 ∷ 0 ∷ 0 ∷ 0 ∷ 0 ∷ 0 ∷ 0 ∷ 0 ∷ 12 ∷ 0 ∷ 24 ∷ 0 ∷ 8 ∷ 0 ∷ 16 ∷ 0 ∷ 20 ∷ 0 ∷ 0 ∷ 0 ∷ 0 ∷ 0 ∷ 0 ∷ 0 ∷ 16 ∷ 0 ∷ 0 ∷ 0 ∷ 0 ∷ 0 ∷ 0 ∷ 0 ∷ 2 ∷ 0 ∷ 0 ∷ 0 ∷ 0 ∷ 0 ∷ 0 ∷ 0 ∷ 12 ∷ 0 ∷ 0 ∷ 0 ∷ 32 ∷ 0 ∷ 0 ∷ 0 ∷ 0 ∷ 0 ∷ 0 ∷ 0 ∷ 1 ∷ 0 ∷ 0 ∷ 0 ∷ 2 ∷ 0 ∷ 0 ∷ 0 ∷ 0 ∷ 0 ∷ 0 ∷ 0 ∷ 1 ∷ 0 ∷ 0 ∷ 0 ∷ 0 ∷ 0 ∷ 0 ∷ 0 ∷ 0 ∷ 0 ∷ 0 ∷ 0 ∷ 2 ∷ 0 ∷ 0 ∷ 0 ∷ 0 ∷ 0 ∷ 0 ∷ 0 ∷ 0 ∷ 0 ∷ 0 ∷ 0 ∷ 1 ∷ 0 ∷ 0 ∷ 0 ∷ 0 ∷ 0 ∷ 0 ∷ 0 ∷ 64 ∷ 0 ∷ 0 ∷ 0 ∷ 0 ∷ 0 ∷ 0 ∷ 0 ∷ 8 ∷ 0 ∷ 0 ∷ 0 ∷ 0 ∷ 0 ∷ 0 ∷ 0 ∷ []
 
-abbrev body_bytes : List ℕ
+abbrev pub body_bytes : List ℕ
 body_bytes = 1 ∷ 0 ∷ 0 ∷ 0 ∷ 0 ∷ 0 ∷ 0 ∷ 0 ∷ 0 ∷ 0 ∷ 0 ∷ 0 ∷ 0 ∷ 0 ∷ 0 ∷ 0 ∷ 0 ∷ 0 ∷ 0 ∷ 0 ∷ 0 ∷ 0 ∷ 0 ∷ 0 ∷ 0 ∷ 0 ∷ 0 ∷ 0 ∷ 0 ∷ 0 ∷ 0 ∷ 0 ∷ 0 ∷ 0 ∷ 0 ∷ 0 ∷ 0 ∷ 0 ∷ 0 ∷ 0 ∷ 0 ∷ 0 ∷ 0 ∷ 0 ∷ 0 ∷ 0 ∷ 0 ∷ 0 ∷ 0 ∷ 0 ∷ 0 ∷ 0 ∷ 0 ∷ 0 ∷ 0 ∷ 0 ∷ 0 ∷ 0 ∷ 0 ∷ 0 ∷ 0 ∷ 0 ∷ 0 ∷ 0 ∷ 7 ∷ 0 ∷ 0 ∷ 0 ∷ 0 ∷ 0 ∷ 0 ∷ 0 ∷ 0 ∷ 0 ∷ 0 ∷ 0 ∷ 0 ∷ 0 ∷ 0 ∷ 0 ∷ 0 ∷ 0 ∷ 0 ∷ 0 ∷ 0 ∷ 0 ∷ 0 ∷ 0 ∷ 0 ∷ 0 ∷ 0 ∷ 0 ∷ 0 ∷ 0 ∷ 0 ∷ 0 ∷ 0 ∷ 0 ∷ 0 ∷ 0 ∷ 0 ∷ 0 ∷ 0 ∷ 0 ∷ 0 ∷ 0 ∷ 0 ∷ 0 ∷ 0 ∷ 0 ∷ 0 ∷ 0 ∷ 0 ∷ 0 ∷ 0 ∷ 0 ∷ 0 ∷ 0 ∷ 0 ∷ 0 ∷ 0 ∷ 0 ∷ 0 ∷ 0 ∷ 0 ∷ 0 ∷ 0 ∷ 0 ∷ []
 
 -- the tables of their headers
-abbrev schema_table : Table
+abbrev pub schema_table : Table
 schema_table = record { place = 64; vtable = 48; vtable_size = 12; table_size = 12 }
 
-abbrev batch_table : Table
+abbrev pub batch_table : Table
 batch_table = record { place = 64; vtable = 48; vtable_size = 12; table_size = 24 }
 
 abbrev example_messages : Stream
@@ -52,11 +52,11 @@ messages : messages_of example_bytes ≡ Some example_messages
 unfolding messages_of frame_at message_in root_of reference_at number_at signed_at table_at field_at number_field signed_field table_field reference_field first_of
 messages = refl
 
-version : version_in schema_bytes ≡ Some V5
+pub version : version_in schema_bytes ≡ Some V5
 unfolding version_in root_of reference_at number_at signed_at table_at field_at signed_field
 version = refl
 
-abbrev x_found : SchemaIn
+abbrev pub x_found : SchemaIn
 x_found = record { schema = x_int32; ids = ids_then (ids None no_ids) no_ids; is_little_endian = true }
 
 any_schema : any_schema_in None schema_bytes schema_table ≡ Some x_found
@@ -67,32 +67,33 @@ report : report_of types.Int32 ≡ leaf true
 unfolding roll-DataType denote.Hole.Carrier.roll
 report = fold-roll-DataType Report Report report_step field_step layer.Int32
 
-writable : is_writable x_int32 ≡ true
+pub writable : is_writable x_int32 ≡ true
 unfolding is_writable
 writable = rw report refl
 
-schema : schema_in schema_bytes schema_table ≡ Some x_found
+pub schema : schema_in schema_bytes schema_table ≡ Some x_found
 unfolding schema_in
 schema = rw (any_schema, writable) refl
 
-x_layout : Layout
+-- how the example's columns lie
+abbrev pub x_layout : Layout
 x_layout = record { fields = x_int32.fields; version = V5; is_little_endian = true }
 
 batch : batch_in x_layout batch_bytes batch_table body_bytes ≡ Some example_batch
-unfolding x_layout batch_in record_batch_in lengths_sum slots_in int32_slots validity_in buffer_at struct_at pair_at reference_at number_at signed_at table_at field_at number_field signed_field table_field reference_field vector_at vector_field out-DataType roll-DataType denote.Hole.Carrier.out
+unfolding batch_in record_batch_in lengths_sum slots_in int32_slots validity_in buffer_at struct_at pair_at reference_at number_at signed_at table_at field_at number_field signed_field table_field reference_field vector_at vector_field out-DataType roll-DataType denote.Hole.Carrier.out
 batch = refl
 
 normal_type : normalised_type types.Int32 ≡ types.Int32
 unfolding roll-DataType denote.Hole.Carrier.roll
 normal_type = fold-roll-DataType DataType Field roll-DataType normalised_step layer.Int32
 
-normal : normalised x_int32 ≡ x_int32
+pub normal : normalised x_int32 ≡ x_int32
 unfolding normalised out-DataType roll-DataType denote.Hole.Carrier.roll denote.Hole.Carrier.out
 normal = rw normal_type refl
 
 -- the example stream gives the table of x with the rows (7) and (null)
 pub example_table : table_of example_bytes ≡ Some (record { schema = x_int32; rows = (number kinds.Int32 (pos 7) ∷ []) ∷ (null ∷ []) ∷ [] })
-unfolding table_of x_layout
+unfolding table_of
 example_table = rw (messages, version, schema, batch, normal) refl
 
 -- four bytes of the end mark give no table

@@ -1,7 +1,11 @@
 pub mod Worked
 pub mod SchemaMessages
 pub mod Batches
+pub mod WrittenStreams
 pub mod Cuts
 pub mod ExampleTable
+pub mod OlderStream
+pub mod SchemasBack
 pub mod NodesAndBuffers
 pub mod WritableSchemas
+pub mod RefusedStreams

@@ -1,5 +1,5 @@
 -- The values of a column in a record batch, each byte at its address (Arrow columnar format, "Physical Memory Layout").
-use Rattle.std.specs.Prelude.{ℕ, zero, suc, ◌+◌, ◌-◌, ◌*◌, ◌/◌, ◌%◌, ◌^◌, min, ℤ, pos, negsuc, Bool, true, false, List, [], ◌∷◌, length, take, drop, Option, Some, None, nat_le, nat_lt, ◌==◌, if◌then◌else◌, slice_index}
+use Rattle.std.specs.Prelude.{ℕ, ◌+◌, ◌*◌, ◌/◌, ◌%◌, ◌^◌, min, ℤ, pos, Bool, true, false, List, length, take, drop, Option, Some, None, nat_le, ◌==◌, if◌then◌else◌, slice_index}
 use Rattle.std.specs.Int.{w32, from_le_bytes, from_be_bytes, cast_signed}
 use Rattle.std.specs.Prelude.{int_lt}
 use Rattle.ipc_format_flatbuffers.specs.Reading.{◌>>=◌, guard, window_at}
@@ -47,10 +47,10 @@ is_valid_at (bitmap bytes) i = bit_at bytes i
 -- The validity of the first slots of a column. Its bitmap is looked at only where the node's count of nulls is above 0.
 unfoldable pub validity_in : Batch → Pair → ℕ → ℕ → Option Validity
 validity_in batch node k taken =
-  if int_lt (pos 0) node.second then (do
-    bytes ← buffer_at batch k ((taken + 7) / 8)
-    Some (bitmap bytes))
-  else Some all_valid
+    if int_lt (pos 0) node.second then (do
+      bytes ← buffer_at batch k ((taken + 7) / 8)
+      Some (bitmap bytes))
+    else Some all_valid
 
 -- the signed 32-bit number i of some bytes
 abbrev pub int32_at : Bool → List ℕ → ℕ → ℤ

@@ -1,11 +1,11 @@
 -- Worked values: small schemas, batches and streams, for tests that compute with them.
-use Rattle.std.specs.Prelude.{ℕ, pos, List, [], ◌∷◌, codes, Some, None, true, false}
+use Rattle.std.specs.Prelude.{ℕ, pos, List, [], ◌∷◌, codes, Some, true, false}
 use Rattle.columnar_memory.specs.declared.DataType.TheVariants as types
 use Rattle.columnar_memory.specs.declared.IntegerType.TheVariants as integers
 use Rattle.columnar_memory.specs.declared.PrimitiveType.TheVariants as kinds
 use Rattle.columnar_memory.specs.declared.Schema.{Schema}
 use Rattle.nested_arrays.specs.Slots.{Slot, null, number}
-use Rattle.ipc_format_grammar.specs.Schemas.{IdsList, no_ids}
+use Rattle.ipc_format_grammar.specs.Schemas.{no_ids}
 use Rattle.ipc_format_grammar.specs.Written.{written_stream}
 
 -- a nullable column x of signed 32-bit numbers

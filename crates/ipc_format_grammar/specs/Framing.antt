@@ -1,7 +1,6 @@
 -- The messages of a stream, by position (Arrow IPC, "Encapsulated message format", "IPC Streaming Format").
-use Rattle.std.specs.Prelude.{◌≡◌, ℕ, zero, suc, ◌+◌, ◌≤◌, ◌<◌, ℤ, pos, negsuc, Bool, true, false, List, [], ◌∷◌, length, Option, Some, None, nat_le, nat_lt, if◌then◌else◌}
+use Rattle.std.specs.Prelude.{◌≡◌, ℕ, zero, suc, ◌+◌, ℤ, pos, negsuc, Bool, true, false, List, [], ◌∷◌, length, Option, Some, None, nat_lt, if◌then◌else◌}
 use Rattle.std.specs.Int.{w32}
-use Rattle.std.specs.Ordering.{int_eq}
 use Rattle.ipc_format_flatbuffers.specs.Reading.{◌>>=◌, guard, window_at}
 use Rattle.ipc_format_flatbuffers.specs.FlatBuffers.{signed_at}
 use Rattle.ipc_format_grammar.specs.Messages as message

@@ -1,8 +1,8 @@
 -- Messages and record batches in their metadata (Arrow IPC, "Encapsulated message format", "RecordBatch message", "Dictionary Messages";
 -- Message.fbs). Each word gives nothing where the bytes break a rule of the format; what has to be there and is absent breaks one.
-use Rattle.std.specs.Prelude.{◌≡◌, ℕ, zero, suc, ◌+◌, ◌*◌, ◌≤◌, ℤ, pos, negsuc, Bool, true, false, List, length, Option, Some, None, nat_le, nat_lt, is_some, if◌then◌else◌}
+use Rattle.std.specs.Prelude.{ℕ, zero, suc, ◌+◌, ◌*◌, ℤ, pos, negsuc, Bool, List, length, Option, Some, None, nat_lt, is_some, if◌then◌else◌}
 use Rattle.std.specs.Int.{w8, w16, w64}
-use Rattle.ipc_format_flatbuffers.specs.Reading.{◌>>=◌, guard}
+use Rattle.ipc_format_flatbuffers.specs.Reading.{◌>>=◌}
 use Rattle.ipc_format_flatbuffers.specs.FlatBuffers.{Table, Vector, number_field, signed_field, truth_field, signed_at, table_field, vector_field, root_of}
 
 -- a version of Arrow's metadata
@@ -40,6 +40,12 @@ pub record Message : Type 0 where
   pub header : Header
   pub body_length : ℤ
 
+-- how many bytes the body has; a schema has none, and what its message states is not looked at
+abbrev pub body_length_of : List ℕ → Table → Header → Option ℤ
+body_length_of bytes root (schema table) = Some (pos 0)
+body_length_of bytes root (dictionary_batch table) = signed_field w64 bytes root 3 (pos 0)
+body_length_of bytes root (record_batch table) = signed_field w64 bytes root 3 (pos 0)
+
 -- the message of some metadata
 unfoldable pub message_in : List ℕ → Option Message
 message_in bytes = do
@@ -47,8 +53,8 @@ message_in bytes = do
   tag ← number_field w8 bytes root 1 0
   found ← table_field bytes root 2
   table ← found
-  body_length ← signed_field w64 bytes root 3 (pos 0)
   header ← header_of tag table
+  body_length ← body_length_of bytes root header
   Some (record { header = header; body_length = body_length })
 
 -- the version that some metadata states

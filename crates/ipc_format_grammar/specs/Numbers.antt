@@ -1,6 +1,6 @@
 -- How many nodes and buffers stand before a column: they stand in pre-order, a column's own before its children's
 -- (Arrow IPC, "RecordBatch message"; Arrow columnar format, "Buffer Listing for Each Layout").
-use Rattle.std.specs.Prelude.{ℕ, zero, suc, ◌+◌, Bool, true, false, List, [], ◌∷◌, map, take, sum_by}
+use Rattle.std.specs.Prelude.{ℕ, ◌+◌, List, take, sum_by}
 use Rattle.columnar_memory.specs.declared.DataType.{DataType}
 use Rattle.columnar_memory.specs.declared.DataType.TheOpen as layer
 use Rattle.columnar_memory.specs.declared.DataType.TheFolds.{fold-DataType}

@@ -1,5 +1,5 @@
 -- The objects of schemas and messages that are written (Schema.fbs, Message.fbs): which slots are present, and with which numbers.
-use Rattle.std.specs.Prelude.{ℕ, zero, suc, ◌+◌, ℤ, pos, negsuc, Bool, true, false, List, [], ◌∷◌, ◌++◌, length, map, codes, Option, Some, None}
+use Rattle.std.specs.Prelude.{ℕ, ℤ, Bool, true, false, List, [], ◌∷◌, ◌++◌, length, map, Option, Some, None}
 use Rattle.std.specs.List.{flat_map}
 use Rattle.std.specs.Int.{w8, w16, w32, w64, to_le_bytes, cast_unsigned}
 use Rattle.ipc_format_flatbuffers.specs.Objects.{Object, Fields, Objects, table, references, elements, text, no_field, absent_then, number_then, refers_then, no_object, object_then}
@@ -181,7 +181,7 @@ encoding_object (Some (key, is_ordered)) id = Some (table (number_then w64 (id_n
 
 abbrev pub field_table : List ℕ → Bool → List (List ℕ × List ℕ) → Told → Option ℤ → Object
 field_table name is_nullable pairs told id =
-  table (refers_then (text name) (number_then w8 (truth is_nullable) (number_then w8 told.tag (refers_then told.type_table
+    table (refers_then (text name) (number_then w8 (truth is_nullable) (number_then w8 told.tag (refers_then told.type_table
     (refers_if (encoding_object told.dictionary id) (refers_then (references told.children) (refers_if (metadata_object (written_pairs told.extension pairs)) no_field)))))))
 
 abbrev pub told_field_step : layer.Field-F (IdsList → Told) (Ids → Object) → Ids → Object
@@ -197,7 +197,7 @@ field_object field (ids id below) = field_table field.name field.is_nullable fie
 -- a schema, little-endian
 unfoldable pub schema_object : Schema → IdsList → Object
 schema_object schema below =
-  table (number_then w16 0 (refers_then (references (objects_of (map field_object schema.fields) below)) (refers_if (metadata_object schema.metadata) (absent_then no_field))))
+    table (number_then w16 0 (refers_then (references (objects_of (map field_object schema.fields) below)) (refers_if (metadata_object schema.metadata) (absent_then no_field))))
 
 -- ---- messages, in version V5
 

@@ -1,6 +1,6 @@
 -- Schemas in metadata (Schema.fbs): fields, their types, dictionaries and custom metadata.
 -- A schema's fields form a tree of Field tables. At most as many of them are visited as the message has bytes, and fields nest at most 64 deep.
-use Rattle.std.specs.Prelude.{ℕ, zero, suc, ◌+◌, ℤ, pos, negsuc, Bool, true, false, List, [], ◌∷◌, length, map, codes, Option, Some, None, nat_le, if◌then◌else◌}
+use Rattle.std.specs.Prelude.{ℕ, zero, suc, ◌+◌, ℤ, pos, Bool, true, false, List, [], ◌∷◌, length, map, codes, Option, Some, None, nat_le}
 use Rattle.std.specs.Int.{w8, w16, w32, w64}
 use Rattle.ipc_format_flatbuffers.specs.Reading.{◌>>=◌, guard}
 use Rattle.ipc_format_flatbuffers.specs.FlatBuffers.{Table, Vector, number_field, signed_field, truth_field, table_field, vector_field, string_field, element_at}
@@ -215,10 +215,13 @@ field_in floats bytes (suc levels) table left = do
   dictionary ← table_field bytes table 4
   metadata ← metadata_in bytes table 6
   encoded ← encoded_by bytes dictionary (extended metadata found.0.data_type)
-  Some (record {
-    field = record { name = name; data_type = encoded.data_type; is_nullable = is_nullable; metadata = metadata };
-    ids = ids encoded.id found.0.below;
-  }, found.1)
+  Some (
+    record {
+      field = record { name = name; data_type = encoded.data_type; is_nullable = is_nullable; metadata = metadata };
+      ids = ids encoded.id found.0.below;
+    },
+    found.1,
+  )
 
 -- a schema as read, the dictionary ids beside its fields, and whether numbers stand with the lowest byte first
 pub record SchemaIn : Type 0 where

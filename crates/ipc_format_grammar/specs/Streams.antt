@@ -1,14 +1,10 @@
 -- The table of a stream's bytes, or nothing where the grammar gives none (Arrow IPC, "IPC Streaming Format").
-use Rattle.std.specs.Prelude.{◌≡◌, ℕ, zero, suc, ◌+◌, ◌^◌, ℤ, pos, Bool, true, false, not, ◌&&◌, ◌==◌, List, [], ◌∷◌, length, Option, Some, None, nat_le, nat_lt, slice_get}
+use Rattle.std.specs.Prelude.{ℕ, ◌+◌, ◌^◌, ℤ, Bool, true, false, not, ◌==◌, List, [], ◌∷◌, length, Option, Some, None, nat_le, nat_lt}
 use Rattle.std.specs.List.{list_all}
 use Rattle.std.specs.Ordering.{int_eq}
 use Rattle.ipc_format_flatbuffers.specs.Reading.{◌>>=◌, guard}
 use Rattle.ipc_format_flatbuffers.specs.FlatBuffers as flat
-use Rattle.columnar_memory.specs.declared.DataType.{DataType}
-use Rattle.columnar_memory.specs.declared.DataType.TheOpen as layer
-use Rattle.columnar_memory.specs.declared.DataType.TheViews.{out-DataType}
 use Rattle.columnar_memory.specs.declared.Field.{Field}
-use Rattle.columnar_memory.specs.declared.Schema.{Schema}
 use Rattle.nested_arrays.specs.Slots.{Slot}
 use Rattle.nested_arrays.specs.Tables.{Table, rows_of_batches}
 use Rattle.ipc_format_grammar.specs.Messages as message
@@ -18,7 +14,7 @@ use Rattle.ipc_format_grammar.specs.SchemaGrammar.{schema_in}
 use Rattle.ipc_format_grammar.specs.Writable.{normalised}
 use Rattle.ipc_format_grammar.specs.Numbers.{node_number, buffer_number}
 use Rattle.ipc_format_grammar.specs.Columns.{Batch, slots_in}
-use Rattle.ipc_format_grammar.specs.Framing.{Framed, Stream, messages_of}
+use Rattle.ipc_format_grammar.specs.Framing.{Framed, messages_of}
 
 -- whether a message is a dictionary of an id
 abbrev pub has_id : ℤ → Option message.DictionaryBatch → Bool

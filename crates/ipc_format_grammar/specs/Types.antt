@@ -1,5 +1,5 @@
 -- The types of columns in metadata (Schema.fbs, union Type and its tables).
-use Rattle.std.specs.Prelude.{ℕ, zero, suc, ◌+◌, ◌*◌, ℤ, pos, negsuc, Bool, true, false, List, [], ◌∷◌, Option, Some, None, if◌then◌else◌}
+use Rattle.std.specs.Prelude.{ℕ, zero, suc, ◌+◌, ℤ, pos, Bool, true, false, List, [], ◌∷◌, Option, Some, None, if◌then◌else◌}
 use Rattle.std.specs.Ordering.{int_eq}
 use Rattle.std.specs.Int.{w16, w32}
 use Rattle.ipc_format_flatbuffers.specs.Reading.{◌>>=◌}
@@ -8,7 +8,6 @@ use Rattle.columnar_memory.specs.declared.DataType.{DataType}
 use Rattle.columnar_memory.specs.declared.DataType.TheVariants as types
 use Rattle.columnar_memory.specs.declared.TimeUnit.{TimeUnit}
 use Rattle.columnar_memory.specs.declared.TimeUnit.TheVariants as units
-use Rattle.columnar_memory.specs.declared.IntervalUnit.{IntervalUnit}
 use Rattle.columnar_memory.specs.declared.IntervalUnit.TheVariants as intervals
 use Rattle.columnar_memory.specs.declared.IntegerType.{IntegerType}
 use Rattle.columnar_memory.specs.declared.IntegerType.TheVariants as integers
@@ -65,13 +64,13 @@ time_unit_of _ = None
 -- the whole numbers by their bits, signed and unsigned
 abbrev pub signed_of : ℤ → Option IntegerType
 signed_of bits =
-  if int_eq bits (pos 8) then Some integers.Int8 else if int_eq bits (pos 16) then Some integers.Int16 else
-  if int_eq bits (pos 32) then Some integers.Int32 else if int_eq bits (pos 64) then Some integers.Int64 else None
+    if int_eq bits (pos 8) then Some integers.Int8 else if int_eq bits (pos 16) then Some integers.Int16 else
+    if int_eq bits (pos 32) then Some integers.Int32 else if int_eq bits (pos 64) then Some integers.Int64 else None
 
 abbrev pub unsigned_of : ℤ → Option IntegerType
 unsigned_of bits =
-  if int_eq bits (pos 8) then Some integers.UInt8 else if int_eq bits (pos 16) then Some integers.UInt16 else
-  if int_eq bits (pos 32) then Some integers.UInt32 else if int_eq bits (pos 64) then Some integers.UInt64 else None
+    if int_eq bits (pos 8) then Some integers.UInt8 else if int_eq bits (pos 16) then Some integers.UInt16 else
+    if int_eq bits (pos 32) then Some integers.UInt32 else if int_eq bits (pos 64) then Some integers.UInt64 else None
 
 abbrev pub integer_of : ℤ → Bool → Option IntegerType
 integer_of bits true = signed_of bits
@@ -103,8 +102,8 @@ size_of _ = None
 -- decimals of 128 and 256 bits
 abbrev pub decimal_of : ℤ → ℕ → ℕ → Option DataType
 decimal_of bits precision scale =
-  if int_eq bits (pos 128) then Some (types.Decimal precision scale) else
-  if int_eq bits (pos 256) then Some (types.Decimal256 precision scale) else None
+    if int_eq bits (pos 128) then Some (types.Decimal precision scale) else
+    if int_eq bits (pos 256) then Some (types.Decimal256 precision scale) else None
 
 unfoldable pub decimal_in : List ℕ → Table → Option DataType
 decimal_in bytes table = do
@@ -134,7 +133,7 @@ long_time_of _ = None
 
 abbrev pub time_of : ℤ → TimeUnit → Option DataType
 time_of bits unit =
-  if int_eq bits (pos 32) then short_time_of unit else if int_eq bits (pos 64) then long_time_of unit else None
+    if int_eq bits (pos 32) then short_time_of unit else if int_eq bits (pos 64) then long_time_of unit else None
 
 unfoldable pub time_in : List ℕ → Table → Option DataType
 time_in bytes table = do

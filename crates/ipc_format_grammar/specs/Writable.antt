@@ -1,5 +1,5 @@
 -- Which schemas are written and read, and their one form. The limits are this library's own; Arrow leaves them open.
-use Rattle.std.specs.Prelude.{ℕ, zero, suc, ◌+◌, ◌^◌, max, ℤ, pos, negsuc, Bool, true, false, not, ◌&&◌, ◌==◌, List, [], ◌∷◌, length, map, sum_by, Option, Some, None, nat_le, nat_lt}
+use Rattle.std.specs.Prelude.{◌≡◌, ℕ, ◌+◌, ◌^◌, All, max, ℤ, pos, negsuc, Bool, true, false, not, ◌&&◌, ◌==◌, List, [], ◌∷◌, length, map, sum_by, Option, Some, None, nat_le, nat_lt}
 use Rattle.std.specs.Ordering.{int_eq}
 use Rattle.std.specs.Map.{remove_entry}
 use Rattle.std.specs.List.{list_all, list_any}
@@ -14,6 +14,7 @@ use Rattle.columnar_memory.specs.declared.Schema.{Schema}
 use Rattle.columnar_memory.specs.declared.TimeUnit.{TimeUnit}
 use Rattle.columnar_memory.specs.declared.TimeUnit.TheVariants as units
 use Rattle.columnar_memory.specs.Pairs.{with_pair}
+use Rattle.nested_arrays.specs.Tables.{Table, FitsRows}
 use Rattle.ipc_format_grammar.specs.Schemas.{extension_name_key, extension_metadata_key}
 
 -- what stands at the top of a type, as far as others ask
@@ -136,7 +137,7 @@ reports_of fields = map (λ (field : Field). report_of field.data_type) fields
 -- a schema that is written, and read: each type is allowed, fields nest at most 64 deep, and at most 65,536 have dictionaries
 unfoldable pub is_writable : Schema → Bool
 is_writable schema = let all = over_all true plain (reports_of schema.fields) in
-  all.is_allowed && nat_le all.levels 64 && nat_le all.dictionaries 65536
+    all.is_allowed && nat_le all.levels 64 && nat_le all.dictionaries 65536
 
 -- the pairs without one of a key
 abbrev pub without_key : List ℕ → List (List ℕ × List ℕ) → List (List ℕ × List ℕ)
@@ -170,8 +171,15 @@ normalised_type = fold-DataType DataType Field roll-DataType normalised_step
 -- a field normalised at each depth
 abbrev pub normalised_field : Field → Field
 normalised_field field = let data_type = normalised_type field.data_type in
-  record { name = field.name; data_type = data_type; is_nullable = field.is_nullable; metadata = normalised_pairs data_type field.metadata }
+    record { name = field.name; data_type = data_type; is_nullable = field.is_nullable; metadata = normalised_pairs data_type field.metadata }
 
 -- the one form of a schema: at each field at any depth the keys of an extension are those of its type
 unfoldable pub normalised : Schema → Schema
 normalised schema = record schema { fields = map normalised_field schema.fields }
+
+-- A table: its schema has the one form, each row has a value a field, there is no row without fields, and the rows fit 64 bits.
+pub record IsTable (table : Table) : Type 0 where
+  pub normal : normalised table.schema ≡ table.schema
+  pub widths : All (λ row. length row ≡ length table.schema.fields) table.rows
+  pub none : table.schema.fields ≡ [] → table.rows ≡ []
+  pub fits : FitsRows table

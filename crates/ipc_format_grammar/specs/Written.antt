@@ -1,8 +1,8 @@
 -- The bytes of written streams (Arrow IPC, "Encapsulated message format", "RecordBatch message"; Arrow columnar format, "Validity bitmaps").
-use Rattle.std.specs.Prelude.{ℕ, zero, suc, ◌+◌, ◌-◌, ◌*◌, ◌^◌, ℤ, pos, Bool, true, false, List, [], ◌∷◌, ◌++◌, length, map, take, drop, count_by, replicate, nat_lt, Option, Some, None, if◌then◌else◌}
+use Rattle.std.specs.Prelude.{ℕ, zero, suc, ◌+◌, ◌-◌, ◌*◌, Bool, true, false, List, [], ◌∷◌, ◌++◌, length, map, take, drop, count_by, replicate, nat_lt, if◌then◌else◌}
 use Rattle.std.specs.List.{flat_map}
 use Rattle.std.specs.Int.{w32, to_le_bytes, cast_unsigned, next_multiple_of}
-use Rattle.ipc_format_flatbuffers.specs.Objects.{Object, laid}
+use Rattle.ipc_format_flatbuffers.specs.Objects.{laid}
 use Rattle.columnar_memory.specs.declared.Schema.{Schema}
 use Rattle.nested_arrays.specs.Slots.{Slot, null, number}
 use Rattle.ipc_format_grammar.specs.Schemas.{IdsList}
@@ -74,9 +74,9 @@ nodes_of columns = map (λ column. (length column, null_count column)) columns
 -- a record batch message of columns of signed 32-bit numbers
 unfoldable pub batch_message : List (List Slot) → List ℕ
 batch_message columns =
-  let buffers = flat_map int32_buffers columns in
-  let header = record_batch_object (rows_in columns) (nodes_of columns) (buffer_places 0 buffers) in
-  framed_bytes (laid (message_object 3 header (length (body_bytes buffers)))) (body_bytes buffers)
+    let buffers = flat_map int32_buffers columns in
+    let header = record_batch_object (rows_in columns) (nodes_of columns) (buffer_places 0 buffers) in
+    framed_bytes (laid (message_object 3 header (length (body_bytes buffers)))) (body_bytes buffers)
 
 -- a whole stream: the schema's message, a message for each batch, and the end mark
 unfoldable pub written_stream : Schema → IdsList → List (List (List Slot)) → List ℕ

@@ -3,6 +3,5 @@
 //! It has definitions for contracts, and tests that compute them on worked values.
 #![tactic(auto)]
 
-
 #[cfg(test)]
 mod tests;

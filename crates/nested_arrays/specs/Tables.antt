@@ -1,8 +1,6 @@
 -- Tables: rows of values under a schema, and what is made of them.
-use Rattle.std.specs.Prelude.{◌≡◌, ℕ, ◌+◌, ◌<◌, ◌^◌, ◌==◌, List, [], ◌∷◌, ◌++◌, length, map, take, sum_by, Option, Some, None, slice_get, slice_range, slice_index_or, if◌then◌else◌}
+use Rattle.std.specs.Prelude.{ℕ, ◌+◌, ◌<◌, ◌^◌, List, [], ◌∷◌, ◌++◌, length, map, take, slice_get, slice_range, slice_index_or}
 use Rattle.std.specs.List.{filter_map, flat_map}
-use Rattle.columnar_memory.specs.declared.DataType.{DataType}
-use Rattle.columnar_memory.specs.declared.Field.{Field}
 use Rattle.columnar_memory.specs.declared.Schema.{Schema}
 use Rattle.nested_arrays.specs.Slots.{Slot, null, window}
 

@@ -1,1 +1,11 @@
 pub mod Lengths
+pub mod Sizes
+pub mod Tables
+pub mod Rest
+pub mod FirstPath
+pub mod Options
+pub mod Types
+pub mod Pairs
+pub mod Fields
+pub mod FieldLists
+pub mod SchemaParts

@@ -1,2 +1,5 @@
 pub mod Views
 pub mod Lengths
+pub mod FirstPath
+pub mod Writing
+pub mod Reading

@@ -1,5 +1,14 @@
 //! The metadata of what is written, as bytes (Message.fbs, Schema.fbs), in version V5.
-ghost use Rattle.std.specs.Prelude.{◌≡◌, ◌+◌, ◌*◌, ◌≤◌, ◌<◌, length};
+ghost use Rattle.std.specs.Prelude.{◌≡◌, true, [], ◌∷◌, ◌/◌, ◌↔◌, IsTrue, MatchResult, length, map};
+ghost use Rattle.std.specs.List.{All};
+ghost use Rattle.std.specs.Int.{w8, w16, w64};
+ghost use Rattle.ipc_format.specs.Laying as layout;
+ghost use Rattle.ipc_format.specs.Objects.{piece_of, references, laid};
+ghost use Rattle.ipc_format.specs.Schemas.{no_ids, ids};
+ghost use Rattle.ipc_format.specs.SchemaObjects as objects;
+ghost use Rattle.ipc_format.specs.Views.{piece_view, Lays};
+ghost use Rattle.tables_metadata.specs.FirstPath.{IsFirstPath, IsFirstPathField};
+ghost use Rattle.tables_metadata.specs.Writing.{structs_of, batch_message, IsRefusal, IsSchemaRefusal, IsRefusalOf};
 
 use columnar_memory::{DataType, Error, Field, Result, Schema};
 use ipc_format::flatbuffers::{
@@ -16,7 +25,9 @@ const RECORD_BATCH: u8 = 3;
 const INT: u8 = 2;
 
 /// What could not be laid is too long, or found no memory.
-fn refusal(error: LayError) -> Error {
+fn refusal(error: LayError) -> Error
+    ensures { IsRefusalOf error result }
+{
     match error {
         LayError::Memory => Error::OutOfMemory,
         LayError::TooLong => Error::Overflow,
@@ -27,38 +38,84 @@ fn refusal(error: LayError) -> Error {
 ///
 /// - `NotYetImplemented`: a column isn't a 32-bit integer, or the schema or a field has custom metadata.
 /// - `Overflow`: the message would have more than 2^31 - 1 bytes.
-pub fn schema_message(alloc: Global, schema: &Schema) -> Result<Vec<u8>> {
+pub fn schema_message(alloc: Global, schema: &Schema) -> Result<Vec<u8>>
+    ensures { MatchResult result (λ v. IsFirstPath schema.now × (v.items ≡ laid (objects.schema_message schema.now no_ids))) (λ e. IsSchemaRefusal e schema.now) }
+{
+    if !is_first_path(schema) {
+        return Err(Error::NotYetImplemented("types other than Int32, and custom metadata"));
+    }
+    match lay_schema_message(alloc, schema) {
+        Ok(root) => Ok(message_bytes(alloc, &root)?),
+        Err(error) => Err(refusal(error)),
+    }
+}
+
+/// Whether the schema is one of those that are written so far.
+fn is_first_path(schema: &Schema) -> bool
+    ensures { IsTrue result ↔ IsFirstPath schema.now }
+{
     if !schema.metadata.is_empty() {
-        return Err(Error::NotYetImplemented("custom metadata"));
+        return false;
     }
-    let mut fields = Vec::new(alloc);
     for field in schema.fields.as_slice() {
-        fields.push(lay_field(alloc, field)?)?;
+        if !is_first_path_field(field) {
+            return false;
+        }
     }
-    let fields = lay_references(alloc, &fields).map_err(refusal)?;
+    true
+}
+
+fn is_first_path_field(field: &Field) -> bool
+    ensures { IsTrue result ↔ IsFirstPathField field.now }
+{
+    field.data_type == DataType::Int32 && field.metadata.is_empty()
+}
+
+/// The message of a schema.
+fn lay_schema_message(alloc: Global, schema: &Schema) -> std::result::Result<Laid, LayError>
+    requires { IsFirstPath schema.now }
+    ensures { Lays result (piece_of (objects.schema_message schema.now no_ids)) }
+{
+    let table = lay_schema(alloc, schema)?;
+    lay_message(alloc, SCHEMA, &table, 0)
+}
+
+/// A Schema table.
+fn lay_schema(alloc: Global, schema: &Schema) -> std::result::Result<Laid, LayError>
+    requires { IsFirstPath schema.now }
+    ensures { Lays result (piece_of (objects.schema_object schema.now no_ids)) }
+{
+    let fields = lay_fields(alloc, schema.fields.as_slice())?;
     let slots = [
         Slot::Short(0),
         Slot::Refers(&fields),
         Slot::Absent,
         Slot::Absent,
     ];
-    let table = lay_table(alloc, &slots).map_err(refusal)?;
-    message(alloc, SCHEMA, &table, 0)
+    lay_table(alloc, &slots)
+}
+
+/// The vector of all Field tables.
+fn lay_fields(alloc: Global, fields: &[Field]) -> std::result::Result<Laid, LayError>
+    requires { All IsFirstPathField fields.now }
+    ensures { Lays result (piece_of (references (objects.objects_of (map objects.field_object fields.now) no_ids))) }
+{
+    let mut pieces = Vec::new(alloc);
+    for field in fields {
+        pieces.push(lay_field(alloc, field)?)?;
+    }
+    lay_references(alloc, &pieces)
 }
 
 /// A Field table.
-fn lay_field(alloc: Global, field: &Field) -> Result<Laid> {
-    if !field.metadata.is_empty() {
-        return Err(Error::NotYetImplemented("custom metadata"));
-    }
-    if !matches!(field.data_type(), &DataType::Int32) {
-        return Err(Error::NotYetImplemented("types other than Int32"));
-    }
-    let name = lay_text(alloc, field.name.as_str().as_bytes()).map_err(refusal)?;
-    let int_slots = [Slot::Int(32), Slot::Byte(1)];
-    let int = lay_table(alloc, &int_slots).map_err(refusal)?;
-    let children = lay_references(alloc, &[]).map_err(refusal)?;
-    let is_nullable = if field.is_nullable { 1 } else { 0 };
+fn lay_field(alloc: Global, field: &Field) -> std::result::Result<Laid, LayError>
+    requires { IsFirstPathField field.now }
+    ensures { Lays result (piece_of (objects.field_object field.now (ids None no_ids))) }
+{
+    let name = lay_text(alloc, field.name.as_str().as_bytes())?;
+    let int = lay_int32(alloc)?;
+    let children = lay_references(alloc, &[])?;
+    let is_nullable = truth_byte(field.is_nullable);
     let slots = [
         Slot::Refers(&name),
         Slot::Byte(is_nullable),
@@ -68,7 +125,22 @@ fn lay_field(alloc: Global, field: &Field) -> Result<Laid> {
         Slot::Refers(&children),
         Slot::Absent,
     ];
-    lay_table(alloc, &slots).map_err(refusal)
+    lay_table(alloc, &slots)
+}
+
+/// The Int table of signed numbers of 32 bits.
+fn lay_int32(alloc: Global) -> std::result::Result<Laid, LayError>
+    ensures { Lays result (piece_of (objects.int_object 32 true)) }
+{
+    let slots = [Slot::Int(32), Slot::Byte(1)];
+    lay_table(alloc, &slots)
+}
+
+/// A truth value as a byte.
+fn truth_byte(value: bool) -> u8
+    ensures { result ≡ objects.truth value }
+{
+    if value { 1 } else { 0 }
 }
 
 /// The metadata of a record batch message: how many rows, the bytes of its nodes and buffers (16 each), and how many bytes its body has.
@@ -80,7 +152,25 @@ pub fn record_batch_message(
     nodes: &[u8],
     buffers: &[u8],
     body_length: u64,
-) -> Result<Vec<u8>> {
+) -> Result<Vec<u8>>
+    ensures { MatchResult result (λ v. v.items ≡ laid (batch_message rows nodes.now buffers.now body_length)) (λ e. IsRefusal e (laid (batch_message rows nodes.now buffers.now body_length))) }
+{
+    match lay_batch_message(alloc, rows, nodes, buffers, body_length) {
+        Ok(root) => Ok(message_bytes(alloc, &root)?),
+        Err(error) => Err(refusal(error)),
+    }
+}
+
+/// The message of a record batch.
+fn lay_batch_message(
+    alloc: Global,
+    rows: u64,
+    nodes: &[u8],
+    buffers: &[u8],
+    body_length: u64,
+) -> std::result::Result<Laid, LayError>
+    ensures { Lays result (piece_of (batch_message rows nodes.now buffers.now body_length)) }
+{
     let nodes = lay_structs(alloc, nodes)?;
     let buffers = lay_structs(alloc, buffers)?;
     let slots = [
@@ -89,20 +179,29 @@ pub fn record_batch_message(
         Slot::Refers(&buffers),
         Slot::Absent,
     ];
-    let table = lay_table(alloc, &slots).map_err(refusal)?;
-    message(alloc, RECORD_BATCH, &table, body_length)
+    let table = lay_table(alloc, &slots)?;
+    lay_message(alloc, RECORD_BATCH, &table, body_length)
 }
 
 /// A vector of structs of 16 bytes.
-fn lay_structs(alloc: Global, content: &[u8]) -> Result<Laid> {
+fn lay_structs(alloc: Global, content: &[u8]) -> std::result::Result<Laid, LayError>
+    ensures { Lays result (piece_of (structs_of content.now)) }
+{
     match u32::try_from(content.len() / 16) {
-        Ok(count) => lay_elements(alloc, count, content).map_err(refusal),
-        Err(_) => Err(Error::Overflow),
+        Ok(count) => lay_elements(alloc, count, content),
+        Err(_) => Err(LayError::TooLong),
     }
 }
 
 /// A message of a header and the length of its body.
-fn message(alloc: Global, tag: u8, header: &Laid, body_length: u64) -> Result<Vec<u8>> {
+fn lay_message(
+    alloc: Global,
+    tag: u8,
+    header: &Laid,
+    body_length: u64,
+) -> std::result::Result<Laid, LayError>
+    ensures { Lays result (layout.table_piece (layout.number w16 4 ∷ layout.number w8 tag ∷ layout.refers (piece_view header.now) ∷ layout.number w64 body_length ∷ layout.absent ∷ [])) }
+{
     let slots = [
         Slot::Short(V5),
         Slot::Byte(tag),
@@ -110,6 +209,5 @@ fn message(alloc: Global, tag: u8, header: &Laid, body_length: u64) -> Result<Ve
         Slot::Long(body_length),
         Slot::Absent,
     ];
-    let root = lay_table(alloc, &slots).map_err(refusal)?;
-    Ok(message_bytes(alloc, &root)?)
+    lay_table(alloc, &slots)
 }

@@ -59,7 +59,8 @@ pub struct Buffer {
     pub length: i64,
 }
 
-/// The message that the bytes of its metadata give. A header of another kind than these three is refused.
+/// The message that the bytes of its metadata give. A header of another kind than these three is refused. A schema has no body, and what
+/// its message states of one is not looked at.
 #[tactic(auto, unfolding(ipc_format_grammar::specs::Messages::message_in))]
 pub fn message_in(bytes: &[u8]) -> Option<Message>
     ensures { option_map message_view result ≡ format.message_in bytes.now }
@@ -67,12 +68,15 @@ pub fn message_in(bytes: &[u8]) -> Option<Message>
     let root = root_of(bytes)?;
     let tag = u8_field(bytes, &root, 1, 0)?;
     let table = table_field(bytes, &root, 2)??;
-    let body_length = i64_field(bytes, &root, 3, 0)?;
     let header = match tag {
         1 => Header::Schema(table),
         2 => Header::DictionaryBatch(table),
         3 => Header::RecordBatch(table),
         _ => return None,
+    };
+    let body_length = match header {
+        Header::Schema(_) => 0,
+        Header::DictionaryBatch(_) | Header::RecordBatch(_) => i64_field(bytes, &root, 3, 0)?,
     };
     Some(Message {
         header,

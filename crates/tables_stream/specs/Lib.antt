@@ -2,3 +2,4 @@ pub mod Texts
 pub mod Frames
 pub mod Batches
 pub mod Tables
+pub mod Cells

@@ -1,5 +1,5 @@
 -- What a table holds.
-use Rattle.std.specs.Prelude.{ℕ, ◌+◌, ℤ, List, [], ◌∷◌, map, Option, sum_by}
+use Rattle.std.specs.Prelude.{ℕ, ℤ, List, Option, sum_by}
 use Rattle.columnar_memory.specs.declared.Schema.{Schema}
 use Rattle.tables_stream.specs.Batches.{window_cells, rows_of_cells}
 use Rattle.tables_stream.specs.declared.batches.Batch.{Batch}

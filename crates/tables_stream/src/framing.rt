@@ -81,7 +81,9 @@ fn framed_at<'a>(bytes: &'a [u8], metadata: &'a [u8], place: usize) -> Option<(F
     let header = message.header;
     let size = match header {
         Header::Schema(_) => 0,
-        Header::DictionaryBatch(_) | Header::RecordBatch(_) => usize::try_from(message.body_length).ok()?,
+        Header::DictionaryBatch(_) | Header::RecordBatch(_) => usize::try_from(
+            message.body_length,
+        ).ok()?,
     };
     let body = window(bytes, place, size)?;
     let framed = Framed {

@@ -9,6 +9,7 @@ mod cuts;
 mod fault;
 mod framing;
 mod output;
+mod parts;
 mod reading;
 mod table;
 mod writing;

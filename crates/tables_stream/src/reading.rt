@@ -3,16 +3,15 @@ ghost use Rattle.std.specs.Prelude.{◌≡◌, ◌+◌, ◌≤◌, ◌<◌, ◌^
 ghost use Rattle.tables_stream.specs.Frames.{GoesOnFrom};
 
 use crate::batches::Batch;
-use crate::columns::{BatchBytes, int32_cells};
+use crate::columns::int32_cells;
 use crate::fault::Fault;
 use crate::framing::{NextMessage, next_at};
+use crate::parts::BatchBytes;
 use columnar_memory::{Error, Result, Schema};
 use ipc_format::flatbuffers::Table;
 use std::alloc::Global;
 use std::rc::Rc;
-use tables_metadata::{
-    Header, lengths_sum, record_batch_in, schema_in, version_in,
-};
+use tables_metadata::{Header, lengths_sum, record_batch_in, schema_in, version_in};
 
 /// How a table's bytes stand: in Arrow's file format or its streaming format.
 #[derive(Clone, Copy, Debug, PartialEq, Eq)]
@@ -115,6 +114,9 @@ fn columns_of(
     ensures rows { IfOk result (λ found. All (λ column. found.1 ≤ length column.items) found.0.items) }
     ensures none { IfOk result (λ found. found.0.items ≡ [] → found.1 ≡ 0) }
 {
+    if width > bytes.batch.nodes.count {
+        return Err(Error::OutOfSpec("MissingMessageNodes"));
+    }
     let mut columns: Vec<Vec<Option<i32>>> = Vec::new(alloc);
     let mut rows = 0;
     for k in 0..width {

@@ -2,8 +2,8 @@
 ghost use Rattle.std.specs.Prelude.{◌≡◌, ◌+◌, ◌≤◌, ◌<◌, ◌^◌, ◌↔◌, IsTrue, IfOk};
 ghost use Rattle.tables_stream.specs.Tables.{row_count};
 
-use crate::cuts::cut_batches;
 use crate::batches::Batch;
+use crate::cuts::cut_batches;
 use crate::fault::Fault;
 use crate::output::Faults;
 use crate::reading::{Form, Next, first_schema, next_batch};
@@ -101,18 +101,17 @@ impl Table {
     /// - `Memory`: there was no memory, also in the writer.
     ///
     /// What was written before an error stays written.
-    pub fn write_stream<W: Write + Faults>(&self, alloc: Global, writer: &mut W) -> Result<(), Fault> {
+    pub fn write_stream<W: Write + Faults>(
+        &self,
+        alloc: Global,
+        writer: &mut W,
+    ) -> Result<(), Fault> {
         Ok(write_table(alloc, writer, &self.schema, &self.batches)?)
     }
 }
 
 /// The table of the messages from a place on, under a schema.
-fn read_batches(
-    alloc: Global,
-    bytes: &[u8],
-    schema: Schema,
-    first: usize,
-) -> Result<Table, Fault> {
+fn read_batches(alloc: Global, bytes: &[u8], schema: Schema, first: usize) -> Result<Table, Fault> {
     let width = schema.fields.len();
     let mut batches = Vec::new(alloc);
     let mut rows: usize = 0;

@@ -16,9 +16,11 @@ const END: [u8; 8] = [0xff, 0xff, 0xff, 0xff, 0, 0, 0, 0];
 const MOST_METADATA: usize = 2_147_483_640;
 /// Buffers begin at multiples of this.
 const ALIGNMENT: usize = 64;
+
 const ZEROS: [u8; 64] = [0; 64];
 /// How many cells' values are made at once, and how many cells' validity bits.
 const VALUES_AT_ONCE: usize = 1024;
+
 const BITS_AT_ONCE: usize = 32_768;
 
 /// Writes a schema and batches as a stream.
@@ -56,23 +58,34 @@ fn put_metadata<W: Write + Faults>(writer: &mut W, metadata: &[u8]) -> Result<()
 fn put_batch<W: Write + Faults>(alloc: Global, writer: &mut W, batch: &Batch) -> Result<()> {
     let mut nodes = Vec::new(alloc);
     let mut buffers = Vec::new(alloc);
+    let mut null_counts = Vec::new(alloc);
     let mut body_length: u64 = 0;
     for column in batch.columns.as_slice() {
         let cells = &column[batch.start..batch.start + batch.rows];
-        body_length = lay_column(&mut nodes, &mut buffers, body_length, cells)?;
+        let nulls = null_count(cells);
+        null_counts.push(nulls)?;
+        body_length = lay_column(&mut nodes, &mut buffers, body_length, cells.len(), nulls)?;
     }
     let rows = batch.rows as u64;
     let metadata = record_batch_message(alloc, rows, &nodes, &buffers, body_length)?;
     put_metadata(writer, &metadata)?;
-    for column in batch.columns.as_slice() {
+    for (k, column) in batch.columns.iter().enumerate() {
         let cells = &column[batch.start..batch.start + batch.rows];
-        put_column(writer, cells)?;
+        let has_nulls = null_counts.get(k).is_some_and(|nulls| *nulls > 0);
+        put_column(writer, cells, has_nulls)?;
     }
     Ok(())
 }
 
-fn null_count(cells: &[Option<i32>]) -> usize {
-    cells.iter().filter(|cell| cell.is_none()).count()
+/// How many cells are null.
+fn null_count(cells: &[Option<i32>]) -> usize
+    ensures { result ≤ length cells.now }
+{
+    let mut nulls = 0;
+    for cell in cells {
+        nulls += if cell.is_none() { 1 } else { 0 };
+    }
+    nulls
 }
 
 /// Adds a column's node and its two buffers, which begin at `offset` of the body, and answers where they end.
@@ -80,10 +93,11 @@ fn lay_column(
     nodes: &mut Vec<u8>,
     buffers: &mut Vec<u8>,
     offset: u64,
-    cells: &[Option<i32>],
+    count: usize,
+    nulls: usize,
 ) -> Result<u64> {
-    let count = cells.len() as u64;
-    let nulls = null_count(cells) as u64;
+    let count = count as u64;
+    let nulls = nulls as u64;
     nodes.extend_from_slice(&count.to_le_bytes())?;
     nodes.extend_from_slice(&nulls.to_le_bytes())?;
     let validity_length = if nulls > 0 { count.div_ceil(8) } else { 0 };
@@ -98,16 +112,22 @@ fn lay_column(
 fn lay_buffer(buffers: &mut Vec<u8>, offset: u64, length: u64) -> Result<u64> {
     buffers.extend_from_slice(&offset.to_le_bytes())?;
     buffers.extend_from_slice(&length.to_le_bytes())?;
-    let end = offset.checked_add(length).and_then(|end| end.checked_next_multiple_of(64));
+    let end = offset
+        .checked_add(length)
+        .and_then(|end| end.checked_next_multiple_of(64));
     match end {
         Some(end) if end <= i64::MAX as u64 => Ok(end),
         _ => Err(Error::Overflow),
     }
 }
 
-/// Writes a column's buffers, each with zeros up to the next multiple of 64.
-fn put_column<W: Write + Faults>(writer: &mut W, cells: &[Option<i32>]) -> Result<()> {
-    if null_count(cells) > 0 {
+/// Writes a column's buffers, each with zeros up to the next multiple of 64; the first is its validity bitmap, if a cell is null.
+fn put_column<W: Write + Faults>(
+    writer: &mut W,
+    cells: &[Option<i32>],
+    has_nulls: bool,
+) -> Result<()> {
+    if has_nulls {
         put_validity(writer, cells)?;
         put_padding(writer, cells.len().div_ceil(8))?;
     }

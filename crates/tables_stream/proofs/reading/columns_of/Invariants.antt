@@ -1,5 +1,5 @@
 -- Each column so far has as many cells as the first.
-use Rattle.std.proofs.Common.{◌≡◌, ◌≤◌, ℕ, ◌<◌, All, length, vec_len}
+use Rattle.std.proofs.Common.{◌≡◌, ◌≤◌, All, length, vec_len}
 use Rattle.tables_stream.proofs.reading.columns_of.Given as goal
 
 abbrev pub invariant-loop-k : goal.invariant-loop-k

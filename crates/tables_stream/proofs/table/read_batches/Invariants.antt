@@ -1,5 +1,5 @@
 -- The rows so far are those of the batches so far, and each message stands behind the last.
-use Rattle.std.proofs.Common.{◌≡◌, ◌≤◌, ◌-◌, length, map, sum_by}
+use Rattle.std.proofs.Common.{◌≡◌, ◌-◌, length, map, sum_by}
 use Rattle.tables_stream.specs.Batches.{rows_of_cells}
 use Rattle.tables_stream.specs.Tables.{cells_of}
 use Rattle.tables_stream.proofs.table.read_batches.Given as goal

@@ -1,0 +1,37 @@
+-- What is written, and why something isn't.
+use Rattle.std.specs.Prelude.{ℕ, ◌/◌, ◌≤◌, ◌^◌, List, length}
+use Rattle.std.specs.Int.{w64}
+use Rattle.columnar_memory.specs.declared.Error.{Error}
+use Rattle.columnar_memory.specs.declared.Error.TheVariants.{NotYetImplemented, Overflow, OutOfMemory}
+use Rattle.columnar_memory.specs.declared.Schema.{Schema}
+use Rattle.ipc_format.specs.Objects.{Object, laid, table, elements, number_then, refers_then, absent_then, no_field}
+use Rattle.ipc_format.specs.Schemas.{no_ids}
+use Rattle.ipc_format.specs.SchemaObjects.{message_object, schema_message}
+use Rattle.ipc_format.specs.declared.flatbuffers.LayError.{LayError}
+use Rattle.ipc_format.specs.declared.flatbuffers.LayError.TheVariants.{Memory, TooLong}
+use Rattle.tables_metadata.specs.FirstPath.{IsFirstPath}
+
+-- structs of 16 bytes, by their bytes
+abbrev pub structs_of : List ℕ → Object
+structs_of content = elements (length content / 16) content
+
+-- the message of a record batch, by the bytes of its nodes and buffers
+abbrev pub batch_message : ℕ → List ℕ → List ℕ → ℕ → Object
+batch_message rows nodes buffers body_length = message_object 3 (table (number_then w64 rows (refers_then (structs_of nodes) (refers_then (structs_of buffers) (absent_then no_field))))) body_length
+
+-- why a message isn't written: memory ran out, or its bytes are 2 GiB or more
+abbrev pub IsRefusal : Error → List ℕ → Type 0
+IsRefusal OutOfMemory bytes = Unit {0}
+IsRefusal Overflow bytes = 2 ^ 31 ≤ length bytes
+IsRefusal _ bytes = ⊥
+
+-- why the message of a schema isn't written: the schema is none of those that are written so far, or one of these
+abbrev pub IsSchemaRefusal : Error → Schema → Type 0
+IsSchemaRefusal (NotYetImplemented what) schema = ¬ IsFirstPath schema
+IsSchemaRefusal error schema = IsRefusal error (laid (schema_message schema no_ids))
+
+-- the error for what could not be laid
+abbrev pub IsRefusalOf : LayError → Error → Type 0
+IsRefusalOf Memory OutOfMemory = Unit {0}
+IsRefusalOf TooLong Overflow = Unit {0}
+IsRefusalOf _ _ = ⊥

@@ -1,0 +1,31 @@
+-- The cells of a column as the values that the format gives.
+use Rattle.std.specs.Prelude.{◌≡◌, ℕ, ℤ, true, List, Option, Some, None, Result, Ok, Err}
+use Rattle.columnar_memory.specs.declared.Error.{Error}
+use Rattle.columnar_memory.specs.declared.Error.TheVariants as errors
+use Rattle.columnar_memory.specs.declared.PrimitiveType.TheVariants as kinds
+use Rattle.nested_arrays.specs.Slots.{Slot, null, number}
+use Rattle.ipc_format.specs.Columns as format
+use Rattle.tables_metadata.specs.Views.{batch_view}
+use Rattle.std.specs.Borrow.{Bor}
+use Rattle.tables_stream.specs.declared.parts.BatchBytes.{BatchBytes}
+
+-- a cell: a null, or a signed 32-bit number
+abbrev pub slot_of : Option ℤ → Slot
+slot_of None = null
+slot_of (Some n) = number kinds.Int32 n
+
+-- a batch as the definition has it, little-endian
+abbrev pub batch_of : BatchBytes → format.Batch
+batch_of bytes = record { metadata = bytes.metadata.now; parts = batch_view bytes.batch; body = bytes.body.now; is_little_endian = true }
+
+-- what was read is what the definition gives; what was refused as out of specification it doesn't give; want of memory says nothing
+abbrev pub Reads : {A B : Type 0} → (A → B) → Result A Error → Option B → Type 0
+Reads view (Ok x) read = read ≡ Some (view x)
+Reads view (Err errors.OutOfMemory) read = Unit {0}
+Reads view (Err (errors.OutOfSpec what)) read = read ≡ None
+Reads view (Err _) read = ⊥
+
+-- the validity that a bitmap gives, and where there is none, all slots' validity
+abbrev pub bits_of : Option (Bor (List ℕ)) → format.Validity
+bits_of None = format.all_valid
+bits_of (Some bits) = format.bitmap bits.now
