@@ -2,6 +2,7 @@
 use Rattle.std.specs.Prelude.{ℕ, List, [], ◌∷◌, codes, Option, Some, None, if◌then◌else◌}
 use Rattle.std.specs.Str.{bytes_eq}
 use Rattle.tables.specs.Contents.{Contents, Holds, Sets}
+use Rattle.tables.specs.Cutting.{IsCut}
 use Rattle.tables.specs.Number.{number_of}
 use Rattle.tables.specs.declared.commands.Command.{Command}
 use Rattle.tables.specs.declared.commands.Command.TheVariants as variant
@@ -30,7 +31,8 @@ abbrev pub command_of : List (List ℕ) → Option Asked
 command_of [] = None
 command_of (name ∷ rest) = if bytes_eq name (codes "cut") then cut_of rest else None
 
--- a command that is done found bytes under each name that it reads, and put bytes under the name that it writes, and all else stayed
+-- a command that is done found bytes under each name that it reads, and put what they make under the name that it writes, and all else
+-- stayed
 abbrev pub IsDone : Asked → Option Contents → Option Contents → Type 0
 IsDone (Cut offset length input output) old new =
-    (read written : List ℕ) × Holds old input (Some read) × Sets old new output written
+    (read written : List ℕ) × Holds old input (Some read) × Sets old new output written × IsCut offset length read written

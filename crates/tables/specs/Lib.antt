@@ -1,3 +1,4 @@
+pub mod Cutting
 pub mod Command
 pub mod Contents
 pub mod Failure

@@ -1,10 +1,12 @@
-ghost use Rattle.std.specs.Prelude.{◌≡◌, ◌≢◌, ◌↔◌, ◌++◌, ℕ, List, IfSome, OnOk, OnErr, if◌then◌else◌, map, codes, nat_eq};
+ghost use Rattle.std.specs.Prelude.{◌≡◌, ◌≢◌, ◌↔◌, ◌+◌, ◌≤◌, ◌<◌, ◌++◌, ℕ, List, IfSome, IfOk, OnOk, OnErr, if◌then◌else◌, map, codes, nat_eq};
 ghost use Rattle.std.specs.List.{starts_with};
 ghost use Rattle.std.specs.String.{string_bytes};
 ghost use Rattle.std.specs.Io.KnownBytes.{Appends};
 ghost use Rattle.tables.specs.Contents.{Keeps, Holds};
 ghost use Rattle.tables.specs.Command.{asked_by, command_of, IsDone};
 ghost use Rattle.tables.specs.Status.{IsStatus};
+ghost use Rattle.tables.specs.Cutting.{cut_bytes};
+ghost use Rattle.tables_stream.specs.Tables.{row_count};
 ghost use Rattle.tables.specs.Failure.{failure_text};
 
 use crate::commands::Command;
@@ -88,8 +90,10 @@ fn execute<P: Places>(alloc: Global, places: &mut P, command: &Command<'_>) -> R
         input,
         output,
     } = *command;
-    let table = read_table(alloc, places, input)?;
-    let bytes = cut_stream(alloc, table, offset, length)?;
+    let bytes = read_input(places, input)?;
+    let form = form_of(&bytes);
+    let table = Table::read(alloc, form, &bytes).map_err(Failure::Fault)?;
+    let bytes = cut_stream(alloc, &table, offset, length, bytes)?;
     match places.put(output, bytes) {
         Ok(true) => Ok(()),
         Ok(false) => Err(Failure::UnwritableOutput),
@@ -97,19 +101,15 @@ fn execute<P: Places>(alloc: Global, places: &mut P, command: &Command<'_>) -> R
     }
 }
 
-// The table that stands under a name. The bytes that it came from are let go.
-fn read_table<P: Places>(alloc: Global, places: &mut P, name: &str) -> Result<Table, Failure>
+// The bytes that stand under a name.
+fn read_input<P: Places>(places: &mut P, name: &str) -> Result<Vec<u8>, Failure>
     ensures kept { Keeps (P.contents places.old) (P.contents places.new) }
-    ensures read { OnOk result
-        ((bytes : List ℕ) × Holds (P.contents places.old) name.now (Some bytes)) }
+    ensures read { IfOk result (λ bytes. Holds (P.contents places.old) name.now (Some bytes.items)) }
     ensures unreadable { result ≡ Err Failure.UnreadableInput →
         Holds (P.contents places.old) name.now None }
 {
     match places.get(name) {
-        Ok(Some(bytes)) => {
-            let form = form_of(&bytes);
-            Table::read(alloc, form, &bytes).map_err(Failure::Fault)
-        }
+        Ok(Some(bytes)) => Ok(bytes),
         Ok(None) => Err(Failure::UnreadableInput),
         Err(_) => Err(Failure::Fault(Fault::Memory)),
     }
@@ -127,26 +127,28 @@ fn form_of(bytes: &[u8]) -> Form
     }
 }
 
-// The stream of `length` rows from row `offset` on.
+// The stream of `length` rows from row `offset` on. It is made in the memory of `room`, whose bytes
+// are let go.
 fn cut_stream(
     alloc: Global,
-    table: Table,
+    table: &Table,
     offset: usize,
     length: usize,
-) -> Result<Vec<u8>, Failure> {
-    let window = cut_window(alloc, table, offset, length)?;
-    let mut bytes = Vec::new(alloc);
+    room: Vec<u8>,
+) -> Result<Vec<u8>, Failure>
+    ensures done { IfOk result (λ bytes. (offset + length ≤ row_count table.now) × (bytes.items ≡ cut_bytes offset length table.now)) }
+    ensures outside { result ≡ Err Failure.RangeOutsideRows → row_count table.now < offset + length }
+{
+    if !table.in_range(offset, length) {
+        return Err(Failure::RangeOutsideRows);
+    }
+    let window = table.cut(alloc, offset, length).map_err(Failure::Fault)?;
+    let mut bytes = room;
+    bytes.clear();
     match window.write_stream(alloc, &mut bytes) {
         Ok(()) => Ok(bytes),
         Err(fault) => Err(Failure::Fault(fault)),
     }
-}
-
-fn cut_window(alloc: Global, table: Table, offset: usize, length: usize) -> Result<Table, Failure> {
-    if !table.in_range(offset, length) {
-        return Err(Failure::RangeOutsideRows);
-    }
-    table.cut(alloc, offset, length).map_err(Failure::Fault)
 }
 
 fn report<E: Write>(err: &mut E, failure: &Failure) -> io::Result<()>

@@ -1,9 +1,10 @@
--- Windows of a function's values.
-use Rattle.std.proofs.Common.{◌≡◌, ◌∙◌, ℕ, zero, suc, ◌+◌, List, [], ◌∷◌, ◌++◌, map, refl, ap, sym, arith, add-zero, add-one, zero-add}
-use Rattle.std.proofs.Common.{ℤ}
-use Rattle.std.specs.Prelude.{Option}
-use Rattle.nested_arrays.specs.Slots.{Slot, window}
-use Rattle.tables_stream.specs.Cells.{slot_of}
+-- Windows of a function's values, and the cells that they make.
+use Rattle.std.proofs.Common.{◌≡◌, ◌∙◌, ℕ, zero, suc, ◌+◌, ℤ, Bool, true, false, List, [], ◌∷◌, ◌++◌, length, map, refl, ap, ap₂, arith, add-zero, add-one, zero-add, if◌then◌else◌}
+use Rattle.std.specs.Prelude.{Some, None}
+use Rattle.columnar_memory.specs.declared.PrimitiveType.TheVariants as kinds
+use Rattle.nested_arrays.specs.Slots.{Slot, null, number, window}
+use Rattle.ipc_format_grammar.specs.Columns.{Validity, is_valid_at, int32_at, int32_slot}
+use Rattle.tables_stream.specs.Cells.{slot_of, cells_from, cells_of}
 
 -- one more place: the value there comes last
 pub window_more : {A : Type 0} (f : ℕ → A) (first n : ℕ) → window f first (suc n) ≡ window f first n ++ f (first + n) ∷ []
@@ -16,12 +17,31 @@ window_more f first (suc n) =
 pub window_next : {A : Type 0} (f : ℕ → A) (i : ℕ) → window f 0 (i + 1) ≡ window f 0 i ++ f i ∷ []
 window_next f i = rw add-one (window_more f 0 i ∙ ap (λ k. window f 0 i ++ f k ∷ []) (zero-add i))
 
--- one more cell beside one more value
-map_more : (cells : List (Option ℤ)) (cell : Option ℤ) → map slot_of (cells ++ cell ∷ []) ≡ map slot_of cells ++ slot_of cell ∷ []
-map_more [] cell = refl
-map_more (first ∷ cells) cell = ap (λ rest. slot_of first ∷ rest) (map_more cells cell)
+-- a window has as many values as it says
+length_window : (f : ℕ → ℤ) (first n : ℕ) → length (window f first n) ≡ n
+length_window f first zero = refl
+length_window f first (suc n) = ap suc (length_window f (first + 1) n)
 
-pub cells_more : (f : ℕ → Slot) (i : ℕ) (cells more : List (Option ℤ)) (cell : Option ℤ) → more ≡ cells ++ cell ∷ [] → map slot_of cells ≡ window f 0 i → slot_of cell ≡ f i → map slot_of more ≡ window f 0 (i + 1)
-cells_more f i cells more cell pushed so_far here =
-    ap (map slot_of) pushed ∙ map_more cells cell ∙ ap (λ xs. xs ++ slot_of cell ∷ []) so_far
-    ∙ ap (λ x. window f 0 i ++ x ∷ []) here ∙ sym (window_next f i)
+pub length_of_window : (f : ℕ → ℤ) (n : ℕ) (values : List ℤ) → values ≡ window f 0 n → length values ≡ n
+length_of_window f n values read = ap length read ∙ length_window f 0 n
+
+-- as many cells as values
+length_from : (validity : Validity) (i : ℕ) (values : List ℤ) → length (cells_from validity i values) ≡ length values
+length_from validity i [] = refl
+length_from validity i (value ∷ values) = ap suc (length_from validity (i + 1) values)
+
+pub length_of_cells : (validity : Validity) (values : List ℤ) → length (cells_of validity values) ≡ length values
+length_of_cells validity values = length_from validity 0 values
+
+-- the slot of a cell
+slot_of_if : (is_valid : Bool) (value : ℤ) → slot_of (if is_valid then Some value else None) ≡ if is_valid then number kinds.Int32 value else null
+slot_of_if true value = refl
+slot_of_if false value = refl
+
+-- the cells of the numbers that stand in some bytes are the slots of those bytes
+slots_from : (validity : Validity) (bytes : List ℕ) (i n : ℕ) → map slot_of (cells_from validity i (window (int32_at true bytes) i n)) ≡ window (int32_slot true validity bytes) i n
+slots_from validity bytes i zero = refl
+slots_from validity bytes i (suc n) = ap₂ (λ (x : Slot) xs. x ∷ xs) (slot_of_if (is_valid_at validity i) (int32_at true bytes i)) (slots_from validity bytes (i + 1) n)
+
+pub slots_of_cells : (validity : Validity) (bytes : List ℕ) (values : List ℤ) (n : ℕ) → values ≡ window (int32_at true bytes) 0 n → map slot_of (cells_of validity values) ≡ window (int32_slot true validity bytes) 0 n
+slots_of_cells validity bytes values n read = ap (λ xs. map slot_of (cells_of validity xs)) read ∙ slots_from validity bytes 0 n

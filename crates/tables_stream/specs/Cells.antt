@@ -1,5 +1,5 @@
 -- The cells of a column as the values that the format gives.
-use Rattle.std.specs.Prelude.{◌≡◌, ℕ, ℤ, true, List, Option, Some, None, Result, Ok, Err}
+use Rattle.std.specs.Prelude.{◌≡◌, ℕ, ◌+◌, ℤ, true, List, [], ◌∷◌, Option, Some, None, Result, Ok, Err, if◌then◌else◌}
 use Rattle.columnar_memory.specs.declared.Error.{Error}
 use Rattle.columnar_memory.specs.declared.Error.TheVariants as errors
 use Rattle.columnar_memory.specs.declared.PrimitiveType.TheVariants as kinds
@@ -7,6 +7,8 @@ use Rattle.nested_arrays.specs.Slots.{Slot, null, number}
 use Rattle.ipc_format.specs.Columns as format
 use Rattle.tables_metadata.specs.Views.{batch_view}
 use Rattle.std.specs.Borrow.{Bor}
+use Rattle.std.specs.declared.vec.Vec.{Vec}
+use Rattle.std.specs.declared.alloc.Global.{Global}
 use Rattle.tables_stream.specs.declared.parts.BatchBytes.{BatchBytes}
 
 -- a cell: a null, or a signed 32-bit number
@@ -29,3 +31,16 @@ Reads view (Err _) read = ⊥
 abbrev pub bits_of : Option (Bor (List ℕ)) → format.Validity
 bits_of None = format.all_valid
 bits_of (Some bits) = format.bitmap bits.now
+
+-- the validity that a stored bitmap gives
+abbrev pub validity_of : Option (Vec ℕ Global) → format.Validity
+validity_of None = format.all_valid
+validity_of (Some bits) = format.bitmap bits.items
+
+-- the cells of values whose first has place i: nothing where the validity says null
+abbrev pub cells_from : format.Validity → ℕ → List ℤ → List (Option ℤ)
+cells_from validity i [] = []
+cells_from validity i (value ∷ values) = (if format.is_valid_at validity i then Some value else None) ∷ cells_from validity (i + 1) values
+
+abbrev pub cells_of : format.Validity → List ℤ → List (Option ℤ)
+cells_of validity values = cells_from validity 0 values

@@ -3,3 +3,10 @@ pub mod Frames
 pub mod Batches
 pub mod Tables
 pub mod Cells
+pub mod Cuts
+pub mod Int32
+pub mod Steps
+pub mod Reading
+pub mod Faults
+pub mod Bits
+pub mod Structs

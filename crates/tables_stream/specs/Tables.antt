@@ -1,6 +1,9 @@
 -- What a table holds.
-use Rattle.std.specs.Prelude.{ℕ, ℤ, List, Option, sum_by}
+use Rattle.std.specs.Prelude.{ℕ, ℤ, List, Option, map, sum_by}
 use Rattle.columnar_memory.specs.declared.Schema.{Schema}
+use Rattle.nested_arrays.specs.Slots.{Slot}
+use Rattle.nested_arrays.specs.Tables.{Table, rows_of_batches}
+use Rattle.tables_stream.specs.Cells.{slot_of}
 use Rattle.tables_stream.specs.Batches.{window_cells, rows_of_cells}
 use Rattle.tables_stream.specs.declared.batches.Batch.{Batch}
 
@@ -14,5 +17,13 @@ abbrev pub row_count : Stored → ℕ
 row_count table = sum_by rows_of_cells table.batches
 
 -- the cells of a batch
-abbrev pub cells_of : Batch → List (List (Option ℤ))
-cells_of batch = window_cells batch.start batch.rows batch.columns.value.items
+abbrev pub stored_cells : Batch → List (List (Option ℤ))
+stored_cells batch = window_cells batch.start batch.rows batch.columns.value.items
+
+-- the slots of a batch's cells
+abbrev pub batch_slots : List (List (Option ℤ)) → List (List Slot)
+batch_slots columns = map (map slot_of) columns
+
+-- the table that is stored: its rows under its schema, however they are cut into batches
+abbrev pub as_table : Stored → Table
+as_table stored = record { schema = stored.schema; rows = rows_of_batches (map batch_slots stored.batches) }

@@ -2,6 +2,7 @@
 ghost use Rattle.std.specs.Prelude.{◌≡◌, ◌+◌, ◌≤◌, ◌<◌, ◌^◌, length, All, IfOk};
 ghost use Rattle.tables_stream.specs.Batches.{window_cells, rows_of_cells};
 
+use crate::column::Column;
 use std::alloc::AllocError;
 use std::rc::Rc;
 
@@ -9,10 +10,10 @@ use std::rc::Rc;
 /// no row.
 #[derive(Debug, Drop)]
 pub struct Batch {
-    pub columns: Rc<Vec<Vec<Option<i32>>>>,
+    pub columns: Rc<Vec<Column>>,
     pub start: usize,
     pub rows: usize,
-    ghost in_columns: { All (λ column. start + rows ≤ length column.items) columns.value.items },
+    ghost in_columns: { All (λ column. start + rows ≤ length column) columns.value.items },
     ghost in_memory: { start + rows < 2 ^ 64 },
     ghost counted: { rows ≡ rows_of_cells (window_cells start rows columns.value.items) },
 }

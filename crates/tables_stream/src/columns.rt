@@ -6,6 +6,7 @@ ghost use Rattle.ipc_format.specs.Columns as format;
 ghost use Rattle.tables_metadata.specs.Views.{node_view};
 ghost use Rattle.tables_stream.specs.Cells.{slot_of, batch_of, bits_of, Reads};
 
+use crate::column::Column;
 use crate::parts::BatchBytes;
 use columnar_memory::{Error, Result};
 use ipc_format::flatbuffers::window;
@@ -18,11 +19,13 @@ use tables_metadata::{FieldNode, buffer_at, node_at};
 ///
 /// - `OutOfSpec`: a node or buffer is missing, a length or offset is negative, or a buffer passes the body.
 /// - `OutOfMemory`: there was no memory for the cells.
-#[tactic(auto, using(crate::proofs::Buffers::too_long), unfolding(ipc_format_grammar::specs::Columns::int32_slots))]
-pub fn int32_cells(alloc: Global, bytes: &BatchBytes<'_>, k: usize) -> Result<Vec<Option<i32>>>
-    requires { 2 * k + 1 < 2 ^ 64 }
-    ensures { Reads (λ v. map slot_of v.items) result (format.int32_slots (batch_of bytes.now) None k (2 * k)) }
+#[tactic(auto, using(crate::proofs::Buffers::too_long), unfolding(ipc_format_grammar::specs::Columns::int32_slots, ipc_format_grammar::specs::Messages::struct_at))]
+pub fn int32_cells(alloc: Global, bytes: &BatchBytes<'_>, k: usize) -> Result<Column>
+    ensures { Reads (map slot_of) result (format.int32_slots (batch_of bytes.now) None k (2 * k)) }
 {
+    if k >= bytes.batch.nodes.count {
+        return Err(Error::OutOfSpec("MissingMessageNodes"));
+    }
     let Some(node) = node_at(bytes.metadata, &bytes.batch.nodes, k) else {
         return Err(Error::OutOfSpec("MissingMessageNodes"));
     };
@@ -38,8 +41,8 @@ pub fn int32_cells(alloc: Global, bytes: &BatchBytes<'_>, k: usize) -> Result<Ve
     let Some(values) = taken(bytes, 2 * k + 1, count * 4) else {
         return Err(Error::OutOfSpec("InvalidBuffer"));
     };
-    match cells(alloc, values, validity, count) {
-        Ok(found) => Ok(found),
+    match column_of(alloc, values, validity, count) {
+        Ok(column) => Ok(column),
         Err(_) => Err(Error::OutOfMemory),
     }
 }
@@ -79,76 +82,36 @@ fn taken<'a>(bytes: &BatchBytes<'a>, k: usize, needed: usize) -> Option<&'a [u8]
     window(bytes.body, offset, needed)
 }
 
-/// The cells that values and a validity bitmap give: cell `i` is null where bit `i % 8` of byte `i / 8` is not set.
-fn cells(
+/// The column that values and a validity bitmap give: cell `i` is null where bit `i % 8` of byte `i / 8` is not set.
+#[tactic(auto, using(crate::proofs::Windows::slots_of_cells, crate::proofs::Windows::length_of_window))]
+fn column_of(
     alloc: Global,
     values: &[u8],
     validity: Option<&[u8]>,
     count: usize,
-) -> result::Result<Vec<Option<i32>>, AllocError>
+) -> result::Result<Column, AllocError>
     requires values { count * 4 ≤ length values.now }
     requires validity { ForSome validity (λ bits. count ≤ 8 * length bits.now) }
-    ensures { IfOk result (λ v. map slot_of v.items ≡ window (format.int32_slot true (bits_of validity.entry) values.now) 0 count) }
+    ensures { IfOk result (λ column. map slot_of column ≡ window (format.int32_slot true (bits_of validity.entry) values.now) 0 count) }
 {
+    let values = numbers(alloc, values, count)?;
     match validity {
-        None => valid_cells(alloc, values, count),
-        Some(bits) => marked_cells(alloc, values, bits, count),
+        None => Ok(Column::new(values, None)),
+        Some(bits) => Ok(Column::new(values, Some(bits.to_vec(alloc)?))),
     }
 }
 
-/// The cells of values that are all valid.
-fn valid_cells(
-    alloc: Global,
-    values: &[u8],
-    count: usize,
-) -> result::Result<Vec<Option<i32>>, AllocError>
+/// The first `count` 32-bit numbers of some values.
+#[tactic(auto, using(crate::proofs::Windows::window_next))]
+fn numbers(alloc: Global, values: &[u8], count: usize) -> result::Result<Vec<i32>, AllocError>
     requires { count * 4 ≤ length values.now }
-    ensures { IfOk result (λ v. map slot_of v.items ≡ window (format.int32_slot true format.all_valid values.now) 0 count) }
+    ensures { IfOk result (λ v. v.items ≡ window (format.int32_at true values.now) 0 count) }
 {
-    let mut out = Vec::with_capacity(alloc, count)?;
+    let mut out: Vec<i32> = Vec::with_capacity(alloc, count)?;
     for i in 0..count {
-        out.push(valid_cell(values, i))?;
+        out.push(number(values, i))?;
     }
     Ok(out)
-}
-
-/// Cell `i` of values that are all valid.
-fn valid_cell(values: &[u8], i: usize) -> Option<i32>
-    requires { (i + 1) * 4 ≤ length values.now }
-    ensures { slot_of result ≡ format.int32_slot true format.all_valid values.now i }
-{
-    Some(number(values, i))
-}
-
-/// The cells of values where a bitmap marks those that are valid.
-fn marked_cells(
-    alloc: Global,
-    values: &[u8],
-    bits: &[u8],
-    count: usize,
-) -> result::Result<Vec<Option<i32>>, AllocError>
-    requires values { count * 4 ≤ length values.now }
-    requires bits { count ≤ 8 * length bits.now }
-    ensures { IfOk result (λ v. map slot_of v.items ≡ window (format.int32_slot true (format.bitmap bits.now) values.now) 0 count) }
-{
-    let mut out = Vec::with_capacity(alloc, count)?;
-    for i in 0..count {
-        out.push(cell(values, bits, i))?;
-    }
-    Ok(out)
-}
-
-/// Cell `i` of values and a bitmap.
-fn cell(values: &[u8], bits: &[u8], i: usize) -> Option<i32>
-    requires value { (i + 1) * 4 ≤ length values.now }
-    requires bit { i < 8 * length bits.now }
-    ensures { slot_of result ≡ format.int32_slot true (format.bitmap bits.now) values.now i }
-{
-    if (bits[i / 8] >> (i % 8)) % 2 == 1 {
-        Some(number(values, i))
-    } else {
-        None
-    }
 }
 
 /// The 32-bit number `i` of some values.

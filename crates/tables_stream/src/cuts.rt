@@ -1,7 +1,8 @@
 //! Rows of a table, as windows of its batches.
 ghost use Rattle.std.specs.Prelude.{◌≡◌, map, sum_by, IfOk};
 ghost use Rattle.tables_stream.specs.Batches.{rows_of_cells};
-ghost use Rattle.tables_stream.specs.Tables.{cells_of};
+ghost use Rattle.tables_stream.specs.Cuts.{cut_of};
+ghost use Rattle.tables_stream.specs.Tables.{stored_cells};
 
 use crate::batches::Batch;
 use std::alloc::{AllocError, Global};
@@ -13,7 +14,8 @@ pub fn cut_batches(
     offset: usize,
     length: usize,
 ) -> Result<(Vec<Batch>, usize), AllocError>
-    ensures { IfOk result (λ cut. cut.1 ≡ sum_by rows_of_cells (map cells_of cut.0.items)) }
+    ensures rows { IfOk result (λ cut. cut.1 ≡ sum_by rows_of_cells (map stored_cells cut.0.items)) }
+    ensures batches { IfOk result (λ cut. map stored_cells cut.0.items ≡ cut_of offset length (map stored_cells batches.now)) }
 {
     let mut windows = Vec::new(alloc);
     let mut skipped = 0;

@@ -1,6 +1,7 @@
 //! What can go wrong with a table, and the text that says so.
 ghost use Rattle.std.specs.Prelude.{◌≡◌};
 ghost use Rattle.tables_stream.specs.Texts.{text_of, ipc_text_of, lower_text_of, bar_text_of};
+ghost use Rattle.tables_stream.specs.Faults.{fault_of};
 ghost use Rattle.tables_stream.specs.declared.fault.Fault.TheVariants.{Memory};
 
 use columnar_memory::Error;
@@ -127,6 +128,8 @@ impl<T: Drop> From<AllocFailed<T>> for Fault {
 
 /// What a lower crate refused in a stream; its want of memory is ours.
 impl From<Error> for Fault {
+    ghost from_gives = { λ error fault. fault ≡ fault_of error };
+
     fn from(error: Error) -> Self {
         match error {
             Error::OutOfMemory => Fault::Memory,

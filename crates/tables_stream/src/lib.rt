@@ -4,6 +4,7 @@
 #![tactic(auto)]
 
 mod batches;
+mod column;
 mod columns;
 mod cuts;
 mod fault;

@@ -1,5 +1,6 @@
 //! Writing to a device whose failures are counted.
-ghost use Rattle.std.specs.Prelude.{◌≡◌};
+ghost use Rattle.std.specs.Prelude.{◌≡◌, OnOk};
+ghost use Rattle.std.specs.Io.KnownBytes.{Appends};
 
 use columnar_memory::{Error, Result};
 use std::io;
@@ -40,7 +41,9 @@ fn refusal(error: io::Error, has_failed: bool) -> Error {
 /// - `Io`: the device failed; its count of failures rose.
 /// - `OutOfSpec`: it took nothing of a piece, or refused it without a failure.
 /// - `OutOfMemory`: it had no memory for them.
-pub fn put<W: Write + Faults>(writer: &mut W, bytes: &[u8]) -> Result<()> {
+pub fn put<W: Write + Faults>(writer: &mut W, bytes: &[u8]) -> Result<()>
+    ensures { OnOk result (Appends (W.contents writer.old) (W.contents writer.new) bytes.now) }
+{
     let mut rest = bytes;
     while !rest.is_empty() {
         let before = writer.faults();

@@ -1,8 +1,18 @@
 //! Tables from bytes.
-ghost use Rattle.std.specs.Prelude.{◌≡◌, ◌+◌, ◌≤◌, ◌<◌, ◌^◌, [], length, All, IfOk};
+ghost use Rattle.std.specs.Prelude.{◌≡◌, ◌+◌, ◌*◌, ◌≤◌, ◌<◌, ◌^◌, [], length, All, IfOk};
+ghost use Rattle.ipc_format.specs.Views.{table_of};
+ghost use Rattle.tables_stream.specs.Cells as cells;
+ghost use Rattle.tables_stream.specs.Cells.{Reads};
+ghost use Rattle.tables_stream.specs.Batches.{rows_of_cells, is_as_long};
 ghost use Rattle.tables_stream.specs.Frames.{GoesOnFrom};
+ghost use Rattle.tables_stream.specs.Tables.{batch_slots, stored_cells};
+ghost use Rattle.tables_stream.specs.Int32.{int32_columns, agreeing, int32_batch, step_at, first_schema, Decodes};
+ghost use Rattle.tables_metadata.specs.Reading as metadata;
+ghost use Rattle.tables_metadata.specs.Reading.{IsReadSoFar, schema_found};
+ghost use Rattle.tables_stream.specs.Steps.{step_view};
 
 use crate::batches::Batch;
+use crate::column::Column;
 use crate::columns::int32_cells;
 use crate::fault::Fault;
 use crate::framing::{NextMessage, next_at};
@@ -24,7 +34,11 @@ pub enum Form {
 ///
 /// - `OutOfSpec`: the bytes are cut off, or the first message is no schema.
 /// - `NotYetImplemented`: a column isn't a 32-bit integer, or more is said of the schema than this reads.
-pub fn first_schema(alloc: Global, bytes: &[u8]) -> Result<(Schema, usize)> {
+#[tactic(auto, unfolding(crate::specs::Int32::first_schema, ipc_format_grammar::specs::Framing::first_of))]
+pub fn first_schema(alloc: Global, bytes: &[u8]) -> Result<(Schema, usize)>
+    ensures value { metadata.Reads (λ read found. (found.0 ≡ schema_found read.0) × (found.1 ≡ read.1)) (λ found. IsReadSoFar found.0) result (first_schema bytes.now) }
+    ensures reach { IfOk result (λ found. (0 < found.1) × (found.1 ≤ length bytes.now)) }
+{
     let Some(NextMessage::Message(framed, after)) = next_at(bytes, 0) else {
         return Err(Error::OutOfSpec("MissingSchema"));
     };
@@ -52,8 +66,10 @@ pub enum Next {
 /// - `OutOfSpec`: the bytes there are no record batch of that many columns.
 /// - `NotYetImplemented`: the batch is compressed.
 /// - `OutOfMemory`: there was no memory for the cells.
+#[tactic(auto, unfolding(crate::specs::Int32::step_at))]
 pub fn next_batch(alloc: Global, bytes: &[u8], place: usize, width: usize) -> Result<Next>
-    ensures { IfOk result (GoesOnFrom place (length bytes.now)) }
+    ensures value { Decodes step_view result (step_at width bytes.now place) }
+    ensures reach { IfOk result (GoesOnFrom place (length bytes.now)) }
 {
     let (framed, after) = match next_at(bytes, place) {
         None => return Err(Error::OutOfSpec("InvalidFlatbufferMessage")),
@@ -73,14 +89,16 @@ pub fn next_batch(alloc: Global, bytes: &[u8], place: usize, width: usize) -> Re
 }
 
 /// The rows of a record batch.
-#[tactic(auto, using(crate::proofs::Rows::rows_of_window))]
+#[tactic(auto, using(crate::proofs::Rows::rows_of_window, crate::proofs::Rows::whole_window), unfolding(crate::specs::Int32::int32_batch))]
 fn batch_of(
     alloc: Global,
     metadata: &[u8],
     table: &Table,
     body: &[u8],
     width: usize,
-) -> Result<Batch> {
+) -> Result<Batch>
+    ensures { Decodes (λ batch. batch_slots (stored_cells batch)) result (int32_batch width metadata.now (table_of table.now) body.now) }
+{
     let Some(batch) = record_batch_in(metadata, table) else {
         return Err(Error::OutOfSpec("InvalidFlatbufferRecordBatches"));
     };
@@ -106,27 +124,39 @@ fn batch_of(
 }
 
 /// The columns of a batch, and how many rows each of them has.
-fn columns_of(
-    alloc: Global,
-    bytes: &BatchBytes<'_>,
-    width: usize,
-) -> Result<(Vec<Vec<Option<i32>>>, usize)>
-    ensures rows { IfOk result (λ found. All (λ column. found.1 ≤ length column.items) found.0.items) }
+fn columns_of(alloc: Global, bytes: &BatchBytes<'_>, width: usize) -> Result<(Vec<Column>, usize)>
+    ensures value { Reads (λ found. batch_slots found.0.items) result (agreeing (int32_columns (cells.batch_of bytes.now) 0 width)) }
+    ensures rows { IfOk result (λ found. All (λ column. length column ≡ found.1) found.0.items) }
     ensures none { IfOk result (λ found. found.0.items ≡ [] → found.1 ≡ 0) }
 {
-    if width > bytes.batch.nodes.count {
-        return Err(Error::OutOfSpec("MissingMessageNodes"));
-    }
-    let mut columns: Vec<Vec<Option<i32>>> = Vec::new(alloc);
-    let mut rows = 0;
+    let mut columns: Vec<Column> = Vec::new(alloc);
     for k in 0..width {
-        let cells = int32_cells(alloc, bytes, k)?;
-        if k == 0 {
-            rows = cells.len();
-        } else if cells.len() != rows {
+        let column = int32_cells(alloc, bytes, k)?;
+        if !as_long(&columns, &column) {
             return Err(Error::OutOfSpec("InvalidColumnLengths"));
         }
-        columns.push(cells)?;
+        columns.push(column)?;
     }
+    let rows = rows_in(&columns);
     Ok((columns, rows))
+}
+
+/// Whether a column is as long as the first of some columns, if there is one.
+fn as_long(columns: &[Column], column: &Column) -> bool
+    ensures { result ≡ is_as_long columns.now column.now }
+{
+    match columns.first() {
+        None => true,
+        Some(first) => column.len() == first.len(),
+    }
+}
+
+/// How many rows some columns have.
+fn rows_in(columns: &[Column]) -> usize
+    ensures { result ≡ rows_of_cells columns.now }
+{
+    match columns.first() {
+        None => 0,
+        Some(first) => first.len(),
+    }
 }

@@ -1,6 +1,13 @@
 //! Tables: a schema, and rows batch by batch.
-ghost use Rattle.std.specs.Prelude.{◌≡◌, ◌+◌, ◌≤◌, ◌<◌, ◌^◌, ◌↔◌, IsTrue, IfOk};
-ghost use Rattle.tables_stream.specs.Tables.{row_count};
+ghost use Rattle.std.specs.Prelude.{◌≡◌, ◌+◌, ◌≤◌, ◌<◌, ◌^◌, ◌↔◌, IsTrue, IfOk, IfErr, OnOk, length, map};
+ghost use Rattle.std.specs.Io.KnownBytes.{Appends};
+ghost use Rattle.nested_arrays.specs.Tables.{part};
+ghost use Rattle.ipc_format.specs.Schemas.{no_ids};
+ghost use Rattle.ipc_format.specs.Written.{written_stream};
+ghost use Rattle.tables_stream.specs.Cuts.{cut_of};
+ghost use Rattle.tables_stream.specs.Tables.{row_count, as_table, batch_slots};
+ghost use Rattle.tables_stream.specs.Reading.{ReadsTable, ReadsBatches};
+ghost use Rattle.tables_stream.specs.declared.fault.Fault.TheVariants.{Memory};
 
 use crate::batches::Batch;
 use crate::cuts::cut_batches;
@@ -23,7 +30,7 @@ pub struct Table {
 
 impl Model for Table {
     ghost use Rattle.std.specs.Prelude.{◌≡◌, map, sum_by};
-    ghost use Rattle.tables_stream.specs.Tables.{Stored, cells_of};
+    ghost use Rattle.tables_stream.specs.Tables.{Stored, stored_cells};
     ghost use Rattle.tables_stream.specs.Batches.{rows_of_cells};
 
     ghost Value = { Stored };
@@ -33,9 +40,9 @@ impl Model for Table {
 
     ghost coded = { Prim.hlevel (codes, data_type.the_row.coded) };
 
-    ghost view = { λ a. record { schema = a.schema; batches = map cells_of a.batches.items } };
+    ghost view = { λ a. record { schema = a.schema; batches = map stored_cells a.batches.items } };
 
-    ghost invariant = { λ a. a.rows ≡ sum_by rows_of_cells (map cells_of a.batches.items) };
+    ghost invariant = { λ a. a.rows ≡ sum_by rows_of_cells (map stored_cells a.batches.items) };
 }
 
 impl Table {
@@ -46,7 +53,9 @@ impl Table {
     /// - `Unfinished`: the stream ends within the first four bytes of a message after the first, where its end mark may be missing.
     /// - `TooManyRows`: the number of rows doesn't fit 64 bits.
     /// - `Memory`: there was no memory.
-    pub fn read(alloc: Global, form: Form, bytes: &[u8]) -> Result<Table, Fault> {
+    pub fn read(alloc: Global, form: Form, bytes: &[u8]) -> Result<Table, Fault>
+        ensures { ReadsTable form result bytes.now }
+    {
         match form {
             Form::File => Err(Fault::Ipc(Error::NotYetImplemented("files"))),
             Form::Stream => {
@@ -83,6 +92,10 @@ impl Table {
     /// - `Memory`: there was no memory.
     pub fn cut(&self, alloc: Global, offset: usize, length: usize) -> Result<Table, Fault>
         requires { offset + length ≤ row_count self.now }
+        ensures schema { IfOk result (λ cut. cut.schema ≡ self.now.schema) }
+        ensures batches { IfOk result (λ cut. cut.batches ≡ cut_of offset length self.now.batches) }
+        ensures rows { IfOk result (λ cut. as_table cut ≡ part offset length (as_table self.now)) }
+        ensures refused { IfErr result (λ fault. fault ≡ Memory) }
     {
         let schema = self.schema.clone()?;
         let (batches, rows) = cut_batches(alloc, &self.batches, offset, length)?;
@@ -105,13 +118,20 @@ impl Table {
         &self,
         alloc: Global,
         writer: &mut W,
-    ) -> Result<(), Fault> {
+    ) -> Result<(), Fault>
+        ensures { OnOk result (Appends (W.contents writer.old) (W.contents writer.new)
+            (written_stream self.now.schema no_ids (map batch_slots self.now.batches))) }
+    {
         Ok(write_table(alloc, writer, &self.schema, &self.batches)?)
     }
 }
 
 /// The table of the messages from a place on, under a schema.
-fn read_batches(alloc: Global, bytes: &[u8], schema: Schema, first: usize) -> Result<Table, Fault> {
+fn read_batches(alloc: Global, bytes: &[u8], schema: Schema, first: usize) -> Result<Table, Fault>
+    requires begun { 0 < first }
+    requires inside { first ≤ length bytes.now }
+    ensures { ReadsBatches schema bytes.now first result }
+{
     let width = schema.fields.len();
     let mut batches = Vec::new(alloc);
     let mut rows: usize = 0;

@@ -1,7 +1,16 @@
 //! Streams from tables (Arrow IPC, "IPC streaming format"): the schema, a record batch message for each batch, and the end mark.
-ghost use Rattle.std.specs.Prelude.{◌≡◌, ◌+◌, ◌-◌, ◌*◌, ◌%◌, ◌≤◌, ◌<◌, ◌^◌, length, IfOk, slice_range, vec_len};
+ghost use Rattle.std.specs.Prelude.{◌≡◌, ◌+◌, ◌-◌, ◌*◌, ◌%◌, ◌≤◌, ◌<◌, ◌^◌, ◌++◌, [], length, map, replicate, OnOk, IfOk, slice_range};
+ghost use Rattle.std.specs.Int.{next_multiple_of};
+ghost use Rattle.std.specs.List.{flat_map};
+ghost use Rattle.std.specs.Io.KnownBytes.{Appends};
+ghost use Rattle.ipc_format.specs.Written as written;
+ghost use Rattle.tables_stream.specs.Cells.{slot_of};
+ghost use Rattle.ipc_format.specs.Schemas.{no_ids};
+ghost use Rattle.tables_stream.specs.Structs.{struct_bytes, validity_size, buffers_of};
+ghost use Rattle.tables_stream.specs.Tables.{stored_cells, batch_slots};
 
 use crate::batches::Batch;
+use crate::column::Column;
 use crate::output::{Faults, put};
 use columnar_memory::{Error, Result, Schema};
 use std::alloc::Global;
@@ -34,7 +43,10 @@ pub fn write_table<W: Write + Faults>(
     writer: &mut W,
     schema: &Schema,
     batches: &[Batch],
-) -> Result<()> {
+) -> Result<()>
+    ensures { OnOk result (Appends (W.contents writer.old) (W.contents writer.new)
+        (written.written_stream schema.now no_ids (map batch_slots (map stored_cells batches.now)))) }
+{
     let metadata = schema_message(alloc, schema)?;
     put_metadata(writer, &metadata)?;
     for batch in batches {
@@ -44,7 +56,9 @@ pub fn write_table<W: Write + Faults>(
 }
 
 /// Writes a message's marker, its length and its metadata.
-fn put_metadata<W: Write + Faults>(writer: &mut W, metadata: &[u8]) -> Result<()> {
+fn put_metadata<W: Write + Faults>(writer: &mut W, metadata: &[u8]) -> Result<()>
+    ensures { OnOk result (Appends (W.contents writer.old) (W.contents writer.new) (written.framed_bytes metadata.now [])) }
+{
     if metadata.len() > MOST_METADATA - 8 {
         return Err(Error::Overflow);
     }
@@ -55,37 +69,91 @@ fn put_metadata<W: Write + Faults>(writer: &mut W, metadata: &[u8]) -> Result<()
 }
 
 /// Writes a batch: its metadata, and for each column the validity bitmap, if a cell is null, and the values.
-fn put_batch<W: Write + Faults>(alloc: Global, writer: &mut W, batch: &Batch) -> Result<()> {
+fn put_batch<W: Write + Faults>(alloc: Global, writer: &mut W, batch: &Batch) -> Result<()>
+    ensures { OnOk result (Appends (W.contents writer.old) (W.contents writer.new)
+        (written.batch_message (batch_slots (stored_cells batch.now)))) }
+{
+    let layout = layout_of(alloc, batch)?;
+    let rows = batch.rows as u64;
+    let metadata = record_batch_message(
+        alloc,
+        rows,
+        &layout.nodes,
+        &layout.buffers,
+        layout.body_length,
+    )?;
+    put_metadata(writer, &metadata)?;
+    put_body(writer, batch, &layout.null_counts)
+}
+
+/// What a batch's metadata says: the bytes of its nodes and of its buffers' places, and how long the body is; and how many cells of
+/// each column are null.
+#[derive(Drop)]
+struct Layout {
+    nodes: Vec<u8>,
+    buffers: Vec<u8>,
+    null_counts: Vec<usize>,
+    body_length: u64,
+}
+
+/// How a batch is laid out.
+fn layout_of(alloc: Global, batch: &Batch) -> Result<Layout>
+    ensures nodes { IfOk result (λ layout. layout.nodes.items ≡
+        flat_map struct_bytes (written.nodes_of (batch_slots (stored_cells batch.now)))) }
+    ensures buffers { IfOk result (λ layout. layout.buffers.items ≡
+        flat_map struct_bytes (written.buffer_places 0 (buffers_of (batch_slots (stored_cells batch.now))))) }
+    ensures nulls { IfOk result (λ layout. layout.null_counts.items ≡
+        map written.null_count (batch_slots (stored_cells batch.now))) }
+    ensures body { IfOk result (λ layout. layout.body_length ≡
+        length (written.body_bytes (buffers_of (batch_slots (stored_cells batch.now))))) }
+{
     let mut nodes = Vec::new(alloc);
     let mut buffers = Vec::new(alloc);
     let mut null_counts = Vec::new(alloc);
     let mut body_length: u64 = 0;
     for column in batch.columns.as_slice() {
-        let cells = &column[batch.start..batch.start + batch.rows];
-        let nulls = null_count(cells);
+        let nulls = column.null_count(batch.start, batch.rows);
         null_counts.push(nulls)?;
-        body_length = lay_column(&mut nodes, &mut buffers, body_length, cells.len(), nulls)?;
+        body_length = lay_column(&mut nodes, &mut buffers, body_length, batch.rows, nulls)?;
     }
-    let rows = batch.rows as u64;
-    let metadata = record_batch_message(alloc, rows, &nodes, &buffers, body_length)?;
-    put_metadata(writer, &metadata)?;
+    Ok(Layout {
+        nodes,
+        buffers,
+        null_counts,
+        body_length,
+    })
+}
+
+/// Writes the buffers of a batch's columns, of which `null_counts` says how many cells are null.
+fn put_body<W: Write + Faults>(writer: &mut W, batch: &Batch, null_counts: &[usize]) -> Result<()>
+    requires { null_counts.now ≡ map written.null_count (batch_slots (stored_cells batch.now)) }
+    ensures { OnOk result (Appends (W.contents writer.old) (W.contents writer.new)
+        (written.body_bytes (buffers_of (batch_slots (stored_cells batch.now))))) }
+{
     for (k, column) in batch.columns.iter().enumerate() {
-        let cells = &column[batch.start..batch.start + batch.rows];
-        let has_nulls = null_counts.get(k).is_some_and(|nulls| *nulls > 0);
-        put_column(writer, cells, has_nulls)?;
+        put_column(writer, column, batch.start, batch.rows, null_counts[k])?;
     }
     Ok(())
 }
 
-/// How many cells are null.
-fn null_count(cells: &[Option<i32>]) -> usize
-    ensures { result ≤ length cells.now }
+/// Writes a column's validity bitmap, if one of the `nulls` cells is null, and its values.
+fn put_column<W: Write + Faults>(
+    writer: &mut W,
+    column: &Column,
+    start: usize,
+    rows: usize,
+    nulls: usize,
+) -> Result<()>
+    requires inside { start + rows ≤ length column.now }
+    requires fits { start + rows < 2 ^ 64 }
+    requires counted { nulls ≡ written.null_count (map slot_of (slice_range column.now start (start + rows))) }
+    ensures { OnOk result (Appends (W.contents writer.old) (W.contents writer.new)
+        (written.body_bytes (written.int32_buffers (map slot_of (slice_range column.now start (start + rows)))))) }
 {
-    let mut nulls = 0;
-    for cell in cells {
-        nulls += if cell.is_none() { 1 } else { 0 };
+    if nulls > 0 {
+        put_validity(writer, column, start, rows)?;
     }
-    nulls
+    put_values(writer, column, start, rows)
 }
 
 /// Adds a column's node and its two buffers, which begin at `offset` of the body, and answers where they end.
@@ -95,11 +163,18 @@ fn lay_column(
     offset: u64,
     count: usize,
     nulls: usize,
-) -> Result<u64> {
+) -> Result<u64>
+    requires { offset % 64 ≡ 0 }
+    ensures nodes { OnOk result (nodes.new.items ≡ nodes.old.items ++ struct_bytes (count, nulls)) }
+    ensures buffers { OnOk result (buffers.new.items ≡ buffers.old.items
+        ++ struct_bytes (offset, validity_size count nulls)
+        ++ struct_bytes (offset + next_multiple_of (validity_size count nulls) 64, 4 * count)) }
+    ensures end { IfOk result (λ end. end ≡
+        offset + next_multiple_of (validity_size count nulls) 64 + next_multiple_of (4 * count) 64) }
+{
     let count = count as u64;
     let nulls = nulls as u64;
-    nodes.extend_from_slice(&count.to_le_bytes())?;
-    nodes.extend_from_slice(&nulls.to_le_bytes())?;
+    lay_struct(nodes, count, nulls)?;
     let validity_length = if nulls > 0 { count.div_ceil(8) } else { 0 };
     let values = lay_buffer(buffers, offset, validity_length)?;
     let Some(values_length) = count.checked_mul(4) else {
@@ -109,9 +184,12 @@ fn lay_column(
 }
 
 /// Adds a buffer's place and length, and answers where the next buffer begins.
-fn lay_buffer(buffers: &mut Vec<u8>, offset: u64, length: u64) -> Result<u64> {
-    buffers.extend_from_slice(&offset.to_le_bytes())?;
-    buffers.extend_from_slice(&length.to_le_bytes())?;
+fn lay_buffer(buffers: &mut Vec<u8>, offset: u64, length: u64) -> Result<u64>
+    requires { offset % 64 ≡ 0 }
+    ensures place { OnOk result (buffers.new.items ≡ buffers.old.items ++ struct_bytes (offset, length)) }
+    ensures end { IfOk result (λ end. end ≡ offset + next_multiple_of length 64) }
+{
+    lay_struct(buffers, offset, length)?;
     let end = offset
         .checked_add(length)
         .and_then(|end| end.checked_next_multiple_of(64));
@@ -121,22 +199,22 @@ fn lay_buffer(buffers: &mut Vec<u8>, offset: u64, length: u64) -> Result<u64> {
     }
 }
 
-/// Writes a column's buffers, each with zeros up to the next multiple of 64; the first is its validity bitmap, if a cell is null.
-fn put_column<W: Write + Faults>(
-    writer: &mut W,
-    cells: &[Option<i32>],
-    has_nulls: bool,
-) -> Result<()> {
-    if has_nulls {
-        put_validity(writer, cells)?;
-        put_padding(writer, cells.len().div_ceil(8))?;
-    }
-    put_values(writer, cells)?;
-    put_padding(writer, 4 * (cells.len() % ALIGNMENT))
+/// Adds a struct of two numbers.
+#[tactic(auto, unfolding(crate::specs::Structs::struct_bytes))]
+fn lay_struct(bytes: &mut Vec<u8>, first: u64, second: u64) -> Result<()>
+    ensures { OnOk result (bytes.new.items ≡ bytes.old.items ++ struct_bytes (first, second)) }
+{
+    bytes.extend_from_slice(&first.to_le_bytes())?;
+    bytes.extend_from_slice(&second.to_le_bytes())?;
+    Ok(())
 }
 
 /// Writes zeros after a buffer of `length` bytes.
-fn put_padding<W: Write + Faults>(writer: &mut W, length: usize) -> Result<()> {
+#[tactic(auto, using(crate::proofs::Appending::appends_nothing))]
+fn put_padding<W: Write + Faults>(writer: &mut W, length: usize) -> Result<()>
+    ensures { OnOk result
+        (Appends (W.contents writer.old) (W.contents writer.new) (replicate ((64 - length % 64) % 64) 0)) }
+{
     let past = length % ALIGNMENT;
     if past == 0 {
         return Ok(());
@@ -144,56 +222,47 @@ fn put_padding<W: Write + Faults>(writer: &mut W, length: usize) -> Result<()> {
     put(writer, &ZEROS[past..])
 }
 
-/// Writes a validity bitmap: bit `i % 8` of byte `i / 8` is set where cell `i` isn't null.
-fn put_validity<W: Write + Faults>(writer: &mut W, cells: &[Option<i32>]) -> Result<()> {
-    let mut rest = cells;
-    while !rest.is_empty() {
-        let (block, after) = rest.split_at(rest.len().min(BITS_AT_ONCE));
-        let bytes = validity_block(block);
-        put(writer, &bytes[..block.len().div_ceil(8)])?;
-        rest = after;
-    }
-    Ok(())
-}
-
-/// The validity bits of some cells.
-fn validity_block(cells: &[Option<i32>]) -> [u8; 4096]
-    requires { length cells.now ≤ 32768 }
+/// Writes the validity bitmap of `rows` cells of a column from `start` on: bit `i % 8` of byte `i / 8` is set where cell `i` of them
+/// isn't null.
+fn put_validity<W: Write + Faults>(
+    writer: &mut W,
+    column: &Column,
+    start: usize,
+    rows: usize,
+) -> Result<()>
+    requires inside { start + rows ≤ length column.now }
+    requires fits { start + rows < 2 ^ 64 }
+    ensures { OnOk result (Appends (W.contents writer.old) (W.contents writer.new)
+        (written.padded_buffer (written.bitmap_bytes rows (map slot_of (slice_range column.now start (start + rows)))))) }
 {
-    let mut bytes = [0u8; 4096];
-    for (i, cell) in cells.iter().enumerate() {
-        if cell.is_some() {
-            bytes[i / 8] |= 1 << (i % 8);
-        }
+    let mut done = 0;
+    while done < rows {
+        let count = (rows - done).min(BITS_AT_ONCE);
+        let bytes = column.validity_block(start + done, count);
+        put(writer, &bytes[..count.div_ceil(8)])?;
+        done += count;
     }
-    bytes
+    put_padding(writer, rows.div_ceil(8))
 }
 
-/// Writes the values of a column, with 0 where a cell is null.
-fn put_values<W: Write + Faults>(writer: &mut W, cells: &[Option<i32>]) -> Result<()> {
-    let mut rest = cells;
-    while !rest.is_empty() {
-        let (block, after) = rest.split_at(rest.len().min(VALUES_AT_ONCE));
-        let bytes = values_block(block);
-        put(writer, &bytes[..4 * block.len()])?;
-        rest = after;
-    }
-    Ok(())
-}
-
-/// The values of some cells.
-fn values_block(cells: &[Option<i32>]) -> [u8; 4096]
-    requires { length cells.now ≤ 1024 }
+/// Writes the values of `rows` cells of a column from `start` on, with 0 for a null.
+fn put_values<W: Write + Faults>(
+    writer: &mut W,
+    column: &Column,
+    start: usize,
+    rows: usize,
+) -> Result<()>
+    requires inside { start + rows ≤ length column.now }
+    requires fits { start + rows < 2 ^ 64 }
+    ensures { OnOk result (Appends (W.contents writer.old) (W.contents writer.new)
+        (written.padded_buffer (flat_map written.value_bytes (map slot_of (slice_range column.now start (start + rows)))))) }
 {
-    let mut bytes = [0u8; 4096];
-    for (i, cell) in cells.iter().enumerate() {
-        if let Some(number) = cell {
-            let value = number.to_le_bytes();
-            bytes[4 * i] = value[0];
-            bytes[4 * i + 1] = value[1];
-            bytes[4 * i + 2] = value[2];
-            bytes[4 * i + 3] = value[3];
-        }
+    let mut done = 0;
+    while done < rows {
+        let count = (rows - done).min(VALUES_AT_ONCE);
+        let bytes = column.values_block(start + done, count);
+        put(writer, &bytes[..4 * count])?;
+        done += count;
     }
-    bytes
+    put_padding(writer, 4 * (rows % ALIGNMENT))
 }

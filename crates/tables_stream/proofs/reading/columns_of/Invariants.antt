@@ -1,6 +1,7 @@
--- Each column so far has as many cells as the first.
-use Rattle.std.proofs.Common.{◌≡◌, ◌≤◌, All, length, vec_len}
+-- All columns are those so far and those that are left.
+use Rattle.tables_stream.specs.Cells.{batch_of}
+use Rattle.tables_stream.proofs.ColumnLists.{Gathered}
 use Rattle.tables_stream.proofs.reading.columns_of.Given as goal
 
 abbrev pub invariant-loop-k : goal.invariant-loop-k
-invariant-loop-k l = record { counted : vec_len l.columns ≡ l.k; none : l.k ≡ 0 → l.rows ≡ 0; long : All (λ column. l.rows ≤ length column.items) l.columns.items }
+invariant-loop-k l = Gathered (batch_of l.bytes) l.width l.columns.items l.k

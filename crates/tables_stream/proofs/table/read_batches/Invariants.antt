@@ -1,11 +1,16 @@
--- The rows so far are those of the batches so far, and each message stands behind the last.
-use Rattle.std.proofs.Common.{◌≡◌, ◌-◌, length, map, sum_by}
+-- The rows so far are those of the batches so far, and the batches are those so far and those of the messages that are left.
+use Rattle.std.proofs.Common.{◌≡◌, ◌-◌, ◌<◌, ◌^◌, length, map, sum_by}
 use Rattle.tables_stream.specs.Batches.{rows_of_cells}
-use Rattle.tables_stream.specs.Tables.{cells_of}
+use Rattle.tables_stream.specs.Tables.{stored_cells}
+use Rattle.tables_stream.proofs.BatchLists.{BatchesRead}
 use Rattle.tables_stream.proofs.table.read_batches.Given as goal
 
 abbrev pub invariant-loop-batches : goal.invariant-loop-batches
-invariant-loop-batches l = l.rows ≡ sum_by rows_of_cells (map cells_of l.batches.items)
+invariant-loop-batches l = record {
+  counted : l.rows ≡ sum_by rows_of_cells (map stored_cells l.batches.items);
+  fits : l.rows < 2 ^ 64;
+  read : BatchesRead (length l.schema.fields) l.bytes l.first (map stored_cells l.batches.items) l.place;
+}
 
 abbrev pub decreases-loop-batches : goal.decreases-loop-batches
 decreases-loop-batches l = length l.bytes - l.place

@@ -1,0 +1,197 @@
+-- The batches of a stream, read one after another.
+use Rattle.std.proofs.Common.{◌≡◌, ◌∙◌, ℕ, zero, suc, ◌+◌, ◌-◌, ◌≤◌, ◌<◌, ◌^◌, Bool, true, false, List, [], ◌∷◌, ◌++◌, length, map, refl, sym, ap, ap₂, subst, arith, append_assoc}
+use Rattle.std.specs.Prelude.{Option, Some, None, IfSome, Err, sum_by}
+use Rattle.std.proofs.lemmas.List.{map-append, append-nil, length-map, length-append}
+use Rattle.std.proofs.lemmas.List.Sums.{sum_by-cons, sum_by-append}
+use Rattle.std.proofs.lemmas.Grind.{flat_map-append}
+use Rattle.columnar_memory.specs.declared.Error.{Error}
+use Rattle.columnar_memory.specs.declared.Error.TheVariants.{NotYetImplemented, External, Io, InvalidArgumentError, ExternalFormat, Overflow, OutOfSpec, OutOfMemory}
+use Rattle.columnar_memory.specs.declared.Schema.{Schema}
+use Rattle.nested_arrays.specs.Slots.{Slot, window}
+use Rattle.nested_arrays.specs.Tables.{row_at, batch_rows, rows_of_columns, rows_of_batches}
+use Rattle.ipc_format_grammar.specs.Framing.{Framed, Next, nothing_whole, at_end, message_then, next_at, by_next, dictionaries_after, cut_from}
+use Rattle.ipc_format.specs.Reading.{◌>>=◌}
+use Rattle.tables_stream.specs.Cells.{slot_of}
+use Rattle.tables_stream.specs.Batches.{rows_of_cells}
+use Rattle.tables_stream.specs.declared.batches.Batch.{Batch}
+use Rattle.tables_stream.specs.Tables.{batch_slots, stored_cells}
+use Rattle.tables_stream.specs.Int32.{batch_by, Step, cut_off, ended, batch_then, step_of, step_at, behind, by_step, int32_batches, Decodes}
+use Rattle.tables_stream.specs.Faults.{fault_of}
+use Rattle.tables_stream.specs.Reading.{ReadsBatches}
+use Rattle.tables_stream.proofs.FirstPath.{counts_none}
+use Rattle.tables_stream.proofs.ColumnLists.{Cells}
+
+-- ---- whether the stream is cut off
+
+-- what the definition looks at behind a message
+abbrev cut_behind : ℕ → List ℕ → Framed → ℕ → Option Bool
+cut_behind most bytes framed after = do
+  in_a_row ← dictionaries_after 0 framed.header
+  cut_from most bytes after in_a_row
+
+behind_batch : (n most : ℕ) (bytes : List ℕ) (framed : Framed) (place after : ℕ) (columns : List (List Slot)) (given : Option (List (List Slot)))
+    → batch_by n framed framed.header ≡ given → (given >>= (λ found. Some (batch_then found place))) ≡ Some (batch_then columns after)
+    → cut_behind most bytes framed place ≡ cut_from most bytes after 0
+behind_batch n most bytes framed place after columns None is e = absurd cc
+behind_batch n most bytes framed place after columns (Some found) is e =
+    let none : dictionaries_after 0 framed.header ≡ Some 0 = counts_none n framed.metadata framed.header framed.body found is in
+    let same : place ≡ after = cc in
+    rw (none, same) refl
+
+cut_behind_next : (n most : ℕ) (bytes : List ℕ) (given : Option Next) (columns : List (List Slot)) (after : ℕ) → (given >>= step_of n) ≡ Some (batch_then columns after)
+    → (given >>= by_next (Some true) (Some false) (cut_behind most bytes)) ≡ cut_from most bytes after 0
+cut_behind_next n most bytes None columns after e = absurd cc
+cut_behind_next n most bytes (Some nothing_whole) columns after e = absurd cc
+cut_behind_next n most bytes (Some at_end) columns after e = absurd cc
+cut_behind_next n most bytes (Some (message_then framed place)) columns after e = behind_batch n most bytes framed place after columns (batch_by n framed framed.header) refl e
+
+-- behind a batch the stream is cut off where what follows is
+cut_after_batch : (n most : ℕ) (bytes : List ℕ) (place : ℕ) (columns : List (List Slot)) (after : ℕ) → step_at n bytes place ≡ Some (batch_then columns after)
+    → cut_from (suc most) bytes place 0 ≡ cut_from most bytes after 0
+unfolding step_at
+cut_after_batch n most bytes place columns after e = cut_behind_next n most bytes (next_at bytes place) columns after e
+
+no_cut_batch : (place : ℕ) (given : Option (List (List Slot))) → (given >>= (λ found. Some (batch_then found place))) ≡ Some cut_off → ⊥
+no_cut_batch place None e = absurd cc
+no_cut_batch place (Some found) e = absurd cc
+
+cut_here_next : (n most : ℕ) (bytes : List ℕ) (given : Option Next) → (given >>= step_of n) ≡ Some cut_off → (given >>= by_next (Some true) (Some false) (cut_behind most bytes)) ≡ Some true
+cut_here_next n most bytes None e = absurd cc
+cut_here_next n most bytes (Some nothing_whole) e = refl
+cut_here_next n most bytes (Some at_end) e = absurd cc
+cut_here_next n most bytes (Some (message_then framed place)) e = absurd (no_cut_batch place (batch_by n framed framed.header) e)
+
+cut_here : (n most : ℕ) (bytes : List ℕ) (place : ℕ) → step_at n bytes place ≡ Some cut_off → cut_from (suc most) bytes place 0 ≡ Some true
+unfolding step_at
+cut_here n most bytes place e = cut_here_next n most bytes (next_at bytes place) e
+
+-- ---- the batches that were read so far
+
+pub record BatchesRead (n : ℕ) (bytes : List ℕ) (first : ℕ) (batches : List (List Cells)) (place : ℕ) : Type 0 where
+  pub few : length batches < place
+  pub inside : place ≤ length bytes
+  pub left : (most : ℕ) → length batches + most ≡ length bytes → int32_batches n (length bytes) bytes first ≡ behind (map batch_slots batches) (int32_batches n most bytes place)
+  pub whole : (most : ℕ) → length batches + most ≡ length bytes → cut_from (length bytes) bytes first 0 ≡ cut_from most bytes place 0
+
+behind_none : {A : Type 0} (rest : Option (List A)) → behind [] rest ≡ rest
+behind_none None = refl
+behind_none (Some xs) = refl
+
+behind_behind : {A : Type 0} (xs ys : List A) (rest : Option (List A)) → behind xs (behind ys rest) ≡ behind (xs ++ ys) rest
+behind_behind xs ys None = refl
+behind_behind {A} xs ys (Some zs) = ap (λ (all : List A). Some all) (sym (append_assoc xs ys zs))
+
+pub batches_begin : (n : ℕ) (bytes : List ℕ) (first : ℕ) → 0 < first → first ≤ length bytes → BatchesRead n bytes first [] first
+batches_begin n bytes first begun inside = record {
+  few = begun;
+  inside = inside;
+  left = λ most all. let same : most ≡ length bytes = omega arith in rw (same) (sym (behind_none (int32_batches n (length bytes) bytes first)));
+  whole = λ most all. let same : most ≡ length bytes = omega arith in rw (same) refl;
+}
+
+-- one step of the definition
+step_left : (n : ℕ) (bytes : List ℕ) (first : ℕ) (batches : List (List Cells)) (place most : ℕ) (step : Option Step) → BatchesRead n bytes first batches place → step_at n bytes place ≡ step
+    → length batches + suc most ≡ length bytes
+    → int32_batches n (length bytes) bytes first ≡ behind (map batch_slots batches) (step >>= by_step (λ after. int32_batches n most bytes after))
+step_left n bytes first batches place most step read e all = read.left (suc most) all ∙ rw e refl
+
+pub batches_next : (n : ℕ) (bytes : List ℕ) (first : ℕ) (batches more : List (List Cells)) (batch : List Cells) (place after : ℕ) → BatchesRead n bytes first batches place
+    → step_at n bytes place ≡ Some (batch_then (batch_slots batch) after) → place < after → after ≤ length bytes → more ≡ batches ++ batch ∷ [] → BatchesRead n bytes first more after
+batches_next n bytes first batches more batch place after read e on inside pushed =
+    let count : length more ≡ length batches + 1 = ap length pushed ∙ length-append batches (batch ∷ []) in
+    record {
+      few = omega (arith, count, read.few);
+      inside = inside;
+      left = λ most all.
+          step_left n bytes first batches place most (Some (batch_then (batch_slots batch) after)) read e (omega (arith, count))
+          ∙ behind_behind (map batch_slots batches) (batch_slots batch ∷ []) (int32_batches n most bytes after)
+          ∙ ap (λ xs. behind xs (int32_batches n most bytes after)) (sym (map-append batch_slots batches (batch ∷ [])) ∙ ap (map batch_slots) (sym pushed));
+      whole = λ most all. read.whole (suc most) (omega (arith, count)) ∙ cut_after_batch n most bytes place (batch_slots batch) after e;
+    }
+
+pub batches_end : (n : ℕ) (bytes : List ℕ) (first : ℕ) (batches : List (List Cells)) (place : ℕ) → BatchesRead n bytes first batches place → step_at n bytes place ≡ Some ended
+    → int32_batches n (length bytes) bytes first ≡ Some (map batch_slots batches)
+batches_end n bytes first batches place read e =
+    let all : length batches + suc (length bytes - length batches - 1) ≡ length bytes = omega (arith, read.few, read.inside) in
+    step_left n bytes first batches place (length bytes - length batches - 1) (Some ended) read e all ∙ ap (λ (xs : List (List (List Slot))). Some xs) (append-nil (map batch_slots batches))
+
+pub batches_refused : (n : ℕ) (bytes : List ℕ) (first : ℕ) (batches : List (List Cells)) (place : ℕ) → BatchesRead n bytes first batches place → step_at n bytes place ≡ None
+    → int32_batches n (length bytes) bytes first ≡ None
+batches_refused n bytes first batches place read e =
+    let all : length batches + suc (length bytes - length batches - 1) ≡ length bytes = omega (arith, read.few, read.inside) in
+    step_left n bytes first batches place (length bytes - length batches - 1) None read e all
+
+pub batches_cut : (n : ℕ) (bytes : List ℕ) (first : ℕ) (batches : List (List Cells)) (place : ℕ) → BatchesRead n bytes first batches place → step_at n bytes place ≡ Some cut_off
+    → (int32_batches n (length bytes) bytes first ≡ None) × (cut_from (length bytes) bytes first 0 ≡ Some true)
+batches_cut n bytes first batches place read e =
+    let most = length bytes - length batches - 1 in
+    let all : length batches + suc most ≡ length bytes = omega (arith, read.few, read.inside) in
+    (step_left n bytes first batches place most (Some cut_off) read e all, read.whole (suc most) all ∙ cut_here n most bytes place e)
+
+-- ---- how many rows there are
+
+length_window : {A : Type 0} (f : ℕ → A) (first n : ℕ) → length (window f first n) ≡ n
+length_window f first zero = refl
+length_window f first (suc n) = ap suc (length_window f (first + 1) n)
+
+rows_of_slots : (columns : List Cells) → rows_of_columns (batch_slots columns) ≡ rows_of_cells columns
+rows_of_slots [] = refl
+rows_of_slots (column ∷ columns) = length-map column slot_of
+
+rows_of_batch : (columns : List Cells) → length (batch_rows (batch_slots columns)) ≡ rows_of_cells columns
+rows_of_batch columns = length_window (row_at (batch_slots columns)) 0 (rows_of_columns (batch_slots columns)) ∙ rows_of_slots columns
+
+pub rows_counted : (batches : List (List Cells)) → length (rows_of_batches (map batch_slots batches)) ≡ sum_by rows_of_cells batches
+rows_counted [] = refl
+rows_counted (batch ∷ batches) =
+    length-append (batch_rows (batch_slots batch)) (rows_of_batches (map batch_slots batches))
+    ∙ ap₂ (λ (a b : ℕ). a + b) (rows_of_batch batch) (rows_counted batches) ∙ sym (sum_by-cons rows_of_cells batch batches)
+
+-- more batches have no fewer rows
+more_rows : (n : ℕ) (batches : List (List Cells)) (rest : Option (List (List (List Slot)))) → n ≤ sum_by rows_of_cells batches
+    → IfSome (behind (map batch_slots batches) rest) (λ all. n ≤ length (rows_of_batches all))
+more_rows n batches None h = tt
+more_rows n batches (Some others) h =
+    let all : length (rows_of_batches (map batch_slots batches ++ others)) ≡ length (rows_of_batches (map batch_slots batches)) + length (rows_of_batches others) =
+    ap length (flat_map-append batch_rows (map batch_slots batches) others) ∙ length-append (rows_of_batches (map batch_slots batches)) (rows_of_batches others) in
+    omega (arith, all, rows_counted batches)
+
+pub batches_many : (n : ℕ) (bytes : List ℕ) (first : ℕ) (batches : List (List Cells)) (batch : List Cells) (place after : ℕ) → BatchesRead n bytes first batches place
+    → step_at n bytes place ≡ Some (batch_then (batch_slots batch) after) → 2 ^ 64 ≤ sum_by rows_of_cells batches + rows_of_cells batch
+    → IfSome (int32_batches n (length bytes) bytes first) (λ all. 2 ^ 64 ≤ length (rows_of_batches all))
+batches_many n bytes first batches batch place after read e many =
+    let most = length bytes - length batches - 1 in
+    let all : length batches + suc most ≡ length bytes = omega (arith, read.few, read.inside) in
+    let same : int32_batches n (length bytes) bytes first ≡ behind (map batch_slots (batches ++ batch ∷ [])) (int32_batches n most bytes after) =
+    step_left n bytes first batches place most (Some (batch_then (batch_slots batch) after)) read e all
+    ∙ behind_behind (map batch_slots batches) (batch_slots batch ∷ []) (int32_batches n most bytes after)
+    ∙ ap (λ xs. behind xs (int32_batches n most bytes after)) (sym (map-append batch_slots batches (batch ∷ []))) in
+    let sum : sum_by rows_of_cells (batches ++ batch ∷ []) ≡ sum_by rows_of_cells batches + rows_of_cells batch =
+    sum_by-append rows_of_cells batches (batch ∷ []) ∙ ap (λ (m : ℕ). sum_by rows_of_cells batches + m) (sum_by-cons rows_of_cells batch [] ∙ omega arith) in
+    subst (λ given. IfSome given (λ all. 2 ^ 64 ≤ length (rows_of_batches all))) (sym same)
+    (more_rows (2 ^ 64) (batches ++ batch ∷ []) (int32_batches n most bytes after) (omega (arith, sum, many)))
+
+-- an error that comes of a message
+pub batches_error : {A : Type 0} (view : A → Step) (error : Error) (schema : Schema) (bytes : List ℕ) (first : ℕ) (batches : List (List Cells)) (place : ℕ) → BatchesRead (length schema.fields) bytes first batches place
+    → Decodes {A = A} view (Err error) (step_at (length schema.fields) bytes place) → ReadsBatches schema bytes first (Err (fault_of error))
+batches_error view OutOfMemory schema bytes first batches place read e = tt
+batches_error view (OutOfSpec what) schema bytes first batches place read e = batches_refused (length schema.fields) bytes first batches place read e
+batches_error view (NotYetImplemented what) schema bytes first batches place read e = batches_refused (length schema.fields) bytes first batches place read e
+batches_error view (External from what) schema bytes first batches place read e = absurd e
+batches_error view (Io what) schema bytes first batches place read e = absurd e
+batches_error view (InvalidArgumentError what) schema bytes first batches place read e = absurd e
+batches_error view (ExternalFormat what) schema bytes first batches place read e = absurd e
+batches_error view Overflow schema bytes first batches place read e = absurd e
+
+-- the rows of one batch more
+pub rows_more : (rows : ℕ) (batches more : List Batch) (batch : Batch) → rows ≡ sum_by rows_of_cells (map stored_cells batches) → more ≡ batches ++ batch ∷ []
+    → rows + batch.rows ≡ sum_by rows_of_cells (map stored_cells more)
+rows_more rows batches more batch so_far pushed =
+    let all : sum_by rows_of_cells (map stored_cells more) ≡ sum_by rows_of_cells (map stored_cells batches) + sum_by rows_of_cells (stored_cells batch ∷ []) =
+    ap (λ xs. sum_by rows_of_cells (map stored_cells xs)) pushed ∙ ap (sum_by rows_of_cells) (map-append stored_cells batches (batch ∷ []))
+    ∙ sum_by-append rows_of_cells (map stored_cells batches) (stored_cells batch ∷ []) in
+    let one : sum_by rows_of_cells (stored_cells batch ∷ []) ≡ rows_of_cells (stored_cells batch) + 0 = sum_by-cons rows_of_cells (stored_cells batch) [] in
+    omega (arith, all, one, so_far, batch.counted)
+
+pub cells_more : (batches more : List Batch) (batch : Batch) → more ≡ batches ++ batch ∷ [] → map stored_cells more ≡ map stored_cells batches ++ stored_cells batch ∷ []
+cells_more batches more batch pushed = ap (map stored_cells) pushed ∙ map-append stored_cells batches (batch ∷ [])

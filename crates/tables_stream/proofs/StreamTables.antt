@@ -1,0 +1,298 @@
+-- The table of a stream whose schema is of the first path.
+use Rattle.std.proofs.Common.{◌≡◌, ◌∙◌, ℕ, ◌<◌, ◌≤◌, ◌^◌, true, List, [], ◌∷◌, length, map, refl, sym, ap, ap₂, subst}
+use Rattle.std.specs.Prelude.{Option, Some, None, IfSome, IsSomeAnd, Result, Ok, Err, nat_lt}
+use Rattle.std.specs.List.{All}
+use Rattle.std.proofs.lemmas.List.Elements.{All-head, All-tail}
+use Rattle.std.proofs.lemmas.Bool.{lt-ltb, le-ltb}
+use denote.Hole.Carrier
+use Rattle.columnar_memory.specs.declared.Error.{Error}
+use Rattle.columnar_memory.specs.declared.Error.TheVariants as errors
+use Rattle.columnar_memory.specs.declared.DataType.TheOpen as layer
+use Rattle.columnar_memory.specs.declared.DataType.TheViews.{roll-DataType, out-DataType, out-roll-DataType}
+use Rattle.columnar_memory.specs.declared.DataType.TheFolds.{fold-roll-DataType}
+use Rattle.columnar_memory.specs.declared.DataType.TheVariants as types
+use Rattle.columnar_memory.specs.declared.DataType.{DataType}
+use Rattle.columnar_memory.specs.declared.Field.{Field}
+use Rattle.columnar_memory.specs.declared.Schema.{Schema}
+use Rattle.nested_arrays.specs.Slots.{Slot}
+use Rattle.nested_arrays.specs.Tables as tables
+use Rattle.nested_arrays.specs.Tables.{rows_of_batches}
+use Rattle.ipc_format_grammar.specs.Messages.{Version, version_in}
+use Rattle.ipc_format_grammar.specs.Schemas.{SchemaIn}
+use Rattle.ipc_format_grammar.specs.Writable.{normalised, normalised_type, normalised_step, normalised_field, normalised_pairs, with_extension_under}
+use Rattle.ipc_format_grammar.specs.Framing.{Framed, Stream, first_of, messages_of, later_messages, cut_from, is_cut}
+use Rattle.ipc_format_grammar.specs.Streams.{Layout, batches_of, schema_of, table_of}
+use Rattle.ipc_format.specs.Reading.{◌>>=◌, guard}
+use Rattle.tables_metadata.specs.FirstPath.{IsFirstPath, IsFirstPathField}
+use Rattle.tables_metadata.specs.Reading as metadata
+use Rattle.tables_metadata.specs.Reading.{IsReadSoFar, schema_found}
+use Rattle.tables_stream.specs.declared.fault.Fault.{Fault}
+use Rattle.tables_stream.specs.declared.fault.Fault.TheVariants as faults
+use Rattle.tables_stream.specs.Faults.{fault_of}
+use Rattle.tables_stream.specs.Tables.{Stored, as_table, batch_slots, row_count}
+use Rattle.tables_stream.specs.Int32.{first_schema, fitting, int32_batches}
+use Rattle.tables_stream.specs.Reading.{ReadsBatches, ReadsStream, HasOtherSchema, batches_in}
+use Rattle.tables_stream.proofs.FirstPath.{batches_are_int32}
+use Rattle.tables_stream.proofs.BatchLists.{rows_counted}
+
+-- ---- the schema has its one form already
+
+out_int32 : out-DataType types.Int32 ≡ layer.Int32
+unfolding roll-DataType denote.Hole.Carrier.roll
+out_int32 = out-roll-DataType layer.Int32
+
+type_is_normal : normalised_type types.Int32 ≡ types.Int32
+unfolding roll-DataType denote.Hole.Carrier.roll
+type_is_normal = fold-roll-DataType DataType Field roll-DataType normalised_step layer.Int32
+
+pairs_are_normal : normalised_pairs types.Int32 [] ≡ []
+pairs_are_normal = ap (with_extension_under []) out_int32
+
+field_is_normal : (field : Field) → IsFirstPathField field → normalised_field field ≡ field
+field_is_normal field first =
+    let data_type : normalised_type field.data_type ≡ field.data_type = ap normalised_type first.0 ∙ type_is_normal ∙ sym (first.0) in
+    let pairs : normalised_pairs (normalised_type field.data_type) field.metadata ≡ field.metadata =
+    ap₂ normalised_pairs (ap normalised_type first.0 ∙ type_is_normal) first.1 ∙ pairs_are_normal ∙ sym (first.1) in
+    ap₂ (λ (t : DataType) (m : List (List ℕ × List ℕ)). record { name = field.name; data_type = t; is_nullable = field.is_nullable; metadata = m }) data_type pairs
+
+fields_are_normal : (fields : List Field) → All IsFirstPathField fields → map normalised_field fields ≡ fields
+fields_are_normal [] all = refl
+fields_are_normal (field ∷ fields) all =
+    ap₂ (λ (x : Field) xs. x ∷ xs) (field_is_normal field (All-head IsFirstPathField field fields all)) (fields_are_normal fields (All-tail IsFirstPathField field fields all))
+
+schema_is_normal : (schema : Schema) → IsFirstPath schema → normalised schema ≡ schema
+unfolding normalised
+schema_is_normal schema first = ap (λ (fields : List Field). record { fields = fields; metadata = schema.metadata }) (fields_are_normal schema.fields first.1)
+
+-- ---- the stream's parts
+
+abbrev with_place : ℕ → SchemaIn → Option (SchemaIn × ℕ)
+with_place place found = Some (found, place)
+
+abbrev or_other : SchemaIn × ℕ → Option (SchemaIn × ℕ) → SchemaIn × ℕ
+or_other other None = other
+or_other other (Some x) = x
+
+same_pair : (a b : SchemaIn × ℕ) → Some a ≡ Some b → a ≡ b
+same_pair a b e = ap (or_other a) e
+
+-- where something follows, there was something to follow
+came_of : {A B : Type 0} (r : Option A) (f : A → Option B) (y : B) → (r >>= f) ≡ Some y → (x : A) × (r ≡ Some x) × (f x ≡ Some y)
+came_of None f y e = absurd cc
+came_of (Some x) f y e = (x, refl, e)
+
+-- what a layout's batches make of later messages
+later_fit : (layout : Layout) (schema : Schema) (later : Option (List Framed)) (given : Option (List (List (List Slot)))) → (later >>= batches_of layout) ≡ given
+    → (later >>= (λ more. batches_of layout more >>= (λ batches. guard (nat_lt (length (rows_of_batches batches)) (2 ^ 64)) >>= (λ _. Some (record { schema = schema; rows = rows_of_batches batches })))))
+    ≡ fitting schema given
+later_fit layout schema None given e = rw (sym e) refl
+later_fit layout schema (Some more) given e = rw (sym e) refl
+
+-- the stream's table, from its first message on
+abbrev table_behind : Framed × ℕ → Option (List Framed) → Option tables.Table
+table_behind first later = do
+  more ← later
+  version ← version_in first.0.metadata
+  found ← schema_of first.0 first.0.header
+  batches ← batches_of (record { fields = found.schema.fields; version = version; is_little_endian = found.is_little_endian }) more
+  _ ← guard (nat_lt (length (rows_of_batches batches)) (2 ^ 64))
+  Some (record { schema = normalised found.schema; rows = rows_of_batches batches })
+
+abbrev stream_of : Framed → List Framed → Option Stream
+stream_of first later = Some (record { first = first; later = later })
+
+-- the same, where the messages are put together first
+split : (first : Framed × ℕ) (later : Option (List Framed))
+    → ((later >>= stream_of first.0) >>= (λ stream.
+    version_in stream.first.metadata >>= (λ version.
+    schema_of stream.first stream.first.header >>= (λ found.
+    batches_of (record { fields = found.schema.fields; version = version; is_little_endian = found.is_little_endian }) stream.later >>= (λ batches.
+    guard (nat_lt (length (rows_of_batches batches)) (2 ^ 64)) >>= (λ _.
+    Some (record { schema = normalised found.schema; rows = rows_of_batches batches })))))))
+    ≡ table_behind first later
+split first None = refl
+split first (Some more) = refl
+
+table_begins : (bytes : List ℕ) (given : Option (Framed × ℕ)) → first_of bytes ≡ given → table_of bytes ≡ (given >>= (λ first. table_behind first (later_messages (length bytes) bytes first.1 0)))
+unfolding table_of messages_of
+table_begins bytes None e = rw e refl
+table_begins bytes (Some first) e = rw e (split first (later_messages (length bytes) bytes first.1 0))
+
+-- the same of the stream's batches
+abbrev batches_behind : Framed × ℕ → Option (List Framed) → Option (List (List (List Slot)))
+batches_behind first later = do
+  more ← later
+  version ← version_in first.0.metadata
+  found ← schema_of first.0 first.0.header
+  batches_of (record { fields = found.schema.fields; version = version; is_little_endian = found.is_little_endian }) more
+
+split_batches : (first : Framed × ℕ) (later : Option (List Framed))
+    → ((later >>= stream_of first.0) >>= (λ stream.
+    version_in stream.first.metadata >>= (λ version.
+    schema_of stream.first stream.first.header >>= (λ found.
+    batches_of (record { fields = found.schema.fields; version = version; is_little_endian = found.is_little_endian }) stream.later))))
+    ≡ batches_behind first later
+split_batches first None = refl
+split_batches first (Some more) = refl
+
+batches_first : (bytes : List ℕ) (first : Framed × ℕ) → first_of bytes ≡ Some first → batches_in bytes ≡ batches_behind first (later_messages (length bytes) bytes first.1 0)
+unfolding batches_in messages_of
+batches_first bytes first e = rw e (split_batches first (later_messages (length bytes) bytes first.1 0))
+
+batches_known : (first : Framed × ℕ) (later : Option (List Framed)) (version : Version) (found : SchemaIn) (schema : Schema) (given : Option (List (List (List Slot))))
+    → version_in first.0.metadata ≡ Some version → schema_of first.0 first.0.header ≡ Some found → found ≡ schema_found schema
+    → (later >>= batches_of (record { fields = schema.fields; version = version; is_little_endian = true })) ≡ given
+    → batches_behind first later ≡ given
+batches_known first later version found schema given v s same batches = rw (v, s, same) batches
+
+-- a table of messages whose version and schema are known
+known_behind : (first : Framed × ℕ) (later : Option (List Framed)) (version : Version) (found : SchemaIn) (schema : Schema) (given : Option (List (List (List Slot))))
+    → version_in first.0.metadata ≡ Some version → schema_of first.0 first.0.header ≡ Some found → found ≡ schema_found schema → IsFirstPath schema
+    → (later >>= batches_of (record { fields = schema.fields; version = version; is_little_endian = true })) ≡ given
+    → table_behind first later ≡ fitting schema given
+known_behind first later version found schema given v s same so_far batches =
+    rw (v, s, same, schema_is_normal schema so_far) (later_fit (record { fields = schema.fields; version = version; is_little_endian = true }) schema later given batches)
+
+pub table_from : (bytes : List ℕ) (found : SchemaIn) (place : ℕ) (schema : Schema) → first_schema bytes ≡ Some (found, place) → found ≡ schema_found schema → IsFirstPath schema
+    → table_of bytes ≡ fitting schema (int32_batches (length schema.fields) (length bytes) bytes place)
+unfolding first_schema
+table_from bytes found place schema e same so_far =
+    let a = came_of {A = Framed × ℕ} (first_of bytes) _ (found, place) e in
+    let b = came_of {A = Version} (version_in a.0.0.metadata) _ (found, place) a.2 in
+    let c = came_of {A = SchemaIn} (schema_of a.0.0 a.0.0.header) _ (found, place) b.2 in
+    let pair : (c.0, a.0.1) ≡ (found, place) = same_pair (c.0, a.0.1) (found, place) c.2 in
+    let known : c.0 ≡ found = ap (λ (p : SchemaIn × ℕ). p.0) pair in
+    let behind : a.0.1 ≡ place = ap (λ (p : SchemaIn × ℕ). p.1) pair in
+    let layout : Layout = record { fields = schema.fields; version = b.0; is_little_endian = true } in
+    let batches = batches_are_int32 layout (length bytes) bytes a.0.1 so_far.1 refl in
+    table_begins bytes (Some a.0) a.1
+    ∙ known_behind a.0 (later_messages (length bytes) bytes a.0.1 0) b.0 c.0 schema (int32_batches (length schema.fields) (length bytes) bytes a.0.1) b.1 c.1 (known ∙ same) so_far batches
+    ∙ ap (λ (at : ℕ). fitting schema (int32_batches (length schema.fields) (length bytes) bytes at)) behind
+
+batches_from : (bytes : List ℕ) (found : SchemaIn) (place : ℕ) (schema : Schema) → first_schema bytes ≡ Some (found, place) → found ≡ schema_found schema → IsFirstPath schema
+    → batches_in bytes ≡ int32_batches (length schema.fields) (length bytes) bytes place
+unfolding first_schema
+batches_from bytes found place schema e same so_far =
+    let a = came_of {A = Framed × ℕ} (first_of bytes) _ (found, place) e in
+    let b = came_of {A = Version} (version_in a.0.0.metadata) _ (found, place) a.2 in
+    let c = came_of {A = SchemaIn} (schema_of a.0.0 a.0.0.header) _ (found, place) b.2 in
+    let pair : (c.0, a.0.1) ≡ (found, place) = same_pair (c.0, a.0.1) (found, place) c.2 in
+    let known : c.0 ≡ found = ap (λ (p : SchemaIn × ℕ). p.0) pair in
+    let behind : a.0.1 ≡ place = ap (λ (p : SchemaIn × ℕ). p.1) pair in
+    let layout : Layout = record { fields = schema.fields; version = b.0; is_little_endian = true } in
+    let batches = batches_are_int32 layout (length bytes) bytes a.0.1 so_far.1 refl in
+    batches_first bytes a.0 a.1
+    ∙ batches_known a.0 (later_messages (length bytes) bytes a.0.1 0) b.0 c.0 schema (int32_batches (length schema.fields) (length bytes) bytes a.0.1) b.1 c.1 (known ∙ same) batches
+    ∙ ap (λ (at : ℕ). int32_batches (length schema.fields) (length bytes) bytes at) behind
+
+-- a stream without a schema is no table
+no_version : (first : Framed × ℕ) (later : Option (List Framed)) → version_in first.0.metadata ≡ None → table_behind first later ≡ None
+no_version first None e = refl
+no_version first (Some more) e = rw e refl
+
+no_schema : (first : Framed × ℕ) (later : Option (List Framed)) (version : Version) → version_in first.0.metadata ≡ Some version → schema_of first.0 first.0.header ≡ None → table_behind first later ≡ None
+no_schema first None version v e = refl
+no_schema first (Some more) version v e = rw (v, e) refl
+
+no_parts : (bytes : List ℕ) (first : Framed × ℕ) (version : Option Version) (found : Option SchemaIn) → first_of bytes ≡ Some first → version_in first.0.metadata ≡ version → schema_of first.0 first.0.header ≡ found
+    → (version >>= (λ _. found >>= with_place first.1)) ≡ None → table_of bytes ≡ None
+no_parts bytes first None found e v s none = table_begins bytes (Some first) e ∙ no_version first (later_messages (length bytes) bytes first.1 0) v
+no_parts bytes first (Some version) None e v s none = table_begins bytes (Some first) e ∙ no_schema first (later_messages (length bytes) bytes first.1 0) version v s
+no_parts bytes first (Some version) (Some found) e v s none = absurd cc
+
+no_first : (bytes : List ℕ) (given : Option (Framed × ℕ)) → first_of bytes ≡ given
+    → (given >>= (λ first. version_in first.0.metadata >>= (λ _. schema_of first.0 first.0.header >>= with_place first.1))) ≡ None → table_of bytes ≡ None
+no_first bytes None e none = table_begins bytes None e
+no_first bytes (Some first) e none = no_parts bytes first (version_in first.0.metadata) (schema_of first.0 first.0.header) e refl refl none
+
+pub no_table : (bytes : List ℕ) → first_schema bytes ≡ None → table_of bytes ≡ None
+unfolding first_schema
+no_table bytes none = no_first bytes (first_of bytes) refl none
+
+-- whether the stream is cut off
+cut_is : (bytes : List ℕ) (first : Framed × ℕ) → first_of bytes ≡ Some first → is_cut bytes ≡ cut_from (length bytes) bytes first.1 0
+unfolding is_cut
+cut_is bytes first e = rw e refl
+
+cut_behind_schema : (bytes : List ℕ) (found : SchemaIn) (place : ℕ) → first_schema bytes ≡ Some (found, place) → is_cut bytes ≡ cut_from (length bytes) bytes place 0
+unfolding first_schema
+cut_behind_schema bytes found place e =
+    let a = came_of {A = Framed × ℕ} (first_of bytes) _ (found, place) e in
+    let b = came_of {A = Version} (version_in a.0.0.metadata) _ (found, place) a.2 in
+    let c = came_of {A = SchemaIn} (schema_of a.0.0 a.0.0.header) _ (found, place) b.2 in
+    let pair : (c.0, a.0.1) ≡ (found, place) = same_pair (c.0, a.0.1) (found, place) c.2 in
+    let behind : a.0.1 ≡ place = ap (λ (p : SchemaIn × ℕ). p.1) pair in
+    cut_is bytes a.0 a.1 ∙ ap (λ (at : ℕ). cut_from (length bytes) bytes at 0) behind
+
+-- ---- what was read
+
+-- batches whose rows fit are a table, and others are none
+fits : (stored : Stored) → row_count stored < 2 ^ 64 → fitting stored.schema (Some (map batch_slots stored.batches)) ≡ Some (as_table stored)
+fits stored h =
+    let few : nat_lt (length (rows_of_batches (map batch_slots stored.batches))) (2 ^ 64) ≡ true = rw (rows_counted stored.batches) (lt-ltb (row_count stored) (2 ^ 64) h) in
+    rw few refl
+
+too_many : (schema : Schema) (given : Option (List (List (List Slot)))) → IfSome given (λ batches. 2 ^ 64 ≤ length (rows_of_batches batches)) → fitting schema given ≡ None
+too_many schema None h = refl
+too_many schema (Some batches) h = rw (le-ltb (length (rows_of_batches batches)) (2 ^ 64) h) refl
+
+pub read_whole : (bytes : List ℕ) (found : SchemaIn) (place : ℕ) (schema : Schema) (result : Result Stored Fault) → first_schema bytes ≡ Some (found, place) → found ≡ schema_found schema → IsFirstPath schema
+    → ReadsBatches schema bytes place result → ReadsStream result bytes
+read_whole bytes found place schema (Ok stored) e same so_far read =
+    let whole = table_from bytes found place schema e same so_far in (
+      whole ∙ ap (fitting schema) read.1 ∙ ap (λ (s : Schema). fitting s (Some (map batch_slots stored.batches))) (sym (read.0)) ∙ fits stored read.2,
+      batches_from bytes found place schema e same so_far ∙ read.1,
+      subst IsFirstPath (sym (read.0)) so_far,
+    )
+read_whole bytes found place schema (Err faults.Memory) e same so_far read = tt
+read_whole bytes found place schema (Err (faults.Ipc (errors.OutOfSpec what))) e same so_far read = table_from bytes found place schema e same so_far ∙ ap (fitting schema) read
+read_whole bytes found place schema (Err (faults.Ipc (errors.NotYetImplemented what))) e same so_far read =
+    subst (λ given. IfSome given (λ table. HasOtherSchema bytes)) (sym (table_from bytes found place schema e same so_far ∙ ap (fitting schema) read)) tt
+read_whole bytes found place schema (Err (faults.Ipc (errors.External from what))) e same so_far read = absurd read
+read_whole bytes found place schema (Err (faults.Ipc (errors.Io what))) e same so_far read = absurd read
+read_whole bytes found place schema (Err (faults.Ipc (errors.InvalidArgumentError what))) e same so_far read = absurd read
+read_whole bytes found place schema (Err (faults.Ipc (errors.ExternalFormat what))) e same so_far read = absurd read
+read_whole bytes found place schema (Err (faults.Ipc errors.Overflow)) e same so_far read = absurd read
+read_whole bytes found place schema (Err (faults.Ipc errors.OutOfMemory)) e same so_far read = absurd read
+read_whole bytes found place schema (Err faults.Unfinished) e same so_far read =
+    (table_from bytes found place schema e same so_far ∙ ap (fitting schema) read.0, cut_behind_schema bytes found place e ∙ read.1)
+read_whole bytes found place schema (Err faults.TooManyRows) e same so_far read =
+    table_from bytes found place schema e same so_far ∙ too_many schema (int32_batches (length schema.fields) (length bytes) bytes place) read
+read_whole bytes found place schema (Err (faults.Lower error)) e same so_far read = absurd read
+read_whole bytes found place schema (Err (faults.NotSealable bar)) e same so_far read = absurd read
+read_whole bytes found place schema (Err faults.RowWidth) e same so_far read = absurd read
+read_whole bytes found place schema (Err faults.NoColumns) e same so_far read = absurd read
+read_whole bytes found place schema (Err faults.NoSuchColumn) e same so_far read = absurd read
+
+-- ---- from the first message on
+
+if_any : {A : Type 0} {P : Type 0} (given : Option A) → P → IfSome given (λ x. P)
+if_any None p = tt
+if_any (Some x) p = p
+
+pub first_error : {A : Type 0} (same : A → SchemaIn × ℕ → Type 0) (error : Error) (bytes : List ℕ) → metadata.Reads {A = A} {B = SchemaIn × ℕ} same (λ found. IsReadSoFar found.0) (Err error) (first_schema bytes)
+    → ReadsStream (Err (fault_of error)) bytes
+first_error same errors.OutOfMemory bytes read = tt
+first_error same (errors.OutOfSpec what) bytes read = no_table bytes read
+first_error same (errors.NotYetImplemented what) bytes read = if_any (table_of bytes) read
+first_error same (errors.External from what) bytes read = absurd read
+first_error same (errors.Io what) bytes read = absurd read
+first_error same (errors.InvalidArgumentError what) bytes read = absurd read
+first_error same (errors.ExternalFormat what) bytes read = absurd read
+first_error same errors.Overflow bytes read = absurd read
+
+-- the schema and place of the first message, as they were read
+abbrev pub FirstRead : Schema → ℕ → SchemaIn × ℕ → Type 0
+FirstRead schema place found = ((found.0 ≡ schema_found schema) × (found.1 ≡ place)) × IsReadSoFar found.0
+
+first_found : (bytes : List ℕ) (schema : Schema) (place : ℕ) (result : Result Stored Fault) (given : Option (SchemaIn × ℕ)) → first_schema bytes ≡ given → IsSomeAnd given (FirstRead schema place)
+    → ReadsBatches schema bytes place result → ReadsStream result bytes
+first_found bytes schema place result None e found read = absurd found
+first_found bytes schema place result (Some first) e found read =
+    let same : first.0 ≡ schema_found schema = found.0.0 in
+    let so_far : IsFirstPath schema = subst (λ (s : SchemaIn). IsFirstPath s.schema) same found.1.1 in
+    read_whole bytes first.0 place schema result (e ∙ ap (λ (at : ℕ). Some (first.0, at)) found.0.1) same so_far read
+
+pub first_then : (bytes : List ℕ) (schema : Schema) (place : ℕ) (result : Result Stored Fault) → IsSomeAnd (first_schema bytes) (FirstRead schema place)
+    → ReadsBatches schema bytes place result → ReadsStream result bytes
+first_then bytes schema place result found read = first_found bytes schema place result (first_schema bytes) refl found read

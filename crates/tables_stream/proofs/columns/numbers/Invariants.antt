@@ -1,0 +1,8 @@
+-- The numbers so far are those of the values so far.
+use Rattle.std.proofs.Common.{◌≡◌, true}
+use Rattle.nested_arrays.specs.Slots.{window}
+use Rattle.ipc_format.specs.Columns as format
+use Rattle.tables_stream.proofs.columns.numbers.Given as goal
+
+abbrev pub invariant-loop-i : goal.invariant-loop-i
+invariant-loop-i l = l.out.items ≡ window (format.int32_at true l.values) 0 l.i

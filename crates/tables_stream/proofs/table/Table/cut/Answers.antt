@@ -1,0 +1,10 @@
+-- The rows of the windows are that part of the table's rows.
+use Rattle.std.proofs.Common.{rules, map}
+use Rattle.tables_stream.specs.Tables.{Stored, stored_cells}
+use Rattle.tables_stream.proofs.TableParts.{part_of_cut}
+use Rattle.tables_stream.proofs.table.Table.cut.Goals as goal
+
+pub returns-clause-rows : goal.returns-clause-rows
+returns-clause-rows c =
+    let cut : Stored = record { schema = c.in_ok-schema.schema; batches = map stored_cells c.in_ok-batches.batches.items } in
+    part_of_cut cut c.args.self.now c.args.offset c.args.length (search rules) (search rules)

@@ -1,0 +1,61 @@
+use Rattle.std.proofs.Common.{rules, arith, ◌≡◌, ◌+◌, ◌≤◌, ◌^◌, List, length, map, refl}
+use Rattle.std.specs.Prelude.{Err, Some, sum_by}
+use Rattle.tables_stream.specs.declared.reading.Next.{Next}
+use Rattle.tables_stream.specs.Batches.{rows_of_cells}
+use Rattle.tables_stream.specs.Faults.{fault_of}
+use Rattle.tables_stream.specs.Int32.{cut_off, ended, batch_then, step_at, Decodes}
+use Rattle.tables_stream.specs.Reading.{ReadsBatches}
+use Rattle.tables_stream.specs.Steps.{step_view}
+use Rattle.tables_stream.specs.Tables.{batch_slots, stored_cells}
+use Rattle.tables_stream.proofs.ColumnLists.{Cells}
+use Rattle.tables_stream.proofs.BatchLists.{batches_next, batches_end, batches_cut, batches_many, batches_error, rows_more, cells_more}
+use Rattle.tables_stream.proofs.table.read_batches.Goals as goal
+
+pub returns-in_err-next_batch : goal.returns-in_err-next_batch
+returns-in_err-next_batch c =
+    let n = length c.args.schema.fields in
+    let cells : List (List Cells) = map stored_cells c.loop-batches.batches.items in
+    let refused : Decodes {A = Next} step_view (Err c.in_err-next_batch.field-0.0) (step_at n c.args.bytes.now c.loop-batches.place) = search rules in
+    let whole : ReadsBatches c.args.schema c.args.bytes.now c.args.first (Err (fault_of c.in_err-next_batch.field-0.0)) =
+    batches_error {A = Next} step_view c.in_err-next_batch.field-0.0 c.args.schema c.args.bytes.now c.args.first cells c.loop-batches.place c.loop-batches.invariant.read refused in
+    search (rules, whole)
+
+pub returns-in-Cut : goal.returns-in-Cut
+returns-in-Cut c =
+    let n = length c.args.schema.fields in
+    let cells : List (List Cells) = map stored_cells c.loop-batches.batches.items in
+    let step : step_at n c.args.bytes.now c.loop-batches.place ≡ Some cut_off = search rules in
+    batches_cut n c.args.bytes.now c.args.first cells c.loop-batches.place c.loop-batches.invariant.read step
+
+pub returns-in_default : goal.returns-in_default
+returns-in_default c =
+    let n = length c.args.schema.fields in
+    let cells : List (List Cells) = map stored_cells c.loop-batches.batches.items in
+    let batch = c.in-Rows.batch in
+    let step : step_at n c.args.bytes.now c.loop-batches.place ≡ Some (batch_then (batch_slots (stored_cells batch)) c.in-Rows.after) = search rules in
+    let too_many : 2 ^ 64 ≤ c.loop-batches.rows + batch.rows = search rules in
+    let many : 2 ^ 64 ≤ sum_by rows_of_cells cells + rows_of_cells (stored_cells batch) = omega (arith, too_many, batch.counted, c.loop-batches.invariant.counted) in
+    batches_many n c.args.bytes.now c.args.first cells (stored_cells batch) c.loop-batches.place c.in-Rows.after c.loop-batches.invariant.read step many
+
+pub loop-batches-preserved : goal.loop-batches-preserved
+loop-batches-preserved c =
+    let n = length c.args.schema.fields in
+    let cells : List (List Cells) = map stored_cells c.loop-batches.batches.items in
+    let batch = c.in-Rows.batch in
+    let step : step_at n c.args.bytes.now c.loop-batches.place ≡ Some (batch_then (batch_slots (stored_cells batch)) c.in-Rows.after) = search rules in
+    let pushed = c.in_ok-push-in-Rows.ensures.items in
+    let sum : c.in-Some.sum ≡ c.loop-batches.rows + batch.rows = search rules in
+    let more = rows_more c.loop-batches.rows c.loop-batches.batches.items c.push.new.self.items batch c.loop-batches.invariant.counted pushed in
+    record {
+      counted = omega (arith, sum, more);
+      fits = search rules;
+      read = batches_next n c.args.bytes.now c.args.first cells (map stored_cells c.push.new.self.items) (stored_cells batch) c.loop-batches.place c.in-Rows.after
+          c.loop-batches.invariant.read step (search rules) (search rules) (cells_more c.loop-batches.batches.items c.push.new.self.items batch pushed);
+    }
+
+pub returns : goal.returns
+returns c =
+    let n = length c.args.schema.fields in
+    let cells : List (List Cells) = map stored_cells c.loop-batches.batches.items in
+    let step : step_at n c.args.bytes.now c.loop-batches.place ≡ Some ended = search rules in
+    (refl, batches_end n c.args.bytes.now c.args.first cells c.loop-batches.place c.loop-batches.invariant.read step, omega (arith, c.loop-batches.invariant.counted, c.loop-batches.invariant.fits))

@@ -1,0 +1,17 @@
+-- The columns so far are laid out.
+use Rattle.std.proofs.Common.{◌≡◌, ◌%◌, length, map, take}
+use Rattle.std.specs.List.{flat_map}
+use Rattle.ipc_format.specs.Written as written
+use Rattle.tables_stream.specs.Batches.{window_cells}
+use Rattle.tables_stream.specs.Structs.{struct_bytes, buffers_of}
+use Rattle.tables_stream.specs.Tables.{batch_slots}
+use Rattle.tables_stream.proofs.writing.layout_of.Given as goal
+
+abbrev pub invariant-loop-column : goal.invariant-loop-column
+invariant-loop-column l =
+    let slots = batch_slots (window_cells l.batch.start l.batch.rows (take l.column-index l.batch.columns.value.items)) in
+    (l.nodes.items ≡ flat_map struct_bytes (written.nodes_of slots))
+    × (l.buffers.items ≡ flat_map struct_bytes (written.buffer_places 0 (buffers_of slots)))
+    × (l.null_counts.items ≡ map written.null_count slots)
+    × (l.body_length ≡ length (written.body_bytes (buffers_of slots)))
+    × (l.body_length % 64 ≡ 0)

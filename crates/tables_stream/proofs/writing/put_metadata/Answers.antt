@@ -1,0 +1,8 @@
+-- The parts of a message after one another.
+use Rattle.tables_stream.proofs.Appending.{on_ok, appends_framed}
+use Rattle.tables_stream.proofs.writing.put_metadata.Goals as goal
+
+pub returns : goal.returns
+returns g c =
+    on_ok c.put-3.result (appends_framed _ _ _ _ c.args.metadata.now c.to_le_bytes.result c.to_le_bytes.ensures c.in_ok-put.ensures
+    c.in_ok-put-2.ensures) c.put-3.ensures

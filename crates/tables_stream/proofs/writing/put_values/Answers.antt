@@ -1,0 +1,37 @@
+-- A block's values stand behind those before it, and the zeros behind all.
+use Rattle.std.proofs.Common.{◌≡◌, ℕ, ◌+◌, ◌*◌, ◌%◌, length, arith, refl, subst}
+use Rattle.std.specs.Prelude.{slice_range}
+use Rattle.std.specs.List.{flat_map}
+use Rattle.std.specs.Io.KnownBytes.{Appends}
+use Rattle.ipc_format_grammar.specs.Written.{value_bytes}
+use Rattle.tables_stream.proofs.Appending.{on_ok, appends_known}
+use Rattle.tables_stream.proofs.Padded.{slots_between, part_size, values_block, values_size, appends_padded}
+use Rattle.tables_stream.proofs.writing.put_values.Goals as goal
+
+pub loop-done-preserved : goal.loop-done-preserved
+loop-done-preserved g c =
+    let cells = c.args.column.now in
+    let start = c.args.start in
+    let done = c.loop-done.done in
+    let count = c.min-count.result in (
+      omega arith,
+      values_block _ _ _ cells start done count c.loop-done.invariant.1
+          (appends_known _ _ (4 * count) (4 * count) c.values_block-bytes.result _ refl c.values_block-bytes.ensures c.in_ok-put.ensures),
+    )
+
+pub returns : goal.returns
+returns g c =
+    let cells = c.args.column.now in
+    let start = c.args.start in
+    let rows = c.args.rows in
+    let slots = slots_between cells start (start + rows) in
+    let all : c.loop-done.done ≡ rows = omega arith in
+    let count : length (slice_range cells start (start + rows)) ≡ rows = part_size cells start rows (omega arith) in
+    let size : length (flat_map value_bytes slots) ≡ 4 * length (slice_range cells start (start + rows)) =
+    values_size (slice_range cells start (start + rows)) in
+    let same : length (flat_map value_bytes slots) % 64 ≡ (4 * (rows % 64)) % 64 = omega arith in
+    on_ok c.put_padding.result
+    (appends_padded _ _ _ (flat_map value_bytes slots) (4 * (rows % 64)) same
+    (subst (λ (k : ℕ). Appends (g.W.Write.contents c.args.writer.now) (g.W.Write.contents c.loop-done.writer)
+    (flat_map value_bytes (slots_between cells start (start + k)))) all c.loop-done.invariant.1))
+    c.put_padding.ensures

@@ -1,0 +1,25 @@
+-- The end mark behind all batches.
+use Rattle.std.proofs.Common.{◌≡◌, ◌++◌, [], List, map, take, arith, subst}
+use Rattle.std.specs.List.{flat_map}
+use Rattle.std.specs.Io.KnownBytes.{Appends}
+use Rattle.std.proofs.lemmas.List.{take_all}
+use Rattle.ipc_format.specs.Objects.{laid}
+use Rattle.ipc_format.specs.Schemas.{no_ids}
+use Rattle.ipc_format_grammar.specs.SchemaObjects.{schema_message}
+use Rattle.ipc_format_grammar.specs.Written.{framed_bytes, batch_message}
+use Rattle.tables_stream.specs.Tables.{batch_slots, stored_cells}
+use Rattle.tables_stream.specs.declared.batches.Batch.{Batch}
+use Rattle.tables_stream.proofs.Appending.{on_ok}
+use Rattle.tables_stream.proofs.Messages.{stream_written}
+use Rattle.tables_stream.proofs.writing.write_table.Goals as goal
+
+pub returns : goal.returns
+returns g c =
+    let batches = c.args.batches.now in
+    let all : take c.loop-batch.batch-index batches ≡ batches = take_all c.loop-batch.batch-index batches (omega arith) in
+    on_ok c.put.result
+    (stream_written _ _ _ c.args.schema.now (map batch_slots (map stored_cells batches))
+    (subst (λ (some : List Batch). Appends (g.W.Write.contents c.args.writer.now) (g.W.Write.contents c.loop-batch.writer)
+    (framed_bytes (laid (schema_message c.args.schema.now no_ids)) []
+    ++ flat_map batch_message (map batch_slots (map stored_cells some)))) all c.loop-batch.invariant))
+    c.put.ensures

@@ -1,0 +1,103 @@
+-- Streams of 32-bit integer columns, each message and column in the order in which it is read.
+use Rattle.std.specs.Prelude.{◌≡◌, ℕ, zero, suc, ◌+◌, ◌*◌, ◌^◌, true, not, List, [], ◌∷◌, ◌++◌, length, Option, Some, None, Result, Ok, Err, nat_le, nat_lt}
+use Rattle.std.specs.Option.{option_map}
+use Rattle.columnar_memory.specs.declared.Error.{Error}
+use Rattle.columnar_memory.specs.declared.Error.TheVariants as errors
+use Rattle.columnar_memory.specs.declared.Schema.{Schema}
+use Rattle.nested_arrays.specs.Slots.{Slot}
+use Rattle.nested_arrays.specs.Tables as tables
+use Rattle.nested_arrays.specs.Tables.{rows_of_batches}
+use Rattle.ipc_format.specs.Reading.{◌>>=◌, guard}
+use Rattle.ipc_format.specs.FlatBuffers as flat
+use Rattle.ipc_format.specs.Messages as message
+use Rattle.ipc_format.specs.Messages.{record_batch_in, lengths_sum, version_in}
+use Rattle.ipc_format.specs.Schemas.{SchemaIn}
+use Rattle.ipc_format.specs.Columns as format
+use Rattle.ipc_format.specs.Framing as framing
+use Rattle.ipc_format.specs.Streams.{agree_in_length, schema_of}
+
+-- n columns of 32-bit integers from column k on: each has one node and two buffers
+abbrev pub int32_columns : format.Batch → ℕ → ℕ → Option (List (List Slot))
+int32_columns batch k zero = Some []
+int32_columns batch k (suc n) = do
+  column ← format.int32_slots batch None k (2 * k)
+  others ← int32_columns batch (k + 1) n
+  Some (column ∷ others)
+
+-- columns, where they are as long as each other
+abbrev pub agreeing : Option (List (List Slot)) → Option (List (List Slot))
+agreeing given = do
+  columns ← given
+  _ ← guard (agree_in_length columns)
+  Some columns
+
+-- a record batch of n such columns
+unfoldable pub int32_batch : ℕ → List ℕ → flat.Table → List ℕ → Option (List (List Slot))
+int32_batch n metadata table body = do
+  parts ← record_batch_in metadata table
+  _ ← guard (not parts.is_compressed)
+  sum ← lengths_sum metadata parts.buffers
+  _ ← guard (nat_le sum (length body))
+  agreeing (int32_columns (record { metadata = metadata; parts = parts; body = body; is_little_endian = true }) 0 n)
+
+-- the batch of a message
+abbrev pub batch_by : ℕ → framing.Framed → message.Header → Option (List (List Slot))
+batch_by n framed (message.record_batch table) = int32_batch n framed.metadata table framed.body
+batch_by n framed _ = None
+
+-- what stands at a place behind the schema: fewer than four bytes, the end mark, or a batch, with the place of the next message
+pub data Step : Type 0 where
+  cut_off : Step
+  ended : Step
+  batch_then : List (List Slot) → ℕ → Step
+
+abbrev pub step_of : ℕ → framing.Next → Option Step
+step_of n framing.nothing_whole = Some cut_off
+step_of n framing.at_end = Some ended
+step_of n (framing.message_then framed after) = do
+  columns ← batch_by n framed framed.header
+  Some (batch_then columns after)
+
+unfoldable pub step_at : ℕ → List ℕ → ℕ → Option Step
+step_at n bytes place = do
+  next ← framing.next_at bytes place
+  step_of n next
+
+-- something behind what is there already
+abbrev pub behind : {A : Type 0} → List A → Option (List A) → Option (List A)
+behind xs rest = option_map (λ ys. xs ++ ys) rest
+
+abbrev pub by_step : (ℕ → Option (List (List (List Slot)))) → Step → Option (List (List (List Slot)))
+by_step rest cut_off = None
+by_step rest ended = Some []
+by_step rest (batch_then columns after) = behind (columns ∷ []) (rest after)
+
+-- the batches from a place on, up to the end mark; at most so many messages are looked for
+abbrev pub int32_batches : ℕ → ℕ → List ℕ → ℕ → Option (List (List (List Slot)))
+int32_batches n zero bytes place = None
+int32_batches n (suc most) bytes place = do
+  step ← step_at n bytes place
+  by_step (λ after. int32_batches n most bytes after) step
+
+-- the schema of a stream's first message, and the place of the next; its version has to be known
+unfoldable pub first_schema : List ℕ → Option (SchemaIn × ℕ)
+first_schema bytes = do
+  first ← framing.first_of bytes
+  _ ← version_in first.0.metadata
+  found ← schema_of first.0 first.0.header
+  Some (found, first.1)
+
+-- a table of batches, where its rows fit 64 bits
+abbrev pub fitting : Schema → Option (List (List (List Slot))) → Option tables.Table
+fitting schema given = do
+  batches ← given
+  _ ← guard (nat_lt (length (rows_of_batches batches)) (2 ^ 64))
+  Some (record { schema = schema; rows = rows_of_batches batches })
+
+-- what was decoded is what the definition gives; what was refused it doesn't give; want of memory says nothing
+abbrev pub Decodes : {A B : Type 0} → (A → B) → Result A Error → Option B → Type 0
+Decodes view (Ok x) given = given ≡ Some (view x)
+Decodes view (Err errors.OutOfMemory) given = Unit {0}
+Decodes view (Err (errors.OutOfSpec what)) given = given ≡ None
+Decodes view (Err (errors.NotYetImplemented what)) given = given ≡ None
+Decodes view (Err _) given = ⊥
