@@ -8,9 +8,13 @@ pub use Rattle.ipc_format_grammar.specs.Types
 pub use Rattle.ipc_format_grammar.specs.Schemas
 pub use Rattle.ipc_format_grammar.specs.SchemaGrammar
 pub use Rattle.ipc_format_grammar.specs.Writable
-pub use Rattle.ipc_format_grammar.specs.Numbers
-pub use Rattle.ipc_format_grammar.specs.Columns
-pub use Rattle.ipc_format_grammar.specs.Framing
-pub use Rattle.ipc_format_grammar.specs.Streams
+pub use Rattle.ipc_format_columns.specs.Layouts
+pub use Rattle.ipc_format_columns.specs.Values
+pub use Rattle.ipc_format_columns.specs.Columns
+pub use Rattle.ipc_format_columns.specs.Dictionaries
+pub use Rattle.ipc_format_columns.specs.Framing
+pub use Rattle.ipc_format_columns.specs.Files
+pub use Rattle.ipc_format_columns.specs.Tables
+pub use Rattle.ipc_format_columns.specs.Refusals
 pub use Rattle.ipc_format_grammar.specs.SchemaObjects
 pub use Rattle.ipc_format_grammar.specs.Written

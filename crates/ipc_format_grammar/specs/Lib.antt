@@ -3,10 +3,5 @@ pub mod Types
 pub mod Schemas
 pub mod Writable
 pub mod SchemaGrammar
-pub mod Numbers
-pub mod Columns
-pub mod Framing
-pub mod Streams
 pub mod SchemaObjects
 pub mod Written
-pub mod Examples

@@ -1,7 +1,4 @@
-//! The grammar of Arrow's IPC format: which bytes say what, and which bytes are written.
+//! Arrow's metadata: which bytes say which schema, message and batch, and which objects are written.
 //!
-//! It has definitions for contracts, and tests that compute them on worked values.
+//! It has definitions for contracts, and no code.
 #![tactic(auto)]
-
-#[cfg(test)]
-mod tests;

@@ -1,16 +1,15 @@
 -- What a cut of a stream writes.
 use Rattle.std.specs.Prelude.{◌≡◌, ℕ, ◌+◌, ◌≤◌, List, map, Some}
 use Rattle.ipc_format.specs.Schemas.{no_ids}
-use Rattle.ipc_format.specs.Streams.{table_of}
+use Rattle.ipc_format.specs.Tables.{stream, batches_in, table_of}
 use Rattle.ipc_format.specs.Written.{written_stream}
 use Rattle.tables_metadata.specs.FirstPath.{IsFirstPath}
 use Rattle.tables_stream.specs.Cuts.{cut_of}
-use Rattle.tables_stream.specs.Reading.{batches_in}
 use Rattle.tables_stream.specs.Tables.{Stored, as_table, batch_slots, row_count}
 
 -- some bytes are a stream of this table, batch by batch
 abbrev pub IsStreamOf : List ℕ → Stored → Type 0
-IsStreamOf bytes stored = (table_of bytes ≡ Some (as_table stored)) × (batches_in bytes ≡ Some (map batch_slots stored.batches)) × IsFirstPath stored.schema
+IsStreamOf bytes stored = (table_of stream bytes ≡ Some (as_table stored)) × (batches_in stream bytes ≡ Some (map batch_slots stored.batches)) × IsFirstPath stored.schema
 
 -- the stream of n rows from row o on: of each batch that has such a row, those rows
 abbrev pub cut_bytes : ℕ → ℕ → Stored → List ℕ

@@ -9,7 +9,7 @@ use Rattle.columnar_memory.specs.declared.Error.TheVariants.{NotYetImplemented, 
 use Rattle.columnar_memory.specs.declared.Schema.{Schema}
 use Rattle.nested_arrays.specs.Slots.{Slot, window}
 use Rattle.nested_arrays.specs.Tables.{row_at, batch_rows, rows_of_columns, rows_of_batches}
-use Rattle.ipc_format_grammar.specs.Framing.{Framed, Next, nothing_whole, at_end, message_then, next_at, by_next, dictionaries_after, cut_from}
+use Rattle.ipc_format_columns.specs.Framing.{Framed, Next, nothing_whole, at_end, message_then, next_at, by_next, dictionaries_after, cut_from}
 use Rattle.ipc_format.specs.Reading.{◌>>=◌}
 use Rattle.tables_stream.specs.Cells.{slot_of}
 use Rattle.tables_stream.specs.Batches.{rows_of_cells}

@@ -5,7 +5,7 @@ use Rattle.std.specs.Prelude.{Some, None, slice_range}
 use Rattle.std.proofs.lemmas.List.{take_more_set, append-nil, length-drop, length-take, take-map, drop-map}
 use Rattle.std.proofs.lemmas.Bool.{lt-ltb, cases_lt}
 use Rattle.nested_arrays.specs.Slots.{window}
-use Rattle.ipc_format_grammar.specs.Columns.{Validity, all_valid, is_valid_at}
+use Rattle.ipc_format_columns.specs.Columns.{Validity, all_valid, is_valid_at}
 use Rattle.ipc_format_grammar.specs.Written.{is_null, bits_of, bitmap_bytes}
 use Rattle.tables_stream.specs.Cells.{slot_of, cells_from, cells_of}
 use Rattle.tables_stream.specs.Bits.{bits_number, whole_bytes, validity_bits}

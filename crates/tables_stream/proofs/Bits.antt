@@ -4,7 +4,8 @@ use Rattle.std.proofs.Common.{arith, add-zero, add-one, zero-add, if◌then◌el
 use Rattle.std.specs.Int.Bits.{bit_or, bit_and, or_shifted_r}
 use Rattle.std.proofs.lemmas.Nat.{pow_pos, shl-shr, shr-shr, mod-pow-add, shr_below, and_mask, mod_low}
 use Rattle.std.proofs.Math.Nat.{mul-mod_left, pow-suc, mul_assoc, suc-add, mod-eq_of_lt, zero-mul}
-use Rattle.ipc_format_grammar.specs.Columns.{Validity, all_valid, bitmap, is_valid_at, bit_at}
+use Rattle.ipc_format_columns.specs.Columns.{Validity, all_valid, bitmap, is_valid_at}
+use Rattle.ipc_format_columns.specs.Values.{bit_at}
 use Rattle.tables_stream.specs.Bits.{bits_number}
 
 -- a number below 2, by its test

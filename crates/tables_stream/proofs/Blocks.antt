@@ -9,7 +9,7 @@ use Rattle.nested_arrays.specs.Slots.{Slot}
 use Rattle.std.proofs.lemmas.Grind.{common_steps, take_at_read, flat_map-append}
 use Rattle.std.proofs.lemmas.List.{take_more_set, length-set, length-take-le, map-append, append-nil}
 use Rattle.std.proofs.lemmas.List.Sums.{sum_by-cons}
-use Rattle.ipc_format_grammar.specs.Columns.{Validity, all_valid, is_valid_at}
+use Rattle.ipc_format_columns.specs.Columns.{Validity, all_valid, is_valid_at}
 use Rattle.ipc_format_grammar.specs.Written.{is_null, null_count, value_bytes}
 use Rattle.tables_stream.specs.Cells.{slot_of, cells_from, cells_of}
 use Rattle.tables_stream.specs.Bits.{nulls_in}

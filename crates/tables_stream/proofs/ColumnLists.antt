@@ -8,8 +8,9 @@ use Rattle.std.proofs.lemmas.Bool.{eq-eqb, ne_eqb, eqb-false, eqb-true}
 use Rattle.std.proofs.lemmas.List.Elements.{All-nil, All-cons, All-head, All-tail, All-push}
 use Rattle.std.proofs.lemmas.List.{map-append, append-nil, length-map, length-append}
 use Rattle.nested_arrays.specs.Slots.{Slot}
-use Rattle.ipc_format_grammar.specs.Columns.{Batch, int32_slots}
-use Rattle.ipc_format_grammar.specs.Streams.{agree_in_length, are_as_long}
+use Rattle.ipc_format_columns.specs.Columns.{Source, have_length}
+use Rattle.tables_stream.specs.Int32Values.{int32_slots}
+use Rattle.ipc_format_columns.specs.Tables.{agree_in_length}
 use Rattle.ipc_format.specs.Reading.{◌>>=◌}
 use Rattle.tables_stream.specs.Cells.{slot_of, Reads}
 use Rattle.tables_stream.specs.Batches.{rows_of_cells, is_as_long}
@@ -21,11 +22,11 @@ abbrev pub Cells : Type 0
 Cells = List (Option ℤ)
 
 -- what is read of all columns is what was read so far, and then what the columns from the k-th on give
-abbrev pub ColumnsLeft : Batch → ℕ → List Cells → ℕ → Type 0
+abbrev pub ColumnsLeft : Source → ℕ → List Cells → ℕ → Type 0
 ColumnsLeft batch width columns k = (m : ℕ) → k + m ≡ width → int32_columns batch 0 width ≡ behind (batch_slots columns) (int32_columns batch k m)
 
 -- the columns that were read so far: each is as long as the first
-pub record Gathered (batch : Batch) (width : ℕ) (columns : List Cells) (k : ℕ) : Type 0 where
+pub record Gathered (batch : Source) (width : ℕ) (columns : List Cells) (k : ℕ) : Type 0 where
   pub counted : length columns ≡ k
   pub long : All (λ (column : Cells). length column ≡ rows_of_cells columns) columns
   pub left : ColumnsLeft batch width columns k
@@ -35,19 +36,19 @@ behind_none : {A : Type 0} (rest : Option (List A)) → behind [] rest ≡ rest
 behind_none None = refl
 behind_none (Some xs) = refl
 
-begin_left : (batch : Batch) (width : ℕ) → ColumnsLeft batch width [] 0
+begin_left : (batch : Source) (width : ℕ) → ColumnsLeft batch width [] 0
 begin_left batch width m all =
     let same : m ≡ width = omega arith in
     rw (same) (sym (behind_none (int32_columns batch 0 width)))
 
 -- one step of the definition
-step : (batch : Batch) (width : ℕ) (columns : List Cells) (k : ℕ) → k < width → ColumnsLeft batch width columns k
-    → int32_columns batch 0 width ≡ behind (batch_slots columns) (int32_slots batch None k (2 * k) >>= (λ column. int32_columns batch (k + 1) (width - k - 1) >>= (λ others. Some (column ∷ others))))
+step : (batch : Source) (width : ℕ) (columns : List Cells) (k : ℕ) → k < width → ColumnsLeft batch width columns k
+    → int32_columns batch 0 width ≡ behind (batch_slots columns) (int32_slots batch k (2 * k) >>= (λ column. int32_columns batch (k + 1) (width - k - 1) >>= (λ others. Some (column ∷ others))))
 step batch width columns k lt left =
     let all : k + suc (width - k - 1) ≡ width = omega arith in
     left (suc (width - k - 1)) all
 
-pub column_refused : (batch : Batch) (width : ℕ) (columns : List Cells) (k : ℕ) → k < width → ColumnsLeft batch width columns k → int32_slots batch None k (2 * k) ≡ None
+pub column_refused : (batch : Source) (width : ℕ) (columns : List Cells) (k : ℕ) → k < width → ColumnsLeft batch width columns k → int32_slots batch k (2 * k) ≡ None
     → agreeing (int32_columns batch 0 width) ≡ None
 column_refused batch width columns k lt left e = rw (step batch width columns k lt left, e) refl
 
@@ -56,8 +57,8 @@ one_behind : (xs : List (List Slot)) (x : List Slot) (given : Option (List (List
 one_behind xs x None = refl
 one_behind xs x (Some others) = ap (λ (ys : List (List Slot)). Some ys) (sym (append_assoc xs (x ∷ []) others))
 
-pub column_next : (batch : Batch) (width : ℕ) (columns more : List Cells) (column : Cells) (k : ℕ) → k < width → ColumnsLeft batch width columns k
-    → int32_slots batch None k (2 * k) ≡ Some (map slot_of column) → more ≡ columns ++ column ∷ [] → ColumnsLeft batch width more (k + 1)
+pub column_next : (batch : Source) (width : ℕ) (columns more : List Cells) (column : Cells) (k : ℕ) → k < width → ColumnsLeft batch width columns k
+    → int32_slots batch k (2 * k) ≡ Some (map slot_of column) → more ≡ columns ++ column ∷ [] → ColumnsLeft batch width more (k + 1)
 column_next batch width columns more column k lt left e pushed m all =
     let m_is : width - k - 1 ≡ m = omega arith in
     let whole : int32_columns batch 0 width ≡ behind (batch_slots columns) (int32_columns batch (k + 1) m >>= (λ others. Some (map slot_of column ∷ others))) = step batch width columns k lt left ∙ rw (e, m_is) refl in
@@ -65,7 +66,7 @@ column_next batch width columns more column k lt left e pushed m all =
     ∙ ap (λ xs. behind xs (int32_columns batch (k + 1) m)) (sym (map-append (map slot_of) columns (column ∷ [])) ∙ ap batch_slots (sym pushed))
 
 -- columns of one length agree
-as_long : (rows : ℕ) (columns : List Cells) → All (λ (column : Cells). length column ≡ rows) columns → are_as_long rows (batch_slots columns) ≡ true
+as_long : (rows : ℕ) (columns : List Cells) → All (λ (column : Cells). length column ≡ rows) columns → have_length rows (batch_slots columns) ≡ true
 as_long rows [] all = refl
 as_long rows (column ∷ columns) all =
     let here : length (map slot_of column) ≡ rows = length-map column slot_of ∙ All-head (λ (c : Cells). length c ≡ rows) column columns all in
@@ -78,15 +79,15 @@ agree rows (column ∷ columns) all =
     let here : length (map slot_of column) ≡ rows = length-map column slot_of ∙ All-head (λ (c : Cells). length c ≡ rows) column columns all in
     rw (here) (as_long rows columns (All-tail (λ (c : Cells). length c ≡ rows) column columns all))
 
-pub columns_done : (batch : Batch) (width rows k : ℕ) (columns : List Cells) → width ≤ k → k ≤ width → ColumnsLeft batch width columns k → All (λ (column : Cells). length column ≡ rows) columns
+pub columns_done : (batch : Source) (width rows k : ℕ) (columns : List Cells) → width ≤ k → k ≤ width → ColumnsLeft batch width columns k → All (λ (column : Cells). length column ≡ rows) columns
     → agreeing (int32_columns batch 0 width) ≡ Some (batch_slots columns)
 columns_done batch width rows k columns h h' left all =
     let whole : int32_columns batch 0 width ≡ Some (batch_slots columns ++ []) = left 0 (omega arith) in
     rw (whole, append-nil (batch_slots columns), agree rows columns all) refl
 
 -- an error that comes of column k
-pub column_error : (error : Error) (batch : Batch) (width : ℕ) (columns : List Cells) (k : ℕ) → k < width → ColumnsLeft batch width columns k
-    → Reads {A = Cells} (map slot_of) (Err error) (int32_slots batch None k (2 * k))
+pub column_error : (error : Error) (batch : Source) (width : ℕ) (columns : List Cells) (k : ℕ) → k < width → ColumnsLeft batch width columns k
+    → Reads {A = Cells} (map slot_of) (Err error) (int32_slots batch k (2 * k))
     → {A : Type 0} → (view : A → List (List Slot)) → Reads {A = A} view (Err error) (agreeing (int32_columns batch 0 width))
 column_error OutOfMemory batch width columns k lt left read view = tt
 column_error (OutOfSpec what) batch width columns k lt left read view = column_refused batch width columns k lt left read
@@ -123,15 +124,15 @@ disagree rows (first ∷ firsts) column (Some others) some all other =
     refused_if ((batch_slots (first ∷ firsts) ++ map slot_of column ∷ []) ++ others)
     (ap (list_all (λ (c : List Slot). length c == length (map slot_of first))) same ∙ fails)
 
-pub column_disagrees : (batch : Batch) (width rows k : ℕ) (columns : List Cells) (column : Cells) → k < width → 0 < length columns → ColumnsLeft batch width columns k
-    → int32_slots batch None k (2 * k) ≡ Some (map slot_of column) → All (λ (c : Cells). length c ≡ rows) columns → (length column ≡ rows → ⊥)
+pub column_disagrees : (batch : Source) (width rows k : ℕ) (columns : List Cells) (column : Cells) → k < width → 0 < length columns → ColumnsLeft batch width columns k
+    → int32_slots batch k (2 * k) ≡ Some (map slot_of column) → All (λ (c : Cells). length c ≡ rows) columns → (length column ≡ rows → ⊥)
     → agreeing (int32_columns batch 0 width) ≡ None
 column_disagrees batch width rows k columns column lt some left e all other =
     let whole : int32_columns batch 0 width ≡ behind (batch_slots columns) (int32_columns batch (k + 1) (width - k - 1) >>= (λ others. Some (map slot_of column ∷ others))) = step batch width columns k lt left ∙ rw e refl in
     ap agreeing (whole ∙ one_behind (batch_slots columns) (map slot_of column) (int32_columns batch (k + 1) (width - k - 1)))
     ∙ disagree rows columns column (int32_columns batch (k + 1) (width - k - 1)) some all other
 
-pub columns_begin : (batch : Batch) (width : ℕ) → Gathered batch width [] 0
+pub columns_begin : (batch : Source) (width : ℕ) → Gathered batch width [] 0
 columns_begin batch width = record { counted = refl; long = All-nil (λ (column : Cells). length column ≡ 0); left = begin_left batch width }
 
 -- one more column that is as long
@@ -141,24 +142,24 @@ long_more [] column fits all = All-cons (λ (c : Cells). length c ≡ length col
 long_more (first ∷ firsts) column fits all =
     All-push (λ (c : Cells). length c ≡ length first) (first ∷ firsts) column all (eqb-true (length column) (length first) fits)
 
-pub gathered_next : (batch : Batch) (width : ℕ) (columns more : List Cells) (column : Cells) (k : ℕ) → k < width → Gathered batch width columns k
-    → int32_slots batch None k (2 * k) ≡ Some (map slot_of column) → is_as_long columns column ≡ true → more ≡ columns ++ column ∷ [] → Gathered batch width more (k + 1)
+pub gathered_next : (batch : Source) (width : ℕ) (columns more : List Cells) (column : Cells) (k : ℕ) → k < width → Gathered batch width columns k
+    → int32_slots batch k (2 * k) ≡ Some (map slot_of column) → is_as_long columns column ≡ true → more ≡ columns ++ column ∷ [] → Gathered batch width more (k + 1)
 gathered_next batch width columns more column k lt so_far e fits pushed = record {
   counted = ap length pushed ∙ length-append columns (column ∷ []) ∙ ap (λ n. n + 1) so_far.counted;
   long = subst (λ xs. All (λ (c : Cells). length c ≡ rows_of_cells xs) xs) (sym pushed) (long_more columns column fits so_far.long);
   left = column_next batch width columns more column k lt so_far.left e pushed;
 }
 
-pub gathered_error : (error : Error) (batch : Batch) (width : ℕ) (columns : List Cells) (k : ℕ) → k < width → Gathered batch width columns k
-    → Reads {A = Cells} (map slot_of) (Err error) (int32_slots batch None k (2 * k))
+pub gathered_error : (error : Error) (batch : Source) (width : ℕ) (columns : List Cells) (k : ℕ) → k < width → Gathered batch width columns k
+    → Reads {A = Cells} (map slot_of) (Err error) (int32_slots batch k (2 * k))
     → {A : Type 0} → (view : A → List (List Slot)) → Reads {A = A} view (Err error) (agreeing (int32_columns batch 0 width))
 gathered_error error batch width columns k lt so_far = column_error error batch width columns k lt so_far.left
 
-pub gathered_other : (batch : Batch) (width k : ℕ) (columns : List Cells) (column : Cells) → k < width → Gathered batch width columns k
-    → int32_slots batch None k (2 * k) ≡ Some (map slot_of column) → is_as_long columns column ≡ false → agreeing (int32_columns batch 0 width) ≡ None
+pub gathered_other : (batch : Source) (width k : ℕ) (columns : List Cells) (column : Cells) → k < width → Gathered batch width columns k
+    → int32_slots batch k (2 * k) ≡ Some (map slot_of column) → is_as_long columns column ≡ false → agreeing (int32_columns batch 0 width) ≡ None
 gathered_other batch width k [] column lt so_far e other = absurd cc
 gathered_other batch width k (first ∷ firsts) column lt so_far e other =
     column_disagrees batch width (length first) k (first ∷ firsts) column lt (omega arith) so_far.left e so_far.long (eqb-false (length column) (length first) other)
 
-pub gathered_all : (batch : Batch) (width k : ℕ) (columns : List Cells) → width ≤ k → k ≤ width → Gathered batch width columns k → agreeing (int32_columns batch 0 width) ≡ Some (batch_slots columns)
+pub gathered_all : (batch : Source) (width k : ℕ) (columns : List Cells) → width ≤ k → k ≤ width → Gathered batch width columns k → agreeing (int32_columns batch 0 width) ≡ Some (batch_slots columns)
 gathered_all batch width k columns h h' so_far = columns_done batch width (rows_of_cells columns) k columns h h' so_far.left so_far.long

@@ -1,35 +1,54 @@
 -- In a schema of 32-bit integers each column has one node and two buffers, and the format's table is that of the batches in order.
-use Rattle.std.proofs.Common.{◌≡◌, ◌∙◌, ℕ, zero, suc, ◌+◌, ◌*◌, ◌≤◌, Bool, true, List, [], ◌∷◌, length, take, refl, sym, ap, arith}
+use Rattle.std.proofs.Common.{◌≡◌, ◌∙◌, ℕ, zero, suc, ◌+◌, ◌*◌, ◌≤◌, ℤ, Bool, true, List, [], ◌∷◌, length, map, take, refl, sym, ap, arith}
 use Rattle.std.specs.Prelude.{Option, Some, None, not, nat_le}
 use Rattle.std.specs.List.{All}
 use Rattle.std.proofs.lemmas.List.Elements.{All-head, All-tail}
 use Rattle.std.proofs.lemmas.List.Sums.{sum_by-cons}
 use denote.Hole.Carrier
 use Rattle.columnar_memory.specs.declared.DataType.TheOpen as layer
-use Rattle.columnar_memory.specs.declared.DataType.TheViews.{roll-DataType, out-DataType, out-roll-DataType}
-use Rattle.columnar_memory.specs.declared.DataType.TheFolds.{fold-roll-DataType}
+use Rattle.columnar_memory.specs.declared.DataType.TheViews.{roll-DataType}
+use Rattle.columnar_memory.specs.declared.DataType.TheFolds.{fold-roll-DataType, para-roll-DataType}
 use Rattle.columnar_memory.specs.declared.DataType.TheVariants as types
 use Rattle.columnar_memory.specs.declared.Field.{Field}
 use Rattle.nested_arrays.specs.Slots.{Slot}
-use Rattle.ipc_format_grammar.specs.Numbers.{node_count, node_number, nodes_step, buffer_count, buffer_number, buffers_step}
-use Rattle.ipc_format_grammar.specs.Messages.{Version, Header, schema, dictionary_batch, record_batch, RecordBatch, record_batch_in, lengths_sum}
-use Rattle.ipc_format_grammar.specs.Columns.{Batch, int32_slots, slots_in, slots_of_layer}
-use Rattle.ipc_format_grammar.specs.Framing.{Framed, Next, nothing_whole, at_end, message_then, next_at, by_next, dictionaries_after, later_messages}
-use Rattle.ipc_format_grammar.specs.Streams.{Layout, columns_from, batch_in, columns_of, batches_of}
+use Rattle.ipc_format_grammar.specs.Messages.{Version, V5, Header, schema, dictionary_batch, record_batch, RecordBatch, DictionaryBatch}
+use Rattle.ipc_format_grammar.specs.Messages.{record_batch_in, dictionary_batch_in, lengths_sum}
+use Rattle.ipc_format_grammar.specs.Schemas.{Ids, IdsList, ids}
+use Rattle.ipc_format_columns.specs.Layouts.{node_count, node_number, node_step, buffer_count, buffer_number, buffer_step}
+use Rattle.ipc_format_columns.specs.Columns.{Source, Dictionary, Reader, fixed_slots, validity_in, buffer_at, read_step, read_field_step, slots_in, first_ids, other_ids}
+use Rattle.ipc_format_columns.specs.Dictionaries.{Entry, Layout, Values, Finder, find_step, find_field_step, values_in, values_of, source_in, dictionary_in}
+use Rattle.ipc_format_columns.specs.Framing.{Framed, Next, nothing_whole, at_end, message_then, next_at, by_next, dictionaries_after, later_messages}
+use Rattle.ipc_format_columns.specs.Tables.{columns_from, batch_in, batches_of, stream_entry, ids_at}
 use Rattle.ipc_format.specs.Reading.{◌>>=◌, guard}
 use Rattle.ipc_format.specs.FlatBuffers as flat
 use Rattle.tables_metadata.specs.FirstPath.{IsFirstPathField}
+use Rattle.tables_stream.specs.Int32Values.{int32_slots}
 use Rattle.tables_stream.specs.Int32.{int32_columns, int32_batch, agreeing, batch_by, batch_then, step_of, step_at, behind, by_step, int32_batches}
+
+-- ---- one thing after another
+
+-- what follows may be replaced by what gives the same
+pub bind_same : {A B : Type 0} (r : Option A) (f g : A → Option B) → ((x : A) → f x ≡ g x) → (r >>= f) ≡ (r >>= g)
+bind_same None f g h = refl
+bind_same (Some x) f g h = h x
+
+pub bind_assoc : {A B C : Type 0} (r : Option A) (f : A → Option B) (g : B → Option C) → ((r >>= f) >>= g) ≡ (r >>= (λ x. f x >>= g))
+bind_assoc None f g = refl
+bind_assoc (Some x) f g = refl
+
+bind_none : {A B : Type 0} (r : Option A) (f : A → Option B) → ((x : A) → f x ≡ None) → (r >>= f) ≡ None
+bind_none None f h = refl
+bind_none (Some x) f h = h x
 
 -- ---- the numbers of nodes and buffers
 
 node_count_int32 : node_count types.Int32 ≡ 1
 unfolding roll-DataType denote.Hole.Carrier.roll
-node_count_int32 = fold-roll-DataType ℕ ℕ nodes_step (λ field. field.data_type) layer.Int32
+node_count_int32 = fold-roll-DataType ℕ ℕ node_step (λ field. field.data_type) layer.Int32
 
 buffer_count_int32 : (version : Version) → buffer_count version types.Int32 ≡ 2
 unfolding roll-DataType denote.Hole.Carrier.roll
-buffer_count_int32 version = fold-roll-DataType ℕ ℕ (buffers_step version) (λ field. field.data_type) layer.Int32
+buffer_count_int32 version = fold-roll-DataType ℕ ℕ (buffer_step version) (λ field. field.data_type) layer.Int32
 
 node_numbers : (fields : List Field) (k : ℕ) → All IsFirstPathField fields → k ≤ length fields → node_number fields k ≡ k
 node_numbers fields zero all h = refl
@@ -51,37 +70,78 @@ buffer_numbers version (field ∷ fields) (suc k) all h =
 
 -- ---- columns and batches
 
-out_int32 : out-DataType types.Int32 ≡ layer.Int32
+slots_of_int32 : (source : Source) (standing : List Dictionary) (n b : ℕ) (here : Ids) → slots_in types.Int32 source standing None n b here ≡ int32_slots source n b
 unfolding roll-DataType denote.Hole.Carrier.roll
-out_int32 = out-roll-DataType layer.Int32
+slots_of_int32 source standing n b here =
+    ap (λ (read : Reader). read source standing None n b here) (para-roll-DataType Reader Reader read_step read_field_step layer.Int32)
 
-slots_of_int32 : (batch : Batch) (n b : ℕ) → slots_in types.Int32 batch None n b ≡ int32_slots batch None n b
-unfolding slots_in
-slots_of_int32 batch n b = ap (slots_of_layer batch None n b) out_int32
+-- a batch of a message, whose buffers stand in its body
+abbrev source_by : Version → List ℕ → RecordBatch → List ℕ → Source
+source_by version metadata vectors body =
+    record { metadata = metadata; vectors = vectors; version = version; is_little_endian = true; room = body; origin = 0 }
 
--- what follows may be replaced by what gives the same
-bind_same : {A B : Type 0} (r : Option A) (f g : A → Option B) → ((x : A) → f x ≡ g x) → (r >>= f) ≡ (r >>= g)
-bind_same None f g h = refl
-bind_same (Some x) f g h = h x
+-- the version says nothing of such a column
+version_aside : (version : Version) (metadata : List ℕ) (vectors : RecordBatch) (body : List ℕ) (n b : ℕ)
+    → int32_slots (source_by version metadata vectors body) n b ≡ int32_slots (source_by V5 metadata vectors body) n b
+unfolding fixed_slots validity_in buffer_at
+version_aside version metadata vectors body n b = refl
 
-columns_are_int32 : (layout : Layout) (batch : Batch) (k : ℕ) (rest : List Field) → All IsFirstPathField layout.fields → k + length rest ≡ length layout.fields → All IsFirstPathField rest
-    → columns_from layout batch k rest ≡ int32_columns batch k (length rest)
-columns_are_int32 layout batch k [] all counted firsts = refl
-columns_are_int32 layout batch k (field ∷ rest) all counted firsts =
+columns_are_int32 : (layout : Layout) (standing : List Dictionary) (version : Version) (metadata : List ℕ) (vectors : RecordBatch) (body : List ℕ) (k : ℕ)
+    (rest : List Field) → All IsFirstPathField layout.fields → k + length rest ≡ length layout.fields → All IsFirstPathField rest
+    → columns_from layout standing (source_by version metadata vectors body) k rest ≡ int32_columns (source_by V5 metadata vectors body) k (length rest)
+columns_are_int32 layout standing version metadata vectors body k [] all counted firsts = refl
+columns_are_int32 layout standing version metadata vectors body k (field ∷ rest) all counted firsts =
     let n : node_number layout.fields k ≡ k = node_numbers layout.fields k all (omega arith) in
-    let b : buffer_number layout.version layout.fields k ≡ 2 * k = buffer_numbers layout.version layout.fields k all (omega arith) in
-    let others = columns_are_int32 layout batch (k + 1) rest all (omega arith) (All-tail IsFirstPathField field rest firsts) in
-    rw ((All-head IsFirstPathField field rest firsts).0, n, b, slots_of_int32 batch k (2 * k), others) refl
+    let b : buffer_number version layout.fields k ≡ 2 * k = buffer_numbers version layout.fields k all (omega arith) in
+    let others = columns_are_int32 layout standing version metadata vectors body (k + 1) rest all (omega arith) (All-tail IsFirstPathField field rest firsts) in
+    let here = slots_of_int32 (source_by version metadata vectors body) standing k (2 * k) (ids_at layout.below k) ∙ version_aside version metadata vectors body k (2 * k) in
+    rw ((All-head IsFirstPathField field rest firsts).0, n, b, here, others) refl
 
-pub batch_is_int32 : (layout : Layout) (metadata : List ℕ) (table : flat.Table) (body : List ℕ) → All IsFirstPathField layout.fields → layout.is_little_endian ≡ true
-    → batch_in layout metadata table body ≡ int32_batch (length layout.fields) metadata table body
+-- what is made of a message's batch, part by part
+source_parts : {B : Type 0} (version : Version) (metadata : List ℕ) (header : Header) (table : flat.Table) (body : List ℕ) (f : Source → Option B)
+    → (source_in true (stream_entry version (record { metadata = metadata; header = header; body = body })) table >>= f)
+    ≡ (record_batch_in metadata table >>= (λ vectors. guard (not vectors.is_compressed) >>= (λ _. lengths_sum metadata vectors.buffers >>= (λ sum.
+      guard (nat_le sum (length body)) >>= (λ _. f (source_by version metadata vectors body))))))
+unfolding source_in
+source_parts version metadata header table body f =
+    bind_assoc {A = RecordBatch} (record_batch_in metadata table) _ f ∙
+    bind_same {A = RecordBatch} (record_batch_in metadata table) _ _ (λ vectors.
+    bind_assoc {A = Bool} (guard (not vectors.is_compressed)) _ f ∙
+    bind_same {A = Bool} (guard (not vectors.is_compressed)) _ _ (λ is_plain.
+    bind_assoc {A = ℕ} (lengths_sum metadata vectors.buffers) _ f ∙
+    bind_same {A = ℕ} (lengths_sum metadata vectors.buffers) _ _ (λ sum.
+    bind_assoc {A = Bool} (guard (nat_le sum (length body))) _ f)))
+
+pub batch_is_int32 : (layout : Layout) (version : Version) (metadata : List ℕ) (header : Header) (table : flat.Table) (body : List ℕ)
+    → All IsFirstPathField layout.fields → layout.is_little_endian ≡ true
+    → batch_in layout [] (stream_entry version (record { metadata = metadata; header = header; body = body })) table ≡ int32_batch (length layout.fields) metadata table body
 unfolding batch_in int32_batch
-batch_is_int32 layout metadata table body all little =
-    bind_same {A = RecordBatch} (record_batch_in metadata table) _ _ (λ parts.
-    bind_same {A = Bool} (guard (not parts.is_compressed)) _ _ (λ is_plain.
-    bind_same {A = ℕ} (lengths_sum metadata parts.buffers) _ _ (λ sum.
+batch_is_int32 layout version metadata header table body all little =
+    rw (little) (source_parts version metadata header table body (λ source. agreeing (columns_from layout [] source 0 layout.fields)) ∙
+    bind_same {A = RecordBatch} (record_batch_in metadata table) _ _ (λ vectors.
+    bind_same {A = Bool} (guard (not vectors.is_compressed)) _ _ (λ is_plain.
+    bind_same {A = ℕ} (lengths_sum metadata vectors.buffers) _ _ (λ sum.
     bind_same {A = Bool} (guard (nat_le sum (length body))) _ _ (λ fits.
-    rw (little) (ap agreeing (columns_are_int32 layout (record { metadata = metadata; parts = parts; body = body; is_little_endian = true }) 0 layout.fields all (omega arith) all))))))
+    ap agreeing (columns_are_int32 layout [] version metadata vectors body 0 layout.fields all (omega arith) all))))))
+
+-- ---- dictionaries: such a schema has none
+
+no_values : (id : ℤ) (here : Ids) → values_in types.Int32 id here ≡ None
+unfolding roll-DataType denote.Hole.Carrier.roll
+no_values id here = ap (λ (find : Finder). find id here) (para-roll-DataType Finder Finder find_step find_field_step layer.Int32)
+
+no_values_of : (fields : List Field) (id : ℤ) (below : IdsList) → All IsFirstPathField fields → values_of fields id below ≡ None
+no_values_of [] id below all = refl
+no_values_of (field ∷ fields) id below all =
+    rw ((All-head IsFirstPathField field fields all).0, no_values id (first_ids below)) (no_values_of fields id (other_ids below) (All-tail IsFirstPathField field fields all))
+
+no_dictionary : (layout : Layout) (entry : Entry) (table : flat.Table) → All IsFirstPathField layout.fields → dictionary_in layout [] entry table ≡ None
+unfolding dictionary_in
+no_dictionary layout entry table all =
+    bind_none {A = DictionaryBatch} (dictionary_batch_in entry.metadata table) _ (λ batch.
+    bind_none {A = Bool} (guard (not batch.is_delta)) _ (λ is_whole.
+    bind_none {A = Source} (source_in layout.is_little_endian entry batch.values) _ (λ source.
+    rw (no_values_of layout.fields batch.id layout.below all) refl)))
 
 -- ---- messages, one after another
 
@@ -102,55 +162,72 @@ by_message most bytes framed after = do
   others ← later_messages most bytes after in_a_row
   Some (framed ∷ others)
 
--- one batch before others, where the others are what the rest of the messages give
-one_more : (layout : Layout) (framed : Framed) (given : Option (List (List Slot))) (others : Option (List Framed)) (rest : Option (List (List (List Slot)))) (after : ℕ)
-    → (others >>= batches_of layout) ≡ rest → columns_of layout framed framed.header ≡ given
-    → ((others >>= (λ more. Some (framed ∷ more))) >>= batches_of layout) ≡ ((given >>= (λ columns. Some (batch_then columns after))) >>= by_step (λ place. rest))
-one_more layout framed None None rest after e here = refl
-one_more layout framed (Some columns) None rest after e here = rw (sym e) refl
-one_more layout framed None (Some more) rest after e here = rw here refl
-one_more layout framed (Some columns) (Some more) rest after e here = rw (here, sym e) (pushed columns (batches_of layout more))
+-- the batches of a stream's later messages
+abbrev pub later_batches : Layout → Version → List Framed → Option (List (List (List Slot)))
+later_batches layout version later = batches_of layout [] (map (stream_entry version) later)
 
--- nothing comes of a message that has no batch
-no_batch : (layout : Layout) (framed : Framed) (others : Option (List Framed)) → columns_of layout framed framed.header ≡ None
-    → ((others >>= (λ more. Some (framed ∷ more))) >>= batches_of layout) ≡ None
-no_batch layout framed None here = refl
-no_batch layout framed (Some more) here = rw here refl
+-- a record batch message, and its entry
+abbrev batch_message : List ℕ → flat.Table → List ℕ → Framed
+batch_message metadata table body = record { metadata = metadata; header = record_batch table; body = body }
+
+-- one batch before others, where the others are what the rest of the messages give
+one_more : (layout : Layout) (version : Version) (metadata : List ℕ) (table : flat.Table) (body : List ℕ) (given : Option (List (List Slot)))
+    (others : Option (List Framed)) (rest : Option (List (List (List Slot)))) (after : ℕ)
+    → (others >>= later_batches layout version) ≡ rest → batch_in layout [] (stream_entry version (batch_message metadata table body)) table ≡ given
+    → ((others >>= (λ more. Some (batch_message metadata table body ∷ more))) >>= later_batches layout version)
+    ≡ ((given >>= (λ columns. Some (batch_then columns after))) >>= by_step (λ place. rest))
+one_more layout version metadata table body None None rest after e here = refl
+one_more layout version metadata table body (Some columns) None rest after e here = rw (sym e) refl
+one_more layout version metadata table body None (Some more) rest after e here = rw here refl
+one_more layout version metadata table body (Some columns) (Some more) rest after e here =
+    rw (here, sym e) (pushed columns (later_batches layout version more))
+
+-- nothing comes of a dictionary
+abbrev dictionary_message : List ℕ → flat.Table → List ℕ → Framed
+dictionary_message metadata table body = record { metadata = metadata; header = dictionary_batch table; body = body }
+
+no_batch : (layout : Layout) (version : Version) (metadata : List ℕ) (table : flat.Table) (body : List ℕ) (others : Option (List Framed))
+    → All IsFirstPathField layout.fields
+    → ((others >>= (λ more. Some (dictionary_message metadata table body ∷ more))) >>= later_batches layout version) ≡ None
+no_batch layout version metadata table body None all = refl
+no_batch layout version metadata table body (Some more) all =
+    rw (no_dictionary layout (stream_entry version (dictionary_message metadata table body)) table all) refl
 
 -- the batches of the message that stands at a place, and of those behind it
-after_message : (layout : Layout) (most : ℕ) (bytes metadata : List ℕ) (header : Header) (body : List ℕ) (after : ℕ)
+after_message : (layout : Layout) (version : Version) (most : ℕ) (bytes metadata : List ℕ) (header : Header) (body : List ℕ) (after : ℕ)
     → All IsFirstPathField layout.fields → layout.is_little_endian ≡ true
-    → (later_messages most bytes after 0 >>= batches_of layout) ≡ int32_batches (length layout.fields) most bytes after
-    → (by_message most bytes (record { metadata = metadata; header = header; body = body }) after >>= batches_of layout)
+    → (later_messages most bytes after 0 >>= later_batches layout version) ≡ int32_batches (length layout.fields) most bytes after
+    → (by_message most bytes (record { metadata = metadata; header = header; body = body }) after >>= later_batches layout version)
     ≡ (step_of (length layout.fields) (message_then (record { metadata = metadata; header = header; body = body }) after)
     >>= by_step (λ place. int32_batches (length layout.fields) most bytes place))
-after_message layout most bytes metadata (schema table) body after all little same = refl
-after_message layout most bytes metadata (dictionary_batch table) body after all little same =
-    no_batch layout (record { metadata = metadata; header = dictionary_batch table; body = body }) (later_messages most bytes after 1) refl
-after_message layout most bytes metadata (record_batch table) body after all little same =
-    one_more layout (record { metadata = metadata; header = record_batch table; body = body }) (int32_batch (length layout.fields) metadata table body)
+after_message layout version most bytes metadata (schema table) body after all little same = refl
+after_message layout version most bytes metadata (dictionary_batch table) body after all little same =
+    no_batch layout version metadata table body (later_messages most bytes after 1) all
+after_message layout version most bytes metadata (record_batch table) body after all little same =
+    one_more layout version metadata table body (int32_batch (length layout.fields) metadata table body)
     (later_messages most bytes after 0) (int32_batches (length layout.fields) most bytes after) after same
-    (batch_is_int32 layout metadata table body all little)
+    (batch_is_int32 layout version metadata (record_batch table) table body all little)
     ∙ only_there (int32_batch (length layout.fields) metadata table body) (λ place. int32_batches (length layout.fields) most bytes place) after
 
 -- the same of whatever stands at a place
-at_next : (layout : Layout) (most : ℕ) (bytes : List ℕ) (given : Option Next)
+at_next : (layout : Layout) (version : Version) (most : ℕ) (bytes : List ℕ) (given : Option Next)
     → All IsFirstPathField layout.fields → layout.is_little_endian ≡ true
-    → ((place : ℕ) → (later_messages most bytes place 0 >>= batches_of layout) ≡ int32_batches (length layout.fields) most bytes place)
-    → ((given >>= by_next None (Some []) (by_message most bytes)) >>= batches_of layout)
+    → ((place : ℕ) → (later_messages most bytes place 0 >>= later_batches layout version) ≡ int32_batches (length layout.fields) most bytes place)
+    → ((given >>= by_next None (Some []) (by_message most bytes)) >>= later_batches layout version)
     ≡ ((given >>= step_of (length layout.fields)) >>= by_step (λ place. int32_batches (length layout.fields) most bytes place))
-at_next layout most bytes None all little same = refl
-at_next layout most bytes (Some nothing_whole) all little same = refl
-at_next layout most bytes (Some at_end) all little same = refl
-at_next layout most bytes (Some (message_then framed after)) all little same =
-    after_message layout most bytes framed.metadata framed.header framed.body after all little (same after)
+at_next layout version most bytes None all little same = refl
+at_next layout version most bytes (Some nothing_whole) all little same = refl
+at_next layout version most bytes (Some at_end) all little same = refl
+at_next layout version most bytes (Some (message_then framed after)) all little same =
+    after_message layout version most bytes framed.metadata framed.header framed.body after all little (same after)
 
-pub batches_are_int32 : (layout : Layout) (most : ℕ) (bytes : List ℕ) (place : ℕ) → All IsFirstPathField layout.fields → layout.is_little_endian ≡ true
-    → (later_messages most bytes place 0 >>= batches_of layout) ≡ int32_batches (length layout.fields) most bytes place
+pub batches_are_int32 : (layout : Layout) (version : Version) (most : ℕ) (bytes : List ℕ) (place : ℕ)
+    → All IsFirstPathField layout.fields → layout.is_little_endian ≡ true
+    → (later_messages most bytes place 0 >>= later_batches layout version) ≡ int32_batches (length layout.fields) most bytes place
 unfolding step_at
-batches_are_int32 layout zero bytes place all little = refl
-batches_are_int32 layout (suc most) bytes place all little =
-    at_next layout most bytes (next_at bytes place) all little (λ after. batches_are_int32 layout most bytes after all little)
+batches_are_int32 layout version zero bytes place all little = refl
+batches_are_int32 layout version (suc most) bytes place all little =
+    at_next layout version most bytes (next_at bytes place) all little (λ after. batches_are_int32 layout version most bytes after all little)
 
 -- ---- whether the stream is cut off
 

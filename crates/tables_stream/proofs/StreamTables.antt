@@ -20,8 +20,9 @@ use Rattle.nested_arrays.specs.Tables.{rows_of_batches}
 use Rattle.ipc_format_grammar.specs.Messages.{Version, version_in}
 use Rattle.ipc_format_grammar.specs.Schemas.{SchemaIn}
 use Rattle.ipc_format_grammar.specs.Writable.{normalised, normalised_type, normalised_step, normalised_field, normalised_pairs, with_extension_under}
-use Rattle.ipc_format_grammar.specs.Framing.{Framed, Stream, first_of, messages_of, later_messages, cut_from, is_cut}
-use Rattle.ipc_format_grammar.specs.Streams.{Layout, batches_of, schema_of, table_of}
+use Rattle.ipc_format_columns.specs.Framing.{Framed, Stream, first_of, messages_of, later_messages, cut_from, is_cut}
+use Rattle.ipc_format_columns.specs.Dictionaries.{Layout}
+use Rattle.ipc_format_columns.specs.Tables.{stream, Contents, batches_of, batches_in, schema_of, stream_entry, layout_of, contents_of, table_of}
 use Rattle.ipc_format.specs.Reading.{◌>>=◌, guard}
 use Rattle.tables_metadata.specs.FirstPath.{IsFirstPath, IsFirstPathField}
 use Rattle.tables_metadata.specs.Reading as metadata
@@ -31,8 +32,8 @@ use Rattle.tables_stream.specs.declared.fault.Fault.TheVariants as faults
 use Rattle.tables_stream.specs.Faults.{fault_of}
 use Rattle.tables_stream.specs.Tables.{Stored, as_table, batch_slots, row_count}
 use Rattle.tables_stream.specs.Int32.{first_schema, fitting, int32_batches}
-use Rattle.tables_stream.specs.Reading.{ReadsBatches, ReadsStream, HasOtherSchema, batches_in}
-use Rattle.tables_stream.proofs.FirstPath.{batches_are_int32}
+use Rattle.tables_stream.specs.Reading.{ReadsBatches, ReadsStream, HasOtherSchema}
+use Rattle.tables_stream.proofs.FirstPath.{bind_same, bind_assoc, later_batches, batches_are_int32}
 use Rattle.tables_stream.proofs.BatchLists.{rows_counted}
 
 -- ---- the schema has its one form already
@@ -82,79 +83,100 @@ came_of None f y e = absurd cc
 came_of (Some x) f y e = (x, refl, e)
 
 -- what a layout's batches make of later messages
-later_fit : (layout : Layout) (schema : Schema) (later : Option (List Framed)) (given : Option (List (List (List Slot)))) → (later >>= batches_of layout) ≡ given
-    → (later >>= (λ more. batches_of layout more >>= (λ batches. guard (nat_lt (length (rows_of_batches batches)) (2 ^ 64)) >>= (λ _. Some (record { schema = schema; rows = rows_of_batches batches })))))
-    ≡ fitting schema given
-later_fit layout schema None given e = rw (sym e) refl
-later_fit layout schema (Some more) given e = rw (sym e) refl
+later_fit : (layout : Layout) (version : Version) (schema : Schema) (later : Option (List Framed)) (given : Option (List (List (List Slot))))
+    → (later >>= later_batches layout version) ≡ given
+    → (later >>= (λ more. later_batches layout version more >>= (λ batches. guard (nat_lt (length (rows_of_batches batches)) (2 ^ 64))
+      >>= (λ _. Some (record { schema = schema; rows = rows_of_batches batches }))))) ≡ fitting schema given
+later_fit layout version schema None given e = rw (sym e) refl
+later_fit layout version schema (Some more) given e = rw (sym e) refl
 
--- the stream's table, from its first message on
-abbrev table_behind : Framed × ℕ → Option (List Framed) → Option tables.Table
-table_behind first later = do
+-- what comes of a schema and the messages behind it
+abbrev Rest : Type 0 → Type 0
+Rest A = Contents → Option A
+
+abbrev table_rest : Rest tables.Table
+table_rest contents = do
+  batches ← batches_of (layout_of contents.schema) [] contents.entries
+  _ ← guard (nat_lt (length (rows_of_batches batches)) (2 ^ 64))
+  Some (record { schema = normalised contents.schema.schema; rows = rows_of_batches batches })
+
+abbrev batches_rest : Rest (List (List (List Slot)))
+batches_rest contents = batches_of (layout_of contents.schema) [] contents.entries
+
+-- the same from a stream's first message on
+abbrev rest_behind : {A : Type 0} → Rest A → Framed × ℕ → Option (List Framed) → Option A
+rest_behind rest first later = do
   more ← later
   version ← version_in first.0.metadata
   found ← schema_of first.0 first.0.header
-  batches ← batches_of (record { fields = found.schema.fields; version = version; is_little_endian = found.is_little_endian }) more
-  _ ← guard (nat_lt (length (rows_of_batches batches)) (2 ^ 64))
-  Some (record { schema = normalised found.schema; rows = rows_of_batches batches })
+  rest (record { schema = found; entries = map (stream_entry version) more })
 
 abbrev stream_of : Framed → List Framed → Option Stream
 stream_of first later = Some (record { first = first; later = later })
 
--- the same, where the messages are put together first
-split : (first : Framed × ℕ) (later : Option (List Framed))
-    → ((later >>= stream_of first.0) >>= (λ stream.
-    version_in stream.first.metadata >>= (λ version.
-    schema_of stream.first stream.first.header >>= (λ found.
-    batches_of (record { fields = found.schema.fields; version = version; is_little_endian = found.is_little_endian }) stream.later >>= (λ batches.
-    guard (nat_lt (length (rows_of_batches batches)) (2 ^ 64)) >>= (λ _.
-    Some (record { schema = normalised found.schema; rows = rows_of_batches batches })))))))
-    ≡ table_behind first later
-split first None = refl
-split first (Some more) = refl
+-- what comes of a stream's messages
+abbrev rest_of : {A : Type 0} → Rest A → Stream → Option A
+rest_of rest messages = do
+  version ← version_in messages.first.metadata
+  found ← schema_of messages.first messages.first.header
+  rest (record { schema = found; entries = map (stream_entry version) messages.later })
 
-table_begins : (bytes : List ℕ) (given : Option (Framed × ℕ)) → first_of bytes ≡ given → table_of bytes ≡ (given >>= (λ first. table_behind first (later_messages (length bytes) bytes first.1 0)))
-unfolding table_of messages_of
-table_begins bytes None e = rw e refl
-table_begins bytes (Some first) e = rw e (split first (later_messages (length bytes) bytes first.1 0))
+split : {A : Type 0} (rest : Rest A) (first : Framed × ℕ) (later : Option (List Framed))
+    → ((later >>= stream_of first.0) >>= rest_of rest) ≡ rest_behind rest first later
+split rest first None = refl
+split rest first (Some more) = refl
 
--- the same of the stream's batches
-abbrev batches_behind : Framed × ℕ → Option (List Framed) → Option (List (List (List Slot)))
-batches_behind first later = do
-  more ← later
-  version ← version_in first.0.metadata
-  found ← schema_of first.0 first.0.header
-  batches_of (record { fields = found.schema.fields; version = version; is_little_endian = found.is_little_endian }) more
+contents_first : {A : Type 0} (rest : Rest A) (bytes : List ℕ) → (contents_of stream bytes >>= rest) ≡ (messages_of bytes >>= rest_of rest)
+unfolding contents_of
+contents_first rest bytes =
+    bind_assoc {A = Stream} (messages_of bytes) _ rest ∙
+    bind_same {A = Stream} (messages_of bytes) _ _ (λ messages.
+    bind_assoc {A = Version} (version_in messages.first.metadata) _ rest ∙
+    bind_same {A = Version} (version_in messages.first.metadata) _ _ (λ version.
+    bind_assoc {A = SchemaIn} (schema_of messages.first messages.first.header) _ rest))
 
-split_batches : (first : Framed × ℕ) (later : Option (List Framed))
-    → ((later >>= stream_of first.0) >>= (λ stream.
-    version_in stream.first.metadata >>= (λ version.
-    schema_of stream.first stream.first.header >>= (λ found.
-    batches_of (record { fields = found.schema.fields; version = version; is_little_endian = found.is_little_endian }) stream.later))))
-    ≡ batches_behind first later
-split_batches first None = refl
-split_batches first (Some more) = refl
+stream_begins : {A : Type 0} (rest : Rest A) (bytes : List ℕ) (given : Option (Framed × ℕ)) → first_of bytes ≡ given
+    → (contents_of stream bytes >>= rest) ≡ (given >>= (λ first. rest_behind rest first (later_messages (length bytes) bytes first.1 0)))
+unfolding messages_of
+stream_begins rest bytes None e = contents_first rest bytes ∙ rw e refl
+stream_begins rest bytes (Some first) e = contents_first rest bytes ∙ rw e (split rest first (later_messages (length bytes) bytes first.1 0))
 
-batches_first : (bytes : List ℕ) (first : Framed × ℕ) → first_of bytes ≡ Some first → batches_in bytes ≡ batches_behind first (later_messages (length bytes) bytes first.1 0)
-unfolding batches_in messages_of
-batches_first bytes first e = rw e (split_batches first (later_messages (length bytes) bytes first.1 0))
+table_begins : (bytes : List ℕ) (given : Option (Framed × ℕ)) → first_of bytes ≡ given
+    → table_of stream bytes ≡ (given >>= (λ first. rest_behind table_rest first (later_messages (length bytes) bytes first.1 0)))
+unfolding table_of
+table_begins bytes given e = stream_begins table_rest bytes given e
 
+batches_first : (bytes : List ℕ) (first : Framed × ℕ) → first_of bytes ≡ Some first
+    → batches_in stream bytes ≡ rest_behind batches_rest first (later_messages (length bytes) bytes first.1 0)
+unfolding batches_in
+batches_first bytes first e = stream_begins batches_rest bytes (Some first) e
+
+-- the layout of a schema that has its one form
+abbrev layout_by : Schema → Layout
+layout_by schema = record { fields = schema.fields; below = (schema_found schema).ids; is_little_endian = true }
+
+layout_is : (schema : Schema) → IsFirstPath schema → layout_of (schema_found schema) ≡ layout_by schema
+layout_is schema first = ap (λ (s : Schema). layout_by_ids s.fields) (schema_is_normal schema first)
+  where
+    layout_by_ids : List Field → Layout
+    layout_by_ids fields = record { fields = fields; below = (schema_found schema).ids; is_little_endian = true }
+
+-- the batches and the table of messages whose version and schema are known
 batches_known : (first : Framed × ℕ) (later : Option (List Framed)) (version : Version) (found : SchemaIn) (schema : Schema) (given : Option (List (List (List Slot))))
-    → version_in first.0.metadata ≡ Some version → schema_of first.0 first.0.header ≡ Some found → found ≡ schema_found schema
-    → (later >>= batches_of (record { fields = schema.fields; version = version; is_little_endian = true })) ≡ given
-    → batches_behind first later ≡ given
-batches_known first later version found schema given v s same batches = rw (v, s, same) batches
+    → version_in first.0.metadata ≡ Some version → schema_of first.0 first.0.header ≡ Some found → found ≡ schema_found schema → IsFirstPath schema
+    → (later >>= later_batches (layout_by schema) version) ≡ given
+    → rest_behind batches_rest first later ≡ given
+batches_known first later version found schema given v s same first_path batches = rw (v, s, same, layout_is schema first_path) batches
 
--- a table of messages whose version and schema are known
 known_behind : (first : Framed × ℕ) (later : Option (List Framed)) (version : Version) (found : SchemaIn) (schema : Schema) (given : Option (List (List (List Slot))))
     → version_in first.0.metadata ≡ Some version → schema_of first.0 first.0.header ≡ Some found → found ≡ schema_found schema → IsFirstPath schema
-    → (later >>= batches_of (record { fields = schema.fields; version = version; is_little_endian = true })) ≡ given
-    → table_behind first later ≡ fitting schema given
-known_behind first later version found schema given v s same so_far batches =
-    rw (v, s, same, schema_is_normal schema so_far) (later_fit (record { fields = schema.fields; version = version; is_little_endian = true }) schema later given batches)
+    → (later >>= later_batches (layout_by schema) version) ≡ given
+    → rest_behind table_rest first later ≡ fitting schema given
+known_behind first later version found schema given v s same first_path batches =
+    rw (v, s, same, layout_is schema first_path, schema_is_normal schema first_path) (later_fit (layout_by schema) version schema later given batches)
 
 pub table_from : (bytes : List ℕ) (found : SchemaIn) (place : ℕ) (schema : Schema) → first_schema bytes ≡ Some (found, place) → found ≡ schema_found schema → IsFirstPath schema
-    → table_of bytes ≡ fitting schema (int32_batches (length schema.fields) (length bytes) bytes place)
+    → table_of stream bytes ≡ fitting schema (int32_batches (length schema.fields) (length bytes) bytes place)
 unfolding first_schema
 table_from bytes found place schema e same so_far =
     let a = came_of {A = Framed × ℕ} (first_of bytes) _ (found, place) e in
@@ -163,14 +185,13 @@ table_from bytes found place schema e same so_far =
     let pair : (c.0, a.0.1) ≡ (found, place) = same_pair (c.0, a.0.1) (found, place) c.2 in
     let known : c.0 ≡ found = ap (λ (p : SchemaIn × ℕ). p.0) pair in
     let behind : a.0.1 ≡ place = ap (λ (p : SchemaIn × ℕ). p.1) pair in
-    let layout : Layout = record { fields = schema.fields; version = b.0; is_little_endian = true } in
-    let batches = batches_are_int32 layout (length bytes) bytes a.0.1 so_far.1 refl in
+    let batches = batches_are_int32 (layout_by schema) b.0 (length bytes) bytes a.0.1 so_far.1 refl in
     table_begins bytes (Some a.0) a.1
     ∙ known_behind a.0 (later_messages (length bytes) bytes a.0.1 0) b.0 c.0 schema (int32_batches (length schema.fields) (length bytes) bytes a.0.1) b.1 c.1 (known ∙ same) so_far batches
     ∙ ap (λ (at : ℕ). fitting schema (int32_batches (length schema.fields) (length bytes) bytes at)) behind
 
 batches_from : (bytes : List ℕ) (found : SchemaIn) (place : ℕ) (schema : Schema) → first_schema bytes ≡ Some (found, place) → found ≡ schema_found schema → IsFirstPath schema
-    → batches_in bytes ≡ int32_batches (length schema.fields) (length bytes) bytes place
+    → batches_in stream bytes ≡ int32_batches (length schema.fields) (length bytes) bytes place
 unfolding first_schema
 batches_from bytes found place schema e same so_far =
     let a = came_of {A = Framed × ℕ} (first_of bytes) _ (found, place) e in
@@ -179,33 +200,32 @@ batches_from bytes found place schema e same so_far =
     let pair : (c.0, a.0.1) ≡ (found, place) = same_pair (c.0, a.0.1) (found, place) c.2 in
     let known : c.0 ≡ found = ap (λ (p : SchemaIn × ℕ). p.0) pair in
     let behind : a.0.1 ≡ place = ap (λ (p : SchemaIn × ℕ). p.1) pair in
-    let layout : Layout = record { fields = schema.fields; version = b.0; is_little_endian = true } in
-    let batches = batches_are_int32 layout (length bytes) bytes a.0.1 so_far.1 refl in
+    let batches = batches_are_int32 (layout_by schema) b.0 (length bytes) bytes a.0.1 so_far.1 refl in
     batches_first bytes a.0 a.1
-    ∙ batches_known a.0 (later_messages (length bytes) bytes a.0.1 0) b.0 c.0 schema (int32_batches (length schema.fields) (length bytes) bytes a.0.1) b.1 c.1 (known ∙ same) batches
+    ∙ batches_known a.0 (later_messages (length bytes) bytes a.0.1 0) b.0 c.0 schema (int32_batches (length schema.fields) (length bytes) bytes a.0.1) b.1 c.1 (known ∙ same) so_far batches
     ∙ ap (λ (at : ℕ). int32_batches (length schema.fields) (length bytes) bytes at) behind
 
 -- a stream without a schema is no table
-no_version : (first : Framed × ℕ) (later : Option (List Framed)) → version_in first.0.metadata ≡ None → table_behind first later ≡ None
+no_version : (first : Framed × ℕ) (later : Option (List Framed)) → version_in first.0.metadata ≡ None → rest_behind table_rest first later ≡ None
 no_version first None e = refl
 no_version first (Some more) e = rw e refl
 
-no_schema : (first : Framed × ℕ) (later : Option (List Framed)) (version : Version) → version_in first.0.metadata ≡ Some version → schema_of first.0 first.0.header ≡ None → table_behind first later ≡ None
+no_schema : (first : Framed × ℕ) (later : Option (List Framed)) (version : Version) → version_in first.0.metadata ≡ Some version → schema_of first.0 first.0.header ≡ None → rest_behind table_rest first later ≡ None
 no_schema first None version v e = refl
 no_schema first (Some more) version v e = rw (v, e) refl
 
 no_parts : (bytes : List ℕ) (first : Framed × ℕ) (version : Option Version) (found : Option SchemaIn) → first_of bytes ≡ Some first → version_in first.0.metadata ≡ version → schema_of first.0 first.0.header ≡ found
-    → (version >>= (λ _. found >>= with_place first.1)) ≡ None → table_of bytes ≡ None
+    → (version >>= (λ _. found >>= with_place first.1)) ≡ None → table_of stream bytes ≡ None
 no_parts bytes first None found e v s none = table_begins bytes (Some first) e ∙ no_version first (later_messages (length bytes) bytes first.1 0) v
 no_parts bytes first (Some version) None e v s none = table_begins bytes (Some first) e ∙ no_schema first (later_messages (length bytes) bytes first.1 0) version v s
 no_parts bytes first (Some version) (Some found) e v s none = absurd cc
 
 no_first : (bytes : List ℕ) (given : Option (Framed × ℕ)) → first_of bytes ≡ given
-    → (given >>= (λ first. version_in first.0.metadata >>= (λ _. schema_of first.0 first.0.header >>= with_place first.1))) ≡ None → table_of bytes ≡ None
+    → (given >>= (λ first. version_in first.0.metadata >>= (λ _. schema_of first.0 first.0.header >>= with_place first.1))) ≡ None → table_of stream bytes ≡ None
 no_first bytes None e none = table_begins bytes None e
 no_first bytes (Some first) e none = no_parts bytes first (version_in first.0.metadata) (schema_of first.0 first.0.header) e refl refl none
 
-pub no_table : (bytes : List ℕ) → first_schema bytes ≡ None → table_of bytes ≡ None
+pub no_table : (bytes : List ℕ) → first_schema bytes ≡ None → table_of stream bytes ≡ None
 unfolding first_schema
 no_table bytes none = no_first bytes (first_of bytes) refl none
 
@@ -274,7 +294,7 @@ pub first_error : {A : Type 0} (same : A → SchemaIn × ℕ → Type 0) (error 
     → ReadsStream (Err (fault_of error)) bytes
 first_error same errors.OutOfMemory bytes read = tt
 first_error same (errors.OutOfSpec what) bytes read = no_table bytes read
-first_error same (errors.NotYetImplemented what) bytes read = if_any (table_of bytes) read
+first_error same (errors.NotYetImplemented what) bytes read = if_any (table_of stream bytes) read
 first_error same (errors.External from what) bytes read = absurd read
 first_error same (errors.Io what) bytes read = absurd read
 first_error same (errors.InvalidArgumentError what) bytes read = absurd read

@@ -1,7 +1,7 @@
 -- The validity of some slots, counted and as numbers.
 use Rattle.std.specs.Prelude.{ℕ, zero, suc, ◌+◌, ◌*◌, ◌/◌, ◌%◌, List, [], ◌∷◌, ◌++◌, nat_lt, if◌then◌else◌}
 use Rattle.nested_arrays.specs.Slots.{window}
-use Rattle.ipc_format.specs.Columns as format
+use Rattle.ipc_format_columns.specs.Columns as format
 
 -- how many of n slots from a first one on are null
 unfoldable pub nulls_in : format.Validity → ℕ → ℕ → ℕ

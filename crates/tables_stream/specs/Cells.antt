@@ -4,7 +4,8 @@ use Rattle.columnar_memory.specs.declared.Error.{Error}
 use Rattle.columnar_memory.specs.declared.Error.TheVariants as errors
 use Rattle.columnar_memory.specs.declared.PrimitiveType.TheVariants as kinds
 use Rattle.nested_arrays.specs.Slots.{Slot, null, number}
-use Rattle.ipc_format.specs.Columns as format
+use Rattle.ipc_format_columns.specs.Columns as format
+use Rattle.ipc_format.specs.Messages.{V5}
 use Rattle.tables_metadata.specs.Views.{batch_view}
 use Rattle.std.specs.Borrow.{Bor}
 use Rattle.std.specs.declared.vec.Vec.{Vec}
@@ -17,8 +18,8 @@ slot_of None = null
 slot_of (Some n) = number kinds.Int32 n
 
 -- a batch as the definition has it, little-endian
-abbrev pub batch_of : BatchBytes → format.Batch
-batch_of bytes = record { metadata = bytes.metadata.now; parts = batch_view bytes.batch; body = bytes.body.now; is_little_endian = true }
+abbrev pub batch_of : BatchBytes → format.Source
+batch_of bytes = record { metadata = bytes.metadata.now; vectors = batch_view bytes.batch; version = V5; is_little_endian = true; room = bytes.body.now; origin = 0 }
 
 -- what was read is what the definition gives; what was refused as out of specification it doesn't give; want of memory says nothing
 abbrev pub Reads : {A B : Type 0} → (A → B) → Result A Error → Option B → Type 0

@@ -2,7 +2,7 @@
 use Rattle.std.specs.Prelude.{ℕ, ◌<◌, ◌≤◌}
 use Rattle.tables_stream.specs.declared.framing.Frame.{Frame}
 use Rattle.tables_stream.specs.declared.framing.Frame.TheVariants.{Cut, End, Metadata}
-use Rattle.ipc_format.specs.Framing as format
+use Rattle.ipc_format_columns.specs.Framing as format
 use Rattle.tables_metadata.specs.Views.{header_view}
 use Rattle.tables_stream.specs.declared.framing.Framed.{Framed}
 use Rattle.tables_stream.specs.declared.framing.NextMessage.{NextMessage}

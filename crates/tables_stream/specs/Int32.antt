@@ -10,17 +10,18 @@ use Rattle.nested_arrays.specs.Tables.{rows_of_batches}
 use Rattle.ipc_format.specs.Reading.{◌>>=◌, guard}
 use Rattle.ipc_format.specs.FlatBuffers as flat
 use Rattle.ipc_format.specs.Messages as message
-use Rattle.ipc_format.specs.Messages.{record_batch_in, lengths_sum, version_in}
+use Rattle.ipc_format.specs.Messages.{V5, record_batch_in, lengths_sum, version_in}
 use Rattle.ipc_format.specs.Schemas.{SchemaIn}
-use Rattle.ipc_format.specs.Columns as format
-use Rattle.ipc_format.specs.Framing as framing
-use Rattle.ipc_format.specs.Streams.{agree_in_length, schema_of}
+use Rattle.ipc_format_columns.specs.Columns as format
+use Rattle.tables_stream.specs.Int32Values as int32
+use Rattle.ipc_format_columns.specs.Framing as framing
+use Rattle.ipc_format.specs.Tables.{agree_in_length, schema_of}
 
 -- n columns of 32-bit integers from column k on: each has one node and two buffers
-abbrev pub int32_columns : format.Batch → ℕ → ℕ → Option (List (List Slot))
+abbrev pub int32_columns : format.Source → ℕ → ℕ → Option (List (List Slot))
 int32_columns batch k zero = Some []
 int32_columns batch k (suc n) = do
-  column ← format.int32_slots batch None k (2 * k)
+  column ← int32.int32_slots batch k (2 * k)
   others ← int32_columns batch (k + 1) n
   Some (column ∷ others)
 
@@ -38,7 +39,7 @@ int32_batch n metadata table body = do
   _ ← guard (not parts.is_compressed)
   sum ← lengths_sum metadata parts.buffers
   _ ← guard (nat_le sum (length body))
-  agreeing (int32_columns (record { metadata = metadata; parts = parts; body = body; is_little_endian = true }) 0 n)
+  agreeing (int32_columns (record { metadata = metadata; vectors = parts; version = V5; is_little_endian = true; room = body; origin = 0 }) 0 n)
 
 -- the batch of a message
 abbrev pub batch_by : ℕ → framing.Framed → message.Header → Option (List (List Slot))

@@ -2,6 +2,7 @@ pub mod Texts
 pub mod Frames
 pub mod Batches
 pub mod Tables
+pub mod Int32Values
 pub mod Cells
 pub mod Cuts
 pub mod Int32

@@ -4,10 +4,8 @@ use Rattle.columnar_memory.specs.declared.Error.TheVariants as errors
 use Rattle.columnar_memory.specs.declared.Schema.{Schema}
 use Rattle.nested_arrays.specs.Slots.{Slot}
 use Rattle.nested_arrays.specs.Tables.{rows_of_batches}
-use Rattle.ipc_format.specs.Reading.{◌>>=◌}
-use Rattle.ipc_format.specs.Messages.{version_in}
-use Rattle.ipc_format.specs.Framing.{messages_of, cut_from, EndsInLaterMessage}
-use Rattle.ipc_format.specs.Streams.{batches_of, schema_of, table_of}
+use Rattle.ipc_format.specs.Framing.{cut_from, EndsInLaterMessage}
+use Rattle.ipc_format.specs.Tables.{stream, batches_in, table_of}
 use Rattle.tables_metadata.specs.FirstPath.{IsFirstPath}
 use Rattle.tables_metadata.specs.Reading.{IsReadSoFar}
 use Rattle.tables_stream.specs.declared.fault.Fault.{Fault}
@@ -30,14 +28,6 @@ ReadsBatches schema bytes place (Err faults.TooManyRows) =
     IfSome (int32_batches (length schema.fields) (length bytes) bytes place) (λ batches. 2 ^ 64 ≤ length (rows_of_batches batches))
 ReadsBatches schema bytes place (Err _) = ⊥
 
--- the batches of a stream, one after another, each with the slots of its columns
-unfoldable pub batches_in : List ℕ → Option (List (List (List Slot)))
-batches_in bytes = do
-  stream ← messages_of bytes
-  version ← version_in stream.first.metadata
-  found ← schema_of stream.first stream.first.header
-  batches_of (record { fields = found.schema.fields; version = version; is_little_endian = found.is_little_endian }) stream.later
-
 -- the stream's schema, if it has one, is none of those that are read so far
 abbrev pub HasOtherSchema : List ℕ → Type 0
 HasOtherSchema bytes = IfSome (first_schema bytes) (λ found. ¬ IsReadSoFar found.0)
@@ -47,12 +37,12 @@ HasOtherSchema bytes = IfSome (first_schema bytes) (λ found. ¬ IsReadSoFar fou
 -- another schema, if it is a table at all. Memory may run out anywhere.
 abbrev pub ReadsStream : Result Stored Fault → List ℕ → Type 0
 ReadsStream (Ok stored) bytes =
-    (table_of bytes ≡ Some (as_table stored)) × (batches_in bytes ≡ Some (map batch_slots stored.batches)) × IsFirstPath stored.schema
+    (table_of stream bytes ≡ Some (as_table stored)) × (batches_in stream bytes ≡ Some (map batch_slots stored.batches)) × IsFirstPath stored.schema
 ReadsStream (Err faults.Memory) bytes = Unit {0}
-ReadsStream (Err (faults.Ipc (errors.OutOfSpec what))) bytes = table_of bytes ≡ None
-ReadsStream (Err (faults.Ipc (errors.NotYetImplemented what))) bytes = IfSome (table_of bytes) (λ table. HasOtherSchema bytes)
-ReadsStream (Err faults.Unfinished) bytes = (table_of bytes ≡ None) × EndsInLaterMessage bytes
-ReadsStream (Err faults.TooManyRows) bytes = table_of bytes ≡ None
+ReadsStream (Err (faults.Ipc (errors.OutOfSpec what))) bytes = table_of stream bytes ≡ None
+ReadsStream (Err (faults.Ipc (errors.NotYetImplemented what))) bytes = IfSome (table_of stream bytes) (λ table. HasOtherSchema bytes)
+ReadsStream (Err faults.Unfinished) bytes = (table_of stream bytes ≡ None) × EndsInLaterMessage bytes
+ReadsStream (Err faults.TooManyRows) bytes = table_of stream bytes ≡ None
 ReadsStream (Err _) bytes = ⊥
 
 -- files aren't implemented so far

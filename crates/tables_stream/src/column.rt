@@ -3,7 +3,8 @@ ghost use Rattle.std.specs.Prelude.{◌≡◌, ◌+◌, ◌*◌, ◌/◌, ◌≤
 ghost use Rattle.std.specs.Option.{ForSome};
 ghost use Rattle.std.specs.List.{flat_map};
 ghost use Rattle.std.specs.Int.{w32, to_le_bytes, cast_unsigned};
-ghost use Rattle.ipc_format.specs.Columns as format;
+ghost use Rattle.ipc_format_columns.specs.Columns as format;
+ghost use Rattle.ipc_format_columns.specs.Values as values_format;
 ghost use Rattle.ipc_format.specs.Written as written;
 ghost use Rattle.tables_stream.specs.Cells.{slot_of, cells_of, cells_from, validity_of};
 ghost use Rattle.tables_stream.specs.Bits.{nulls_in, bits_number, validity_bits};
@@ -95,7 +96,7 @@ impl Column {
 /// Bit `i % 8` of byte `i / 8`.
 fn bit(bits: &[u8], i: usize) -> u8
     requires { i < 8 * length bits.now }
-    ensures value { result ≡ (if format.bit_at bits.now i then 1 else 0) }
+    ensures value { result ≡ (if values_format.bit_at bits.now i then 1 else 0) }
     ensures bound { result ≤ 1 }
 {
     (bits[i / 8] >> (i % 8)) % 2

@@ -2,7 +2,8 @@
 ghost use Rattle.std.specs.Prelude.{◌≡◌, ◌+◌, ◌*◌, ◌/◌, ◌≤◌, ◌<◌, ◌^◌, length, map, IfOk, IfSome, true, None};
 ghost use Rattle.std.specs.Option.{ForSome, option_copied, option_map};
 ghost use Rattle.nested_arrays.specs.Slots.{window};
-ghost use Rattle.ipc_format.specs.Columns as format;
+ghost use Rattle.ipc_format_columns.specs.Columns as format;
+ghost use Rattle.tables_stream.specs.Int32Values as int32;
 ghost use Rattle.tables_metadata.specs.Views.{node_view};
 ghost use Rattle.tables_stream.specs.Cells.{slot_of, batch_of, bits_of, Reads};
 
@@ -19,9 +20,9 @@ use tables_metadata::{FieldNode, buffer_at, node_at};
 ///
 /// - `OutOfSpec`: a node or buffer is missing, a length or offset is negative, or a buffer passes the body.
 /// - `OutOfMemory`: there was no memory for the cells.
-#[tactic(auto, using(crate::proofs::Buffers::too_long), unfolding(ipc_format_grammar::specs::Columns::int32_slots, ipc_format_grammar::specs::Messages::struct_at))]
+#[tactic(auto, using(crate::proofs::Buffers::too_long), unfolding(ipc_format_columns::specs::Columns::fixed_slots, ipc_format_grammar::specs::Messages::struct_at))]
 pub fn int32_cells(alloc: Global, bytes: &BatchBytes<'_>, k: usize) -> Result<Column>
-    ensures { Reads (map slot_of) result (format.int32_slots (batch_of bytes.now) None k (2 * k)) }
+    ensures { Reads (map slot_of) result (int32.int32_slots (batch_of bytes.now) k (2 * k)) }
 {
     if k >= bytes.batch.nodes.count {
         return Err(Error::OutOfSpec("MissingMessageNodes"));
@@ -48,7 +49,7 @@ pub fn int32_cells(alloc: Global, bytes: &BatchBytes<'_>, k: usize) -> Result<Co
 }
 
 /// The validity bitmap of a column's first `count` slots, buffer `k`: `Some(None)` where no slot is said to be null.
-#[tactic(auto, unfolding(ipc_format_grammar::specs::Columns::validity_in))]
+#[tactic(auto, unfolding(ipc_format_columns::specs::Columns::validity_in))]
 fn validity_of<'a>(
     bytes: &BatchBytes<'a>,
     node: &FieldNode,
@@ -68,7 +69,7 @@ fn validity_of<'a>(
 }
 
 /// The first `needed` bytes of buffer `k`, which has to state at least so many, within the body.
-#[tactic(auto, unfolding(ipc_format_grammar::specs::Columns::buffer_at))]
+#[tactic(auto, unfolding(ipc_format_columns::specs::Columns::buffer_at))]
 fn taken<'a>(bytes: &BatchBytes<'a>, k: usize, needed: usize) -> Option<&'a [u8]>
     ensures value { option_copied result ≡ format.buffer_at (batch_of bytes.now) k needed }
     ensures size { IfSome result (λ part. length part.now ≡ needed) }
@@ -92,7 +93,7 @@ fn column_of(
 ) -> result::Result<Column, AllocError>
     requires values { count * 4 ≤ length values.now }
     requires validity { ForSome validity (λ bits. count ≤ 8 * length bits.now) }
-    ensures { IfOk result (λ column. map slot_of column ≡ window (format.int32_slot true (bits_of validity.entry) values.now) 0 count) }
+    ensures { IfOk result (λ column. map slot_of column ≡ window (int32.int32_slot (bits_of validity.entry) values.now) 0 count) }
 {
     let values = numbers(alloc, values, count)?;
     match validity {
@@ -105,7 +106,7 @@ fn column_of(
 #[tactic(auto, using(crate::proofs::Windows::window_next))]
 fn numbers(alloc: Global, values: &[u8], count: usize) -> result::Result<Vec<i32>, AllocError>
     requires { count * 4 ≤ length values.now }
-    ensures { IfOk result (λ v. v.items ≡ window (format.int32_at true values.now) 0 count) }
+    ensures { IfOk result (λ v. v.items ≡ window (int32.int32_at values.now) 0 count) }
 {
     let mut out: Vec<i32> = Vec::with_capacity(alloc, count)?;
     for i in 0..count {
@@ -117,7 +118,7 @@ fn numbers(alloc: Global, values: &[u8], count: usize) -> result::Result<Vec<i32
 /// The 32-bit number `i` of some values.
 fn number(values: &[u8], i: usize) -> i32
     requires { (i + 1) * 4 ≤ length values.now }
-    ensures { result ≡ format.int32_at true values.now i }
+    ensures { result ≡ int32.int32_at values.now i }
 {
     let at = 4 * i;
     let part = &values[at..at + 4];

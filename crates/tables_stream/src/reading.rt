@@ -34,7 +34,7 @@ pub enum Form {
 ///
 /// - `OutOfSpec`: the bytes are cut off, or the first message is no schema.
 /// - `NotYetImplemented`: a column isn't a 32-bit integer, or more is said of the schema than this reads.
-#[tactic(auto, unfolding(crate::specs::Int32::first_schema, ipc_format_grammar::specs::Framing::first_of))]
+#[tactic(auto, unfolding(crate::specs::Int32::first_schema, ipc_format_columns::specs::Framing::first_of))]
 pub fn first_schema(alloc: Global, bytes: &[u8]) -> Result<(Schema, usize)>
     ensures value { metadata.Reads (λ read found. (found.0 ≡ schema_found read.0) × (found.1 ≡ read.1)) (λ found. IsReadSoFar found.0) result (first_schema bytes.now) }
     ensures reach { IfOk result (λ found. (0 < found.1) × (found.1 ≤ length bytes.now)) }

@@ -2,7 +2,7 @@
 use Rattle.std.proofs.Common.{◌≡◌, ◌∙◌, ◌+◌, ◌-◌, ◌*◌, ◌/◌, ◌%◌, ap, ap₂, arith, bit_and}
 use Rattle.std.proofs.lemmas.List.{length-set}
 use Rattle.std.proofs.lemmas.Nat.{one_shl}
-use Rattle.ipc_format_grammar.specs.Columns.{bitmap}
+use Rattle.ipc_format_columns.specs.Columns.{bitmap}
 use Rattle.tables_stream.specs.Bits.{bits_number}
 use Rattle.tables_stream.proofs.Bits.{bits_masked}
 use Rattle.tables_stream.proofs.Bitmaps.{whole_next, ends_part}

@@ -1,6 +1,6 @@
 -- The bytes so far hold the bits so far.
 use Rattle.std.proofs.Common.{◌≡◌, length, take}
-use Rattle.ipc_format.specs.Columns as format
+use Rattle.ipc_format_columns.specs.Columns as format
 use Rattle.tables_stream.specs.Bits.{whole_bytes}
 use Rattle.tables_stream.proofs.column.moved_bits.Given as goal
 

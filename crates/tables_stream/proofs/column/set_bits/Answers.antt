@@ -2,7 +2,7 @@
 use Rattle.std.proofs.Common.{◌∙◌, ◌+◌, ◌-◌, ◌*◌, ◌/◌, ◌%◌, sym, ap, arith}
 use Rattle.std.proofs.lemmas.List.{length-set}
 use Rattle.std.proofs.lemmas.Nat.{one_shl}
-use Rattle.ipc_format_grammar.specs.Columns.{all_valid}
+use Rattle.ipc_format_columns.specs.Columns.{all_valid}
 use Rattle.tables_stream.proofs.Bits.{bits_all_valid}
 use Rattle.tables_stream.proofs.Bitmaps.{whole_next, ends_part}
 use Rattle.tables_stream.proofs.column.set_bits.Goals as goal

@@ -1,6 +1,7 @@
 -- One more cell, four more bytes.
 use Rattle.std.proofs.Common.{◌≡◌, ◌∙◌, ◌++◌, ◌+◌, ◌==◌, ℤ, pos, List, ℕ, ap₂, sym, get_or, if◌then◌else◌, arith, rules, to_z, of_z, w32}
-use Rattle.ipc_format_grammar.specs.Columns.{bitmap, bit_at}
+use Rattle.ipc_format_columns.specs.Columns.{bitmap}
+use Rattle.ipc_format_columns.specs.Values.{bit_at}
 use Rattle.tables_stream.proofs.Blocks.{number_bytes, cells_more, bit_test}
 use Rattle.tables_stream.proofs.column.valid_bytes.Goals as goal
 

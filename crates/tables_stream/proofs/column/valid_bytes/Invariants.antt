@@ -1,7 +1,7 @@
 -- The bytes so far are those of the cells so far.
 use Rattle.std.proofs.Common.{◌≡◌, ◌*◌, take, map}
 use Rattle.std.specs.List.{flat_map}
-use Rattle.ipc_format.specs.Columns as format
+use Rattle.ipc_format_columns.specs.Columns as format
 use Rattle.ipc_format.specs.Written as written
 use Rattle.tables_stream.specs.Cells.{slot_of, cells_from}
 use Rattle.tables_stream.proofs.column.valid_bytes.Given as goal

@@ -1,8 +1,9 @@
 -- The numbers so far are those of the values so far.
 use Rattle.std.proofs.Common.{◌≡◌, true}
 use Rattle.nested_arrays.specs.Slots.{window}
-use Rattle.ipc_format.specs.Columns as format
+use Rattle.ipc_format_columns.specs.Columns as format
+use Rattle.tables_stream.specs.Int32Values as int32
 use Rattle.tables_stream.proofs.columns.numbers.Given as goal
 
 abbrev pub invariant-loop-i : goal.invariant-loop-i
-invariant-loop-i l = l.out.items ≡ window (format.int32_at true l.values) 0 l.i
+invariant-loop-i l = l.out.items ≡ window (int32.int32_at l.values) 0 l.i

@@ -71,13 +71,17 @@ next_at bytes place = do
   frame ← frame_at bytes place
   next_of bytes frame
 
--- how many dictionary messages stand in a row after one more message; more than 65,536 are refused, and so is a schema
+-- how many dictionary messages may stand in a row in a stream, or in a file (a limit of this library)
+abbrev pub most_dictionaries : ℕ
+most_dictionaries = 65536
+
+-- how many dictionary messages stand in a row after one more message; too many are refused, and so is a schema
 abbrev pub dictionaries_after : ℕ → message.Header → Option ℕ
-dictionaries_after so_far (message.schema table) = None
-dictionaries_after so_far (message.dictionary_batch table) = do
-  _ ← guard (nat_lt so_far 65536)
-  Some (so_far + 1)
-dictionaries_after so_far (message.record_batch table) = Some 0
+dictionaries_after before (message.schema table) = None
+dictionaries_after before (message.dictionary_batch table) = do
+  _ ← guard (nat_lt before most_dictionaries)
+  Some (before + 1)
+dictionaries_after before (message.record_batch table) = Some 0
 
 -- What comes of what stands at a place: nothing of a stream that is cut there, one value of the end mark, another of a message.
 abbrev pub by_next : {A : Type 0} → Option A → Option A → (Framed → ℕ → Option A) → Next → Option A

@@ -1,0 +1,3 @@
+pub mod SchemaMessages
+pub mod WritableSchemas
+pub mod NodesAndBuffers
