@@ -17,4 +17,12 @@ pub use Rattle.ipc_format_columns.specs.Files
 pub use Rattle.ipc_format_columns.specs.Tables
 pub use Rattle.ipc_format_columns.specs.Refusals
 pub use Rattle.ipc_format_grammar.specs.SchemaObjects
-pub use Rattle.ipc_format_grammar.specs.Written
+pub use Rattle.ipc_format_written.specs.Buffers
+pub use Rattle.ipc_format_written.specs.Encoding
+pub use Rattle.ipc_format_written.specs.StoredEncoding
+pub use Rattle.ipc_format_written.specs.Ids
+pub use Rattle.ipc_format_written.specs.GivenDictionaries
+pub use Rattle.ipc_format_written.specs.WrittenMessages
+pub use Rattle.ipc_format_written.specs.WrittenStreams
+pub use Rattle.ipc_format_written.specs.WrittenFiles
+pub use Rattle.ipc_format_written.specs.Seals

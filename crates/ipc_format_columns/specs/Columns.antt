@@ -16,7 +16,7 @@ use Rattle.columnar_memory.specs.declared.IntegerType.{IntegerType}
 use Rattle.columnar_memory.specs.declared.PrimitiveType.{PrimitiveType}
 use Rattle.columnar_memory.specs.declared.UnionMode.{UnionMode}
 use Rattle.columnar_memory.specs.declared.UnionMode.TheVariants as modes
-use Rattle.nested_arrays.specs.Slots.{Slot, Slots, no_slot, slot_then, null, truth, text, bytes, items, fields, pick, window}
+use Rattle.nested_arrays.specs.Slots.{Slot, in_slots, null, truth, text, bytes, items, fields, pick, window}
 use Rattle.ipc_format_grammar.specs.Messages.{RecordBatch, Version, Pair, struct_at, natural}
 use Rattle.ipc_format_grammar.specs.Schemas.{Ids, IdsList, ids, no_ids, ids_then}
 use Rattle.ipc_format_grammar.specs.Types.{at_place}
@@ -168,11 +168,6 @@ text_slots w = byte_slots w is_utf8 text
 
 -- ---- columns with children
 
--- a list of slots as the slots of a list or a struct
-abbrev pub joined_slots : List Slot → Slots
-joined_slots [] = no_slot
-joined_slots (slot ∷ slots) = slot_then slot (joined_slots slots)
-
 -- the ids at the first of some fields, and at the others
 abbrev pub first_ids : IdsList → Ids
 first_ids no_ids = ids None no_ids
@@ -199,7 +194,7 @@ list_slots w child source standing limit n b here = do
   offsets ← offsets_in w source (b + 1) (taken_of limit count)
   values ← child.1 source standing (Some (last_of offsets)) (n + 1) (b + 2) (first_ids (ids_below here))
   _ ← guard (length values == last_of offsets)
-  Some (slots_by validity (λ i. items (joined_slots (piece_at offsets values i))) (taken_of limit count))
+  Some (slots_by validity (λ i. items (in_slots (piece_at offsets values i))) (taken_of limit count))
 
 abbrev pub limit_times : Option ℕ → ℕ → Option ℕ
 limit_times None size = None
@@ -213,7 +208,7 @@ fixed_list_slots size child source standing limit n b here = do
   validity ← validity_in source node b (taken_of limit count)
   values ← child.1 source standing (limit_times limit size) (n + 1) (b + 1) (first_ids (ids_below here))
   _ ← guard (length values == taken_of limit count * size)
-  Some (slots_by validity (λ i. items (joined_slots (slice_range values (size * i) (size * (i + 1))))) (taken_of limit count))
+  Some (slots_by validity (λ i. items (in_slots (slice_range values (size * i) (size * (i + 1))))) (taken_of limit count))
 
 -- the columns of some fields, one after another, from a first node and buffer on
 abbrev pub columns_below : List (Field × Reader) → Source → List Dictionary → Option ℕ → ℕ → ℕ → IdsList → Option (List (List Slot))
@@ -239,7 +234,7 @@ struct_slots children source standing limit n b here = do
   validity ← validity_in source node b (taken_of limit count)
   columns ← columns_below children source standing limit (n + 1) (b + 1) (ids_below here)
   _ ← guard (have_length (taken_of limit count) columns)
-  Some (slots_by validity (λ i. fields (joined_slots (slots_at columns i))) (taken_of limit count))
+  Some (slots_by validity (λ i. fields (in_slots (slots_at columns i))) (taken_of limit count))
 
 -- ---- unions (Arrow columnar format, "Union Layout")
 

@@ -4,4 +4,3 @@ pub mod Schemas
 pub mod Writable
 pub mod SchemaGrammar
 pub mod SchemaObjects
-pub mod Written

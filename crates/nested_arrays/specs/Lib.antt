@@ -1,2 +1,16 @@
+pub mod Cells
+pub mod Children
+pub mod ColumnCodes
+pub mod ColumnLaws
+pub mod Kinds
+pub mod OpenBatch
+pub mod SameSlots
+pub mod Sealing
+pub mod SlotCodes
+pub mod SlotLaws
+pub mod SlotNodes
 pub mod Slots
+pub mod SoundColumns
+pub mod StoredColumns
+pub mod TableLaws
 pub mod Tables

@@ -34,3 +34,13 @@ mutual
 abbrev pub window : {A : Type 0} → (ℕ → A) → ℕ → ℕ → List A
 window f first zero = []
 window f first (suc n) = f first ∷ window f (first + 1) n
+
+-- slots one after another, as they stand in a list or a struct
+abbrev pub in_slots : List Slot → Slots
+in_slots [] = no_slot
+in_slots (slot ∷ slots) = slot_then slot (in_slots slots)
+
+-- the slots of a list or a struct, as a list
+abbrev pub slot_list : Slots → List Slot
+slot_list no_slot = []
+slot_list (slot_then slot slots) = slot ∷ slot_list slots

@@ -1,11 +1,9 @@
 -- What a cut of a stream writes.
 use Rattle.std.specs.Prelude.{◌≡◌, ℕ, ◌+◌, ◌≤◌, List, map, Some}
-use Rattle.ipc_format.specs.Schemas.{no_ids}
 use Rattle.ipc_format.specs.Tables.{stream, batches_in, table_of}
-use Rattle.ipc_format.specs.Written.{written_stream}
 use Rattle.tables_metadata.specs.FirstPath.{IsFirstPath}
 use Rattle.tables_stream.specs.Cuts.{cut_of}
-use Rattle.tables_stream.specs.Tables.{Stored, as_table, batch_slots, row_count}
+use Rattle.tables_stream.specs.Tables.{Stored, as_table, batch_slots, row_count, table_bytes}
 
 -- some bytes are a stream of this table, batch by batch
 abbrev pub IsStreamOf : List ℕ → Stored → Type 0
@@ -13,7 +11,7 @@ IsStreamOf bytes stored = (table_of stream bytes ≡ Some (as_table stored)) × 
 
 -- the stream of n rows from row o on: of each batch that has such a row, those rows
 abbrev pub cut_bytes : ℕ → ℕ → Stored → List ℕ
-cut_bytes o n stored = written_stream stored.schema no_ids (map batch_slots (cut_of o n stored.batches))
+cut_bytes o n stored = table_bytes (record stored { batches = cut_of o n stored.batches })
 
 -- the bytes that were read are a stream of a table that has those rows, and the bytes that were written are the stream of them
 abbrev pub IsCut : ℕ → ℕ → List ℕ → List ℕ → Type 0

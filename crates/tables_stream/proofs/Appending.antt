@@ -4,7 +4,7 @@ use Rattle.std.proofs.Common.{arith}
 use Rattle.std.specs.Prelude.{Option, Some, None, Result, Ok, Err, OnOk}
 use Rattle.std.specs.Int.{w32, to_le_bytes}
 use Rattle.std.specs.Io.KnownBytes.{Appends}
-use Rattle.ipc_format_grammar.specs.Written.{framed_bytes}
+use Rattle.ipc_format_written.specs.WrittenMessages.{framed}
 use Rattle.std.proofs.lemmas.List.{append-nil, take-append-drop, take_rest, drop-replicate, take-replicate}
 
 -- two writes append the bytes of both
@@ -53,7 +53,7 @@ zeros_behind old new n some written =
 -- a message without a body, part by part
 pub appends_framed : (old first second new : Option (List ℕ)) (metadata count : List ℕ) → count ≡ to_le_bytes w32 (length metadata) →
     Appends old first (replicate 4 255) → Appends first second count → Appends second new metadata →
-    Appends old new (framed_bytes metadata [])
+    Appends old new (framed metadata [])
 appends_framed old first second new metadata count same marker size rest =
     appends_both old first new (replicate 4 255) (to_le_bytes w32 (length metadata) ++ metadata ++ []) marker
     (appends_both first second new (to_le_bytes w32 (length metadata)) (metadata ++ [])

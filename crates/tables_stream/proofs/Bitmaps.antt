@@ -6,7 +6,8 @@ use Rattle.std.proofs.lemmas.List.{take_more_set, append-nil, length-drop, lengt
 use Rattle.std.proofs.lemmas.Bool.{lt-ltb, cases_lt}
 use Rattle.nested_arrays.specs.Slots.{window}
 use Rattle.ipc_format_columns.specs.Columns.{Validity, all_valid, is_valid_at}
-use Rattle.ipc_format_grammar.specs.Written.{is_null, bits_of, bitmap_bytes}
+use Rattle.ipc_format_written.specs.Buffers.{is_valid as written_valid}
+use Rattle.tables_stream.specs.Int32Written.{bits_of, bitmap_bytes}
 use Rattle.tables_stream.specs.Cells.{slot_of, cells_from, cells_of}
 use Rattle.tables_stream.specs.Bits.{bits_number, whole_bytes, validity_bits}
 use Rattle.tables_stream.proofs.Windows.{length_of_cells, window_next}
@@ -51,7 +52,7 @@ ends_part validity first n i byte bytes all some short written here =
 
 -- a cell's bit
 bit_if : (is_valid : Bool) (value : ℤ) →
-    ◌≡◌ {A = ℕ} (if is_null (slot_of (if is_valid then Some value else None)) then 0 else 1) (if is_valid then 1 else 0)
+    ◌≡◌ {A = ℕ} (if written_valid (slot_of (if is_valid then Some value else None)) then 1 else 0) (if is_valid then 1 else 0)
 bit_if true value = refl
 bit_if false value = refl
 

@@ -10,7 +10,9 @@ use Rattle.std.proofs.lemmas.Grind.{common_steps, take_at_read, flat_map-append}
 use Rattle.std.proofs.lemmas.List.{take_more_set, length-set, length-take-le, map-append, append-nil}
 use Rattle.std.proofs.lemmas.List.Sums.{sum_by-cons}
 use Rattle.ipc_format_columns.specs.Columns.{Validity, all_valid, is_valid_at}
-use Rattle.ipc_format_grammar.specs.Written.{is_null, null_count, value_bytes}
+use Rattle.nested_arrays.specs.Cells.{is_null}
+use Rattle.ipc_format_written.specs.Buffers.{null_count}
+use Rattle.tables_stream.specs.Int32Written.{value_bytes}
 use Rattle.tables_stream.specs.Cells.{slot_of, cells_from, cells_of}
 use Rattle.tables_stream.specs.Bits.{nulls_in}
 use Rattle.tables_stream.proofs.Windows.{length_of_cells}

@@ -9,7 +9,8 @@ use Rattle.std.proofs.lemmas.Grind.{common_steps, flat_map-append}
 use Rattle.std.proofs.lemmas.List.{length-drop, length-append, map-append, take-append-le, drop-append-le, drop-drop}
 use Rattle.std.proofs.Math.Seq.{take-add}
 use Rattle.nested_arrays.specs.Slots.{Slot}
-use Rattle.ipc_format_grammar.specs.Written.{bits_of, bitmap_bytes, value_bytes, padded_buffer}
+use Rattle.tables_stream.specs.Int32Written.{bits_of, bitmap_bytes, value_bytes}
+use Rattle.ipc_format_written.specs.WrittenMessages.{padded_buffer}
 use Rattle.tables_stream.specs.Cells.{slot_of}
 use Rattle.tables_stream.proofs.Appending.{appends_both}
 

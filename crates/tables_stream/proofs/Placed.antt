@@ -11,8 +11,12 @@ use Rattle.std.proofs.lemmas.List.{append-nil, length-append, length-replicate, 
 use Rattle.ipc_format.specs.Objects.{elements}
 use Rattle.nested_arrays.specs.Slots.{Slot}
 use Rattle.ipc_format_grammar.specs.SchemaObjects.{structs_object}
-use Rattle.ipc_format_grammar.specs.Written.{null_count, bitmap_bytes, validity_bytes, value_bytes, int32_buffers, padded_buffer}
-use Rattle.ipc_format_grammar.specs.Written.{buffer_places, body_bytes, nodes_of, rows_in}
+use Rattle.ipc_format_written.specs.Buffers.{null_count, validity_bytes}
+use Rattle.tables_stream.specs.Int32Written.{bitmap_bytes, value_bytes, int32_buffers}
+use Rattle.ipc_format_written.specs.WrittenMessages.{padded_buffer}
+use Rattle.ipc_format_written.specs.WrittenMessages.{buffer_places, body_bytes}
+use Rattle.tables_stream.specs.Int32Written.{nodes_of}
+use Rattle.ipc_format_written.specs.WrittenStreams.{rows_of_slots}
 use Rattle.tables_metadata.specs.Writing.{structs_of}
 use Rattle.tables_stream.specs.Cells.{slot_of}
 use Rattle.tables_stream.specs.Batches.{window_cells, rows_of_cells}
@@ -247,6 +251,6 @@ column_written old between new columns start rows i column inside here first sec
     subst (λ (bytes : List ℕ). Appends old new bytes) (sym all) (appends_both old between new _ _ first second)
 
 -- how many rows the slots of some cells make
-pub rows_of_slots : (columns : List (List (Option ℤ))) → rows_in (batch_slots columns) ≡ rows_of_cells columns
-rows_of_slots [] = refl
-rows_of_slots (column ∷ columns) = length-map column slot_of
+pub rows_are_of_cells : (columns : List (List (Option ℤ))) → rows_of_slots (batch_slots columns) ≡ rows_of_cells columns
+rows_are_of_cells [] = refl
+rows_are_of_cells (column ∷ columns) = length-map column slot_of

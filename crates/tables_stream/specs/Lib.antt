@@ -3,6 +3,7 @@ pub mod Frames
 pub mod Batches
 pub mod Tables
 pub mod Int32Values
+pub mod Int32Written
 pub mod Cells
 pub mod Cuts
 pub mod Int32

@@ -1,8 +1,11 @@
 -- What a table holds.
-use Rattle.std.specs.Prelude.{ℕ, ℤ, List, Option, map, sum_by}
+use Rattle.std.specs.Prelude.{◌≡◌, ℕ, ℤ, All, List, Option, length, map, sum_by}
 use Rattle.columnar_memory.specs.declared.Schema.{Schema}
 use Rattle.nested_arrays.specs.Slots.{Slot}
 use Rattle.nested_arrays.specs.Tables.{Table, rows_of_batches}
+use Rattle.ipc_format.specs.Ids.{default_ids}
+use Rattle.ipc_format.specs.WrittenStreams.{batch_of_slots, stream_bytes}
+use Rattle.tables_metadata.specs.FirstPath.{IsFirstPath}
 use Rattle.tables_stream.specs.Cells.{slot_of}
 use Rattle.tables_stream.specs.Batches.{window_cells, rows_of_cells}
 use Rattle.tables_stream.specs.declared.batches.Batch.{Batch}
@@ -27,3 +30,13 @@ batch_slots columns = map (map slot_of) columns
 -- the table that is stored: its rows under its schema, however they are cut into batches
 abbrev pub as_table : Stored → Table
 as_table stored = record { schema = stored.schema; rows = rows_of_batches (map batch_slots stored.batches) }
+
+-- columns of 32-bit integers, and in each batch a column a field
+abbrev pub IsInt32Table : Schema → List (List (List (Option ℤ))) → Type 0
+IsInt32Table schema batches = IsFirstPath schema × All (λ columns. length columns ≡ length schema.fields) batches
+
+-- the stream of a table: its schema, and a record batch message a batch
+abbrev pub table_bytes : Stored → List ℕ
+table_bytes stored =
+    let ids = default_ids stored.schema.fields in
+    stream_bytes stored.schema ids (map (batch_of_slots stored.schema.fields ids) (map batch_slots stored.batches))

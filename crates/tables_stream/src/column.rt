@@ -5,7 +5,8 @@ ghost use Rattle.std.specs.List.{flat_map};
 ghost use Rattle.std.specs.Int.{w32, to_le_bytes, cast_unsigned};
 ghost use Rattle.ipc_format_columns.specs.Columns as format;
 ghost use Rattle.ipc_format_columns.specs.Values as values_format;
-ghost use Rattle.ipc_format.specs.Written as written;
+ghost use Rattle.ipc_format_written.specs.Buffers as buffers_format;
+ghost use Rattle.tables_stream.specs.Int32Written as int32_written;
 ghost use Rattle.tables_stream.specs.Cells.{slot_of, cells_of, cells_from, validity_of};
 ghost use Rattle.tables_stream.specs.Bits.{nulls_in, bits_number, validity_bits};
 
@@ -55,7 +56,7 @@ impl Column {
     #[tactic(auto, using(crate::proofs::Blocks::count_of_nulls))]
     pub fn null_count(&self, start: usize, count: usize) -> usize
         requires { start + count ≤ length self.now }
-        ensures value { result ≡ written.null_count (map slot_of (slice_range self.now start (start + count))) }
+        ensures value { result ≡ buffers_format.null_count (map slot_of (slice_range self.now start (start + count))) }
         ensures bound { result ≤ count }
     {
         match &self.validity {
@@ -70,7 +71,7 @@ impl Column {
         requires few { count ≤ 32768 }
         requires inside { start + count ≤ length self.now }
         ensures { take ((count + 7) / 8) result ≡
-            written.bitmap_bytes count (map slot_of (slice_range self.now start (start + count))) }
+            int32_written.bitmap_bytes count (map slot_of (slice_range self.now start (start + count))) }
     {
         match &self.validity {
             None => set_bits(count),
@@ -83,7 +84,7 @@ impl Column {
     pub fn values_block(&self, start: usize, count: usize) -> [u8; 4096]
         requires few { count ≤ 1024 }
         requires inside { start + count ≤ length self.now }
-        ensures { take (4 * count) result ≡ flat_map written.value_bytes (map slot_of (slice_range self.now start (start + count))) }
+        ensures { take (4 * count) result ≡ flat_map int32_written.value_bytes (map slot_of (slice_range self.now start (start + count))) }
     {
         let values = &self.values[start..start + count];
         match &self.validity {
@@ -207,7 +208,7 @@ fn valid_bytes(values: &[i32], bits: &[u8], start: usize) -> [u8; 4096]
     requires inside { start + length values.now ≤ 8 * length bits.now }
     requires fits { start + length values.now < 2 ^ 64 }
     ensures { take (4 * length values.now) result ≡
-        flat_map written.value_bytes (map slot_of (cells_from (format.bitmap bits.now) start values.now)) }
+        flat_map int32_written.value_bytes (map slot_of (cells_from (format.bitmap bits.now) start values.now)) }
 {
     let mut bytes = [0u8; 4096];
     for (i, value) in values.iter().enumerate() {

@@ -2,10 +2,9 @@
 ghost use Rattle.std.specs.Prelude.{◌≡◌, ◌+◌, ◌≤◌, ◌<◌, ◌^◌, ◌↔◌, IsTrue, IfOk, IfErr, OnOk, length, map};
 ghost use Rattle.std.specs.Io.KnownBytes.{Appends};
 ghost use Rattle.nested_arrays.specs.Tables.{part};
-ghost use Rattle.ipc_format.specs.Schemas.{no_ids};
-ghost use Rattle.ipc_format.specs.Written.{written_stream};
 ghost use Rattle.tables_stream.specs.Cuts.{cut_of};
-ghost use Rattle.tables_stream.specs.Tables.{row_count, as_table, batch_slots};
+ghost use Rattle.tables_stream.specs.Tables.{row_count, as_table, table_bytes};
+ghost use Rattle.tables_metadata.specs.FirstPath.{IsFirstPath};
 ghost use Rattle.tables_stream.specs.Reading.{ReadsTable, ReadsBatches};
 ghost use Rattle.tables_stream.specs.declared.fault.Fault.TheVariants.{Memory};
 
@@ -30,7 +29,7 @@ pub struct Table {
 
 impl Model for Table {
     ghost use Rattle.std.specs.Prelude.{◌≡◌, map, sum_by};
-    ghost use Rattle.tables_stream.specs.Tables.{Stored, stored_cells};
+    ghost use Rattle.tables_stream.specs.Tables.{Stored, IsInt32Table, stored_cells};
     ghost use Rattle.tables_stream.specs.Batches.{rows_of_cells};
 
     ghost Value = { Stored };
@@ -42,7 +41,8 @@ impl Model for Table {
 
     ghost view = { λ a. record { schema = a.schema; batches = map stored_cells a.batches.items } };
 
-    ghost invariant = { λ a. a.rows ≡ sum_by rows_of_cells (map stored_cells a.batches.items) };
+    ghost invariant = { λ a. (a.rows ≡ sum_by rows_of_cells (map stored_cells a.batches.items))
+        × IsInt32Table a.schema (map stored_cells a.batches.items) };
 }
 
 impl Table {
@@ -119,8 +119,7 @@ impl Table {
         alloc: Global,
         writer: &mut W,
     ) -> Result<(), Fault>
-        ensures { OnOk result (Appends (W.contents writer.old) (W.contents writer.new)
-            (written_stream self.now.schema no_ids (map batch_slots self.now.batches))) }
+        ensures { OnOk result (Appends (W.contents writer.old) (W.contents writer.new) (table_bytes self.now)) }
     {
         Ok(write_table(alloc, writer, &self.schema, &self.batches)?)
     }
@@ -128,6 +127,7 @@ impl Table {
 
 /// The table of the messages from a place on, under a schema.
 fn read_batches(alloc: Global, bytes: &[u8], schema: Schema, first: usize) -> Result<Table, Fault>
+    requires schema { IsFirstPath schema }
     requires begun { 0 < first }
     requires inside { first ≤ length bytes.now }
     ensures { ReadsBatches schema bytes.now first result }

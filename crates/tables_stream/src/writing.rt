@@ -3,7 +3,9 @@ ghost use Rattle.std.specs.Prelude.{◌≡◌, ◌+◌, ◌-◌, ◌*◌, ◌%�
 ghost use Rattle.std.specs.Int.{next_multiple_of};
 ghost use Rattle.std.specs.List.{flat_map};
 ghost use Rattle.std.specs.Io.KnownBytes.{Appends};
-ghost use Rattle.ipc_format.specs.Written as written;
+ghost use Rattle.ipc_format_written.specs.Buffers as buffers_format;
+ghost use Rattle.tables_stream.specs.Int32Written as int32_written;
+ghost use Rattle.ipc_format_written.specs.WrittenMessages as messages_format;
 ghost use Rattle.tables_stream.specs.Cells.{slot_of};
 ghost use Rattle.ipc_format.specs.Schemas.{no_ids};
 ghost use Rattle.tables_stream.specs.Structs.{struct_bytes, validity_size, buffers_of};
@@ -45,7 +47,7 @@ pub fn write_table<W: Write + Faults>(
     batches: &[Batch],
 ) -> Result<()>
     ensures { OnOk result (Appends (W.contents writer.old) (W.contents writer.new)
-        (written.written_stream schema.now no_ids (map batch_slots (map stored_cells batches.now)))) }
+        (int32_written.int32_stream schema.now no_ids (map batch_slots (map stored_cells batches.now)))) }
 {
     let metadata = schema_message(alloc, schema)?;
     put_metadata(writer, &metadata)?;
@@ -57,7 +59,7 @@ pub fn write_table<W: Write + Faults>(
 
 /// Writes a message's marker, its length and its metadata.
 fn put_metadata<W: Write + Faults>(writer: &mut W, metadata: &[u8]) -> Result<()>
-    ensures { OnOk result (Appends (W.contents writer.old) (W.contents writer.new) (written.framed_bytes metadata.now [])) }
+    ensures { OnOk result (Appends (W.contents writer.old) (W.contents writer.new) (messages_format.framed metadata.now [])) }
 {
     if metadata.len() > MOST_METADATA - 8 {
         return Err(Error::Overflow);
@@ -71,7 +73,7 @@ fn put_metadata<W: Write + Faults>(writer: &mut W, metadata: &[u8]) -> Result<()
 /// Writes a batch: its metadata, and for each column the validity bitmap, if a cell is null, and the values.
 fn put_batch<W: Write + Faults>(alloc: Global, writer: &mut W, batch: &Batch) -> Result<()>
     ensures { OnOk result (Appends (W.contents writer.old) (W.contents writer.new)
-        (written.batch_message (batch_slots (stored_cells batch.now)))) }
+        (int32_written.int32_message (batch_slots (stored_cells batch.now)))) }
 {
     let layout = layout_of(alloc, batch)?;
     let rows = batch.rows as u64;
@@ -99,13 +101,13 @@ struct Layout {
 /// How a batch is laid out.
 fn layout_of(alloc: Global, batch: &Batch) -> Result<Layout>
     ensures nodes { IfOk result (λ layout. layout.nodes.items ≡
-        flat_map struct_bytes (written.nodes_of (batch_slots (stored_cells batch.now)))) }
+        flat_map struct_bytes (int32_written.nodes_of (batch_slots (stored_cells batch.now)))) }
     ensures buffers { IfOk result (λ layout. layout.buffers.items ≡
-        flat_map struct_bytes (written.buffer_places 0 (buffers_of (batch_slots (stored_cells batch.now))))) }
+        flat_map struct_bytes (messages_format.buffer_places 0 (buffers_of (batch_slots (stored_cells batch.now))))) }
     ensures nulls { IfOk result (λ layout. layout.null_counts.items ≡
-        map written.null_count (batch_slots (stored_cells batch.now))) }
+        map buffers_format.null_count (batch_slots (stored_cells batch.now))) }
     ensures body { IfOk result (λ layout. layout.body_length ≡
-        length (written.body_bytes (buffers_of (batch_slots (stored_cells batch.now))))) }
+        length (messages_format.body_bytes (buffers_of (batch_slots (stored_cells batch.now))))) }
 {
     let mut nodes = Vec::new(alloc);
     let mut buffers = Vec::new(alloc);
@@ -126,9 +128,9 @@ fn layout_of(alloc: Global, batch: &Batch) -> Result<Layout>
 
 /// Writes the buffers of a batch's columns, of which `null_counts` says how many cells are null.
 fn put_body<W: Write + Faults>(writer: &mut W, batch: &Batch, null_counts: &[usize]) -> Result<()>
-    requires { null_counts.now ≡ map written.null_count (batch_slots (stored_cells batch.now)) }
+    requires { null_counts.now ≡ map buffers_format.null_count (batch_slots (stored_cells batch.now)) }
     ensures { OnOk result (Appends (W.contents writer.old) (W.contents writer.new)
-        (written.body_bytes (buffers_of (batch_slots (stored_cells batch.now))))) }
+        (messages_format.body_bytes (buffers_of (batch_slots (stored_cells batch.now))))) }
 {
     for (k, column) in batch.columns.iter().enumerate() {
         put_column(writer, column, batch.start, batch.rows, null_counts[k])?;
@@ -146,9 +148,9 @@ fn put_column<W: Write + Faults>(
 ) -> Result<()>
     requires inside { start + rows ≤ length column.now }
     requires fits { start + rows < 2 ^ 64 }
-    requires counted { nulls ≡ written.null_count (map slot_of (slice_range column.now start (start + rows))) }
+    requires counted { nulls ≡ buffers_format.null_count (map slot_of (slice_range column.now start (start + rows))) }
     ensures { OnOk result (Appends (W.contents writer.old) (W.contents writer.new)
-        (written.body_bytes (written.int32_buffers (map slot_of (slice_range column.now start (start + rows)))))) }
+        (messages_format.body_bytes (int32_written.int32_buffers (map slot_of (slice_range column.now start (start + rows)))))) }
 {
     if nulls > 0 {
         put_validity(writer, column, start, rows)?;
@@ -233,7 +235,7 @@ fn put_validity<W: Write + Faults>(
     requires inside { start + rows ≤ length column.now }
     requires fits { start + rows < 2 ^ 64 }
     ensures { OnOk result (Appends (W.contents writer.old) (W.contents writer.new)
-        (written.padded_buffer (written.bitmap_bytes rows (map slot_of (slice_range column.now start (start + rows)))))) }
+        (messages_format.padded_buffer (int32_written.bitmap_bytes rows (map slot_of (slice_range column.now start (start + rows)))))) }
 {
     let mut done = 0;
     while done < rows {
@@ -255,7 +257,7 @@ fn put_values<W: Write + Faults>(
     requires inside { start + rows ≤ length column.now }
     requires fits { start + rows < 2 ^ 64 }
     ensures { OnOk result (Appends (W.contents writer.old) (W.contents writer.new)
-        (written.padded_buffer (flat_map written.value_bytes (map slot_of (slice_range column.now start (start + rows)))))) }
+        (messages_format.padded_buffer (flat_map int32_written.value_bytes (map slot_of (slice_range column.now start (start + rows)))))) }
 {
     let mut done = 0;
     while done < rows {

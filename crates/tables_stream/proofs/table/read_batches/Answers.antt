@@ -9,6 +9,7 @@ use Rattle.tables_stream.specs.Steps.{step_view}
 use Rattle.tables_stream.specs.Tables.{batch_slots, stored_cells}
 use Rattle.tables_stream.proofs.ColumnLists.{Cells}
 use Rattle.tables_stream.proofs.BatchLists.{batches_next, batches_end, batches_cut, batches_many, batches_error, rows_more, cells_more}
+use Rattle.tables_stream.proofs.Widths.{widths_more}
 use Rattle.tables_stream.proofs.table.read_batches.Goals as goal
 
 pub returns-in_err-next_batch : goal.returns-in_err-next_batch
@@ -49,6 +50,8 @@ loop-batches-preserved c =
     record {
       counted = omega (arith, sum, more);
       fits = search rules;
+      widths = widths_more n c.args.bytes.now c.loop-batches.place c.in-Rows.after c.loop-batches.batches.items c.push.new.self.items batch step
+          c.loop-batches.invariant.widths (cells_more c.loop-batches.batches.items c.push.new.self.items batch pushed);
       read = batches_next n c.args.bytes.now c.args.first cells (map stored_cells c.push.new.self.items) (stored_cells batch) c.loop-batches.place c.in-Rows.after
           c.loop-batches.invariant.read step (search rules) (search rules) (cells_more c.loop-batches.batches.items c.push.new.self.items batch pushed);
     }

@@ -2,7 +2,7 @@
 use Rattle.std.proofs.Common.{◌≡◌, ℕ, ◌+◌, ◌/◌, ◌%◌, length, arith, subst}
 use Rattle.std.specs.Int.{div_ceil}
 use Rattle.std.specs.Io.KnownBytes.{Appends}
-use Rattle.ipc_format_grammar.specs.Written.{bitmap_bytes}
+use Rattle.tables_stream.specs.Int32Written.{bitmap_bytes}
 use Rattle.tables_stream.proofs.Appending.{on_ok, appends_known}
 use Rattle.tables_stream.proofs.Padded.{slots_between, slots_size, bitmap_block, bitmap_size, appends_padded}
 use Rattle.tables_stream.proofs.writing.put_validity.Goals as goal

@@ -2,7 +2,7 @@
 use Rattle.std.proofs.Common.{◌≡◌, ◌≤◌, ◌<◌, ◌+◌, ◌-◌, ◌%◌, map}
 use Rattle.std.specs.Prelude.{slice_range}
 use Rattle.std.specs.Io.KnownBytes.{Appends}
-use Rattle.ipc_format.specs.Written as written
+use Rattle.tables_stream.specs.Int32Written as int32_written
 use Rattle.tables_stream.specs.Cells.{slot_of}
 use Rattle.tables_stream.proofs.writing.put_validity.Given as goal
 
@@ -10,7 +10,7 @@ abbrev pub invariant-loop-done : goal.invariant-loop-done
 invariant-loop-done g l =
     (l.done ≤ l.rows) × (l.done < l.rows → l.done % 8 ≡ 0)
     × Appends (g.W.Write.contents l.initial.writer) (g.W.Write.contents l.writer)
-    (written.bitmap_bytes l.done (map slot_of (slice_range l.column l.start (l.start + l.done))))
+    (int32_written.bitmap_bytes l.done (map slot_of (slice_range l.column l.start (l.start + l.done))))
 
 abbrev pub decreases-loop-done : goal.decreases-loop-done
 decreases-loop-done g l = l.rows - l.done

@@ -3,7 +3,7 @@ use Rattle.std.proofs.Common.{◌≡◌, ℕ, ◌+◌, ◌*◌, ◌%◌, length,
 use Rattle.std.specs.Prelude.{slice_range}
 use Rattle.std.specs.List.{flat_map}
 use Rattle.std.specs.Io.KnownBytes.{Appends}
-use Rattle.ipc_format_grammar.specs.Written.{value_bytes}
+use Rattle.tables_stream.specs.Int32Written.{value_bytes}
 use Rattle.tables_stream.proofs.Appending.{on_ok, appends_known}
 use Rattle.tables_stream.proofs.Padded.{slots_between, part_size, values_block, values_size, appends_padded}
 use Rattle.tables_stream.proofs.writing.put_values.Goals as goal

@@ -6,7 +6,8 @@ use Rattle.std.proofs.lemmas.List.{take_all}
 use Rattle.ipc_format.specs.Objects.{laid}
 use Rattle.ipc_format.specs.Schemas.{no_ids}
 use Rattle.ipc_format_grammar.specs.SchemaObjects.{schema_message}
-use Rattle.ipc_format_grammar.specs.Written.{framed_bytes, batch_message}
+use Rattle.ipc_format_written.specs.WrittenMessages.{framed}
+use Rattle.tables_stream.specs.Int32Written.{int32_message}
 use Rattle.tables_stream.specs.Tables.{batch_slots, stored_cells}
 use Rattle.tables_stream.specs.declared.batches.Batch.{Batch}
 use Rattle.tables_stream.proofs.Appending.{on_ok}
@@ -20,6 +21,6 @@ returns g c =
     on_ok c.put.result
     (stream_written _ _ _ c.args.schema.now (map batch_slots (map stored_cells batches))
     (subst (λ (some : List Batch). Appends (g.W.Write.contents c.args.writer.now) (g.W.Write.contents c.loop-batch.writer)
-    (framed_bytes (laid (schema_message c.args.schema.now no_ids)) []
-    ++ flat_map batch_message (map batch_slots (map stored_cells some)))) all c.loop-batch.invariant))
+    (framed (laid (schema_message c.args.schema.now no_ids)) []
+    ++ flat_map int32_message (map batch_slots (map stored_cells some)))) all c.loop-batch.invariant))
     c.put.ensures

@@ -1,0 +1,15 @@
+pub mod ColumnSizes
+pub mod Columns
+pub mod Conditions
+pub mod CutLengths
+pub mod CutStored
+pub mod Cuts
+pub mod CutsOfCuts
+pub mod Distinct
+pub mod Fitting
+pub mod Folds
+pub mod Parts
+pub mod SameSlotsDecide
+pub mod SoundCuts
+pub mod SoundParts
+pub mod Windows
