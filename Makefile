@@ -1,12 +1,17 @@
 # make demo    builds the proved program as bin/tables and cuts the samples with it
 # make test    the whole gate: every proof from nothing, each test, each program, the must-fail edits
-# make bench   measures bin/tables against cp on a stream of about 250 MB, and on a tenth of it
+# make bench   measures bin/tables against cp and plain Rust on a stream of about 250 MB, and on a tenth of it
+# make definitions   runs the definitions of specs/ on laid and damaged inputs of every type, against an independent reader
 
 RT ?= rt
 PYTHON ?= python3 -B
 PROGRAM = crates/tables_program
 
-.PHONY: demo test bench program clean
+.PHONY: demo test bench definitions program clean
+
+# How many inputs `make definitions` compares, and from which seed.
+COUNT ?= 20000
+SEED ?= 1
 
 demo: program
 	@echo
@@ -33,8 +38,12 @@ program:
 	cp $(PROGRAM)/out/tables_program bin/tables
 
 test:
+	$(PYTHON) tools/compare.py --count 400 --seed 7
 	$(PYTHON) tools/streams.py check crates/tables_files/data crates/tables_files/stdout
 	$(RT) ci
+
+definitions:
+	$(PYTHON) tools/compare.py --count $(COUNT) --seed $(SEED)
 
 bench: program
 	$(PYTHON) tools/bench.py bin/tables bin

@@ -6,7 +6,7 @@ use Rattle.ipc_format_flatbuffers.specs.Reading.{◌>>=◌, guard, window_at}
 use Rattle.ipc_format_flatbuffers.specs.FlatBuffers.{Table, Vector, signed_at, number_field, table_field, vector_field, root_of}
 use Rattle.ipc_format_grammar.specs.Messages as message
 use Rattle.ipc_format_grammar.specs.Messages.{natural, version_in, header_of}
-use Rattle.ipc_format_columns.specs.Framing.{Frame, cut, end_mark, metadata_then, frame_at, most_dictionaries}
+use Rattle.ipc_format_columns.specs.Framing.{Frame, truncated, end_mark, metadata_then, frame_at, most_dictionaries}
 use Rattle.ipc_format_columns.specs.Dictionaries.{Entry}
 
 -- what stands at both ends of a file
@@ -82,7 +82,7 @@ footer_in bytes = do
 
 -- the metadata of a message, where there is one
 abbrev pub metadata_of : Frame → Option (List ℕ)
-metadata_of cut = None
+metadata_of truncated = None
 metadata_of end_mark = None
 metadata_of (metadata_then metadata place) = Some metadata
 

@@ -8,7 +8,7 @@ use Rattle.ipc_format_grammar.specs.Messages.{Message, message_in, natural}
 
 -- what stands at a message's place: fewer than four bytes, a length of 0, or metadata, with the place where its body begins
 pub data Frame : Type 0 where
-  cut : Frame
+  truncated : Frame
   end_mark : Frame
   metadata_then : List ℕ → ℕ → Frame
 
@@ -29,7 +29,7 @@ frame_behind bytes (negsuc (suc n)) place = None
 frame_behind bytes (pos n) place = frame_of bytes (pos n) (place + 4)
 
 unfoldable pub frame_at : List ℕ → ℕ → Option Frame
-frame_at bytes place = if nat_lt (length bytes) (place + 4) then Some cut else (do
+frame_at bytes place = if nat_lt (length bytes) (place + 4) then Some truncated else (do
   first ← signed_at w32 bytes place
   frame_behind bytes first place)
 
@@ -60,7 +60,7 @@ pub data Next : Type 0 where
   message_then : Framed → ℕ → Next
 
 abbrev pub next_of : List ℕ → Frame → Option Next
-next_of bytes cut = Some nothing_whole
+next_of bytes truncated = Some nothing_whole
 next_of bytes end_mark = Some at_end
 next_of bytes (metadata_then metadata place) = do
   found ← framed bytes metadata place
@@ -83,11 +83,11 @@ dictionaries_after before (message.dictionary_batch table) = do
   Some (before + 1)
 dictionaries_after before (message.record_batch table) = Some 0
 
--- What comes of what stands at a place: nothing of a stream that is cut there, one value of the end mark, another of a message.
+-- What comes of what stands at a place: nothing of a stream that is truncated there, one value of the end mark, another of a message.
 abbrev pub by_next : {A : Type 0} → Option A → Option A → (Framed → ℕ → Option A) → Next → Option A
-by_next if_cut if_end read nothing_whole = if_cut
-by_next if_cut if_end read at_end = if_end
-by_next if_cut if_end read (message_then framed place) = read framed place
+by_next if_truncated if_end read nothing_whole = if_truncated
+by_next if_truncated if_end read at_end = if_end
+by_next if_truncated if_end read (message_then framed place) = read framed place
 
 -- The messages from a place on, after the schema, up to the end mark; what stands behind it is unread. At most so many messages are
 -- looked for, and each has at least four bytes.
@@ -123,19 +123,19 @@ messages_of bytes = do
   Some (record { first = first.0; later = later })
 
 -- whether the messages from a place on end within the first four bytes of one
-abbrev pub cut_from : ℕ → List ℕ → ℕ → ℕ → Option Bool
-cut_from zero bytes place dictionaries = None
-cut_from (suc most) bytes place dictionaries = do
+abbrev pub truncated_from : ℕ → List ℕ → ℕ → ℕ → Option Bool
+truncated_from zero bytes place dictionaries = None
+truncated_from (suc most) bytes place dictionaries = do
   next ← next_at bytes place
   by_next (Some true) (Some false) (λ framed after. (do
     in_a_row ← dictionaries_after dictionaries framed.header
-    cut_from most bytes after in_a_row)) next
+    truncated_from most bytes after in_a_row)) next
 
-unfoldable pub is_cut : List ℕ → Option Bool
-is_cut bytes = do
+unfoldable pub is_truncated : List ℕ → Option Bool
+is_truncated bytes = do
   first ← first_of bytes
-  cut_from (length bytes) bytes first.1 0
+  truncated_from (length bytes) bytes first.1 0
 
 -- the stream ends within the first four bytes of a message after the first
 abbrev pub EndsInLaterMessage : List ℕ → Type 0
-EndsInLaterMessage bytes = is_cut bytes ≡ Some true
+EndsInLaterMessage bytes = is_truncated bytes ≡ Some true

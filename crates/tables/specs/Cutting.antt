@@ -1,13 +1,13 @@
 -- What a cut of a stream writes.
 use Rattle.std.specs.Prelude.{◌≡◌, ℕ, ◌+◌, ◌≤◌, List, map, Some}
 use Rattle.ipc_format.specs.Tables.{stream, batches_in, table_of}
-use Rattle.tables_metadata.specs.FirstPath.{IsFirstPath}
+use Rattle.tables_metadata.specs.Int32Schemas.{IsInt32Schema}
 use Rattle.tables_stream.specs.Cuts.{cut_of}
 use Rattle.tables_stream.specs.Tables.{Stored, as_table, batch_slots, row_count, table_bytes}
 
 -- some bytes are a stream of this table, batch by batch
 abbrev pub IsStreamOf : List ℕ → Stored → Type 0
-IsStreamOf bytes stored = (table_of stream bytes ≡ Some (as_table stored)) × (batches_in stream bytes ≡ Some (map batch_slots stored.batches)) × IsFirstPath stored.schema
+IsStreamOf bytes stored = (table_of stream bytes ≡ Some (as_table stored)) × (batches_in stream bytes ≡ Some (map batch_slots stored.batches)) × IsInt32Schema stored.schema
 
 -- the stream of n rows from row o on: of each batch that has such a row, those rows
 abbrev pub cut_bytes : ℕ → ℕ → Stored → List ℕ

@@ -7,8 +7,8 @@ use Rattle.columnar_memory.specs.declared.Field.{Field}
 use Rattle.ipc_format.specs.Reading.{◌>>=◌}
 use Rattle.ipc_format.specs.FlatBuffers.{Table, Vector, element_at, vector_field}
 use Rattle.ipc_format.specs.Schemas.{FieldIn, field_in, each_of}
-use Rattle.tables_metadata.specs.FirstPath.{IsFirstPathField}
-use Rattle.tables_metadata.specs.Reading.{Reads, fields_found, field_found, AllFirstPath}
+use Rattle.tables_metadata.specs.Int32Schemas.{IsInt32Field}
+use Rattle.tables_metadata.specs.Reading.{Reads, fields_found, field_found, AllInt32}
 use Rattle.tables_metadata.proofs.Options.{reads-up}
 use Rattle.tables_metadata.proofs.Fields.{IsOtherField, ReadsField}
 
@@ -24,9 +24,9 @@ put_behind made others = Some (made ++ others.0)
 abbrev pub FieldsLeft : List ℕ → Vector → Option (List FieldIn) → List FieldIn → ℕ → Type 0
 FieldsLeft bytes v given made k = (m : ℕ) → k + m ≡ v.count → given ≡ (each_of (field_in None bytes 64) bytes v m k (length bytes - k) >>= put_behind made)
 
--- some fields aren't read so far
+-- some fields aren't supported
 abbrev pub AreOther : List FieldIn → Type 0
-AreOther found = AllFirstPath found → ⊥
+AreOther found = AllInt32 found → ⊥
 
 pub fields-init : (bytes : List ℕ) (table : Table) (v : Vector) → vector_field bytes table 1 4 ≡ Some (Some v) → FieldsLeft bytes v (fields_found bytes table) [] 0
 fields-init bytes table v e m all =
@@ -48,15 +48,15 @@ pub fields-no-element : (bytes : List ℕ) (v : Vector) (given : Option (List Fi
 fields-no-element bytes v given made k lt fits e left = step bytes v given made k lt fits left (λ o. o ≡ None) (rw e refl)
 
 -- the first of the fields to come is among all
-among : (made : List FieldIn) (first : FieldIn) (others : List FieldIn) → AllFirstPath (made ++ first ∷ others) → IsFirstPathField first.field
+among : (made : List FieldIn) (first : FieldIn) (others : List FieldIn) → AllInt32 (made ++ first ∷ others) → IsInt32Field first.field
 among [] first others all = all 0 first.field (omega arith)
 among (x ∷ made) first others all = among made first others (λ k d lt. all (suc k) d (omega arith))
 
 pub field-error : (error : Error) (bytes : List ℕ) (v : Vector) (table : Table) (given : Option (List FieldIn)) (made : List FieldIn) (k : ℕ) → k < v.count → v.count ≤ length bytes → element_at bytes v k ≡ Some table → FieldsLeft bytes v given made k
     → ReadsField (Err error) (length bytes - k - 1) (field_in None bytes 64 table (suc (length bytes - k - 1)))
-    → Reads (λ (read : List Field) found. found ≡ map field_found read) AllFirstPath (Err error) given
+    → Reads (λ (read : List Field) found. found ≡ map field_found read) AllInt32 (Err error) given
 field-error error bytes v table given made k lt fits e left h =
-    reads-up {A = Field} {C = List Field} error (λ read found. found ≡ (field_found read, length bytes - k - 1)) (λ found. IsFirstPathField found.0.field) (field_in None bytes 64 table (suc (length bytes - k - 1))) (λ read found. found ≡ map field_found read) AllFirstPath given
+    reads-up {A = Field} {C = List Field} error (λ read found. found ≡ (field_found read, length bytes - k - 1)) (λ found. IsInt32Field found.0.field) (field_in None bytes 64 table (suc (length bytes - k - 1))) (λ read found. found ≡ map field_found read) AllInt32 given
     (λ none. step bytes v given made k lt fits left (λ o. o ≡ None) (rw (e, none) refl))
     (λ other. step bytes v given made k lt fits left (λ o. IfSome o AreOther) (rw e
     (after (field_in None bytes 64 table (suc (length bytes - k - 1))) other))) h
@@ -84,21 +84,21 @@ field-next bytes v table given made k field lt fits e left h m all =
 pub fields-done : (bytes : List ℕ) (v : Vector) (given : Option (List FieldIn)) (made : List FieldIn) (k : ℕ) → k ≡ v.count → FieldsLeft bytes v given made k → given ≡ Some made
 fields-done bytes v given made k done left = let all : k + 0 ≡ v.count = omega arith in left 0 all ∙ ap Some (append-nil made)
 
--- fields that are read so far, and one more
-pub all-more : (made : List FieldIn) (found : FieldIn) → AllFirstPath made → IsFirstPathField found.field → AllFirstPath (made ++ found ∷ [])
+-- fields that are supported, and one more
+pub all-more : (made : List FieldIn) (found : FieldIn) → AllInt32 made → IsInt32Field found.field → AllInt32 (made ++ found ∷ [])
 all-more [] found all here zero d lt = here
 all-more [] found all here (suc k) d lt = absurd (omega arith)
 all-more (x ∷ made) found all here zero d lt = all zero d (omega arith)
 all-more (x ∷ made) found all here (suc k) d lt = all-more made found (λ j e h. all (suc j) e (omega arith)) here k d (omega arith)
 
 -- a field that was read
-pub is-found : (given : Option (FieldIn × ℕ)) (field : Field) (left : ℕ) → IsSomeAnd given (λ found. (found ≡ (field_found field, left)) × IsFirstPathField found.0.field) → given ≡ Some (field_found field, left)
+pub is-found : (given : Option (FieldIn × ℕ)) (field : Field) (left : ℕ) → IsSomeAnd given (λ found. (found ≡ (field_found field, left)) × IsInt32Field found.0.field) → given ≡ Some (field_found field, left)
 is-found None field left h = absurd h
 is-found (Some found) field left h = ap Some h.0
 
-pub is-first : (given : Option (FieldIn × ℕ)) (field : Field) (left : ℕ) → IsSomeAnd given (λ found. (found ≡ (field_found field, left)) × IsFirstPathField found.0.field) → IsFirstPathField field
+pub is-first : (given : Option (FieldIn × ℕ)) (field : Field) (left : ℕ) → IsSomeAnd given (λ found. (found ≡ (field_found field, left)) × IsInt32Field found.0.field) → IsInt32Field field
 is-first None field left h = absurd h
-is-first (Some found) field left h = let P : FieldIn × ℕ → Type 0 = λ f. IsFirstPathField f.0.field in subst P h.0 h.1
+is-first (Some found) field left h = let P : FieldIn × ℕ → Type 0 = λ f. IsInt32Field f.0.field in subst P h.0 h.1
 
 -- the fields that were read, as a list
 pub map-found : (made new : List Field) (field : Field) → new ≡ made ++ field ∷ [] → map field_found new ≡ map field_found made ++ field_found field ∷ []

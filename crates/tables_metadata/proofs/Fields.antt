@@ -10,7 +10,7 @@ use Rattle.ipc_format.specs.Reading.{◌>>=◌}
 use Rattle.ipc_format.specs.FlatBuffers.{Table, number_field, signed_field, string_field, truth_field, table_field}
 use Rattle.ipc_format.specs.Types.{Tag, tag_of, integer_in}
 use Rattle.ipc_format.specs.Schemas.{FieldIn, TypeIn, Encoded, type_in, field_in, metadata_in, extended, extended_by, encoded_by, ids}
-use Rattle.tables_metadata.specs.FirstPath.{IsFirstPathField}
+use Rattle.tables_metadata.specs.Int32Schemas.{IsInt32Field}
 use Rattle.tables_metadata.specs.Reading.{Reads, Tests, type_found, name_found, field_found, IsInt32}
 use Rattle.tables_metadata.proofs.Options.{bind-if, first-if, reads-up}
 use Rattle.tables_metadata.proofs.Types.{IsOther, IsOtherFound, int32_found}
@@ -50,13 +50,13 @@ field_in-is bytes levels left table =
     (λ found. table_field bytes table 4 >>= (λ dictionary. metadata_in bytes table 6 >>= (λ metadata. encoded_by bytes dictionary (extended metadata found.0.data_type) >>= (λ encoded.
     Some (record { field = record { name = n; data_type = encoded.data_type; is_nullable = t; metadata = metadata }; ids = ids encoded.id found.0.below }, found.1))))))
 
--- a field that isn't read so far
+-- a field that isn't supported
 abbrev pub IsOtherField : FieldIn × ℕ → Type 0
-IsOtherField found = IsFirstPathField found.0.field → ⊥
+IsOtherField found = IsInt32Field found.0.field → ⊥
 
 -- what is read of a field
 abbrev pub ReadsField : Result Field Error → ℕ → Option (FieldIn × ℕ) → Type 0
-ReadsField result left given = Reads (λ read found. found ≡ (field_found read, left)) (λ found. IsFirstPathField found.0.field) result given
+ReadsField result left given = Reads (λ read found. found ≡ (field_found read, left)) (λ found. IsInt32Field found.0.field) result given
 
 pub field-no-name : (bytes : List ℕ) (levels left : ℕ) (table : Table) → name_found bytes table ≡ None → field_in None bytes (suc levels) table (suc left) ≡ None
 unfolding field_of
@@ -124,14 +124,14 @@ pub field-type-refused : (error : Error) (bytes : List ℕ) (levels left : ℕ) 
     → Reads (λ (read : Unit {0}) found. found ≡ int32_found left) IsInt32 (Err error) (type_found (field_in None bytes levels) bytes table left) → ReadsField (Err error) left (field_in None bytes (suc levels) table (suc left))
 field-type-refused error bytes levels left table h =
     let P : Option (FieldIn × ℕ) → Type 0 = λ given. ReadsField (Err error) left given in
-    subst P (sym (field_in-is bytes levels left table)) (reads-up {A = Unit {0}} {C = Field} error (λ read found. found ≡ int32_found left) IsInt32 (type_found (field_in None bytes levels) bytes table left) (λ read found. found ≡ (field_found read, left)) (λ found. IsFirstPathField found.0.field) (field_of bytes (name_found bytes table) (truth_field bytes table 1) (type_found (field_in None bytes levels) bytes table left) (table_field bytes table 4) (metadata_in bytes table 6))
+    subst P (sym (field_in-is bytes levels left table)) (reads-up {A = Unit {0}} {C = Field} error (λ read found. found ≡ int32_found left) IsInt32 (type_found (field_in None bytes levels) bytes table left) (λ read found. found ≡ (field_found read, left)) (λ found. IsInt32Field found.0.field) (field_of bytes (name_found bytes table) (truth_field bytes table 1) (type_found (field_in None bytes levels) bytes table left) (table_field bytes table 4) (metadata_in bytes table 6))
     (λ e. field-none bytes (name_found bytes table) (truth_field bytes table 1) (type_found (field_in None bytes levels) bytes table left) (table_field bytes table 4) (metadata_in bytes table 6) (inl e)) (λ o. field-other bytes (name_found bytes table) (truth_field bytes table 1) (type_found (field_in None bytes levels) bytes table left) (table_field bytes table 4) (metadata_in bytes table 6) (inl o)) h)
 
 pub field-pairs-refused : (error : Error) (bytes : List ℕ) (levels left : ℕ) (table : Table)
     → Tests (λ (found : Metadata). found ≡ []) (Err error) (metadata_in bytes table 6) → ReadsField (Err error) left (field_in None bytes (suc levels) table (suc left))
 field-pairs-refused error bytes levels left table h =
     let P : Option (FieldIn × ℕ) → Type 0 = λ given. ReadsField (Err error) left given in
-    subst P (sym (field_in-is bytes levels left table)) (reads-up {A = Unit {0}} {C = Field} error (λ read found. Unit {0}) (λ (found : Metadata). found ≡ []) (metadata_in bytes table 6) (λ read found. found ≡ (field_found read, left)) (λ found. IsFirstPathField found.0.field) (field_of bytes (name_found bytes table) (truth_field bytes table 1) (type_found (field_in None bytes levels) bytes table left) (table_field bytes table 4) (metadata_in bytes table 6))
+    subst P (sym (field_in-is bytes levels left table)) (reads-up {A = Unit {0}} {C = Field} error (λ read found. Unit {0}) (λ (found : Metadata). found ≡ []) (metadata_in bytes table 6) (λ read found. found ≡ (field_found read, left)) (λ found. IsInt32Field found.0.field) (field_of bytes (name_found bytes table) (truth_field bytes table 1) (type_found (field_in None bytes levels) bytes table left) (table_field bytes table 4) (metadata_in bytes table 6))
     (λ e. field-none bytes (name_found bytes table) (truth_field bytes table 1) (type_found (field_in None bytes levels) bytes table left) (table_field bytes table 4) (metadata_in bytes table 6) (inr (inr e))) (λ o. field-other bytes (name_found bytes table) (truth_field bytes table 1) (type_found (field_in None bytes levels) bytes table left) (table_field bytes table 4) (metadata_in bytes table 6) (inr (inr o))) h)
 
 pub field-no-dictionary : (bytes : List ℕ) (levels left : ℕ) (table : Table) → table_field bytes table 4 ≡ None → field_in None bytes (suc levels) table (suc left) ≡ None
@@ -154,7 +154,7 @@ pub field-read : (bytes : List ℕ) (levels left : ℕ) (table : Table) (name : 
     → ReadsField (Ok field) left (field_in None bytes (suc levels) table (suc left))
 unfolding field_of
 field-read bytes levels left table name is_nullable field e1 e2 e3 e4 e5 made =
-    let P : Option (FieldIn × ℕ) → Type 0 = λ given. IsSomeAnd given (λ found. (found ≡ (field_found field, left)) × IsFirstPathField found.0.field) in
+    let P : Option (FieldIn × ℕ) → Type 0 = λ given. IsSomeAnd given (λ found. (found ≡ (field_found field, left)) × IsInt32Field found.0.field) in
     let type_is : type_found (field_in None bytes levels) bytes table left ≡ Some (int32_found left) = some-is _ (int32_found left) IsInt32 e3 in
     let whole : field_in None bytes (suc levels) table (suc left) ≡ Some (field_found (record { name = name; data_type = types.Int32; is_nullable = is_nullable; metadata = [] }), left) = field_in-is bytes levels left table ∙ rw (e1, e2, type_is, e4, none-is (metadata_in bytes table 6) e5) refl in
     subst P (sym whole) (ap (λ (f : Field). (field_found f, left)) (sym made), (refl, refl))

@@ -2,7 +2,7 @@ pub mod Lengths
 pub mod Sizes
 pub mod Tables
 pub mod Rest
-pub mod FirstPath
+pub mod Int32Lemmas
 pub mod Options
 pub mod Types
 pub mod Pairs

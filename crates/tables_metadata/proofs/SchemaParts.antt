@@ -17,22 +17,22 @@ use Rattle.std.specs.Prelude.{pos}
 use Rattle.ipc_format.specs.Schemas.{FieldIn, SchemaIn, any_schema_in, field_in, each_of, fields_of, ids_of, is_little_of, metadata_in}
 use Rattle.ipc_format.specs.SchemaGrammar.{schema_in}
 use Rattle.ipc_format.specs.Writable.{Report, leaf, deepest, report_of, report_step, field_step, reports_of, is_writable}
-use Rattle.tables_metadata.specs.FirstPath.{IsFirstPathField}
-use Rattle.tables_metadata.specs.Reading.{Reads, Tests, little_found, fields_found, field_found, schema_found, AllFirstPath, IsReadSoFar}
+use Rattle.tables_metadata.specs.Int32Schemas.{IsInt32Field}
+use Rattle.tables_metadata.specs.Reading.{Reads, Tests, little_found, fields_found, field_found, schema_found, AllInt32, IsSupported}
 use Rattle.tables_metadata.proofs.Options.{reads-up}
 use Rattle.tables_metadata.proofs.Pairs.{Metadata, IsNotEmpty}
 use Rattle.tables_metadata.proofs.FieldLists.{AreOther}
 
--- ---- a schema that is read so far is one that is written
+-- ---- a schema that is supported is one that is written
 
 report_int32 : report_of types.Int32 ≡ leaf true
 unfolding roll-DataType denote.Hole.Carrier.roll
 report_int32 = fold-roll-DataType Report Report report_step field_step layer.Int32
 
-reports-plain : (fields : List Field) → All IsFirstPathField fields → reports_of fields ≡ map (λ (field : Field). leaf true) fields
+reports-plain : (fields : List Field) → All IsInt32Field fields → reports_of fields ≡ map (λ (field : Field). leaf true) fields
 reports-plain [] all = refl
 reports-plain (field ∷ fields) all =
-    let first : IsFirstPathField field = all 0 field (omega arith) in
+    let first : IsInt32Field field = all 0 field (omega arith) in
     let here : report_of field.data_type ≡ leaf true = ap report_of first.0 ∙ report_int32 in
     let others : reports_of fields ≡ map (λ (field : Field). leaf true) fields = reports-plain fields (λ k d lt. all (suc k) d (omega arith)) in
     ap (λ (report : Report). report ∷ reports_of fields) here ∙ ap (λ (reports : List Report). leaf true ∷ reports) others
@@ -55,7 +55,7 @@ both a b p q = rw (p, q) refl
 le-true : (a b : ℕ) → a ≤ b → nat_le a b ≡ true
 le-true a b h = search (rules, h)
 
-writable : (schema : Schema) → All IsFirstPathField schema.fields → is_writable schema ≡ true
+writable : (schema : Schema) → All IsInt32Field schema.fields → is_writable schema ≡ true
 unfolding is_writable
 writable schema all =
     let fields = schema.fields in
@@ -108,9 +108,9 @@ schema-none (Some l) (Some f) (Some m) (inl e) = absurd cc
 schema-none (Some l) (Some f) (Some m) (inr (inl e)) = absurd cc
 schema-none (Some l) (Some f) (Some m) (inr (inr e)) = absurd cc
 
--- a schema that isn't read so far
+-- a schema that isn't supported
 abbrev pub IsOtherSchema : SchemaIn → Type 0
-IsOtherSchema found = IsReadSoFar found → ⊥
+IsOtherSchema found = IsSupported found → ⊥
 
 IsBig : Bool → Type 0
 IsBig is_little = is_little ≡ true → ⊥
@@ -134,7 +134,7 @@ schema-other (Some l) (Some f) (Some m) (inr (inr some)) = checked-other (made l
 
 -- what is read of a schema
 abbrev pub ReadsSchema : Result Schema Error → Option SchemaIn → Type 0
-ReadsSchema result given = Reads (λ read found. found ≡ schema_found read) IsReadSoFar result given
+ReadsSchema result given = Reads (λ read found. found ≡ schema_found read) IsSupported result given
 
 pub schema-no-order : (bytes : List ℕ) (table : Table) → little_found bytes table ≡ None → schema_in bytes table ≡ None
 schema-no-order bytes table e = schema_in-is bytes table ∙ schema-none (little_found bytes table) (fields_found bytes table) (metadata_in bytes table 2) (inl e)
@@ -150,13 +150,13 @@ schema-big bytes table e =
 pub schema-pairs-refused : (error : Error) (bytes : List ℕ) (table : Table) → Tests (λ (found : Metadata). found ≡ []) (Err error) (metadata_in bytes table 2) → ReadsSchema (Err error) (schema_in bytes table)
 schema-pairs-refused error bytes table h =
     let P : Option SchemaIn → Type 0 = λ given. ReadsSchema (Err error) given in
-    subst P (sym (schema_in-is bytes table)) (reads-up {A = Unit {0}} {C = Schema} error (λ read found. Unit {0}) (λ (found : Metadata). found ≡ []) (metadata_in bytes table 2) (λ read found. found ≡ schema_found read) IsReadSoFar (schema_of (little_found bytes table) (fields_found bytes table) (metadata_in bytes table 2))
+    subst P (sym (schema_in-is bytes table)) (reads-up {A = Unit {0}} {C = Schema} error (λ read found. Unit {0}) (λ (found : Metadata). found ≡ []) (metadata_in bytes table 2) (λ read found. found ≡ schema_found read) IsSupported (schema_of (little_found bytes table) (fields_found bytes table) (metadata_in bytes table 2))
     (λ e. schema-none (little_found bytes table) (fields_found bytes table) (metadata_in bytes table 2) (inr (inr e))) (λ o. schema-other (little_found bytes table) (fields_found bytes table) (metadata_in bytes table 2) (inr (inr o))) h)
 
-pub schema-fields-refused : (error : Error) (bytes : List ℕ) (table : Table) → Reads (λ (read : List Field) found. found ≡ map field_found read) AllFirstPath (Err error) (fields_found bytes table) → ReadsSchema (Err error) (schema_in bytes table)
+pub schema-fields-refused : (error : Error) (bytes : List ℕ) (table : Table) → Reads (λ (read : List Field) found. found ≡ map field_found read) AllInt32 (Err error) (fields_found bytes table) → ReadsSchema (Err error) (schema_in bytes table)
 schema-fields-refused error bytes table h =
     let P : Option SchemaIn → Type 0 = λ given. ReadsSchema (Err error) given in
-    subst P (sym (schema_in-is bytes table)) (reads-up {A = List Field} {C = Schema} error (λ read found. found ≡ map field_found read) AllFirstPath (fields_found bytes table) (λ read found. found ≡ schema_found read) IsReadSoFar (schema_of (little_found bytes table) (fields_found bytes table) (metadata_in bytes table 2))
+    subst P (sym (schema_in-is bytes table)) (reads-up {A = List Field} {C = Schema} error (λ read found. found ≡ map field_found read) AllInt32 (fields_found bytes table) (λ read found. found ≡ schema_found read) IsSupported (schema_of (little_found bytes table) (fields_found bytes table) (metadata_in bytes table 2))
     (λ e. schema-none (little_found bytes table) (fields_found bytes table) (metadata_in bytes table 2) (inr (inl e))) (λ o. schema-other (little_found bytes table) (fields_found bytes table) (metadata_in bytes table 2) (inr (inl o))) h)
 
 fields_of-found : (fields : List Field) → fields_of (map field_found fields) ≡ fields
@@ -167,22 +167,22 @@ no-pairs : (given : Option Metadata) → IsSomeAnd given (λ found. Unit {0} × 
 no-pairs None h = absurd h
 no-pairs (Some pairs) h = ap Some h.1
 
-these-fields : (given : Option (List FieldIn)) (fields : List Field) → IsSomeAnd given (λ found. (found ≡ map field_found fields) × AllFirstPath found) → given ≡ Some (map field_found fields)
+these-fields : (given : Option (List FieldIn)) (fields : List Field) → IsSomeAnd given (λ found. (found ≡ map field_found fields) × AllInt32 found) → given ≡ Some (map field_found fields)
 these-fields None fields h = absurd h
 these-fields (Some found) fields h = ap Some h.0
 
-all-first : (given : Option (List FieldIn)) (fields : List Field) → IsSomeAnd given (λ found. (found ≡ map field_found fields) × AllFirstPath found) → All IsFirstPathField fields
+all-first : (given : Option (List FieldIn)) (fields : List Field) → IsSomeAnd given (λ found. (found ≡ map field_found fields) × AllInt32 found) → All IsInt32Field fields
 all-first None fields h = absurd h
-all-first (Some found) fields h = subst (All IsFirstPathField) (ap fields_of h.0 ∙ fields_of-found fields) h.1
+all-first (Some found) fields h = subst (All IsInt32Field) (ap fields_of h.0 ∙ fields_of-found fields) h.1
 
 -- a schema that is read
 pub schema-read : (bytes : List ℕ) (table : Table) (fields : List Field) (schema : Schema) → little_found bytes table ≡ Some true → IsSomeAnd (metadata_in bytes table 2) (λ found. Unit {0} × (found ≡ []))
-    → IsSomeAnd (fields_found bytes table) (λ found. (found ≡ map field_found fields) × AllFirstPath found) → schema ≡ record { fields = fields; metadata = [] } → ReadsSchema (Ok schema) (schema_in bytes table)
+    → IsSomeAnd (fields_found bytes table) (λ found. (found ≡ map field_found fields) × AllInt32 found) → schema ≡ record { fields = fields; metadata = [] } → ReadsSchema (Ok schema) (schema_in bytes table)
 unfolding schema_of checked made
 schema-read bytes table fields schema little pairs found is =
-    let P : Option SchemaIn → Type 0 = λ given. IsSomeAnd given (λ found. (found ≡ schema_found schema) × IsReadSoFar found) in
+    let P : Option SchemaIn → Type 0 = λ given. IsSomeAnd given (λ found. (found ≡ schema_found schema) × IsSupported found) in
     let the_schema : Schema = record { fields = fields; metadata = [] } in
-    let all : All IsFirstPathField fields = all-first (fields_found bytes table) fields found in
+    let all : All IsInt32Field fields = all-first (fields_found bytes table) fields found in
     let allowed : is_writable the_schema ≡ true = writable the_schema all in
     let whole : schema_in bytes table ≡ Some (schema_found the_schema) = schema_in-is bytes table ∙ rw (little, these-fields (fields_found bytes table) fields found, no-pairs (metadata_in bytes table 2) pairs, fields_of-found fields, allowed) refl in
     subst P (sym whole) (ap schema_found (sym is), (refl, (refl, all)))

@@ -1,4 +1,4 @@
--- The tables of a schema that is written so far.
+-- The tables of a schema that is supported.
 use Rattle.std.proofs.Common.{◌≡◌, ◌∙◌, ℕ, ◌+◌, ◌<◌, List, [], ◌∷◌, ◌++◌, length, get_or, drop, map, refl, sym, ap, subst, true}
 use denote.Hole.Carrier
 use Rattle.std.specs.Prelude.{Some, None, Bool, Result, Err}
@@ -18,7 +18,7 @@ use Rattle.ipc_format.specs.Types.{at_place}
 use Rattle.ipc_format.specs.Views.{Lays}
 use Rattle.ipc_format.specs.declared.flatbuffers.Laid.{Laid}
 use Rattle.ipc_format.specs.declared.flatbuffers.LayError.{LayError}
-use Rattle.tables_metadata.specs.FirstPath.{IsFirstPathField}
+use Rattle.tables_metadata.specs.Int32Schemas.{IsInt32Field}
 use Rattle.tables_metadata.proofs.Rest.{rest_step}
 use Rattle.tables_metadata.proofs.Sizes.{references-over, table-over, lays-over}
 
@@ -34,7 +34,7 @@ field_piece field = piece_of (field_object field (ids None no_ids))
 field_table_of : (name : List ℕ) (is_nullable : Bool) → piece_of (field_table name is_nullable [] (flat 2 (int_object 32 true) no_ids) None) ≡ table_piece (refers (text_piece name) ∷ number w8 (truth is_nullable) ∷ number w8 2 ∷ refers (piece_of (int_object 32 true)) ∷ absent ∷ refers (references_piece []) ∷ absent ∷ [])
 field_table_of name is_nullable = refl
 
-pub field_laid : (field : Field) → IsFirstPathField field → piece_of (field_object field (ids None no_ids)) ≡ table_piece (refers (text_piece field.name) ∷ number w8 (truth field.is_nullable) ∷ number w8 2 ∷ refers (piece_of (int_object 32 true)) ∷ absent ∷ refers (references_piece []) ∷ absent ∷ [])
+pub field_laid : (field : Field) → IsInt32Field field → piece_of (field_object field (ids None no_ids)) ≡ table_piece (refers (text_piece field.name) ∷ number w8 (truth field.is_nullable) ∷ number w8 2 ∷ refers (piece_of (int_object 32 true)) ∷ absent ∷ refers (references_piece []) ∷ absent ∷ [])
 field_laid field first =
     ap (λ (t : DataType). piece_of (field_table field.name field.is_nullable field.metadata (told_of t no_ids) None)) first.0
     ∙ ap (λ (m : List (List ℕ × List ℕ)). piece_of (field_table field.name field.is_nullable m (told_of types.Int32 no_ids) None)) first.1
@@ -91,7 +91,7 @@ message-refused error schema h =
     lays-over error header (table_piece slots) (table-over slots 2 header refl) h
 
 -- a part of a field that can't be laid keeps the field from it
-pub field-refused : (error : LayError) (field : Field) (p : Piece) (k : ℕ) → IsFirstPathField field
+pub field-refused : (error : LayError) (field : Field) (p : Piece) (k : ℕ) → IsInt32Field field
     → at_place (refers (text_piece field.name) ∷ number w8 (truth field.is_nullable) ∷ number w8 2 ∷ refers (piece_of (int_object 32 true)) ∷ absent ∷ refers (references_piece []) ∷ absent ∷ []) k ≡ Some (refers p)
     → Lays (Err error) p → Lays (Err error) (piece_of (field_object field (ids None no_ids)))
 field-refused error field p k first at h =
@@ -100,7 +100,7 @@ field-refused error field p k first at h =
     subst P (sym (field_laid field first)) (lays-over error p (table_piece slots) (table-over slots k p at) h)
 
 -- a table of its parts is that of the field
-pub field-made : (result : Result Laid LayError) (field : Field) (name int children : Piece) → IsFirstPathField field → name ≡ text_piece field.name → int ≡ piece_of (int_object 32 true) → children ≡ references_piece []
+pub field-made : (result : Result Laid LayError) (field : Field) (name int children : Piece) → IsInt32Field field → name ≡ text_piece field.name → int ≡ piece_of (int_object 32 true) → children ≡ references_piece []
     → Lays result (table_piece (refers name ∷ number w8 (truth field.is_nullable) ∷ number w8 2 ∷ refers int ∷ absent ∷ refers children ∷ absent ∷ [])) → Lays result (piece_of (field_object field (ids None no_ids)))
 field-made result field name int children first e1 e2 e3 h =
     let P : Piece → Type 0 = λ p. Lays result p in

@@ -1,5 +1,5 @@
 pub mod Views
 pub mod Lengths
-pub mod FirstPath
+pub mod Int32Schemas
 pub mod Writing
 pub mod Reading

@@ -13,9 +13,9 @@ use Rattle.ipc_format.specs.Reading.{◌>>=◌}
 use Rattle.ipc_format.specs.FlatBuffers.{Table, Vector, element_at, string_field, number_field, signed_field, table_field, vector_field}
 use Rattle.ipc_format.specs.Types.{tag_of}
 use Rattle.ipc_format.specs.Schemas.{FieldIn, TypeIn, SchemaIn, Visits, type_in, field_in, each_of, fields_of, is_little_of, ids, no_ids, ids_of}
-use Rattle.tables_metadata.specs.FirstPath.{IsFirstPath, IsFirstPathField}
+use Rattle.tables_metadata.specs.Int32Schemas.{IsInt32Schema, IsInt32Field}
 
--- What is read is what the format gives, and is of those that are read so far. Others aren't implemented, and where the format gives
+-- What is read is what the format gives, and is of those that are supported. Others aren't implemented, and where the format gives
 -- nothing the bytes are out of its rules. Memory may run out anywhere.
 abbrev pub Reads : {A B : Type 0} → (A → B → Type 0) → (B → Type 0) → Result A Error → Option B → Type 0
 Reads same first (Ok read) given = IsSomeAnd given (λ found. same read found × first found)
@@ -45,13 +45,13 @@ field_found field = record { field = field; ids = ids None no_ids }
 abbrev pub schema_found : Schema → SchemaIn
 schema_found schema = record { schema = schema; ids = ids_of (map field_found schema.fields); is_little_endian = true }
 
--- the type that is read so far
+-- the type that is supported
 abbrev pub IsInt32 : TypeIn × ℕ → Type 0
 IsInt32 found = found.0.data_type ≡ types.Int32
 
--- the schemas that are read so far
-abbrev pub IsReadSoFar : SchemaIn → Type 0
-IsReadSoFar found = (found.is_little_endian ≡ true) × IsFirstPath found.schema
+-- the schemas that are supported
+abbrev pub IsSupported : SchemaIn → Type 0
+IsSupported found = (found.is_little_endian ≡ true) × IsInt32Schema found.schema
 
 -- the fields of a Schema table
 abbrev pub fields_found : List ℕ → Table → Option (List FieldIn)
@@ -61,11 +61,11 @@ fields_found bytes table = do
   fields ← each_of (field_in None bytes 64) bytes vector vector.count 0 (length bytes)
   Some fields.0
 
--- all fields are of those that are read so far
-abbrev pub AllFirstPath : List FieldIn → Type 0
-AllFirstPath found = All IsFirstPathField (fields_of found)
+-- all fields are of those that are supported
+abbrev pub AllInt32 : List FieldIn → Type 0
+AllInt32 found = All IsInt32Field (fields_of found)
 
--- the Int table that is read so far
+-- the Int table that is supported
 abbrev pub IsSigned32 : IntegerType → Type 0
 IsSigned32 integer = integer ≡ integers.Int32
 

@@ -9,7 +9,7 @@ use Rattle.ipc_format.specs.Schemas.{no_ids}
 use Rattle.ipc_format.specs.SchemaObjects.{message_object, schema_message}
 use Rattle.ipc_format.specs.declared.flatbuffers.LayError.{LayError}
 use Rattle.ipc_format.specs.declared.flatbuffers.LayError.TheVariants.{Memory, TooLong}
-use Rattle.tables_metadata.specs.FirstPath.{IsFirstPath}
+use Rattle.tables_metadata.specs.Int32Schemas.{IsInt32Schema}
 
 -- structs of 16 bytes, by their bytes
 abbrev pub structs_of : List ℕ → Object
@@ -25,9 +25,9 @@ IsRefusal OutOfMemory bytes = Unit {0}
 IsRefusal Overflow bytes = 2 ^ 31 ≤ length bytes
 IsRefusal _ bytes = ⊥
 
--- why the message of a schema isn't written: the schema is none of those that are written so far, or one of these
+-- why the message of a schema isn't written: the schema is none of those that are supported, or one of these
 abbrev pub IsSchemaRefusal : Error → Schema → Type 0
-IsSchemaRefusal (NotYetImplemented what) schema = ¬ IsFirstPath schema
+IsSchemaRefusal (NotYetImplemented what) schema = ¬ IsInt32Schema schema
 IsSchemaRefusal error schema = IsRefusal error (laid (schema_message schema no_ids))
 
 -- the error for what could not be laid

@@ -7,7 +7,7 @@ ghost use Rattle.ipc_format.specs.Objects.{piece_of, references, laid};
 ghost use Rattle.ipc_format.specs.Schemas.{no_ids, ids};
 ghost use Rattle.ipc_format.specs.SchemaObjects as objects;
 ghost use Rattle.ipc_format.specs.Views.{piece_view, Lays};
-ghost use Rattle.tables_metadata.specs.FirstPath.{IsFirstPath, IsFirstPathField};
+ghost use Rattle.tables_metadata.specs.Int32Schemas.{IsInt32Schema, IsInt32Field};
 ghost use Rattle.tables_metadata.specs.Writing.{structs_of, batch_message, IsRefusal, IsSchemaRefusal, IsRefusalOf};
 
 use columnar_memory::{DataType, Error, Field, Result, Schema};
@@ -39,9 +39,9 @@ fn refusal(error: LayError) -> Error
 /// - `NotYetImplemented`: a column isn't a 32-bit integer, or the schema or a field has custom metadata.
 /// - `Overflow`: the message would have more than 2^31 - 1 bytes.
 pub fn schema_message(alloc: Global, schema: &Schema) -> Result<Vec<u8>>
-    ensures { MatchResult result (λ v. IsFirstPath schema.now × (v.items ≡ laid (objects.schema_message schema.now no_ids))) (λ e. IsSchemaRefusal e schema.now) }
+    ensures { MatchResult result (λ v. IsInt32Schema schema.now × (v.items ≡ laid (objects.schema_message schema.now no_ids))) (λ e. IsSchemaRefusal e schema.now) }
 {
-    if !is_first_path(schema) {
+    if !is_int32_schema(schema) {
         return Err(Error::NotYetImplemented("types other than Int32, and custom metadata"));
     }
     match lay_schema_message(alloc, schema) {
@@ -50,30 +50,30 @@ pub fn schema_message(alloc: Global, schema: &Schema) -> Result<Vec<u8>>
     }
 }
 
-/// Whether the schema is one of those that are written so far.
-fn is_first_path(schema: &Schema) -> bool
-    ensures { IsTrue result ↔ IsFirstPath schema.now }
+/// Whether the schema is one of those that are supported.
+fn is_int32_schema(schema: &Schema) -> bool
+    ensures { IsTrue result ↔ IsInt32Schema schema.now }
 {
     if !schema.metadata.is_empty() {
         return false;
     }
     for field in schema.fields.as_slice() {
-        if !is_first_path_field(field) {
+        if !is_int32_field(field) {
             return false;
         }
     }
     true
 }
 
-fn is_first_path_field(field: &Field) -> bool
-    ensures { IsTrue result ↔ IsFirstPathField field.now }
+fn is_int32_field(field: &Field) -> bool
+    ensures { IsTrue result ↔ IsInt32Field field.now }
 {
     field.data_type == DataType::Int32 && field.metadata.is_empty()
 }
 
 /// The message of a schema.
 fn lay_schema_message(alloc: Global, schema: &Schema) -> std::result::Result<Laid, LayError>
-    requires { IsFirstPath schema.now }
+    requires { IsInt32Schema schema.now }
     ensures { Lays result (piece_of (objects.schema_message schema.now no_ids)) }
 {
     let table = lay_schema(alloc, schema)?;
@@ -82,7 +82,7 @@ fn lay_schema_message(alloc: Global, schema: &Schema) -> std::result::Result<Lai
 
 /// A Schema table.
 fn lay_schema(alloc: Global, schema: &Schema) -> std::result::Result<Laid, LayError>
-    requires { IsFirstPath schema.now }
+    requires { IsInt32Schema schema.now }
     ensures { Lays result (piece_of (objects.schema_object schema.now no_ids)) }
 {
     let fields = lay_fields(alloc, schema.fields.as_slice())?;
@@ -97,7 +97,7 @@ fn lay_schema(alloc: Global, schema: &Schema) -> std::result::Result<Laid, LayEr
 
 /// The vector of all Field tables.
 fn lay_fields(alloc: Global, fields: &[Field]) -> std::result::Result<Laid, LayError>
-    requires { All IsFirstPathField fields.now }
+    requires { All IsInt32Field fields.now }
     ensures { Lays result (piece_of (references (objects.objects_of (map objects.field_object fields.now) no_ids))) }
 {
     let mut pieces = Vec::new(alloc);
@@ -109,7 +109,7 @@ fn lay_fields(alloc: Global, fields: &[Field]) -> std::result::Result<Laid, LayE
 
 /// A Field table.
 fn lay_field(alloc: Global, field: &Field) -> std::result::Result<Laid, LayError>
-    requires { IsFirstPathField field.now }
+    requires { IsInt32Field field.now }
     ensures { Lays result (piece_of (objects.field_object field.now (ids None no_ids))) }
 {
     let name = lay_text(alloc, field.name.as_str().as_bytes())?;

@@ -10,8 +10,8 @@ ghost use Rattle.ipc_format.specs.SchemaGrammar as grammar;
 ghost use Rattle.ipc_format.specs.FlatBuffers.{vector_field};
 ghost use Rattle.ipc_format.specs.FlatBuffers as flatbuffers;
 ghost use Rattle.ipc_format.specs.Views.{table_of, vector_of};
-ghost use Rattle.tables_metadata.specs.FirstPath.{IsFirstPathField};
-ghost use Rattle.tables_metadata.specs.Reading.{Reads, Tests, type_found, field_found, schema_found, fields_found, IsInt32, AllFirstPath, IsReadSoFar, IsSigned32, pair_found, name_found, little_found};
+ghost use Rattle.tables_metadata.specs.Int32Schemas.{IsInt32Field};
+ghost use Rattle.tables_metadata.specs.Reading.{Reads, Tests, type_found, field_found, schema_found, fields_found, IsInt32, AllInt32, IsSupported, IsSigned32, pair_found, name_found, little_found};
 
 use columnar_memory::{DataType, Error, Field, Items, Result, Schema, Text};
 use ipc_format::flatbuffers::{
@@ -26,7 +26,7 @@ use std::alloc::Global;
 /// - `NotYetImplemented`: it is another schema than those above.
 /// - `OutOfMemory`: there was no memory for names and fields.
 pub fn schema_in(alloc: Global, bytes: &[u8], table: &Table) -> Result<Schema>
-    ensures { Reads (λ read found. found ≡ schema_found read) IsReadSoFar result (grammar.schema_in bytes.now (table_of table.now)) }
+    ensures { Reads (λ read found. found ≡ schema_found read) IsSupported result (grammar.schema_in bytes.now (table_of table.now)) }
 {
     match is_little_endian(bytes, table) {
         Some(true) => {}
@@ -51,7 +51,7 @@ fn is_little_endian(bytes: &[u8], table: &Table) -> Option<bool>
 
 /// The fields of a Schema table.
 fn fields_in(alloc: Global, bytes: &[u8], table: &Table) -> Result<Vec<Field>>
-    ensures { Reads (λ read found. found ≡ map field_found read.items) (AllFirstPath) result (fields_found bytes.now (table_of table.now)) }
+    ensures { Reads (λ read found. found ≡ map field_found read.items) (AllInt32) result (fields_found bytes.now (table_of table.now)) }
 {
     let Some(vector) = vector_field(bytes, table, 1, 4) else {
         return Err(Error::OutOfSpec("InvalidFlatbufferSchema"));
@@ -71,7 +71,7 @@ fn fields_in(alloc: Global, bytes: &[u8], table: &Table) -> Result<Vec<Field>>
 
 /// The field of a Field table.
 fn field_in(alloc: Global, bytes: &[u8], table: &Table) -> Result<Field>
-    ensures { (levels left : ℕ) → Reads (λ read found. found ≡ (field_found read, left)) (λ found. IsFirstPathField found.0.field) result (format.field_in None bytes.now (suc levels) (table_of table.now) (suc left)) }
+    ensures { (levels left : ℕ) → Reads (λ read found. found ≡ (field_found read, left)) (λ found. IsInt32Field found.0.field) result (format.field_in None bytes.now (suc levels) (table_of table.now) (suc left)) }
 {
     let Some(name) = name_in(bytes, table) else {
         return Err(Error::OutOfSpec("InvalidFlatbufferSchema"));

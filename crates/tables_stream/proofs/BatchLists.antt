@@ -9,7 +9,7 @@ use Rattle.columnar_memory.specs.declared.Error.TheVariants.{NotYetImplemented, 
 use Rattle.columnar_memory.specs.declared.Schema.{Schema}
 use Rattle.nested_arrays.specs.Slots.{Slot, window}
 use Rattle.nested_arrays.specs.Tables.{row_at, batch_rows, rows_of_columns, rows_of_batches}
-use Rattle.ipc_format_columns.specs.Framing.{Framed, Next, nothing_whole, at_end, message_then, next_at, by_next, dictionaries_after, cut_from}
+use Rattle.ipc_format_columns.specs.Framing.{Framed, Next, nothing_whole, at_end, message_then, next_at, by_next, dictionaries_after, truncated_from}
 use Rattle.ipc_format.specs.Reading.{◌>>=◌}
 use Rattle.tables_stream.specs.Cells.{slot_of}
 use Rattle.tables_stream.specs.Batches.{rows_of_cells}
@@ -18,20 +18,20 @@ use Rattle.tables_stream.specs.Tables.{batch_slots, stored_cells}
 use Rattle.tables_stream.specs.Int32.{batch_by, Step, cut_off, ended, batch_then, step_of, step_at, behind, by_step, int32_batches, Decodes}
 use Rattle.tables_stream.specs.Faults.{fault_of}
 use Rattle.tables_stream.specs.Reading.{ReadsBatches}
-use Rattle.tables_stream.proofs.FirstPath.{counts_none}
+use Rattle.tables_stream.proofs.Int32Batches.{counts_none}
 use Rattle.tables_stream.proofs.ColumnLists.{Cells}
 
--- ---- whether the stream is cut off
+-- ---- whether the stream is truncated
 
 -- what the definition looks at behind a message
 abbrev cut_behind : ℕ → List ℕ → Framed → ℕ → Option Bool
 cut_behind most bytes framed after = do
   in_a_row ← dictionaries_after 0 framed.header
-  cut_from most bytes after in_a_row
+  truncated_from most bytes after in_a_row
 
 behind_batch : (n most : ℕ) (bytes : List ℕ) (framed : Framed) (place after : ℕ) (columns : List (List Slot)) (given : Option (List (List Slot)))
     → batch_by n framed framed.header ≡ given → (given >>= (λ found. Some (batch_then found place))) ≡ Some (batch_then columns after)
-    → cut_behind most bytes framed place ≡ cut_from most bytes after 0
+    → cut_behind most bytes framed place ≡ truncated_from most bytes after 0
 behind_batch n most bytes framed place after columns None is e = absurd cc
 behind_batch n most bytes framed place after columns (Some found) is e =
     let none : dictionaries_after 0 framed.header ≡ Some 0 = counts_none n framed.metadata framed.header framed.body found is in
@@ -39,15 +39,15 @@ behind_batch n most bytes framed place after columns (Some found) is e =
     rw (none, same) refl
 
 cut_behind_next : (n most : ℕ) (bytes : List ℕ) (given : Option Next) (columns : List (List Slot)) (after : ℕ) → (given >>= step_of n) ≡ Some (batch_then columns after)
-    → (given >>= by_next (Some true) (Some false) (cut_behind most bytes)) ≡ cut_from most bytes after 0
+    → (given >>= by_next (Some true) (Some false) (cut_behind most bytes)) ≡ truncated_from most bytes after 0
 cut_behind_next n most bytes None columns after e = absurd cc
 cut_behind_next n most bytes (Some nothing_whole) columns after e = absurd cc
 cut_behind_next n most bytes (Some at_end) columns after e = absurd cc
 cut_behind_next n most bytes (Some (message_then framed place)) columns after e = behind_batch n most bytes framed place after columns (batch_by n framed framed.header) refl e
 
--- behind a batch the stream is cut off where what follows is
+-- behind a batch the stream is truncated where what follows is
 cut_after_batch : (n most : ℕ) (bytes : List ℕ) (place : ℕ) (columns : List (List Slot)) (after : ℕ) → step_at n bytes place ≡ Some (batch_then columns after)
-    → cut_from (suc most) bytes place 0 ≡ cut_from most bytes after 0
+    → truncated_from (suc most) bytes place 0 ≡ truncated_from most bytes after 0
 unfolding step_at
 cut_after_batch n most bytes place columns after e = cut_behind_next n most bytes (next_at bytes place) columns after e
 
@@ -61,7 +61,7 @@ cut_here_next n most bytes (Some nothing_whole) e = refl
 cut_here_next n most bytes (Some at_end) e = absurd cc
 cut_here_next n most bytes (Some (message_then framed place)) e = absurd (no_cut_batch place (batch_by n framed framed.header) e)
 
-cut_here : (n most : ℕ) (bytes : List ℕ) (place : ℕ) → step_at n bytes place ≡ Some cut_off → cut_from (suc most) bytes place 0 ≡ Some true
+cut_here : (n most : ℕ) (bytes : List ℕ) (place : ℕ) → step_at n bytes place ≡ Some cut_off → truncated_from (suc most) bytes place 0 ≡ Some true
 unfolding step_at
 cut_here n most bytes place e = cut_here_next n most bytes (next_at bytes place) e
 
@@ -71,7 +71,7 @@ pub record BatchesRead (n : ℕ) (bytes : List ℕ) (first : ℕ) (batches : Lis
   pub few : length batches < place
   pub inside : place ≤ length bytes
   pub left : (most : ℕ) → length batches + most ≡ length bytes → int32_batches n (length bytes) bytes first ≡ behind (map batch_slots batches) (int32_batches n most bytes place)
-  pub whole : (most : ℕ) → length batches + most ≡ length bytes → cut_from (length bytes) bytes first 0 ≡ cut_from most bytes place 0
+  pub whole : (most : ℕ) → length batches + most ≡ length bytes → truncated_from (length bytes) bytes first 0 ≡ truncated_from most bytes place 0
 
 behind_none : {A : Type 0} (rest : Option (List A)) → behind [] rest ≡ rest
 behind_none None = refl
@@ -122,7 +122,7 @@ batches_refused n bytes first batches place read e =
     step_left n bytes first batches place (length bytes - length batches - 1) None read e all
 
 pub batches_cut : (n : ℕ) (bytes : List ℕ) (first : ℕ) (batches : List (List Cells)) (place : ℕ) → BatchesRead n bytes first batches place → step_at n bytes place ≡ Some cut_off
-    → (int32_batches n (length bytes) bytes first ≡ None) × (cut_from (length bytes) bytes first 0 ≡ Some true)
+    → (int32_batches n (length bytes) bytes first ≡ None) × (truncated_from (length bytes) bytes first 0 ≡ Some true)
 batches_cut n bytes first batches place read e =
     let most = length bytes - length batches - 1 in
     let all : length batches + suc most ≡ length bytes = omega (arith, read.few, read.inside) in
@@ -186,12 +186,12 @@ batches_error view Overflow schema bytes first batches place read e = absurd e
 -- the rows of one batch more
 pub rows_more : (rows : ℕ) (batches more : List Batch) (batch : Batch) → rows ≡ sum_by rows_of_cells (map stored_cells batches) → more ≡ batches ++ batch ∷ []
     → rows + batch.rows ≡ sum_by rows_of_cells (map stored_cells more)
-rows_more rows batches more batch so_far pushed =
+rows_more rows batches more batch before_it pushed =
     let all : sum_by rows_of_cells (map stored_cells more) ≡ sum_by rows_of_cells (map stored_cells batches) + sum_by rows_of_cells (stored_cells batch ∷ []) =
     ap (λ xs. sum_by rows_of_cells (map stored_cells xs)) pushed ∙ ap (sum_by rows_of_cells) (map-append stored_cells batches (batch ∷ []))
     ∙ sum_by-append rows_of_cells (map stored_cells batches) (stored_cells batch ∷ []) in
     let one : sum_by rows_of_cells (stored_cells batch ∷ []) ≡ rows_of_cells (stored_cells batch) + 0 = sum_by-cons rows_of_cells (stored_cells batch) [] in
-    omega (arith, all, one, so_far, batch.counted)
+    omega (arith, all, one, before_it, batch.counted)
 
 pub cells_more : (batches more : List Batch) (batch : Batch) → more ≡ batches ++ batch ∷ [] → map stored_cells more ≡ map stored_cells batches ++ stored_cells batch ∷ []
 cells_more batches more batch pushed = ap (map stored_cells) pushed ∙ map-append stored_cells batches (batch ∷ [])

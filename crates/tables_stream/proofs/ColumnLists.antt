@@ -144,22 +144,22 @@ long_more (first ∷ firsts) column fits all =
 
 pub gathered_next : (batch : Source) (width : ℕ) (columns more : List Cells) (column : Cells) (k : ℕ) → k < width → Gathered batch width columns k
     → int32_slots batch k (2 * k) ≡ Some (map slot_of column) → is_as_long columns column ≡ true → more ≡ columns ++ column ∷ [] → Gathered batch width more (k + 1)
-gathered_next batch width columns more column k lt so_far e fits pushed = record {
-  counted = ap length pushed ∙ length-append columns (column ∷ []) ∙ ap (λ n. n + 1) so_far.counted;
-  long = subst (λ xs. All (λ (c : Cells). length c ≡ rows_of_cells xs) xs) (sym pushed) (long_more columns column fits so_far.long);
-  left = column_next batch width columns more column k lt so_far.left e pushed;
+gathered_next batch width columns more column k lt gathered e fits pushed = record {
+  counted = ap length pushed ∙ length-append columns (column ∷ []) ∙ ap (λ n. n + 1) gathered.counted;
+  long = subst (λ xs. All (λ (c : Cells). length c ≡ rows_of_cells xs) xs) (sym pushed) (long_more columns column fits gathered.long);
+  left = column_next batch width columns more column k lt gathered.left e pushed;
 }
 
 pub gathered_error : (error : Error) (batch : Source) (width : ℕ) (columns : List Cells) (k : ℕ) → k < width → Gathered batch width columns k
     → Reads {A = Cells} (map slot_of) (Err error) (int32_slots batch k (2 * k))
     → {A : Type 0} → (view : A → List (List Slot)) → Reads {A = A} view (Err error) (agreeing (int32_columns batch 0 width))
-gathered_error error batch width columns k lt so_far = column_error error batch width columns k lt so_far.left
+gathered_error error batch width columns k lt gathered = column_error error batch width columns k lt gathered.left
 
 pub gathered_other : (batch : Source) (width k : ℕ) (columns : List Cells) (column : Cells) → k < width → Gathered batch width columns k
     → int32_slots batch k (2 * k) ≡ Some (map slot_of column) → is_as_long columns column ≡ false → agreeing (int32_columns batch 0 width) ≡ None
-gathered_other batch width k [] column lt so_far e other = absurd cc
-gathered_other batch width k (first ∷ firsts) column lt so_far e other =
-    column_disagrees batch width (length first) k (first ∷ firsts) column lt (omega arith) so_far.left e so_far.long (eqb-false (length column) (length first) other)
+gathered_other batch width k [] column lt gathered e other = absurd cc
+gathered_other batch width k (first ∷ firsts) column lt gathered e other =
+    column_disagrees batch width (length first) k (first ∷ firsts) column lt (omega arith) gathered.left e gathered.long (eqb-false (length column) (length first) other)
 
 pub gathered_all : (batch : Source) (width k : ℕ) (columns : List Cells) → width ≤ k → k ≤ width → Gathered batch width columns k → agreeing (int32_columns batch 0 width) ≡ Some (batch_slots columns)
-gathered_all batch width k columns h h' so_far = columns_done batch width (rows_of_cells columns) k columns h h' so_far.left so_far.long
+gathered_all batch width k columns h h' gathered = columns_done batch width (rows_of_cells columns) k columns h h' gathered.left gathered.long

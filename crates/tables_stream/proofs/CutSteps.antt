@@ -101,14 +101,14 @@ pub cut_takes : (batches windows later : List Batch) (all : List (List Cells))
     window.rows ≡ count → window.start ≡ batch.start + begin → window.columns.value ≡ batch.columns.value →
     later ≡ windows ++ window ∷ [] →
     all ≡ map stored_cells later ++ cut_behind (offset - (skipped + begin)) (many - (taken + count)) batches (i + 1)
-cut_takes batches windows later all offset many skipped taken i begin count batch window so_far h is b c some rows start columns pushed =
+cut_takes batches windows later all offset many skipped taken i begin count batch window before_it h is b c some rows start columns pushed =
     let cells : List Cells = window_cells begin count (stored_cells batch) in
     let left : List (List Cells) = cut_behind (offset - skipped - begin) (many - taken - count) batches (i + 1) in
     let from_here = cut_from batches i (offset - skipped) (many - taken) begin count batch h is b c in
     let made = ap (λ test. (if test then cells ∷ [] else []) ++ left) (lt-ltb 0 count some) in
     let cells_made = ap (λ x. x ∷ left) (sym (cells_of_window batch window begin count (omega arith) rows start columns)) in
     let cells_of_all = sym (ap (map stored_cells) pushed ∙ map-append stored_cells windows (window ∷ [])) in
-    so_far
+    before_it
     ∙ ap (λ rest. map stored_cells windows ++ rest) (from_here ∙ made ∙ cells_made)
     ∙ sym (append_assoc (map stored_cells windows) (stored_cells window ∷ []) left)
     ∙ ap₂ (λ xs ys. xs ++ ys) cells_of_all (left_over offset many skipped taken begin count batches (i + 1))
@@ -121,11 +121,11 @@ pub cut_passes : (batches windows later : List Batch) (all : List (List Cells))
     begin ≡ min batch.rows (offset - skipped) → count ≡ min (batch.rows - begin) (many - taken) → count ≤ 0 →
     later ≡ windows →
     all ≡ map stored_cells later ++ cut_behind (offset - (skipped + begin)) (many - (taken + count)) batches (i + 1)
-cut_passes batches windows later all offset many skipped taken i begin count batch so_far h is b c none same =
+cut_passes batches windows later all offset many skipped taken i begin count batch before_it h is b c none same =
     let cells : List Cells = window_cells begin count (stored_cells batch) in
     let left : List (List Cells) = cut_behind (offset - skipped - begin) (many - taken - count) batches (i + 1) in
     let from_here = cut_from batches i (offset - skipped) (many - taken) begin count batch h is b c in
     let passed = ap (λ test. (if test then cells ∷ [] else []) ++ left) (le-ltb 0 count none) in
-    so_far
+    before_it
     ∙ ap (λ rest. map stored_cells windows ++ rest) (from_here ∙ passed)
     ∙ ap₂ (λ xs ys. map stored_cells xs ++ ys) (sym same) (left_over offset many skipped taken begin count batches (i + 1))

@@ -20,7 +20,7 @@ use Rattle.ipc_format_written.specs.Ids.{Numbering, number_step, numbered, numbe
 use Rattle.ipc_format_written.specs.GivenDictionaries.{Given, Giver, given_by, give_step, give_field_step}
 use Rattle.ipc_format_written.specs.WrittenMessages.{Written, framed, end_mark, message_bytes, message_of, batch_object, record_tag, record_message, schema_written, body_bytes}
 use Rattle.ipc_format_written.specs.WrittenStreams.{Batch, columns_of_slots, given_of_slots, rows_of_slots, batch_of_slots, messages_after, stream_messages, bytes_of_messages, stream_bytes}
-use Rattle.tables_metadata.specs.FirstPath.{IsFirstPath, IsFirstPathField}
+use Rattle.tables_metadata.specs.Int32Schemas.{IsInt32Schema, IsInt32Field}
 use Rattle.tables_stream.specs.Int32Written.{int32_buffers, nodes_of, int32_message, int32_stream}
 
 -- ---- columns
@@ -44,26 +44,26 @@ int32_together columns = record { nodes = nodes_of columns; buffers = flat_map i
 abbrev with_column : Encoded → Encoded → Encoded
 with_column first others = record { nodes = first.nodes ++ others.nodes; buffers = first.buffers ++ others.buffers }
 
-columns_together : (fields : List Field) (columns : List (List Slot)) → All IsFirstPathField fields → length columns ≡ length fields
+columns_together : (fields : List Field) (columns : List (List Slot)) → All IsInt32Field fields → length columns ≡ length fields
     → joined (columns_of_slots fields columns) ≡ int32_together columns
 columns_together [] [] all same = refl
 columns_together [] (column ∷ columns) all same = absurd cc
 columns_together (field ∷ fields) [] all same = absurd cc
 columns_together (field ∷ fields) (column ∷ columns) all same =
-    let here : encode field.data_type column ≡ int32_column column = rw ((All-head IsFirstPathField field fields all).0) (encode_int32 column) in
-    let others = columns_together fields columns (All-tail IsFirstPathField field fields all) (omega (arith, same)) in
+    let here : encode field.data_type column ≡ int32_column column = rw ((All-head IsInt32Field field fields all).0) (encode_int32 column) in
+    let others = columns_together fields columns (All-tail IsInt32Field field fields all) (omega (arith, same)) in
     ap₂ with_column here others
 
-none_given : (fields : List Field) (below : IdsList) (columns : List (List Slot)) → All IsFirstPathField fields → given_of_slots fields below columns ≡ []
+none_given : (fields : List Field) (below : IdsList) (columns : List (List Slot)) → All IsInt32Field fields → given_of_slots fields below columns ≡ []
 none_given [] below columns all = refl
 none_given (field ∷ fields) below [] all = refl
 none_given (field ∷ fields) below (column ∷ columns) all =
-    rw ((All-head IsFirstPathField field fields all).0, no_given (first_ids below) column)
-    (none_given fields (other_ids below) columns (All-tail IsFirstPathField field fields all))
+    rw ((All-head IsInt32Field field fields all).0, no_given (first_ids below) column)
+    (none_given fields (other_ids below) columns (All-tail IsInt32Field field fields all))
 
 -- ---- batches
 
-message_is : (fields : List Field) (columns : List (List Slot)) → All IsFirstPathField fields → length columns ≡ length fields
+message_is : (fields : List Field) (columns : List (List Slot)) → All IsInt32Field fields → length columns ≡ length fields
     → message_bytes (record_message (rows_of_slots columns) (columns_of_slots fields columns)) ≡ int32_message columns
 unfolding record_message int32_message
 message_is fields columns all same =
@@ -73,7 +73,7 @@ message_is fields columns all same =
 abbrev pub HaveWidth : List Field → List (List (List Slot)) → Type 0
 HaveWidth fields batches = All (λ columns. length columns ≡ length fields) batches
 
-batches_are : (fields : List Field) (below : IdsList) (batches : List (List (List Slot))) → All IsFirstPathField fields → HaveWidth fields batches
+batches_are : (fields : List Field) (below : IdsList) (batches : List (List (List Slot))) → All IsInt32Field fields → HaveWidth fields batches
     → bytes_of_messages (messages_after [] (map (batch_of_slots fields below) batches)) ≡ flat_map int32_message batches
 unfolding batch_of_slots
 batches_are fields below [] all widths = refl
@@ -88,22 +88,22 @@ no_number : (n : ℕ) → numbered types.Int32 n ≡ (ids None no_ids, n)
 unfolding roll-DataType denote.Hole.Carrier.roll
 no_number n = ap (λ (numbering : Numbering). numbering n) (fold-roll-DataType Numbering Numbering number_step (λ field. field.data_type) layer.Int32)
 
-objects_same : (fields : List Field) (n : ℕ) → All IsFirstPathField fields
+objects_same : (fields : List Field) (n : ℕ) → All IsInt32Field fields
     → objects_of (map field_object fields) (number_fields fields n).0 ≡ objects_of (map field_object fields) no_ids
 objects_same [] n all = refl
 objects_same (field ∷ fields) n all =
     let here : numbered field.data_type n ≡ (ids None no_ids, n) =
-    ap (λ data_type. numbered data_type n) ((All-head IsFirstPathField field fields all).0) ∙ no_number n in
+    ap (λ data_type. numbered data_type n) ((All-head IsInt32Field field fields all).0) ∙ no_number n in
     rw here
-    (ap (λ (others : Objects). object_then (field_object field (ids None no_ids)) others) (objects_same fields n (All-tail IsFirstPathField field fields all)))
+    (ap (λ (others : Objects). object_then (field_object field (ids None no_ids)) others) (objects_same fields n (All-tail IsInt32Field field fields all)))
 
-schema_same : (schema : Schema) → All IsFirstPathField schema.fields → schema_message schema (default_ids schema.fields) ≡ schema_message schema no_ids
+schema_same : (schema : Schema) → All IsInt32Field schema.fields → schema_message schema (default_ids schema.fields) ≡ schema_message schema no_ids
 unfolding schema_object default_ids
 schema_same schema all = rw (objects_same schema.fields 0 all) refl
 
 -- ---- the whole
 
-pub int32_streams : (schema : Schema) (batches : List (List (List Slot))) → IsFirstPath schema → HaveWidth schema.fields batches
+pub int32_streams : (schema : Schema) (batches : List (List (List Slot))) → IsInt32Schema schema → HaveWidth schema.fields batches
     → int32_stream schema no_ids batches
     ≡ stream_bytes schema (default_ids schema.fields) (map (batch_of_slots schema.fields (default_ids schema.fields)) batches)
 unfolding int32_stream stream_bytes stream_messages schema_written

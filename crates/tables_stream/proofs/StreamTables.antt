@@ -1,4 +1,4 @@
--- The table of a stream whose schema is of the first path.
+-- The table of a stream whose schema has 32-bit integers alone.
 use Rattle.std.proofs.Common.{◌≡◌, ◌∙◌, ℕ, ◌<◌, ◌≤◌, ◌^◌, true, List, [], ◌∷◌, length, map, refl, sym, ap, ap₂, subst}
 use Rattle.std.specs.Prelude.{Option, Some, None, IfSome, IsSomeAnd, Result, Ok, Err, nat_lt}
 use Rattle.std.specs.List.{All}
@@ -20,20 +20,20 @@ use Rattle.nested_arrays.specs.Tables.{rows_of_batches}
 use Rattle.ipc_format_grammar.specs.Messages.{Version, version_in}
 use Rattle.ipc_format_grammar.specs.Schemas.{SchemaIn}
 use Rattle.ipc_format_grammar.specs.Writable.{normalised, normalised_type, normalised_step, normalised_field, normalised_pairs, with_extension_under}
-use Rattle.ipc_format_columns.specs.Framing.{Framed, Stream, first_of, messages_of, later_messages, cut_from, is_cut}
+use Rattle.ipc_format_columns.specs.Framing.{Framed, Stream, first_of, messages_of, later_messages, truncated_from, is_truncated}
 use Rattle.ipc_format_columns.specs.Dictionaries.{Layout}
 use Rattle.ipc_format_columns.specs.Tables.{stream, Contents, batches_of, batches_in, schema_of, stream_entry, layout_of, contents_of, table_of}
 use Rattle.ipc_format.specs.Reading.{◌>>=◌, guard}
-use Rattle.tables_metadata.specs.FirstPath.{IsFirstPath, IsFirstPathField}
+use Rattle.tables_metadata.specs.Int32Schemas.{IsInt32Schema, IsInt32Field}
 use Rattle.tables_metadata.specs.Reading as metadata
-use Rattle.tables_metadata.specs.Reading.{IsReadSoFar, schema_found}
+use Rattle.tables_metadata.specs.Reading.{IsSupported, schema_found}
 use Rattle.tables_stream.specs.declared.fault.Fault.{Fault}
 use Rattle.tables_stream.specs.declared.fault.Fault.TheVariants as faults
 use Rattle.tables_stream.specs.Faults.{fault_of}
 use Rattle.tables_stream.specs.Tables.{Stored, as_table, batch_slots, row_count}
 use Rattle.tables_stream.specs.Int32.{first_schema, fitting, int32_batches}
 use Rattle.tables_stream.specs.Reading.{ReadsBatches, ReadsStream, HasOtherSchema}
-use Rattle.tables_stream.proofs.FirstPath.{bind_same, bind_assoc, later_batches, batches_are_int32}
+use Rattle.tables_stream.proofs.Int32Batches.{bind_same, bind_assoc, later_batches, batches_are_int32}
 use Rattle.tables_stream.proofs.BatchLists.{rows_counted}
 
 -- ---- the schema has its one form already
@@ -49,19 +49,19 @@ type_is_normal = fold-roll-DataType DataType Field roll-DataType normalised_step
 pairs_are_normal : normalised_pairs types.Int32 [] ≡ []
 pairs_are_normal = ap (with_extension_under []) out_int32
 
-field_is_normal : (field : Field) → IsFirstPathField field → normalised_field field ≡ field
+field_is_normal : (field : Field) → IsInt32Field field → normalised_field field ≡ field
 field_is_normal field first =
     let data_type : normalised_type field.data_type ≡ field.data_type = ap normalised_type first.0 ∙ type_is_normal ∙ sym (first.0) in
     let pairs : normalised_pairs (normalised_type field.data_type) field.metadata ≡ field.metadata =
     ap₂ normalised_pairs (ap normalised_type first.0 ∙ type_is_normal) first.1 ∙ pairs_are_normal ∙ sym (first.1) in
     ap₂ (λ (t : DataType) (m : List (List ℕ × List ℕ)). record { name = field.name; data_type = t; is_nullable = field.is_nullable; metadata = m }) data_type pairs
 
-fields_are_normal : (fields : List Field) → All IsFirstPathField fields → map normalised_field fields ≡ fields
+fields_are_normal : (fields : List Field) → All IsInt32Field fields → map normalised_field fields ≡ fields
 fields_are_normal [] all = refl
 fields_are_normal (field ∷ fields) all =
-    ap₂ (λ (x : Field) xs. x ∷ xs) (field_is_normal field (All-head IsFirstPathField field fields all)) (fields_are_normal fields (All-tail IsFirstPathField field fields all))
+    ap₂ (λ (x : Field) xs. x ∷ xs) (field_is_normal field (All-head IsInt32Field field fields all)) (fields_are_normal fields (All-tail IsInt32Field field fields all))
 
-schema_is_normal : (schema : Schema) → IsFirstPath schema → normalised schema ≡ schema
+schema_is_normal : (schema : Schema) → IsInt32Schema schema → normalised schema ≡ schema
 unfolding normalised
 schema_is_normal schema first = ap (λ (fields : List Field). record { fields = fields; metadata = schema.metadata }) (fields_are_normal schema.fields first.1)
 
@@ -155,7 +155,7 @@ batches_first bytes first e = stream_begins batches_rest bytes (Some first) e
 abbrev layout_by : Schema → Layout
 layout_by schema = record { fields = schema.fields; below = (schema_found schema).ids; is_little_endian = true }
 
-layout_is : (schema : Schema) → IsFirstPath schema → layout_of (schema_found schema) ≡ layout_by schema
+layout_is : (schema : Schema) → IsInt32Schema schema → layout_of (schema_found schema) ≡ layout_by schema
 layout_is schema first = ap (λ (s : Schema). layout_by_ids s.fields) (schema_is_normal schema first)
   where
     layout_by_ids : List Field → Layout
@@ -163,46 +163,46 @@ layout_is schema first = ap (λ (s : Schema). layout_by_ids s.fields) (schema_is
 
 -- the batches and the table of messages whose version and schema are known
 batches_known : (first : Framed × ℕ) (later : Option (List Framed)) (version : Version) (found : SchemaIn) (schema : Schema) (given : Option (List (List (List Slot))))
-    → version_in first.0.metadata ≡ Some version → schema_of first.0 first.0.header ≡ Some found → found ≡ schema_found schema → IsFirstPath schema
+    → version_in first.0.metadata ≡ Some version → schema_of first.0 first.0.header ≡ Some found → found ≡ schema_found schema → IsInt32Schema schema
     → (later >>= later_batches (layout_by schema) version) ≡ given
     → rest_behind batches_rest first later ≡ given
-batches_known first later version found schema given v s same first_path batches = rw (v, s, same, layout_is schema first_path) batches
+batches_known first later version found schema given v s same int32_schema batches = rw (v, s, same, layout_is schema int32_schema) batches
 
 known_behind : (first : Framed × ℕ) (later : Option (List Framed)) (version : Version) (found : SchemaIn) (schema : Schema) (given : Option (List (List (List Slot))))
-    → version_in first.0.metadata ≡ Some version → schema_of first.0 first.0.header ≡ Some found → found ≡ schema_found schema → IsFirstPath schema
+    → version_in first.0.metadata ≡ Some version → schema_of first.0 first.0.header ≡ Some found → found ≡ schema_found schema → IsInt32Schema schema
     → (later >>= later_batches (layout_by schema) version) ≡ given
     → rest_behind table_rest first later ≡ fitting schema given
-known_behind first later version found schema given v s same first_path batches =
-    rw (v, s, same, layout_is schema first_path, schema_is_normal schema first_path) (later_fit (layout_by schema) version schema later given batches)
+known_behind first later version found schema given v s same int32_schema batches =
+    rw (v, s, same, layout_is schema int32_schema, schema_is_normal schema int32_schema) (later_fit (layout_by schema) version schema later given batches)
 
-pub table_from : (bytes : List ℕ) (found : SchemaIn) (place : ℕ) (schema : Schema) → first_schema bytes ≡ Some (found, place) → found ≡ schema_found schema → IsFirstPath schema
+pub table_from : (bytes : List ℕ) (found : SchemaIn) (place : ℕ) (schema : Schema) → first_schema bytes ≡ Some (found, place) → found ≡ schema_found schema → IsInt32Schema schema
     → table_of stream bytes ≡ fitting schema (int32_batches (length schema.fields) (length bytes) bytes place)
 unfolding first_schema
-table_from bytes found place schema e same so_far =
+table_from bytes found place schema e same int32_schema =
     let a = came_of {A = Framed × ℕ} (first_of bytes) _ (found, place) e in
     let b = came_of {A = Version} (version_in a.0.0.metadata) _ (found, place) a.2 in
     let c = came_of {A = SchemaIn} (schema_of a.0.0 a.0.0.header) _ (found, place) b.2 in
     let pair : (c.0, a.0.1) ≡ (found, place) = same_pair (c.0, a.0.1) (found, place) c.2 in
     let known : c.0 ≡ found = ap (λ (p : SchemaIn × ℕ). p.0) pair in
     let behind : a.0.1 ≡ place = ap (λ (p : SchemaIn × ℕ). p.1) pair in
-    let batches = batches_are_int32 (layout_by schema) b.0 (length bytes) bytes a.0.1 so_far.1 refl in
+    let batches = batches_are_int32 (layout_by schema) b.0 (length bytes) bytes a.0.1 int32_schema.1 refl in
     table_begins bytes (Some a.0) a.1
-    ∙ known_behind a.0 (later_messages (length bytes) bytes a.0.1 0) b.0 c.0 schema (int32_batches (length schema.fields) (length bytes) bytes a.0.1) b.1 c.1 (known ∙ same) so_far batches
+    ∙ known_behind a.0 (later_messages (length bytes) bytes a.0.1 0) b.0 c.0 schema (int32_batches (length schema.fields) (length bytes) bytes a.0.1) b.1 c.1 (known ∙ same) int32_schema batches
     ∙ ap (λ (at : ℕ). fitting schema (int32_batches (length schema.fields) (length bytes) bytes at)) behind
 
-batches_from : (bytes : List ℕ) (found : SchemaIn) (place : ℕ) (schema : Schema) → first_schema bytes ≡ Some (found, place) → found ≡ schema_found schema → IsFirstPath schema
+batches_from : (bytes : List ℕ) (found : SchemaIn) (place : ℕ) (schema : Schema) → first_schema bytes ≡ Some (found, place) → found ≡ schema_found schema → IsInt32Schema schema
     → batches_in stream bytes ≡ int32_batches (length schema.fields) (length bytes) bytes place
 unfolding first_schema
-batches_from bytes found place schema e same so_far =
+batches_from bytes found place schema e same int32_schema =
     let a = came_of {A = Framed × ℕ} (first_of bytes) _ (found, place) e in
     let b = came_of {A = Version} (version_in a.0.0.metadata) _ (found, place) a.2 in
     let c = came_of {A = SchemaIn} (schema_of a.0.0 a.0.0.header) _ (found, place) b.2 in
     let pair : (c.0, a.0.1) ≡ (found, place) = same_pair (c.0, a.0.1) (found, place) c.2 in
     let known : c.0 ≡ found = ap (λ (p : SchemaIn × ℕ). p.0) pair in
     let behind : a.0.1 ≡ place = ap (λ (p : SchemaIn × ℕ). p.1) pair in
-    let batches = batches_are_int32 (layout_by schema) b.0 (length bytes) bytes a.0.1 so_far.1 refl in
+    let batches = batches_are_int32 (layout_by schema) b.0 (length bytes) bytes a.0.1 int32_schema.1 refl in
     batches_first bytes a.0 a.1
-    ∙ batches_known a.0 (later_messages (length bytes) bytes a.0.1 0) b.0 c.0 schema (int32_batches (length schema.fields) (length bytes) bytes a.0.1) b.1 c.1 (known ∙ same) so_far batches
+    ∙ batches_known a.0 (later_messages (length bytes) bytes a.0.1 0) b.0 c.0 schema (int32_batches (length schema.fields) (length bytes) bytes a.0.1) b.1 c.1 (known ∙ same) int32_schema batches
     ∙ ap (λ (at : ℕ). int32_batches (length schema.fields) (length bytes) bytes at) behind
 
 -- a stream without a schema is no table
@@ -229,12 +229,12 @@ pub no_table : (bytes : List ℕ) → first_schema bytes ≡ None → table_of s
 unfolding first_schema
 no_table bytes none = no_first bytes (first_of bytes) refl none
 
--- whether the stream is cut off
-cut_is : (bytes : List ℕ) (first : Framed × ℕ) → first_of bytes ≡ Some first → is_cut bytes ≡ cut_from (length bytes) bytes first.1 0
-unfolding is_cut
+-- whether the stream is truncated
+cut_is : (bytes : List ℕ) (first : Framed × ℕ) → first_of bytes ≡ Some first → is_truncated bytes ≡ truncated_from (length bytes) bytes first.1 0
+unfolding is_truncated
 cut_is bytes first e = rw e refl
 
-cut_behind_schema : (bytes : List ℕ) (found : SchemaIn) (place : ℕ) → first_schema bytes ≡ Some (found, place) → is_cut bytes ≡ cut_from (length bytes) bytes place 0
+cut_behind_schema : (bytes : List ℕ) (found : SchemaIn) (place : ℕ) → first_schema bytes ≡ Some (found, place) → is_truncated bytes ≡ truncated_from (length bytes) bytes place 0
 unfolding first_schema
 cut_behind_schema bytes found place e =
     let a = came_of {A = Framed × ℕ} (first_of bytes) _ (found, place) e in
@@ -242,7 +242,7 @@ cut_behind_schema bytes found place e =
     let c = came_of {A = SchemaIn} (schema_of a.0.0 a.0.0.header) _ (found, place) b.2 in
     let pair : (c.0, a.0.1) ≡ (found, place) = same_pair (c.0, a.0.1) (found, place) c.2 in
     let behind : a.0.1 ≡ place = ap (λ (p : SchemaIn × ℕ). p.1) pair in
-    cut_is bytes a.0 a.1 ∙ ap (λ (at : ℕ). cut_from (length bytes) bytes at 0) behind
+    cut_is bytes a.0 a.1 ∙ ap (λ (at : ℕ). truncated_from (length bytes) bytes at 0) behind
 
 -- ---- what was read
 
@@ -256,33 +256,33 @@ too_many : (schema : Schema) (given : Option (List (List (List Slot)))) → IfSo
 too_many schema None h = refl
 too_many schema (Some batches) h = rw (le-ltb (length (rows_of_batches batches)) (2 ^ 64) h) refl
 
-pub read_whole : (bytes : List ℕ) (found : SchemaIn) (place : ℕ) (schema : Schema) (result : Result Stored Fault) → first_schema bytes ≡ Some (found, place) → found ≡ schema_found schema → IsFirstPath schema
+pub read_whole : (bytes : List ℕ) (found : SchemaIn) (place : ℕ) (schema : Schema) (result : Result Stored Fault) → first_schema bytes ≡ Some (found, place) → found ≡ schema_found schema → IsInt32Schema schema
     → ReadsBatches schema bytes place result → ReadsStream result bytes
-read_whole bytes found place schema (Ok stored) e same so_far read =
-    let whole = table_from bytes found place schema e same so_far in (
+read_whole bytes found place schema (Ok stored) e same int32_schema read =
+    let whole = table_from bytes found place schema e same int32_schema in (
       whole ∙ ap (fitting schema) read.1 ∙ ap (λ (s : Schema). fitting s (Some (map batch_slots stored.batches))) (sym (read.0)) ∙ fits stored read.2,
-      batches_from bytes found place schema e same so_far ∙ read.1,
-      subst IsFirstPath (sym (read.0)) so_far,
+      batches_from bytes found place schema e same int32_schema ∙ read.1,
+      subst IsInt32Schema (sym (read.0)) int32_schema,
     )
-read_whole bytes found place schema (Err faults.Memory) e same so_far read = tt
-read_whole bytes found place schema (Err (faults.Ipc (errors.OutOfSpec what))) e same so_far read = table_from bytes found place schema e same so_far ∙ ap (fitting schema) read
-read_whole bytes found place schema (Err (faults.Ipc (errors.NotYetImplemented what))) e same so_far read =
-    subst (λ given. IfSome given (λ table. HasOtherSchema bytes)) (sym (table_from bytes found place schema e same so_far ∙ ap (fitting schema) read)) tt
-read_whole bytes found place schema (Err (faults.Ipc (errors.External from what))) e same so_far read = absurd read
-read_whole bytes found place schema (Err (faults.Ipc (errors.Io what))) e same so_far read = absurd read
-read_whole bytes found place schema (Err (faults.Ipc (errors.InvalidArgumentError what))) e same so_far read = absurd read
-read_whole bytes found place schema (Err (faults.Ipc (errors.ExternalFormat what))) e same so_far read = absurd read
-read_whole bytes found place schema (Err (faults.Ipc errors.Overflow)) e same so_far read = absurd read
-read_whole bytes found place schema (Err (faults.Ipc errors.OutOfMemory)) e same so_far read = absurd read
-read_whole bytes found place schema (Err faults.Unfinished) e same so_far read =
-    (table_from bytes found place schema e same so_far ∙ ap (fitting schema) read.0, cut_behind_schema bytes found place e ∙ read.1)
-read_whole bytes found place schema (Err faults.TooManyRows) e same so_far read =
-    table_from bytes found place schema e same so_far ∙ too_many schema (int32_batches (length schema.fields) (length bytes) bytes place) read
-read_whole bytes found place schema (Err (faults.Lower error)) e same so_far read = absurd read
-read_whole bytes found place schema (Err (faults.NotSealable bar)) e same so_far read = absurd read
-read_whole bytes found place schema (Err faults.RowWidth) e same so_far read = absurd read
-read_whole bytes found place schema (Err faults.NoColumns) e same so_far read = absurd read
-read_whole bytes found place schema (Err faults.NoSuchColumn) e same so_far read = absurd read
+read_whole bytes found place schema (Err faults.Memory) e same int32_schema read = tt
+read_whole bytes found place schema (Err (faults.Ipc (errors.OutOfSpec what))) e same int32_schema read = table_from bytes found place schema e same int32_schema ∙ ap (fitting schema) read
+read_whole bytes found place schema (Err (faults.Ipc (errors.NotYetImplemented what))) e same int32_schema read =
+    subst (λ given. IfSome given (λ table. HasOtherSchema bytes)) (sym (table_from bytes found place schema e same int32_schema ∙ ap (fitting schema) read)) tt
+read_whole bytes found place schema (Err (faults.Ipc (errors.External from what))) e same int32_schema read = absurd read
+read_whole bytes found place schema (Err (faults.Ipc (errors.Io what))) e same int32_schema read = absurd read
+read_whole bytes found place schema (Err (faults.Ipc (errors.InvalidArgumentError what))) e same int32_schema read = absurd read
+read_whole bytes found place schema (Err (faults.Ipc (errors.ExternalFormat what))) e same int32_schema read = absurd read
+read_whole bytes found place schema (Err (faults.Ipc errors.Overflow)) e same int32_schema read = absurd read
+read_whole bytes found place schema (Err (faults.Ipc errors.OutOfMemory)) e same int32_schema read = absurd read
+read_whole bytes found place schema (Err faults.Unfinished) e same int32_schema read =
+    (table_from bytes found place schema e same int32_schema ∙ ap (fitting schema) read.0, cut_behind_schema bytes found place e ∙ read.1)
+read_whole bytes found place schema (Err faults.TooManyRows) e same int32_schema read =
+    table_from bytes found place schema e same int32_schema ∙ too_many schema (int32_batches (length schema.fields) (length bytes) bytes place) read
+read_whole bytes found place schema (Err (faults.Lower error)) e same int32_schema read = absurd read
+read_whole bytes found place schema (Err (faults.NotSealable bar)) e same int32_schema read = absurd read
+read_whole bytes found place schema (Err faults.RowWidth) e same int32_schema read = absurd read
+read_whole bytes found place schema (Err faults.NoColumns) e same int32_schema read = absurd read
+read_whole bytes found place schema (Err faults.NoSuchColumn) e same int32_schema read = absurd read
 
 -- ---- from the first message on
 
@@ -290,7 +290,7 @@ if_any : {A : Type 0} {P : Type 0} (given : Option A) → P → IfSome given (λ
 if_any None p = tt
 if_any (Some x) p = p
 
-pub first_error : {A : Type 0} (same : A → SchemaIn × ℕ → Type 0) (error : Error) (bytes : List ℕ) → metadata.Reads {A = A} {B = SchemaIn × ℕ} same (λ found. IsReadSoFar found.0) (Err error) (first_schema bytes)
+pub first_error : {A : Type 0} (same : A → SchemaIn × ℕ → Type 0) (error : Error) (bytes : List ℕ) → metadata.Reads {A = A} {B = SchemaIn × ℕ} same (λ found. IsSupported found.0) (Err error) (first_schema bytes)
     → ReadsStream (Err (fault_of error)) bytes
 first_error same errors.OutOfMemory bytes read = tt
 first_error same (errors.OutOfSpec what) bytes read = no_table bytes read
@@ -303,15 +303,15 @@ first_error same errors.Overflow bytes read = absurd read
 
 -- the schema and place of the first message, as they were read
 abbrev pub FirstRead : Schema → ℕ → SchemaIn × ℕ → Type 0
-FirstRead schema place found = ((found.0 ≡ schema_found schema) × (found.1 ≡ place)) × IsReadSoFar found.0
+FirstRead schema place found = ((found.0 ≡ schema_found schema) × (found.1 ≡ place)) × IsSupported found.0
 
 first_found : (bytes : List ℕ) (schema : Schema) (place : ℕ) (result : Result Stored Fault) (given : Option (SchemaIn × ℕ)) → first_schema bytes ≡ given → IsSomeAnd given (FirstRead schema place)
     → ReadsBatches schema bytes place result → ReadsStream result bytes
 first_found bytes schema place result None e found read = absurd found
 first_found bytes schema place result (Some first) e found read =
     let same : first.0 ≡ schema_found schema = found.0.0 in
-    let so_far : IsFirstPath schema = subst (λ (s : SchemaIn). IsFirstPath s.schema) same found.1.1 in
-    read_whole bytes first.0 place schema result (e ∙ ap (λ (at : ℕ). Some (first.0, at)) found.0.1) same so_far read
+    let int32_schema : IsInt32Schema schema = subst (λ (s : SchemaIn). IsInt32Schema s.schema) same found.1.1 in
+    read_whole bytes first.0 place schema result (e ∙ ap (λ (at : ℕ). Some (first.0, at)) found.0.1) same int32_schema read
 
 pub first_then : (bytes : List ℕ) (schema : Schema) (place : ℕ) (result : Result Stored Fault) → IsSomeAnd (first_schema bytes) (FirstRead schema place)
     → ReadsBatches schema bytes place result → ReadsStream result bytes

@@ -13,7 +13,7 @@ use Rattle.ipc_format.specs.Messages.{V5, Header, schema, dictionary_batch, reco
 use Rattle.ipc_format_columns.specs.Columns.{Source}
 use Rattle.ipc_format_columns.specs.Tables.{agree_in_length}
 use Rattle.ipc_format_columns.specs.Framing.{Framed, Next, nothing_whole, at_end, message_then, next_at}
-use Rattle.tables_metadata.specs.FirstPath.{IsFirstPath}
+use Rattle.tables_metadata.specs.Int32Schemas.{IsInt32Schema}
 use Rattle.tables_stream.specs.Batches.{window_cells, rows_of_cells}
 use Rattle.tables_stream.specs.Cells.{slot_of}
 use Rattle.tables_stream.specs.Cuts.{cut_of}

@@ -1,7 +1,7 @@
 -- How far a message reaches.
 use Rattle.std.specs.Prelude.{ℕ, ◌<◌, ◌≤◌}
 use Rattle.tables_stream.specs.declared.framing.Frame.{Frame}
-use Rattle.tables_stream.specs.declared.framing.Frame.TheVariants.{Cut, End, Metadata}
+use Rattle.tables_stream.specs.declared.framing.Frame.TheVariants.{Truncated, End, Metadata}
 use Rattle.ipc_format_columns.specs.Framing as format
 use Rattle.tables_metadata.specs.Views.{header_view}
 use Rattle.tables_stream.specs.declared.framing.Framed.{Framed}
@@ -12,25 +12,25 @@ use Rattle.tables_stream.specs.declared.reading.Next.TheVariants as next
 
 -- a message's body begins behind a place, within the input
 abbrev pub ReachesFrom : ℕ → ℕ → Frame → Type 0
-ReachesFrom place size Cut = Unit {0}
+ReachesFrom place size Truncated = Unit {0}
 ReachesFrom place size End = Unit {0}
 ReachesFrom place size (Metadata metadata body) = (place < body) × (body ≤ size)
 
 -- the next message stands behind the last, within the input
 abbrev pub GoesOnFrom : ℕ → ℕ → Next → Type 0
-GoesOnFrom place size next.Cut = Unit {0}
+GoesOnFrom place size next.Truncated = Unit {0}
 GoesOnFrom place size next.End = Unit {0}
 GoesOnFrom place size (next.Rows batch after) = (place < after) × (after ≤ size)
 
 -- what stands at a message's place, as the definition has it
 abbrev pub frame_view : Frame → format.Frame
-frame_view Cut = format.cut
+frame_view Truncated = format.truncated
 frame_view End = format.end_mark
 frame_view (Metadata metadata body) = format.metadata_then metadata.now body
 
 -- the next message stands behind a place, within the input
 abbrev pub ReachesBehind : ℕ → ℕ → NextMessage → Type 0
-ReachesBehind place size messages.Cut = Unit {0}
+ReachesBehind place size messages.Truncated = Unit {0}
 ReachesBehind place size messages.End = Unit {0}
 ReachesBehind place size (messages.Message framed after) = (place < after) × (after ≤ size)
 
@@ -40,6 +40,6 @@ framed_view found = (record { metadata = found.0.metadata.now; header = header_v
 
 -- what stands at a place, as the definition has it
 abbrev pub next_view : NextMessage → format.Next
-next_view messages.Cut = format.nothing_whole
+next_view messages.Truncated = format.nothing_whole
 next_view messages.End = format.at_end
 next_view (messages.Message framed after) = format.message_then (record { metadata = framed.metadata.now; header = header_view framed.header; body = framed.body.now }) after

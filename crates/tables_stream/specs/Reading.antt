@@ -4,10 +4,10 @@ use Rattle.columnar_memory.specs.declared.Error.TheVariants as errors
 use Rattle.columnar_memory.specs.declared.Schema.{Schema}
 use Rattle.nested_arrays.specs.Slots.{Slot}
 use Rattle.nested_arrays.specs.Tables.{rows_of_batches}
-use Rattle.ipc_format.specs.Framing.{cut_from, EndsInLaterMessage}
+use Rattle.ipc_format.specs.Framing.{truncated_from, EndsInLaterMessage}
 use Rattle.ipc_format.specs.Tables.{stream, batches_in, table_of}
-use Rattle.tables_metadata.specs.FirstPath.{IsFirstPath}
-use Rattle.tables_metadata.specs.Reading.{IsReadSoFar}
+use Rattle.tables_metadata.specs.Int32Schemas.{IsInt32Schema}
+use Rattle.tables_metadata.specs.Reading.{IsSupported}
 use Rattle.tables_stream.specs.declared.fault.Fault.{Fault}
 use Rattle.tables_stream.specs.declared.fault.Fault.TheVariants as faults
 use Rattle.tables_stream.specs.declared.reading.Form.{Form}
@@ -23,21 +23,21 @@ ReadsBatches schema bytes place (Err faults.Memory) = Unit {0}
 ReadsBatches schema bytes place (Err (faults.Ipc (errors.OutOfSpec what))) = int32_batches (length schema.fields) (length bytes) bytes place ≡ None
 ReadsBatches schema bytes place (Err (faults.Ipc (errors.NotYetImplemented what))) = int32_batches (length schema.fields) (length bytes) bytes place ≡ None
 ReadsBatches schema bytes place (Err faults.Unfinished) =
-    (int32_batches (length schema.fields) (length bytes) bytes place ≡ None) × (cut_from (length bytes) bytes place 0 ≡ Some true)
+    (int32_batches (length schema.fields) (length bytes) bytes place ≡ None) × (truncated_from (length bytes) bytes place 0 ≡ Some true)
 ReadsBatches schema bytes place (Err faults.TooManyRows) =
     IfSome (int32_batches (length schema.fields) (length bytes) bytes place) (λ batches. 2 ^ 64 ≤ length (rows_of_batches batches))
 ReadsBatches schema bytes place (Err _) = ⊥
 
--- the stream's schema, if it has one, is none of those that are read so far
+-- the stream's schema, if it has one, is none of those that are supported
 abbrev pub HasOtherSchema : List ℕ → Type 0
-HasOtherSchema bytes = IfSome (first_schema bytes) (λ found. ¬ IsReadSoFar found.0)
+HasOtherSchema bytes = IfSome (first_schema bytes) (λ found. ¬ IsSupported found.0)
 
--- What is read is the table that the format gives, batch by batch, under a schema of those read so far. What is refused as out of specification, or for too
+-- What is read is the table that the format gives, batch by batch, under a schema of those that are supported. What is refused as out of specification, or for too
 -- many rows, the format doesn't give; an unfinished stream ends within the first four bytes of a later message; what isn't implemented has
 -- another schema, if it is a table at all. Memory may run out anywhere.
 abbrev pub ReadsStream : Result Stored Fault → List ℕ → Type 0
 ReadsStream (Ok stored) bytes =
-    (table_of stream bytes ≡ Some (as_table stored)) × (batches_in stream bytes ≡ Some (map batch_slots stored.batches)) × IsFirstPath stored.schema
+    (table_of stream bytes ≡ Some (as_table stored)) × (batches_in stream bytes ≡ Some (map batch_slots stored.batches)) × IsInt32Schema stored.schema
 ReadsStream (Err faults.Memory) bytes = Unit {0}
 ReadsStream (Err (faults.Ipc (errors.OutOfSpec what))) bytes = table_of stream bytes ≡ None
 ReadsStream (Err (faults.Ipc (errors.NotYetImplemented what))) bytes = IfSome (table_of stream bytes) (λ table. HasOtherSchema bytes)
@@ -45,7 +45,7 @@ ReadsStream (Err faults.Unfinished) bytes = (table_of stream bytes ≡ None) × 
 ReadsStream (Err faults.TooManyRows) bytes = table_of stream bytes ≡ None
 ReadsStream (Err _) bytes = ⊥
 
--- files aren't implemented so far
+-- files aren't implemented
 abbrev pub IsNotYetImplemented : Result Stored Fault → Type 0
 IsNotYetImplemented (Err (faults.Ipc (errors.NotYetImplemented what))) = Unit {0}
 IsNotYetImplemented _ = ⊥

@@ -1,10 +1,10 @@
 -- What stands behind a stream's schema, as the code has it.
 use Rattle.tables_stream.specs.declared.reading.Next.{Next}
-use Rattle.tables_stream.specs.declared.reading.Next.TheVariants.{Cut, End, Rows}
+use Rattle.tables_stream.specs.declared.reading.Next.TheVariants.{Truncated, End, Rows}
 use Rattle.tables_stream.specs.Tables.{batch_slots, stored_cells}
 use Rattle.tables_stream.specs.Int32.{Step, cut_off, ended, batch_then}
 
 abbrev pub step_view : Next → Step
-step_view Cut = cut_off
+step_view Truncated = cut_off
 step_view End = ended
 step_view (Rows batch after) = batch_then (batch_slots (stored_cells batch)) after

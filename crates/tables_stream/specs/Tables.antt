@@ -5,7 +5,7 @@ use Rattle.nested_arrays.specs.Slots.{Slot}
 use Rattle.nested_arrays.specs.Tables.{Table, rows_of_batches}
 use Rattle.ipc_format.specs.Ids.{default_ids}
 use Rattle.ipc_format.specs.WrittenStreams.{batch_of_slots, stream_bytes}
-use Rattle.tables_metadata.specs.FirstPath.{IsFirstPath}
+use Rattle.tables_metadata.specs.Int32Schemas.{IsInt32Schema}
 use Rattle.tables_stream.specs.Cells.{slot_of}
 use Rattle.tables_stream.specs.Batches.{window_cells, rows_of_cells}
 use Rattle.tables_stream.specs.declared.batches.Batch.{Batch}
@@ -33,7 +33,7 @@ as_table stored = record { schema = stored.schema; rows = rows_of_batches (map b
 
 -- columns of 32-bit integers, and in each batch a column a field
 abbrev pub IsInt32Table : Schema → List (List (List (Option ℤ))) → Type 0
-IsInt32Table schema batches = IsFirstPath schema × All (λ columns. length columns ≡ length schema.fields) batches
+IsInt32Table schema batches = IsInt32Schema schema × All (λ columns. length columns ≡ length schema.fields) batches
 
 -- the stream of a table: its schema, and a record batch message a batch
 abbrev pub table_bytes : Stored → List ℕ

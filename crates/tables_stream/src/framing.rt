@@ -13,7 +13,7 @@ use tables_metadata::{Header, message_in};
 #[derive(Clone, Copy, Debug)]
 pub enum Frame<'a> {
     /// Fewer than four bytes are left.
-    Cut,
+    Truncated,
     /// A length of 0, which ends the stream.
     End,
     /// A message's metadata, and where its body begins.
@@ -32,7 +32,7 @@ pub struct Framed<'a> {
 #[derive(Clone, Copy, Debug)]
 pub enum NextMessage<'a> {
     /// Fewer than four bytes are left.
-    Cut,
+    Truncated,
     End,
     /// A message, and where the next one stands.
     Message(Framed<'a>, usize),
@@ -60,7 +60,7 @@ fn frame_at(bytes: &[u8], place: usize) -> Option<Frame<'_>>
     ensures reach { IfSome result (ReachesFrom place (length bytes.now)) }
 {
     if place > bytes.len() || bytes.len() - place < 4 {
-        return Some(Frame::Cut);
+        return Some(Frame::Truncated);
     }
     let first = i32_at(bytes, place)?;
     if first == -1 {
@@ -100,7 +100,7 @@ pub fn next_at(bytes: &[u8], place: usize) -> Option<NextMessage<'_>>
     ensures reach { IfSome result (ReachesBehind place (length bytes.now)) }
 {
     match frame_at(bytes, place)? {
-        Frame::Cut => Some(NextMessage::Cut),
+        Frame::Truncated => Some(NextMessage::Truncated),
         Frame::End => Some(NextMessage::End),
         Frame::Metadata(metadata, body_place) => {
             let (framed, after) = framed_at(bytes, metadata, body_place)?;

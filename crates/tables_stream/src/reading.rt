@@ -8,7 +8,7 @@ ghost use Rattle.tables_stream.specs.Frames.{GoesOnFrom};
 ghost use Rattle.tables_stream.specs.Tables.{batch_slots, stored_cells};
 ghost use Rattle.tables_stream.specs.Int32.{int32_columns, agreeing, int32_batch, step_at, first_schema, Decodes};
 ghost use Rattle.tables_metadata.specs.Reading as metadata;
-ghost use Rattle.tables_metadata.specs.Reading.{IsReadSoFar, schema_found};
+ghost use Rattle.tables_metadata.specs.Reading.{IsSupported, schema_found};
 ghost use Rattle.tables_stream.specs.Steps.{step_view};
 
 use crate::batches::Batch;
@@ -32,11 +32,11 @@ pub enum Form {
 
 /// The schema of a stream's first message, and where the next message stands.
 ///
-/// - `OutOfSpec`: the bytes are cut off, or the first message is no schema.
+/// - `OutOfSpec`: the bytes are truncated, or the first message is no schema.
 /// - `NotYetImplemented`: a column isn't a 32-bit integer, or more is said of the schema than this reads.
 #[tactic(auto, unfolding(crate::specs::Int32::first_schema, ipc_format_columns::specs::Framing::first_of))]
 pub fn first_schema(alloc: Global, bytes: &[u8]) -> Result<(Schema, usize)>
-    ensures value { metadata.Reads (λ read found. (found.0 ≡ schema_found read.0) × (found.1 ≡ read.1)) (λ found. IsReadSoFar found.0) result (first_schema bytes.now) }
+    ensures value { metadata.Reads (λ read found. (found.0 ≡ schema_found read.0) × (found.1 ≡ read.1)) (λ found. IsSupported found.0) result (first_schema bytes.now) }
     ensures reach { IfOk result (λ found. (0 < found.1) × (found.1 ≤ length bytes.now)) }
 {
     let Some(NextMessage::Message(framed, after)) = next_at(bytes, 0) else {
@@ -55,7 +55,7 @@ pub fn first_schema(alloc: Global, bytes: &[u8]) -> Result<(Schema, usize)>
 #[derive(Drop)]
 pub enum Next {
     /// Fewer than four bytes are left.
-    Cut,
+    Truncated,
     End,
     /// A batch, and where the next message stands.
     Rows(Batch, usize),
@@ -73,7 +73,7 @@ pub fn next_batch(alloc: Global, bytes: &[u8], place: usize, width: usize) -> Re
 {
     let (framed, after) = match next_at(bytes, place) {
         None => return Err(Error::OutOfSpec("InvalidFlatbufferMessage")),
-        Some(NextMessage::Cut) => return Ok(Next::Cut),
+        Some(NextMessage::Truncated) => return Ok(Next::Truncated),
         Some(NextMessage::End) => return Ok(Next::End),
         Some(NextMessage::Message(framed, after)) => (framed, after),
     };

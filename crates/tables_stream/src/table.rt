@@ -4,7 +4,7 @@ ghost use Rattle.std.specs.Io.KnownBytes.{Appends};
 ghost use Rattle.nested_arrays.specs.Tables.{part};
 ghost use Rattle.tables_stream.specs.Cuts.{cut_of};
 ghost use Rattle.tables_stream.specs.Tables.{row_count, as_table, table_bytes};
-ghost use Rattle.tables_metadata.specs.FirstPath.{IsFirstPath};
+ghost use Rattle.tables_metadata.specs.Int32Schemas.{IsInt32Schema};
 ghost use Rattle.tables_stream.specs.Reading.{ReadsTable, ReadsBatches};
 ghost use Rattle.tables_stream.specs.declared.fault.Fault.TheVariants.{Memory};
 
@@ -127,7 +127,7 @@ impl Table {
 
 /// The table of the messages from a place on, under a schema.
 fn read_batches(alloc: Global, bytes: &[u8], schema: Schema, first: usize) -> Result<Table, Fault>
-    requires schema { IsFirstPath schema }
+    requires schema { IsInt32Schema schema }
     requires begun { 0 < first }
     requires inside { first ≤ length bytes.now }
     ensures { ReadsBatches schema bytes.now first result }
@@ -138,7 +138,7 @@ fn read_batches(alloc: Global, bytes: &[u8], schema: Schema, first: usize) -> Re
     let mut place = first;
     loop {
         match next_batch(alloc, bytes, place, width)? {
-            Next::Cut => return Err(Fault::Unfinished),
+            Next::Truncated => return Err(Fault::Unfinished),
             Next::End => break,
             Next::Rows(batch, after) => {
                 let Some(sum) = rows.checked_add(batch.rows) else {

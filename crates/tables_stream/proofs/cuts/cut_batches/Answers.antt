@@ -7,7 +7,7 @@ use Rattle.tables_stream.proofs.cuts.cut_batches.Goals.{then-count-gt0+in_ok-win
 
 pub loop-batch-preserved : goal.loop-batch-preserved
 loop-batch-preserved c =
-    let so_far = c.loop-batch.invariant.cut in
+    let before_it = c.loop-batch.invariant.cut in
     let within = c.loop-batch-test.true in
     let is = c.batch-item.is in
     let begin = c.min-begin.ensures in
@@ -22,7 +22,7 @@ loop-batch-preserved c =
             skipped = omega arith;
             taken = omega arith;
             counted = grind (arith, common_steps);
-            cut = cut_takes _ _ _ _ _ _ _ _ _ _ _ _ _ so_far within is begin count
+            cut = cut_takes _ _ _ _ _ _ _ _ _ _ _ _ _ before_it within is begin count
                 w.if-count-gt0.true made.rows made.start made.columns pushed;
           })
       | else-count-gt0 w ↦
@@ -30,6 +30,6 @@ loop-batch-preserved c =
             skipped = omega arith;
             taken = omega arith;
             counted = grind (arith, common_steps);
-            cut = cut_passes _ _ _ _ _ _ _ _ _ _ _ _ so_far within is begin count w.if-count-gt0.false (ap (λ v. v.items) w.windows-is);
+            cut = cut_passes _ _ _ _ _ _ _ _ _ _ _ _ before_it within is begin count w.if-count-gt0.false (ap (λ v. v.items) w.windows-is);
           }
     ]

@@ -21,8 +21,8 @@ returns-in_err-next_batch c =
     batches_error {A = Next} step_view c.in_err-next_batch.field-0.0 c.args.schema c.args.bytes.now c.args.first cells c.loop-batches.place c.loop-batches.invariant.read refused in
     search (rules, whole)
 
-pub returns-in-Cut : goal.returns-in-Cut
-returns-in-Cut c =
+pub returns-in-Truncated : goal.returns-in-Truncated
+returns-in-Truncated c =
     let n = length c.args.schema.fields in
     let cells : List (List Cells) = map stored_cells c.loop-batches.batches.items in
     let step : step_at n c.args.bytes.now c.loop-batches.place ≡ Some cut_off = search rules in

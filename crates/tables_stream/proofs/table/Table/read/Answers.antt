@@ -3,7 +3,7 @@ use Rattle.std.specs.Prelude.{Err, IsSomeAnd}
 use Rattle.columnar_memory.specs.declared.Schema.{Schema}
 use Rattle.ipc_format.specs.Schemas.{SchemaIn}
 use Rattle.tables_metadata.specs.Reading as metadata
-use Rattle.tables_metadata.specs.Reading.{IsReadSoFar, schema_found}
+use Rattle.tables_metadata.specs.Reading.{IsSupported, schema_found}
 use Rattle.tables_stream.specs.Faults.{fault_of}
 use Rattle.tables_stream.specs.Int32.{first_schema}
 use Rattle.tables_stream.specs.Reading.{ReadsStream}
@@ -17,7 +17,7 @@ Same read found = (found.0 ≡ schema_found read.0) × (found.1 ≡ read.1)
 pub returns-in_err-schema-in-Stream : goal.returns-in_err-schema-in-Stream
 returns-in_err-schema-in-Stream c =
     let error = c.in_err-schema-in-Stream.field-0.0 in
-    let refused : metadata.Reads {A = Schema × ℕ} {B = SchemaIn × ℕ} Same (λ found. IsReadSoFar found.0) (Err error) (first_schema c.args.bytes.now) = search rules in
+    let refused : metadata.Reads {A = Schema × ℕ} {B = SchemaIn × ℕ} Same (λ found. IsSupported found.0) (Err error) (first_schema c.args.bytes.now) = search rules in
     let whole : ReadsStream (Err (fault_of error)) c.args.bytes.now = first_error {A = Schema × ℕ} Same error c.args.bytes.now refused in
     search (rules, whole)
 

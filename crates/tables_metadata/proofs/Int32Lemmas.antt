@@ -1,4 +1,4 @@
--- The tests for the schemas that are read and written so far.
+-- The tests for the schemas that are supported.
 use Rattle.std.proofs.Common.{◌≡◌, ◌∙◌, ℕ, ◌+◌, ◌≤◌, ◌<◌, List, [], Bool, true, false, length, get_or, take, refl, subst}
 use Rattle.std.specs.Prelude.{◌↔◌, IsTrue, Err}
 use Rattle.std.specs.List.{All}
@@ -14,7 +14,7 @@ use Rattle.ipc_format.specs.Objects.{piece_of}
 use Rattle.ipc_format.specs.Schemas.{no_ids}
 use Rattle.ipc_format.specs.SchemaObjects.{schema_message}
 use Rattle.ipc_format.specs.Views.{Lays}
-use Rattle.tables_metadata.specs.FirstPath.{IsFirstPath, IsFirstPathField}
+use Rattle.tables_metadata.specs.Int32Schemas.{IsInt32Schema, IsInt32Field}
 use Rattle.tables_metadata.specs.Writing.{IsRefusalOf, IsSchemaRefusal}
 use Rattle.tables_metadata.proofs.Sizes.{refused}
 
@@ -27,14 +27,14 @@ pub first_fails : {P Q : Type 0} (a : Bool) → a ≡ false → (IsTrue a ↔ P)
 first_fails a is p = (λ t. absurd cc, λ both. p.1 both.0)
 
 -- one field more
-pub all-next : (fields : List Field) (i : ℕ) (field : Field) → i < length fields → field ≡ get_or fields i field → All IsFirstPathField (take i fields) → IsFirstPathField field → All IsFirstPathField (take (i + 1) fields)
-all-next fields i field lt is before here = All-more IsFirstPathField fields i field lt before (subst IsFirstPathField is here)
+pub all-next : (fields : List Field) (i : ℕ) (field : Field) → i < length fields → field ≡ get_or fields i field → All IsInt32Field (take i fields) → IsInt32Field field → All IsInt32Field (take (i + 1) fields)
+all-next fields i field lt is before here = All-more IsInt32Field fields i field lt before (subst IsInt32Field is here)
 
 -- all fields
-pub all-done : (schema : Schema) (fields : List Field) (i : ℕ) → schema.metadata ≡ [] → fields ≡ schema.fields → length fields ≤ i → All IsFirstPathField (take i fields) → (IsTrue true ↔ IsFirstPath schema)
+pub all-done : (schema : Schema) (fields : List Field) (i : ℕ) → schema.metadata ≡ [] → fields ≡ schema.fields → length fields ≤ i → All IsInt32Field (take i fields) → (IsTrue true ↔ IsInt32Schema schema)
 all-done schema fields i none same h all =
     let whole : take i fields ≡ schema.fields = take_all i fields h ∙ same in
-    (λ t. (none, subst (All IsFirstPathField) whole all), λ first. refl)
+    (λ t. (none, subst (All IsInt32Field) whole all), λ first. refl)
 
 -- the error for a schema's message whose root can't be laid
 pub schema-refused : (error : LayError) (made : Error) (schema : Schema) → Lays (Err error) (piece_of (schema_message schema no_ids)) → IsRefusalOf error made → IsSchemaRefusal made schema

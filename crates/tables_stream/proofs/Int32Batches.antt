@@ -21,7 +21,7 @@ use Rattle.ipc_format_columns.specs.Framing.{Framed, Next, nothing_whole, at_end
 use Rattle.ipc_format_columns.specs.Tables.{columns_from, batch_in, batches_of, stream_entry, ids_at}
 use Rattle.ipc_format.specs.Reading.{◌>>=◌, guard}
 use Rattle.ipc_format.specs.FlatBuffers as flat
-use Rattle.tables_metadata.specs.FirstPath.{IsFirstPathField}
+use Rattle.tables_metadata.specs.Int32Schemas.{IsInt32Field}
 use Rattle.tables_stream.specs.Int32Values.{int32_slots}
 use Rattle.tables_stream.specs.Int32.{int32_columns, int32_batch, agreeing, batch_by, batch_then, step_of, step_at, behind, by_step, int32_batches}
 
@@ -50,21 +50,21 @@ buffer_count_int32 : (version : Version) → buffer_count version types.Int32 �
 unfolding roll-DataType denote.Hole.Carrier.roll
 buffer_count_int32 version = fold-roll-DataType ℕ ℕ (buffer_step version) (λ field. field.data_type) layer.Int32
 
-node_numbers : (fields : List Field) (k : ℕ) → All IsFirstPathField fields → k ≤ length fields → node_number fields k ≡ k
+node_numbers : (fields : List Field) (k : ℕ) → All IsInt32Field fields → k ≤ length fields → node_number fields k ≡ k
 node_numbers fields zero all h = refl
 node_numbers [] (suc k) all h = omega arith
 node_numbers (field ∷ fields) (suc k) all h =
-    let here : node_count field.data_type ≡ 1 = rw ((All-head IsFirstPathField field fields all).0) node_count_int32 in
-    let others : node_number fields k ≡ k = node_numbers fields k (All-tail IsFirstPathField field fields all) (omega arith) in
+    let here : node_count field.data_type ≡ 1 = rw ((All-head IsInt32Field field fields all).0) node_count_int32 in
+    let others : node_number fields k ≡ k = node_numbers fields k (All-tail IsInt32Field field fields all) (omega arith) in
     let next : node_number (field ∷ fields) (suc k) ≡ node_count field.data_type + node_number fields k = sum_by-cons (λ (f : Field). node_count f.data_type) field (take k fields) in
     next ∙ rw (here, others) (omega arith)
 
-buffer_numbers : (version : Version) (fields : List Field) (k : ℕ) → All IsFirstPathField fields → k ≤ length fields → buffer_number version fields k ≡ 2 * k
+buffer_numbers : (version : Version) (fields : List Field) (k : ℕ) → All IsInt32Field fields → k ≤ length fields → buffer_number version fields k ≡ 2 * k
 buffer_numbers version fields zero all h = refl
 buffer_numbers version [] (suc k) all h = omega arith
 buffer_numbers version (field ∷ fields) (suc k) all h =
-    let here : buffer_count version field.data_type ≡ 2 = rw ((All-head IsFirstPathField field fields all).0) (buffer_count_int32 version) in
-    let others : buffer_number version fields k ≡ 2 * k = buffer_numbers version fields k (All-tail IsFirstPathField field fields all) (omega arith) in
+    let here : buffer_count version field.data_type ≡ 2 = rw ((All-head IsInt32Field field fields all).0) (buffer_count_int32 version) in
+    let others : buffer_number version fields k ≡ 2 * k = buffer_numbers version fields k (All-tail IsInt32Field field fields all) (omega arith) in
     let next : buffer_number version (field ∷ fields) (suc k) ≡ buffer_count version field.data_type + buffer_number version fields k = sum_by-cons (λ (f : Field). buffer_count version f.data_type) field (take k fields) in
     next ∙ rw (here, others) (omega arith)
 
@@ -87,15 +87,15 @@ unfolding fixed_slots validity_in buffer_at
 version_aside version metadata vectors body n b = refl
 
 columns_are_int32 : (layout : Layout) (standing : List Dictionary) (version : Version) (metadata : List ℕ) (vectors : RecordBatch) (body : List ℕ) (k : ℕ)
-    (rest : List Field) → All IsFirstPathField layout.fields → k + length rest ≡ length layout.fields → All IsFirstPathField rest
+    (rest : List Field) → All IsInt32Field layout.fields → k + length rest ≡ length layout.fields → All IsInt32Field rest
     → columns_from layout standing (source_by version metadata vectors body) k rest ≡ int32_columns (source_by V5 metadata vectors body) k (length rest)
 columns_are_int32 layout standing version metadata vectors body k [] all counted firsts = refl
 columns_are_int32 layout standing version metadata vectors body k (field ∷ rest) all counted firsts =
     let n : node_number layout.fields k ≡ k = node_numbers layout.fields k all (omega arith) in
     let b : buffer_number version layout.fields k ≡ 2 * k = buffer_numbers version layout.fields k all (omega arith) in
-    let others = columns_are_int32 layout standing version metadata vectors body (k + 1) rest all (omega arith) (All-tail IsFirstPathField field rest firsts) in
+    let others = columns_are_int32 layout standing version metadata vectors body (k + 1) rest all (omega arith) (All-tail IsInt32Field field rest firsts) in
     let here = slots_of_int32 (source_by version metadata vectors body) standing k (2 * k) (ids_at layout.below k) ∙ version_aside version metadata vectors body k (2 * k) in
-    rw ((All-head IsFirstPathField field rest firsts).0, n, b, here, others) refl
+    rw ((All-head IsInt32Field field rest firsts).0, n, b, here, others) refl
 
 -- what is made of a message's batch, part by part
 source_parts : {B : Type 0} (version : Version) (metadata : List ℕ) (header : Header) (table : flat.Table) (body : List ℕ) (f : Source → Option B)
@@ -113,7 +113,7 @@ source_parts version metadata header table body f =
     bind_assoc {A = Bool} (guard (nat_le sum (length body))) _ f)))
 
 pub batch_is_int32 : (layout : Layout) (version : Version) (metadata : List ℕ) (header : Header) (table : flat.Table) (body : List ℕ)
-    → All IsFirstPathField layout.fields → layout.is_little_endian ≡ true
+    → All IsInt32Field layout.fields → layout.is_little_endian ≡ true
     → batch_in layout [] (stream_entry version (record { metadata = metadata; header = header; body = body })) table ≡ int32_batch (length layout.fields) metadata table body
 unfolding batch_in int32_batch
 batch_is_int32 layout version metadata header table body all little =
@@ -130,12 +130,12 @@ no_values : (id : ℤ) (here : Ids) → values_in types.Int32 id here ≡ None
 unfolding roll-DataType denote.Hole.Carrier.roll
 no_values id here = ap (λ (find : Finder). find id here) (para-roll-DataType Finder Finder find_step find_field_step layer.Int32)
 
-no_values_of : (fields : List Field) (id : ℤ) (below : IdsList) → All IsFirstPathField fields → values_of fields id below ≡ None
+no_values_of : (fields : List Field) (id : ℤ) (below : IdsList) → All IsInt32Field fields → values_of fields id below ≡ None
 no_values_of [] id below all = refl
 no_values_of (field ∷ fields) id below all =
-    rw ((All-head IsFirstPathField field fields all).0, no_values id (first_ids below)) (no_values_of fields id (other_ids below) (All-tail IsFirstPathField field fields all))
+    rw ((All-head IsInt32Field field fields all).0, no_values id (first_ids below)) (no_values_of fields id (other_ids below) (All-tail IsInt32Field field fields all))
 
-no_dictionary : (layout : Layout) (entry : Entry) (table : flat.Table) → All IsFirstPathField layout.fields → dictionary_in layout [] entry table ≡ None
+no_dictionary : (layout : Layout) (entry : Entry) (table : flat.Table) → All IsInt32Field layout.fields → dictionary_in layout [] entry table ≡ None
 unfolding dictionary_in
 no_dictionary layout entry table all =
     bind_none {A = DictionaryBatch} (dictionary_batch_in entry.metadata table) _ (λ batch.
@@ -187,7 +187,7 @@ abbrev dictionary_message : List ℕ → flat.Table → List ℕ → Framed
 dictionary_message metadata table body = record { metadata = metadata; header = dictionary_batch table; body = body }
 
 no_batch : (layout : Layout) (version : Version) (metadata : List ℕ) (table : flat.Table) (body : List ℕ) (others : Option (List Framed))
-    → All IsFirstPathField layout.fields
+    → All IsInt32Field layout.fields
     → ((others >>= (λ more. Some (dictionary_message metadata table body ∷ more))) >>= later_batches layout version) ≡ None
 no_batch layout version metadata table body None all = refl
 no_batch layout version metadata table body (Some more) all =
@@ -195,7 +195,7 @@ no_batch layout version metadata table body (Some more) all =
 
 -- the batches of the message that stands at a place, and of those behind it
 after_message : (layout : Layout) (version : Version) (most : ℕ) (bytes metadata : List ℕ) (header : Header) (body : List ℕ) (after : ℕ)
-    → All IsFirstPathField layout.fields → layout.is_little_endian ≡ true
+    → All IsInt32Field layout.fields → layout.is_little_endian ≡ true
     → (later_messages most bytes after 0 >>= later_batches layout version) ≡ int32_batches (length layout.fields) most bytes after
     → (by_message most bytes (record { metadata = metadata; header = header; body = body }) after >>= later_batches layout version)
     ≡ (step_of (length layout.fields) (message_then (record { metadata = metadata; header = header; body = body }) after)
@@ -211,7 +211,7 @@ after_message layout version most bytes metadata (record_batch table) body after
 
 -- the same of whatever stands at a place
 at_next : (layout : Layout) (version : Version) (most : ℕ) (bytes : List ℕ) (given : Option Next)
-    → All IsFirstPathField layout.fields → layout.is_little_endian ≡ true
+    → All IsInt32Field layout.fields → layout.is_little_endian ≡ true
     → ((place : ℕ) → (later_messages most bytes place 0 >>= later_batches layout version) ≡ int32_batches (length layout.fields) most bytes place)
     → ((given >>= by_next None (Some []) (by_message most bytes)) >>= later_batches layout version)
     ≡ ((given >>= step_of (length layout.fields)) >>= by_step (λ place. int32_batches (length layout.fields) most bytes place))
@@ -222,14 +222,14 @@ at_next layout version most bytes (Some (message_then framed after)) all little 
     after_message layout version most bytes framed.metadata framed.header framed.body after all little (same after)
 
 pub batches_are_int32 : (layout : Layout) (version : Version) (most : ℕ) (bytes : List ℕ) (place : ℕ)
-    → All IsFirstPathField layout.fields → layout.is_little_endian ≡ true
+    → All IsInt32Field layout.fields → layout.is_little_endian ≡ true
     → (later_messages most bytes place 0 >>= later_batches layout version) ≡ int32_batches (length layout.fields) most bytes place
 unfolding step_at
 batches_are_int32 layout version zero bytes place all little = refl
 batches_are_int32 layout version (suc most) bytes place all little =
     at_next layout version most bytes (next_at bytes place) all little (λ after. batches_are_int32 layout version most bytes after all little)
 
--- ---- whether the stream is cut off
+-- ---- whether the stream is truncated
 
 -- the header of a message that has a batch
 pub counts_none : (n : ℕ) (metadata : List ℕ) (header : Header) (body : List ℕ) (columns : List (List Slot)) → batch_by n (record { metadata = metadata; header = header; body = body }) header ≡ Some columns

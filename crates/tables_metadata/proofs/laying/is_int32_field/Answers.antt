@@ -1,5 +1,5 @@
-use Rattle.tables_metadata.proofs.FirstPath.{second_decides, first_fails}
-use Rattle.tables_metadata.proofs.laying.is_first_path_field.Goals as goal
+use Rattle.tables_metadata.proofs.Int32Lemmas.{second_decides, first_fails}
+use Rattle.tables_metadata.proofs.laying.is_int32_field.Goals as goal
 
 pub returns-then-eq : goal.returns-then-eq
 returns-then-eq c = second_decides c.eq.result c.is_empty.result c.if-eq.true c.eq.ensures.exact c.is_empty.ensures
