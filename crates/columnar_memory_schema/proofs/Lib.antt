@@ -1,1 +1,2 @@
+pub mod KeptLists
 pub mod LogicalTypes

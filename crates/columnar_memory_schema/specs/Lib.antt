@@ -1,4 +1,5 @@
 pub mod Conversions
 pub mod Equality
+pub mod Kept
 pub mod Layouts
 pub mod SchemaEquality

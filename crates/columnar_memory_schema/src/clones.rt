@@ -21,6 +21,7 @@ impl Clone for Field {
     }
 }
 
+// match table: an arm for each of the 35 types.
 #[cycle(copies)]
 fn copy_of_type(data_type: &DataType) -> Result<DataType, AllocError>
     ensures { IfOk result (λ copied. copied ≡ data_type.now) }

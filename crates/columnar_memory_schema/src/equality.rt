@@ -1,6 +1,7 @@
 // `==` of types and fields, which tells whether they are the same.
 ghost use Rattle.std.specs.Prelude.{◌≡◌, ◌↔◌, IsTrue, Option, Bool};
-ghost use Rattle.columnar_memory_schema.specs.Equality.{same_type, same_field, same_type-per, same_field-per, same_type-equivalence, same_field-equivalence};
+ghost use Rattle.columnar_memory_schema.specs.Equality.{same_type, same_type-per, same_type-equivalence};
+ghost use Rattle.columnar_memory_schema.specs.Equality.{same_field, same_field-per, same_field-equivalence};
 
 use crate::data_type::{DataType, Field};
 use columnar_memory_content::Items;
@@ -49,6 +50,7 @@ fn are_same_ids(a: &Option<Items<i32>>, b: &Option<Items<i32>>) -> bool
     }
 }
 
+// match table: a pair of arms for each of the 35 types.
 #[cycle(equality)]
 fn is_same_type(a: &DataType, b: &DataType) -> bool
     ensures { IsTrue result ↔ (a.now ≡ b.now) }

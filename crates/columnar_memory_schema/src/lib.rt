@@ -5,6 +5,7 @@ mod clones;
 mod data_type;
 mod equality;
 mod extension;
+mod filter;
 mod physical;
 mod schema;
 

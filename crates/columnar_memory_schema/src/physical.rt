@@ -9,7 +9,8 @@ use columnar_memory_types::{IntegerType, IntervalUnit, PhysicalType, PrimitiveTy
 impl DataType {
     /// The type that stores this one: itself, or what its extension is over.
     pub fn to_logical_type(&self) -> &DataType
-        ensures { result.now ≡ logical_type self.now }
+        ensures value { result.now ≡ logical_type self.now }
+        ensures layout { physical_type result.now ≡ physical_type self.now }
     {
         match self {
             DataType::Extension(_, inner, _) => inner.get().to_logical_type(),
@@ -18,6 +19,7 @@ impl DataType {
     }
 
     /// How an array of this type lies in memory.
+    // match table: an arm for each layout of the 35 types.
     pub fn to_physical_type(&self) -> PhysicalType
         ensures { result ≡ physical_type self.now }
     {

@@ -102,6 +102,21 @@ fn a_schema_equals_its_clone(rt: HostRuntime) -> Result<(), Fail> {
 }
 
 #[test]
+fn a_schema_keeps_the_columns_asked_for(rt: HostRuntime) -> Result<(), Fail> {
+    let alloc = rt.alloc();
+    let fields = vec![in alloc;
+        field_of(alloc, "a", DataType::Int8)?,
+        field_of(alloc, "b", DataType::Int16)?,
+        field_of(alloc, "c", DataType::Int8)?,
+    ]?;
+    let schema = Schema::from(fields);
+    let kept = schema.filter(|index, field| index < 2 && field.data_type() == &DataType::Int8)?;
+    assert_eq!(rt; kept.fields.len(), 1);
+    assert!(rt; kept.fields.get(0).map(|field| field.name.as_str()) == Some("a"));
+    Ok(())
+}
+
+#[test]
 fn a_field_may_name_an_extension(rt: HostRuntime) -> Result<(), Fail> {
     let alloc = rt.alloc();
     let mut pairs = Metadata::new(alloc);

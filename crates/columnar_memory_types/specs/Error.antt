@@ -2,7 +2,8 @@
 use Rattle.std.specs.Prelude.{◌≡◌, ℕ, List}
 use Rattle.std.specs.String.{string_bytes}
 use Rattle.columnar_memory_types.specs.declared.error.Error.{Error}
-use Rattle.columnar_memory_types.specs.declared.error.Error.TheVariants.{NotYetImplemented, InvalidArgumentError, ExternalFormat, OutOfSpec, External, Io, Overflow, OutOfMemory}
+use Rattle.columnar_memory_types.specs.declared.error.Error.TheVariants.{NotYetImplemented, InvalidArgumentError, ExternalFormat, OutOfSpec}
+use Rattle.columnar_memory_types.specs.declared.error.Error.TheVariants.{External, Io, Overflow, OutOfMemory}
 
 -- the format allows it, and these crates do not do it
 abbrev pub IsNotYetImplemented : Error → Type 0

@@ -16,7 +16,7 @@ use Rattle.ipc_format_grammar.specs.Writable.{normalised}
 use Rattle.ipc_format_columns.specs.Layouts.{node_number, buffer_number}
 use Rattle.ipc_format_columns.specs.Columns.{Source, Dictionary, slots_in, have_length, first_ids, other_ids}
 use Rattle.ipc_format_columns.specs.Dictionaries.{Entry, Layout, source_in, dictionary_in}
-use Rattle.ipc_format_columns.specs.Framing.{Framed, messages_of}
+use Rattle.ipc_format_columns.specs.Framing.{Framed, messages_of, later_messages}
 use Rattle.ipc_format_columns.specs.Files.{footer_in, file_entries}
 
 -- the two forms of Arrow's bytes
@@ -102,6 +102,13 @@ contents_of file bytes = do
   found ← schema_in footer.bytes footer.schema
   entries ← file_entries bytes footer.dictionaries footer.record_batches
   Some (record { schema = found; entries = entries })
+
+-- The batches of a stream from a place on, where some dictionaries stand, the latest first, and so many of their messages stand before the
+-- place in a row. At most so many messages are looked for.
+abbrev pub batches_behind : Layout → Version → List Dictionary → ℕ → List ℕ → ℕ → ℕ → Option (List (List (List Slot)))
+batches_behind layout version standing most bytes place dictionaries = do
+  later ← later_messages most bytes place dictionaries
+  batches_of layout standing (map (stream_entry version) later)
 
 -- columns are read by the normalised schema
 abbrev pub layout_of : SchemaIn → Layout

@@ -2,6 +2,7 @@
 use Rattle.std.specs.Prelude.{ℕ, zero, suc, ◌+◌, ℤ, Bool, List, [], ◌∷◌}
 use Rattle.columnar_memory.specs.declared.DataType.{DataType}
 use Rattle.columnar_memory.specs.declared.PrimitiveType.{PrimitiveType}
+pub use Rattle.columnar_memory.specs.Windows.{window}
 
 mutual
   -- one value of a column
@@ -29,11 +30,6 @@ mutual
   pub data Slots : Type 0 where
     no_slot : Slots
     slot_then : Slot → Slots → Slots
-
--- the values of a function at n places, from a first one on
-abbrev pub window : {A : Type 0} → (ℕ → A) → ℕ → ℕ → List A
-window f first zero = []
-window f first (suc n) = f first ∷ window f (first + 1) n
 
 -- slots one after another, as they stand in a list or a struct
 abbrev pub in_slots : List Slot → Slots

@@ -15,10 +15,12 @@ use Rattle.tables_stream.specs.Cells.{slot_of}
 use Rattle.tables_stream.specs.Batches.{rows_of_cells}
 use Rattle.tables_stream.specs.declared.batches.Batch.{Batch}
 use Rattle.tables_stream.specs.Tables.{batch_slots, stored_cells}
-use Rattle.tables_stream.specs.Int32.{batch_by, Step, cut_off, ended, batch_then, step_of, step_at, behind, by_step, int32_batches, Decodes}
+use Rattle.tables_stream.specs.Int32.{batch_by, Step, cut_off, ended, batch_then, step_of, step_at, behind, by_step, stream_batches, Decodes}
 use Rattle.tables_stream.specs.Faults.{fault_of}
 use Rattle.tables_stream.specs.Reading.{ReadsBatches}
-use Rattle.tables_stream.proofs.Int32Batches.{counts_none}
+use Rattle.tables_metadata.specs.Int32Schemas.{IsInt32Schema}
+use Rattle.ipc_format.specs.Messages.{Version}
+use Rattle.tables_stream.proofs.Int32Batches.{counts_none, batches_step}
 use Rattle.tables_stream.proofs.ColumnLists.{Cells}
 
 -- ---- whether the stream is truncated
@@ -65,12 +67,13 @@ cut_here : (n most : ℕ) (bytes : List ℕ) (place : ℕ) → step_at n bytes p
 unfolding step_at
 cut_here n most bytes place e = cut_here_next n most bytes (next_at bytes place) e
 
--- ---- the batches that were read so far
+-- ---- the batches that were read
 
-pub record BatchesRead (n : ℕ) (bytes : List ℕ) (first : ℕ) (batches : List (List Cells)) (place : ℕ) : Type 0 where
+pub record BatchesRead (schema : Schema) (bytes : List ℕ) (first : ℕ) (batches : List (List Cells)) (place : ℕ) : Type 0 where
   pub few : length batches < place
   pub inside : place ≤ length bytes
-  pub left : (most : ℕ) → length batches + most ≡ length bytes → int32_batches n (length bytes) bytes first ≡ behind (map batch_slots batches) (int32_batches n most bytes place)
+  pub left : (version : Version) (most : ℕ) → length batches + most ≡ length bytes
+      → stream_batches schema version (length bytes) bytes first ≡ behind (map batch_slots batches) (stream_batches schema version most bytes place)
   pub whole : (most : ℕ) → length batches + most ≡ length bytes → truncated_from (length bytes) bytes first 0 ≡ truncated_from most bytes place 0
 
 behind_none : {A : Type 0} (rest : Option (List A)) → behind [] rest ≡ rest
@@ -81,52 +84,66 @@ behind_behind : {A : Type 0} (xs ys : List A) (rest : Option (List A)) → behin
 behind_behind xs ys None = refl
 behind_behind {A} xs ys (Some zs) = ap (λ (all : List A). Some all) (sym (append_assoc xs ys zs))
 
-pub batches_begin : (n : ℕ) (bytes : List ℕ) (first : ℕ) → 0 < first → first ≤ length bytes → BatchesRead n bytes first [] first
-batches_begin n bytes first begun inside = record {
+pub batches_begin : (schema : Schema) (bytes : List ℕ) (first : ℕ) → 0 < first → first ≤ length bytes → BatchesRead schema bytes first [] first
+batches_begin schema bytes first begun inside = record {
   few = begun;
   inside = inside;
-  left = λ most all. let same : most ≡ length bytes = omega arith in rw (same) (sym (behind_none (int32_batches n (length bytes) bytes first)));
+  left = λ version most all.
+      let same : most ≡ length bytes = omega arith in rw (same) (sym (behind_none (stream_batches schema version (length bytes) bytes first)));
   whole = λ most all. let same : most ≡ length bytes = omega arith in rw (same) refl;
 }
 
 -- one step of the definition
-step_left : (n : ℕ) (bytes : List ℕ) (first : ℕ) (batches : List (List Cells)) (place most : ℕ) (step : Option Step) → BatchesRead n bytes first batches place → step_at n bytes place ≡ step
+step_left : (schema : Schema) (version : Version) (bytes : List ℕ) (first : ℕ) (batches : List (List Cells)) (place most : ℕ) (step : Option Step)
+    → IsInt32Schema schema → BatchesRead schema bytes first batches place → step_at (length schema.fields) bytes place ≡ step
     → length batches + suc most ≡ length bytes
-    → int32_batches n (length bytes) bytes first ≡ behind (map batch_slots batches) (step >>= by_step (λ after. int32_batches n most bytes after))
-step_left n bytes first batches place most step read e all = read.left (suc most) all ∙ rw e refl
+    → stream_batches schema version (length bytes) bytes first
+    ≡ behind (map batch_slots batches) (step >>= by_step (λ after. stream_batches schema version most bytes after))
+step_left schema version bytes first batches place most step int32 read e all =
+    read.left version (suc most) all
+    ∙ ap (λ rest. behind (map batch_slots batches) rest) (batches_step schema version most bytes place int32) ∙ rw e refl
 
-pub batches_next : (n : ℕ) (bytes : List ℕ) (first : ℕ) (batches more : List (List Cells)) (batch : List Cells) (place after : ℕ) → BatchesRead n bytes first batches place
-    → step_at n bytes place ≡ Some (batch_then (batch_slots batch) after) → place < after → after ≤ length bytes → more ≡ batches ++ batch ∷ [] → BatchesRead n bytes first more after
-batches_next n bytes first batches more batch place after read e on inside pushed =
+pub batches_next : (schema : Schema) (bytes : List ℕ) (first : ℕ) (batches more : List (List Cells)) (batch : List Cells) (place after : ℕ)
+    → IsInt32Schema schema → BatchesRead schema bytes first batches place
+    → step_at (length schema.fields) bytes place ≡ Some (batch_then (batch_slots batch) after) → place < after → after ≤ length bytes
+    → more ≡ batches ++ batch ∷ [] → BatchesRead schema bytes first more after
+batches_next schema bytes first batches more batch place after int32 read e on inside pushed =
     let count : length more ≡ length batches + 1 = ap length pushed ∙ length-append batches (batch ∷ []) in
     record {
       few = omega (arith, count, read.few);
       inside = inside;
-      left = λ most all.
-          step_left n bytes first batches place most (Some (batch_then (batch_slots batch) after)) read e (omega (arith, count))
-          ∙ behind_behind (map batch_slots batches) (batch_slots batch ∷ []) (int32_batches n most bytes after)
-          ∙ ap (λ xs. behind xs (int32_batches n most bytes after)) (sym (map-append batch_slots batches (batch ∷ [])) ∙ ap (map batch_slots) (sym pushed));
-      whole = λ most all. read.whole (suc most) (omega (arith, count)) ∙ cut_after_batch n most bytes place (batch_slots batch) after e;
+      left = λ version most all.
+          step_left schema version bytes first batches place most (Some (batch_then (batch_slots batch) after)) int32 read e (omega (arith, count))
+          ∙ behind_behind (map batch_slots batches) (batch_slots batch ∷ []) (stream_batches schema version most bytes after)
+          ∙ ap (λ xs. behind xs (stream_batches schema version most bytes after))
+          (sym (map-append batch_slots batches (batch ∷ [])) ∙ ap (map batch_slots) (sym pushed));
+      whole = λ most all.
+          read.whole (suc most) (omega (arith, count)) ∙ cut_after_batch (length schema.fields) most bytes place (batch_slots batch) after e;
     }
 
-pub batches_end : (n : ℕ) (bytes : List ℕ) (first : ℕ) (batches : List (List Cells)) (place : ℕ) → BatchesRead n bytes first batches place → step_at n bytes place ≡ Some ended
-    → int32_batches n (length bytes) bytes first ≡ Some (map batch_slots batches)
-batches_end n bytes first batches place read e =
+pub batches_end : (schema : Schema) (version : Version) (bytes : List ℕ) (first : ℕ) (batches : List (List Cells)) (place : ℕ)
+    → IsInt32Schema schema → BatchesRead schema bytes first batches place → step_at (length schema.fields) bytes place ≡ Some ended
+    → stream_batches schema version (length bytes) bytes first ≡ Some (map batch_slots batches)
+batches_end schema version bytes first batches place int32 read e =
     let all : length batches + suc (length bytes - length batches - 1) ≡ length bytes = omega (arith, read.few, read.inside) in
-    step_left n bytes first batches place (length bytes - length batches - 1) (Some ended) read e all ∙ ap (λ (xs : List (List (List Slot))). Some xs) (append-nil (map batch_slots batches))
+    step_left schema version bytes first batches place (length bytes - length batches - 1) (Some ended) int32 read e all
+    ∙ ap (λ (xs : List (List (List Slot))). Some xs) (append-nil (map batch_slots batches))
 
-pub batches_refused : (n : ℕ) (bytes : List ℕ) (first : ℕ) (batches : List (List Cells)) (place : ℕ) → BatchesRead n bytes first batches place → step_at n bytes place ≡ None
-    → int32_batches n (length bytes) bytes first ≡ None
-batches_refused n bytes first batches place read e =
+pub batches_refused : (schema : Schema) (version : Version) (bytes : List ℕ) (first : ℕ) (batches : List (List Cells)) (place : ℕ)
+    → IsInt32Schema schema → BatchesRead schema bytes first batches place → step_at (length schema.fields) bytes place ≡ None
+    → stream_batches schema version (length bytes) bytes first ≡ None
+batches_refused schema version bytes first batches place int32 read e =
     let all : length batches + suc (length bytes - length batches - 1) ≡ length bytes = omega (arith, read.few, read.inside) in
-    step_left n bytes first batches place (length bytes - length batches - 1) None read e all
+    step_left schema version bytes first batches place (length bytes - length batches - 1) None int32 read e all
 
-pub batches_cut : (n : ℕ) (bytes : List ℕ) (first : ℕ) (batches : List (List Cells)) (place : ℕ) → BatchesRead n bytes first batches place → step_at n bytes place ≡ Some cut_off
-    → (int32_batches n (length bytes) bytes first ≡ None) × (truncated_from (length bytes) bytes first 0 ≡ Some true)
-batches_cut n bytes first batches place read e =
+pub batches_cut : (schema : Schema) (bytes : List ℕ) (first : ℕ) (batches : List (List Cells)) (place : ℕ)
+    → IsInt32Schema schema → BatchesRead schema bytes first batches place → step_at (length schema.fields) bytes place ≡ Some cut_off
+    → ((version : Version) → stream_batches schema version (length bytes) bytes first ≡ None) × (truncated_from (length bytes) bytes first 0 ≡ Some true)
+batches_cut schema bytes first batches place int32 read e =
     let most = length bytes - length batches - 1 in
     let all : length batches + suc most ≡ length bytes = omega (arith, read.few, read.inside) in
-    (step_left n bytes first batches place most (Some cut_off) read e all, read.whole (suc most) all ∙ cut_here n most bytes place e)
+    (λ version. step_left schema version bytes first batches place most (Some cut_off) int32 read e all,
+      read.whole (suc most) all ∙ cut_here (length schema.fields) most bytes place e)
 
 -- ---- how many rows there are
 
@@ -156,32 +173,39 @@ more_rows n batches (Some others) h =
     ap length (flat_map-append batch_rows (map batch_slots batches) others) ∙ length-append (rows_of_batches (map batch_slots batches)) (rows_of_batches others) in
     omega (arith, all, rows_counted batches)
 
-pub batches_many : (n : ℕ) (bytes : List ℕ) (first : ℕ) (batches : List (List Cells)) (batch : List Cells) (place after : ℕ) → BatchesRead n bytes first batches place
-    → step_at n bytes place ≡ Some (batch_then (batch_slots batch) after) → 2 ^ 64 ≤ sum_by rows_of_cells batches + rows_of_cells batch
-    → IfSome (int32_batches n (length bytes) bytes first) (λ all. 2 ^ 64 ≤ length (rows_of_batches all))
-batches_many n bytes first batches batch place after read e many =
+pub batches_many : (schema : Schema) (version : Version) (bytes : List ℕ) (first : ℕ) (batches : List (List Cells)) (batch : List Cells) (place after : ℕ)
+    → IsInt32Schema schema → BatchesRead schema bytes first batches place
+    → step_at (length schema.fields) bytes place ≡ Some (batch_then (batch_slots batch) after)
+    → 2 ^ 64 ≤ sum_by rows_of_cells batches + rows_of_cells batch
+    → IfSome (stream_batches schema version (length bytes) bytes first) (λ all. 2 ^ 64 ≤ length (rows_of_batches all))
+batches_many schema version bytes first batches batch place after int32 read e many =
     let most = length bytes - length batches - 1 in
     let all : length batches + suc most ≡ length bytes = omega (arith, read.few, read.inside) in
-    let same : int32_batches n (length bytes) bytes first ≡ behind (map batch_slots (batches ++ batch ∷ [])) (int32_batches n most bytes after) =
-    step_left n bytes first batches place most (Some (batch_then (batch_slots batch) after)) read e all
-    ∙ behind_behind (map batch_slots batches) (batch_slots batch ∷ []) (int32_batches n most bytes after)
-    ∙ ap (λ xs. behind xs (int32_batches n most bytes after)) (sym (map-append batch_slots batches (batch ∷ []))) in
+    let same : stream_batches schema version (length bytes) bytes first
+    ≡ behind (map batch_slots (batches ++ batch ∷ [])) (stream_batches schema version most bytes after) =
+    step_left schema version bytes first batches place most (Some (batch_then (batch_slots batch) after)) int32 read e all
+    ∙ behind_behind (map batch_slots batches) (batch_slots batch ∷ []) (stream_batches schema version most bytes after)
+    ∙ ap (λ xs. behind xs (stream_batches schema version most bytes after)) (sym (map-append batch_slots batches (batch ∷ []))) in
     let sum : sum_by rows_of_cells (batches ++ batch ∷ []) ≡ sum_by rows_of_cells batches + rows_of_cells batch =
-    sum_by-append rows_of_cells batches (batch ∷ []) ∙ ap (λ (m : ℕ). sum_by rows_of_cells batches + m) (sum_by-cons rows_of_cells batch [] ∙ omega arith) in
+    sum_by-append rows_of_cells batches (batch ∷ [])
+    ∙ ap (λ (m : ℕ). sum_by rows_of_cells batches + m) (sum_by-cons rows_of_cells batch [] ∙ omega arith) in
     subst (λ given. IfSome given (λ all. 2 ^ 64 ≤ length (rows_of_batches all))) (sym same)
-    (more_rows (2 ^ 64) (batches ++ batch ∷ []) (int32_batches n most bytes after) (omega (arith, sum, many)))
+    (more_rows (2 ^ 64) (batches ++ batch ∷ []) (stream_batches schema version most bytes after) (omega (arith, sum, many)))
 
 -- an error that comes of a message
-pub batches_error : {A : Type 0} (view : A → Step) (error : Error) (schema : Schema) (bytes : List ℕ) (first : ℕ) (batches : List (List Cells)) (place : ℕ) → BatchesRead (length schema.fields) bytes first batches place
+pub batches_error : {A : Type 0} (view : A → Step) (error : Error) (schema : Schema) (bytes : List ℕ) (first : ℕ) (batches : List (List Cells)) (place : ℕ)
+    → IsInt32Schema schema → BatchesRead schema bytes first batches place
     → Decodes {A = A} view (Err error) (step_at (length schema.fields) bytes place) → ReadsBatches schema bytes first (Err (fault_of error))
-batches_error view OutOfMemory schema bytes first batches place read e = tt
-batches_error view (OutOfSpec what) schema bytes first batches place read e = batches_refused (length schema.fields) bytes first batches place read e
-batches_error view (NotYetImplemented what) schema bytes first batches place read e = batches_refused (length schema.fields) bytes first batches place read e
-batches_error view (External from what) schema bytes first batches place read e = absurd e
-batches_error view (Io what) schema bytes first batches place read e = absurd e
-batches_error view (InvalidArgumentError what) schema bytes first batches place read e = absurd e
-batches_error view (ExternalFormat what) schema bytes first batches place read e = absurd e
-batches_error view Overflow schema bytes first batches place read e = absurd e
+batches_error view OutOfMemory schema bytes first batches place int32 read e = tt
+batches_error view (OutOfSpec what) schema bytes first batches place int32 read e =
+    λ version. batches_refused schema version bytes first batches place int32 read e
+batches_error view (NotYetImplemented what) schema bytes first batches place int32 read e =
+    λ version. batches_refused schema version bytes first batches place int32 read e
+batches_error view (External from what) schema bytes first batches place int32 read e = absurd e
+batches_error view (Io what) schema bytes first batches place int32 read e = absurd e
+batches_error view (InvalidArgumentError what) schema bytes first batches place int32 read e = absurd e
+batches_error view (ExternalFormat what) schema bytes first batches place int32 read e = absurd e
+batches_error view Overflow schema bytes first batches place int32 read e = absurd e
 
 -- the rows of one batch more
 pub rows_more : (rows : ℕ) (batches more : List Batch) (batch : Batch) → rows ≡ sum_by rows_of_cells (map stored_cells batches) → more ≡ batches ++ batch ∷ []

@@ -10,6 +10,7 @@ use Rattle.columnar_memory.specs.declared.DataType.TheViews.{roll-DataType}
 use Rattle.columnar_memory.specs.declared.DataType.TheFolds.{fold-roll-DataType, para-roll-DataType}
 use Rattle.columnar_memory.specs.declared.DataType.TheVariants as types
 use Rattle.columnar_memory.specs.declared.Field.{Field}
+use Rattle.columnar_memory.specs.declared.Schema.{Schema}
 use Rattle.nested_arrays.specs.Slots.{Slot}
 use Rattle.ipc_format_grammar.specs.Messages.{Version, V5, Header, schema, dictionary_batch, record_batch, RecordBatch, DictionaryBatch}
 use Rattle.ipc_format_grammar.specs.Messages.{record_batch_in, dictionary_batch_in, lengths_sum}
@@ -18,12 +19,12 @@ use Rattle.ipc_format_columns.specs.Layouts.{node_count, node_number, node_step,
 use Rattle.ipc_format_columns.specs.Columns.{Source, Dictionary, Reader, fixed_slots, validity_in, buffer_at, read_step, read_field_step, slots_in, first_ids, other_ids}
 use Rattle.ipc_format_columns.specs.Dictionaries.{Entry, Layout, Values, Finder, find_step, find_field_step, values_in, values_of, source_in, dictionary_in}
 use Rattle.ipc_format_columns.specs.Framing.{Framed, Next, nothing_whole, at_end, message_then, next_at, by_next, dictionaries_after, later_messages}
-use Rattle.ipc_format_columns.specs.Tables.{columns_from, batch_in, batches_of, stream_entry, ids_at}
+use Rattle.ipc_format_columns.specs.Tables.{columns_from, batch_in, batches_of, batches_behind, stream_entry, ids_at}
 use Rattle.ipc_format.specs.Reading.{◌>>=◌, guard}
 use Rattle.ipc_format.specs.FlatBuffers as flat
-use Rattle.tables_metadata.specs.Int32Schemas.{IsInt32Field}
+use Rattle.tables_metadata.specs.Int32Schemas.{IsInt32Schema, IsInt32Field}
 use Rattle.tables_stream.specs.Int32Values.{int32_slots}
-use Rattle.tables_stream.specs.Int32.{int32_columns, int32_batch, agreeing, batch_by, batch_then, step_of, step_at, behind, by_step, int32_batches}
+use Rattle.tables_stream.specs.Int32.{int32_columns, int32_batch, agreeing, batch_by, batch_then, step_of, step_at, behind, by_step, int32_layout, stream_batches}
 
 -- ---- one thing after another
 
@@ -196,38 +197,35 @@ no_batch layout version metadata table body (Some more) all =
 -- the batches of the message that stands at a place, and of those behind it
 after_message : (layout : Layout) (version : Version) (most : ℕ) (bytes metadata : List ℕ) (header : Header) (body : List ℕ) (after : ℕ)
     → All IsInt32Field layout.fields → layout.is_little_endian ≡ true
-    → (later_messages most bytes after 0 >>= later_batches layout version) ≡ int32_batches (length layout.fields) most bytes after
     → (by_message most bytes (record { metadata = metadata; header = header; body = body }) after >>= later_batches layout version)
     ≡ (step_of (length layout.fields) (message_then (record { metadata = metadata; header = header; body = body }) after)
-    >>= by_step (λ place. int32_batches (length layout.fields) most bytes place))
-after_message layout version most bytes metadata (schema table) body after all little same = refl
-after_message layout version most bytes metadata (dictionary_batch table) body after all little same =
+    >>= by_step (λ place. batches_behind layout version [] most bytes place 0))
+after_message layout version most bytes metadata (schema table) body after all little = refl
+after_message layout version most bytes metadata (dictionary_batch table) body after all little =
     no_batch layout version metadata table body (later_messages most bytes after 1) all
-after_message layout version most bytes metadata (record_batch table) body after all little same =
+after_message layout version most bytes metadata (record_batch table) body after all little =
     one_more layout version metadata table body (int32_batch (length layout.fields) metadata table body)
-    (later_messages most bytes after 0) (int32_batches (length layout.fields) most bytes after) after same
+    (later_messages most bytes after 0) (batches_behind layout version [] most bytes after 0) after refl
     (batch_is_int32 layout version metadata (record_batch table) table body all little)
-    ∙ only_there (int32_batch (length layout.fields) metadata table body) (λ place. int32_batches (length layout.fields) most bytes place) after
+    ∙ only_there (int32_batch (length layout.fields) metadata table body) (λ place. batches_behind layout version [] most bytes place 0) after
 
 -- the same of whatever stands at a place
 at_next : (layout : Layout) (version : Version) (most : ℕ) (bytes : List ℕ) (given : Option Next)
     → All IsInt32Field layout.fields → layout.is_little_endian ≡ true
-    → ((place : ℕ) → (later_messages most bytes place 0 >>= later_batches layout version) ≡ int32_batches (length layout.fields) most bytes place)
     → ((given >>= by_next None (Some []) (by_message most bytes)) >>= later_batches layout version)
-    ≡ ((given >>= step_of (length layout.fields)) >>= by_step (λ place. int32_batches (length layout.fields) most bytes place))
-at_next layout version most bytes None all little same = refl
-at_next layout version most bytes (Some nothing_whole) all little same = refl
-at_next layout version most bytes (Some at_end) all little same = refl
-at_next layout version most bytes (Some (message_then framed after)) all little same =
-    after_message layout version most bytes framed.metadata framed.header framed.body after all little (same after)
+    ≡ ((given >>= step_of (length layout.fields)) >>= by_step (λ place. batches_behind layout version [] most bytes place 0))
+at_next layout version most bytes None all little = refl
+at_next layout version most bytes (Some nothing_whole) all little = refl
+at_next layout version most bytes (Some at_end) all little = refl
+at_next layout version most bytes (Some (message_then framed after)) all little =
+    after_message layout version most bytes framed.metadata framed.header framed.body after all little
 
-pub batches_are_int32 : (layout : Layout) (version : Version) (most : ℕ) (bytes : List ℕ) (place : ℕ)
-    → All IsInt32Field layout.fields → layout.is_little_endian ≡ true
-    → (later_messages most bytes place 0 >>= later_batches layout version) ≡ int32_batches (length layout.fields) most bytes place
+-- one step: what stands at a place, and the batches behind it
+pub batches_step : (known : Schema) (version : Version) (most : ℕ) (bytes : List ℕ) (place : ℕ) → IsInt32Schema known
+    → stream_batches known version (suc most) bytes place
+    ≡ (step_at (length known.fields) bytes place >>= by_step (λ after. stream_batches known version most bytes after))
 unfolding step_at
-batches_are_int32 layout version zero bytes place all little = refl
-batches_are_int32 layout version (suc most) bytes place all little =
-    at_next layout version most bytes (next_at bytes place) all little (λ after. batches_are_int32 layout version most bytes after all little)
+batches_step known version most bytes place int32 = at_next (int32_layout known) version most bytes (next_at bytes place) int32.1 refl
 
 -- ---- whether the stream is truncated
 

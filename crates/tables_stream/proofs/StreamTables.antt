@@ -31,9 +31,9 @@ use Rattle.tables_stream.specs.declared.fault.Fault.{Fault}
 use Rattle.tables_stream.specs.declared.fault.Fault.TheVariants as faults
 use Rattle.tables_stream.specs.Faults.{fault_of}
 use Rattle.tables_stream.specs.Tables.{Stored, as_table, batch_slots, row_count}
-use Rattle.tables_stream.specs.Int32.{first_schema, fitting, int32_batches}
+use Rattle.tables_stream.specs.Int32.{first_schema, fitting, int32_layout, stream_batches}
 use Rattle.tables_stream.specs.Reading.{ReadsBatches, ReadsStream, HasOtherSchema}
-use Rattle.tables_stream.proofs.Int32Batches.{bind_same, bind_assoc, later_batches, batches_are_int32}
+use Rattle.tables_stream.proofs.Int32Batches.{bind_same, bind_assoc, later_batches}
 use Rattle.tables_stream.proofs.BatchLists.{rows_counted}
 
 -- ---- the schema has its one form already
@@ -152,10 +152,7 @@ unfolding batches_in
 batches_first bytes first e = stream_begins batches_rest bytes (Some first) e
 
 -- the layout of a schema that has its one form
-abbrev layout_by : Schema → Layout
-layout_by schema = record { fields = schema.fields; below = (schema_found schema).ids; is_little_endian = true }
-
-layout_is : (schema : Schema) → IsInt32Schema schema → layout_of (schema_found schema) ≡ layout_by schema
+layout_is : (schema : Schema) → IsInt32Schema schema → layout_of (schema_found schema) ≡ int32_layout schema
 layout_is schema first = ap (λ (s : Schema). layout_by_ids s.fields) (schema_is_normal schema first)
   where
     layout_by_ids : List Field → Layout
@@ -164,46 +161,42 @@ layout_is schema first = ap (λ (s : Schema). layout_by_ids s.fields) (schema_is
 -- the batches and the table of messages whose version and schema are known
 batches_known : (first : Framed × ℕ) (later : Option (List Framed)) (version : Version) (found : SchemaIn) (schema : Schema) (given : Option (List (List (List Slot))))
     → version_in first.0.metadata ≡ Some version → schema_of first.0 first.0.header ≡ Some found → found ≡ schema_found schema → IsInt32Schema schema
-    → (later >>= later_batches (layout_by schema) version) ≡ given
+    → (later >>= later_batches (int32_layout schema) version) ≡ given
     → rest_behind batches_rest first later ≡ given
 batches_known first later version found schema given v s same int32_schema batches = rw (v, s, same, layout_is schema int32_schema) batches
 
 known_behind : (first : Framed × ℕ) (later : Option (List Framed)) (version : Version) (found : SchemaIn) (schema : Schema) (given : Option (List (List (List Slot))))
     → version_in first.0.metadata ≡ Some version → schema_of first.0 first.0.header ≡ Some found → found ≡ schema_found schema → IsInt32Schema schema
-    → (later >>= later_batches (layout_by schema) version) ≡ given
+    → (later >>= later_batches (int32_layout schema) version) ≡ given
     → rest_behind table_rest first later ≡ fitting schema given
 known_behind first later version found schema given v s same int32_schema batches =
-    rw (v, s, same, layout_is schema int32_schema, schema_is_normal schema int32_schema) (later_fit (layout_by schema) version schema later given batches)
+    rw (v, s, same, layout_is schema int32_schema, schema_is_normal schema int32_schema) (later_fit (int32_layout schema) version schema later given batches)
 
-pub table_from : (bytes : List ℕ) (found : SchemaIn) (place : ℕ) (schema : Schema) → first_schema bytes ≡ Some (found, place) → found ≡ schema_found schema → IsInt32Schema schema
-    → table_of stream bytes ≡ fitting schema (int32_batches (length schema.fields) (length bytes) bytes place)
+-- a stream's table and batches are those behind its schema
+pub record IsStreamFrom (bytes : List ℕ) (schema : Schema) (place : ℕ) : Type 0 where
+  pub version : Version
+  pub table : table_of stream bytes ≡ fitting schema (stream_batches schema version (length bytes) bytes place)
+  pub batches : batches_in stream bytes ≡ stream_batches schema version (length bytes) bytes place
+
+pub stream_from : (bytes : List ℕ) (found : SchemaIn) (place : ℕ) (schema : Schema) → first_schema bytes ≡ Some (found, place)
+    → found ≡ schema_found schema → IsInt32Schema schema → IsStreamFrom bytes schema place
 unfolding first_schema
-table_from bytes found place schema e same int32_schema =
+stream_from bytes found place schema e same int32_schema =
     let a = came_of {A = Framed × ℕ} (first_of bytes) _ (found, place) e in
     let b = came_of {A = Version} (version_in a.0.0.metadata) _ (found, place) a.2 in
     let c = came_of {A = SchemaIn} (schema_of a.0.0 a.0.0.header) _ (found, place) b.2 in
     let pair : (c.0, a.0.1) ≡ (found, place) = same_pair (c.0, a.0.1) (found, place) c.2 in
     let known : c.0 ≡ found = ap (λ (p : SchemaIn × ℕ). p.0) pair in
     let behind : a.0.1 ≡ place = ap (λ (p : SchemaIn × ℕ). p.1) pair in
-    let batches = batches_are_int32 (layout_by schema) b.0 (length bytes) bytes a.0.1 int32_schema.1 refl in
-    table_begins bytes (Some a.0) a.1
-    ∙ known_behind a.0 (later_messages (length bytes) bytes a.0.1 0) b.0 c.0 schema (int32_batches (length schema.fields) (length bytes) bytes a.0.1) b.1 c.1 (known ∙ same) int32_schema batches
-    ∙ ap (λ (at : ℕ). fitting schema (int32_batches (length schema.fields) (length bytes) bytes at)) behind
-
-batches_from : (bytes : List ℕ) (found : SchemaIn) (place : ℕ) (schema : Schema) → first_schema bytes ≡ Some (found, place) → found ≡ schema_found schema → IsInt32Schema schema
-    → batches_in stream bytes ≡ int32_batches (length schema.fields) (length bytes) bytes place
-unfolding first_schema
-batches_from bytes found place schema e same int32_schema =
-    let a = came_of {A = Framed × ℕ} (first_of bytes) _ (found, place) e in
-    let b = came_of {A = Version} (version_in a.0.0.metadata) _ (found, place) a.2 in
-    let c = came_of {A = SchemaIn} (schema_of a.0.0 a.0.0.header) _ (found, place) b.2 in
-    let pair : (c.0, a.0.1) ≡ (found, place) = same_pair (c.0, a.0.1) (found, place) c.2 in
-    let known : c.0 ≡ found = ap (λ (p : SchemaIn × ℕ). p.0) pair in
-    let behind : a.0.1 ≡ place = ap (λ (p : SchemaIn × ℕ). p.1) pair in
-    let batches = batches_are_int32 (layout_by schema) b.0 (length bytes) bytes a.0.1 int32_schema.1 refl in
-    batches_first bytes a.0 a.1
-    ∙ batches_known a.0 (later_messages (length bytes) bytes a.0.1 0) b.0 c.0 schema (int32_batches (length schema.fields) (length bytes) bytes a.0.1) b.1 c.1 (known ∙ same) int32_schema batches
-    ∙ ap (λ (at : ℕ). int32_batches (length schema.fields) (length bytes) bytes at) behind
+    let later = later_messages (length bytes) bytes a.0.1 0 in
+    let batches = stream_batches schema b.0 (length bytes) bytes a.0.1 in
+    record {
+      version = b.0;
+      table = table_begins bytes (Some a.0) a.1 ∙ known_behind a.0 later b.0 c.0 schema batches b.1 c.1 (known ∙ same) int32_schema refl
+          ∙ ap (λ (at : ℕ). fitting schema (stream_batches schema b.0 (length bytes) bytes at)) behind;
+      batches = batches_first bytes a.0 a.1 ∙ batches_known a.0 later b.0 c.0 schema batches b.1 c.1 (known ∙ same) int32_schema refl
+          ∙ ap (λ (at : ℕ). stream_batches schema b.0 (length bytes) bytes at) behind;
+    }
 
 -- a stream without a schema is no table
 no_version : (first : Framed × ℕ) (later : Option (List Framed)) → version_in first.0.metadata ≡ None → rest_behind table_rest first later ≡ None
@@ -256,18 +249,21 @@ too_many : (schema : Schema) (given : Option (List (List (List Slot)))) → IfSo
 too_many schema None h = refl
 too_many schema (Some batches) h = rw (le-ltb (length (rows_of_batches batches)) (2 ^ 64) h) refl
 
-pub read_whole : (bytes : List ℕ) (found : SchemaIn) (place : ℕ) (schema : Schema) (result : Result Stored Fault) → first_schema bytes ≡ Some (found, place) → found ≡ schema_found schema → IsInt32Schema schema
-    → ReadsBatches schema bytes place result → ReadsStream result bytes
+pub read_whole : (bytes : List ℕ) (found : SchemaIn) (place : ℕ) (schema : Schema) (result : Result Stored Fault) → first_schema bytes ≡ Some (found, place)
+    → found ≡ schema_found schema → IsInt32Schema schema → ReadsBatches schema bytes place result → ReadsStream result bytes
 read_whole bytes found place schema (Ok stored) e same int32_schema read =
-    let whole = table_from bytes found place schema e same int32_schema in (
-      whole ∙ ap (fitting schema) read.1 ∙ ap (λ (s : Schema). fitting s (Some (map batch_slots stored.batches))) (sym (read.0)) ∙ fits stored read.2,
-      batches_from bytes found place schema e same int32_schema ∙ read.1,
+    let whole = stream_from bytes found place schema e same int32_schema in (
+      whole.table ∙ ap (fitting schema) (read.1 whole.version)
+      ∙ ap (λ (s : Schema). fitting s (Some (map batch_slots stored.batches))) (sym (read.0)) ∙ fits stored read.2,
+      whole.batches ∙ read.1 whole.version,
       subst IsInt32Schema (sym (read.0)) int32_schema,
     )
 read_whole bytes found place schema (Err faults.Memory) e same int32_schema read = tt
-read_whole bytes found place schema (Err (faults.Ipc (errors.OutOfSpec what))) e same int32_schema read = table_from bytes found place schema e same int32_schema ∙ ap (fitting schema) read
+read_whole bytes found place schema (Err (faults.Ipc (errors.OutOfSpec what))) e same int32_schema read =
+    let whole = stream_from bytes found place schema e same int32_schema in whole.table ∙ ap (fitting schema) (read whole.version)
 read_whole bytes found place schema (Err (faults.Ipc (errors.NotYetImplemented what))) e same int32_schema read =
-    subst (λ given. IfSome given (λ table. HasOtherSchema bytes)) (sym (table_from bytes found place schema e same int32_schema ∙ ap (fitting schema) read)) tt
+    let whole = stream_from bytes found place schema e same int32_schema in
+    subst (λ given. IfSome given (λ table. HasOtherSchema bytes)) (sym (whole.table ∙ ap (fitting schema) (read whole.version))) tt
 read_whole bytes found place schema (Err (faults.Ipc (errors.External from what))) e same int32_schema read = absurd read
 read_whole bytes found place schema (Err (faults.Ipc (errors.Io what))) e same int32_schema read = absurd read
 read_whole bytes found place schema (Err (faults.Ipc (errors.InvalidArgumentError what))) e same int32_schema read = absurd read
@@ -275,9 +271,11 @@ read_whole bytes found place schema (Err (faults.Ipc (errors.ExternalFormat what
 read_whole bytes found place schema (Err (faults.Ipc errors.Overflow)) e same int32_schema read = absurd read
 read_whole bytes found place schema (Err (faults.Ipc errors.OutOfMemory)) e same int32_schema read = absurd read
 read_whole bytes found place schema (Err faults.Unfinished) e same int32_schema read =
-    (table_from bytes found place schema e same int32_schema ∙ ap (fitting schema) read.0, cut_behind_schema bytes found place e ∙ read.1)
+    let whole = stream_from bytes found place schema e same int32_schema in
+    (whole.table ∙ ap (fitting schema) (read.0 whole.version), cut_behind_schema bytes found place e ∙ read.1)
 read_whole bytes found place schema (Err faults.TooManyRows) e same int32_schema read =
-    table_from bytes found place schema e same int32_schema ∙ too_many schema (int32_batches (length schema.fields) (length bytes) bytes place) read
+    let whole = stream_from bytes found place schema e same int32_schema in
+    whole.table ∙ too_many schema (stream_batches schema whole.version (length bytes) bytes place) (read whole.version)
 read_whole bytes found place schema (Err (faults.Lower error)) e same int32_schema read = absurd read
 read_whole bytes found place schema (Err (faults.NotSealable bar)) e same int32_schema read = absurd read
 read_whole bytes found place schema (Err faults.RowWidth) e same int32_schema read = absurd read

@@ -10,12 +10,14 @@ use Rattle.nested_arrays.specs.Tables.{rows_of_batches}
 use Rattle.ipc_format.specs.Reading.{◌>>=◌, guard}
 use Rattle.ipc_format.specs.FlatBuffers as flat
 use Rattle.ipc_format.specs.Messages as message
-use Rattle.ipc_format.specs.Messages.{V5, record_batch_in, lengths_sum, version_in}
+use Rattle.ipc_format.specs.Messages.{Version, V5, record_batch_in, lengths_sum, version_in}
 use Rattle.ipc_format.specs.Schemas.{SchemaIn}
 use Rattle.ipc_format_columns.specs.Columns as format
 use Rattle.tables_stream.specs.Int32Values as int32
 use Rattle.ipc_format_columns.specs.Framing as framing
-use Rattle.ipc_format.specs.Tables.{agree_in_length, schema_of}
+use Rattle.ipc_format.specs.Dictionaries.{Layout}
+use Rattle.ipc_format.specs.Tables.{agree_in_length, batches_behind, schema_of}
+use Rattle.tables_metadata.specs.Reading.{schema_found}
 
 -- n columns of 32-bit integers from column k on: each has one node and two buffers
 abbrev pub int32_columns : format.Source → ℕ → ℕ → Option (List (List Slot))
@@ -73,12 +75,13 @@ by_step rest cut_off = None
 by_step rest ended = Some []
 by_step rest (batch_then columns after) = behind (columns ∷ []) (rest after)
 
--- the batches from a place on, up to the end mark; at most so many messages are looked for
-abbrev pub int32_batches : ℕ → ℕ → List ℕ → ℕ → Option (List (List (List Slot)))
-int32_batches n zero bytes place = None
-int32_batches n (suc most) bytes place = do
-  step ← step_at n bytes place
-  by_step (λ after. int32_batches n most bytes after) step
+-- how the columns of a schema of 32-bit integers lie
+abbrev pub int32_layout : Schema → Layout
+int32_layout schema = record { fields = schema.fields; below = (schema_found schema).ids; is_little_endian = true }
+
+-- the batches of a stream of such columns from a place on, up to the end mark; at most so many messages are looked for
+abbrev pub stream_batches : Schema → Version → ℕ → List ℕ → ℕ → Option (List (List (List Slot)))
+stream_batches schema version most bytes place = batches_behind (int32_layout schema) version [] most bytes place 0
 
 -- the schema of a stream's first message, and the place of the next; its version has to be known
 unfoldable pub first_schema : List ℕ → Option (SchemaIn × ℕ)

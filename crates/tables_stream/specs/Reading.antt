@@ -4,6 +4,7 @@ use Rattle.columnar_memory.specs.declared.Error.TheVariants as errors
 use Rattle.columnar_memory.specs.declared.Schema.{Schema}
 use Rattle.nested_arrays.specs.Slots.{Slot}
 use Rattle.nested_arrays.specs.Tables.{rows_of_batches}
+use Rattle.ipc_format.specs.Messages.{Version}
 use Rattle.ipc_format.specs.Framing.{truncated_from, EndsInLaterMessage}
 use Rattle.ipc_format.specs.Tables.{stream, batches_in, table_of}
 use Rattle.tables_metadata.specs.Int32Schemas.{IsInt32Schema}
@@ -13,19 +14,19 @@ use Rattle.tables_stream.specs.declared.fault.Fault.TheVariants as faults
 use Rattle.tables_stream.specs.declared.reading.Form.{Form}
 use Rattle.tables_stream.specs.declared.reading.Form.TheVariants as forms
 use Rattle.tables_stream.specs.Tables.{Stored, as_table, batch_slots, row_count}
-use Rattle.tables_stream.specs.Int32.{first_schema, int32_batches}
+use Rattle.tables_stream.specs.Int32.{first_schema, stream_batches}
 
 -- what the batches are that stand behind a schema: those that were read
 abbrev pub ReadsBatches : Schema → List ℕ → ℕ → Result Stored Fault → Type 0
 ReadsBatches schema bytes place (Ok stored) =
-    (stored.schema ≡ schema) × (int32_batches (length schema.fields) (length bytes) bytes place ≡ Some (map batch_slots stored.batches)) × (row_count stored < 2 ^ 64)
+    (stored.schema ≡ schema) × ((version : Version) → stream_batches schema version (length bytes) bytes place ≡ Some (map batch_slots stored.batches)) × (row_count stored < 2 ^ 64)
 ReadsBatches schema bytes place (Err faults.Memory) = Unit {0}
-ReadsBatches schema bytes place (Err (faults.Ipc (errors.OutOfSpec what))) = int32_batches (length schema.fields) (length bytes) bytes place ≡ None
-ReadsBatches schema bytes place (Err (faults.Ipc (errors.NotYetImplemented what))) = int32_batches (length schema.fields) (length bytes) bytes place ≡ None
+ReadsBatches schema bytes place (Err (faults.Ipc (errors.OutOfSpec what))) = (version : Version) → stream_batches schema version (length bytes) bytes place ≡ None
+ReadsBatches schema bytes place (Err (faults.Ipc (errors.NotYetImplemented what))) = (version : Version) → stream_batches schema version (length bytes) bytes place ≡ None
 ReadsBatches schema bytes place (Err faults.Unfinished) =
-    (int32_batches (length schema.fields) (length bytes) bytes place ≡ None) × (truncated_from (length bytes) bytes place 0 ≡ Some true)
+    ((version : Version) → stream_batches schema version (length bytes) bytes place ≡ None) × (truncated_from (length bytes) bytes place 0 ≡ Some true)
 ReadsBatches schema bytes place (Err faults.TooManyRows) =
-    IfSome (int32_batches (length schema.fields) (length bytes) bytes place) (λ batches. 2 ^ 64 ≤ length (rows_of_batches batches))
+    (version : Version) → IfSome (stream_batches schema version (length bytes) bytes place) (λ batches. 2 ^ 64 ≤ length (rows_of_batches batches))
 ReadsBatches schema bytes place (Err _) = ⊥
 
 -- the stream's schema, if it has one, is none of those that are supported

@@ -12,7 +12,7 @@ invariant-loop-batches l = record {
   counted : l.rows ≡ sum_by rows_of_cells (map stored_cells l.batches.items);
   fits : l.rows < 2 ^ 64;
   widths : All (HasWidth (length l.schema.fields)) (map stored_cells l.batches.items);
-  read : BatchesRead (length l.schema.fields) l.bytes l.first (map stored_cells l.batches.items) l.place;
+  read : BatchesRead l.schema l.bytes l.first (map stored_cells l.batches.items) l.place;
 }
 
 abbrev pub decreases-loop-batches : goal.decreases-loop-batches

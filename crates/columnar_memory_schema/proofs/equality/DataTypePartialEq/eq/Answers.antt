@@ -5,4 +5,6 @@ use Rattle.columnar_memory_schema.proofs.equality.DataTypePartialEq.eq.Goals as 
 
 pub returns-clause-value : goal.returns-clause-value
 returns-clause-value c =
-    same_from_decides c.is_same_type.result (same_type c.args.self.now c.args.other.now) (search rules) (same_type-Decides c.args.self.now c.args.other.now)
+    let x = c.args.self.now in
+    let y = c.args.other.now in
+    same_from_decides c.is_same_type.result (same_type x y) (search rules) (same_type-Decides x y)

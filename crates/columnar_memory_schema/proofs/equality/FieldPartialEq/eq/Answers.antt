@@ -5,4 +5,6 @@ use Rattle.columnar_memory_schema.proofs.equality.FieldPartialEq.eq.Goals as goa
 
 pub returns-clause-value : goal.returns-clause-value
 returns-clause-value c =
-    same_from_decides c.is_same_field.result (same_field c.args.self.now c.args.other.now) (search rules) (same_field-Decides c.args.self.now c.args.other.now)
+    let x = c.args.self.now in
+    let y = c.args.other.now in
+    same_from_decides c.is_same_field.result (same_field x y) (search rules) (same_field-Decides x y)

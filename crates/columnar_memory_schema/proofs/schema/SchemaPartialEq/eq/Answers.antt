@@ -5,4 +5,6 @@ use Rattle.columnar_memory_schema.proofs.schema.SchemaPartialEq.eq.Goals as goal
 
 pub returns-clause-value : goal.returns-clause-value
 returns-clause-value c =
-    same_from_decides c.is_same_schema.result (same_schema c.args.self.now c.args.other.now) (search rules) (same_schema-Decides c.args.self.now c.args.other.now)
+    let x = c.args.self.now in
+    let y = c.args.other.now in
+    same_from_decides c.is_same_schema.result (same_schema x y) (search rules) (same_schema-Decides x y)

@@ -1,0 +1,6 @@
+pub mod Combining
+pub mod Lists
+pub mod Places
+pub mod RunLaws
+pub mod RunLemmas
+pub mod SameWords

@@ -1,0 +1,4 @@
+pub mod Edits
+pub mod Operators
+pub mod Results
+pub mod Runs

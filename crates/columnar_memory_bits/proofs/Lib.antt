@@ -1,0 +1,9 @@
+pub mod Windows
+pub mod Bits
+pub mod Words
+pub mod Counts
+mod Loads
+pub mod Appends
+mod LastBytes
+pub mod Chunks
+mod Places

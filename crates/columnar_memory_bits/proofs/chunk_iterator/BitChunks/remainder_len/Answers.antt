@@ -1,0 +1,10 @@
+use Rattle.std.proofs.Common.{◌∙◌, ◌+◌, ◌*◌, ap, sym, length, List, ℕ, Bool}
+use Rattle.columnar_memory_bits.specs.Bits.{bit_at}
+use Rattle.columnar_memory_bits.proofs.Windows.{length_window}
+use Rattle.columnar_memory_bits.proofs.chunk_iterator.BitChunks.remainder_len.Goals as goal
+
+pub returns-clause-len : goal.returns-clause-len
+returns-clause-len g c =
+    let it = c.self.inside in
+    sym (length_window (bit_at it.bytes.now) (it.start + g.T.BitChunk.width * it.chunks) it.rest)
+    ∙ ap (λ (s : List ℕ × List Bool). length s.1) c.self.view_is

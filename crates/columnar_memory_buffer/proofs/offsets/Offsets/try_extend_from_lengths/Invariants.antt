@@ -1,0 +1,10 @@
+use Rattle.std.proofs.Common.{◌≡◌, ◌≤◌}
+use Rattle.columnar_memory_buffer.specs.Spans.{extended, last_of}
+use Rattle.columnar_memory_buffer.proofs.offsets.Offsets.try_extend_from_lengths.Given as goal
+
+-- the spans so far are of the lengths so far
+abbrev pub invariant-loop-length : goal.invariant-loop-length
+invariant-loop-length g l = record {
+  grown : l.self ≡ extended l.initial.self l.yielded;
+  fits : last_of l.self ≤ g.O.Index.greatest;
+}

@@ -1,0 +1,5 @@
+pub mod Growth
+pub mod Lending
+pub mod Spans
+pub mod SpansEqual
+pub mod Window

@@ -1,0 +1,21 @@
+//! Bytes, buffers and offsets: windows on shared memory that a contract sees as lists, and offsets that it sees as
+//! spans.
+#![tactic(auto)]
+
+mod buffer;
+mod bytes;
+mod into_iter;
+mod offsets;
+mod offsets_buffer;
+mod offsets_lengths;
+mod places;
+
+pub use buffer::Buffer;
+pub use bytes::Bytes;
+pub use into_iter::IntoIter;
+pub use offsets::Offsets;
+pub use offsets_buffer::OffsetsBuffer;
+pub use offsets_lengths::OffsetsLengths;
+
+#[cfg(test)]
+mod tests;

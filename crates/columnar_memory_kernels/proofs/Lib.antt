@@ -1,0 +1,2 @@
+mod Wordwise
+mod Pairwise

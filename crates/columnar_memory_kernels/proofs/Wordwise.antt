@@ -1,0 +1,147 @@
+-- Words that are answered one after the other.
+use Rattle.std.proofs.Common.{
+  ◌≡◌,
+  ◌∙◌,
+  ℕ,
+  zero,
+  suc,
+  ◌+◌,
+  ◌-◌,
+  ◌*◌,
+  ◌/◌,
+  ◌≤◌,
+  ◌<◌,
+  Bool,
+  List,
+  [],
+  ◌∷◌,
+  ◌++◌,
+  length,
+  take,
+  get_or,
+  slice_index,
+  refl,
+  ap,
+  ap₂,
+  sym,
+  subst,
+  arith,
+  ◌⊎◌,
+  inl,
+  inr,
+  length-append,
+}
+use Rattle.std.proofs.lemmas.List.{get_or_append_left, get_or-append_right, append-nil, take_all}
+use Rattle.std.proofs.lemmas.Grind.{flat_map-append}
+use Rattle.std.proofs.lemmas.Bool.{cases_lt}
+use Rattle.columnar_memory_bits.specs.Bits.{bit, bit_at, bits_of, IsPacked}
+use Rattle.columnar_memory_bits.specs.Words.{word, word_at, word_bits, words_bits, words_for}
+use Rattle.columnar_memory_bits.proofs.Windows.{length_window, part_of_window, drop_window, take_window}
+use Rattle.columnar_memory_bits.proofs.Appends.{bit_at_beyond}
+use Rattle.columnar_memory_kernels.specs.Kernels.{IsWordwise}
+
+-- the first k words are answered, and these are their booleans
+pub record IsAnswered (answers : ℕ → ℕ → Type 0) (k : ℕ) (bits : List Bool) : Type 0 where
+  pub answered : List ℕ
+  pub counted : length answered ≡ k
+  pub each : (j : ℕ) → j < k → answers j (slice_index answered j)
+  pub whole : bits ≡ words_bits 64 answered
+
+pub none_answered : (answers : ℕ → ℕ → Type 0) → IsAnswered answers 0 []
+none_answered answers = record { answered = []; counted = refl; each = λ j h. absurd (omega arith); whole = refl }
+
+-- one answer more behind others
+more_each : (answers : ℕ → ℕ → Type 0) (words : List ℕ) (k y j : ℕ) → length words ≡ k → ((i : ℕ) → i < k → answers i (slice_index words i)) →
+    answers k y →
+    j < k + 1 → (j < k) ⊎ (k ≤ j) → answers j (slice_index (words ++ y ∷ []) j)
+more_each answers words k y j count each here h (inl before) =
+    subst (answers j) (sym (get_or_append_left words (y ∷ []) 0 j (omega arith))) (each j before)
+more_each answers words k y j count each here h (inr last) =
+    let place : j ≡ k = omega arith in
+    let none : j - k ≡ 0 = omega arith in
+    let same : get_or (words ++ y ∷ []) j 0 ≡ y =
+    get_or-append_right words (y ∷ []) k j 0 count last ∙ ap (λ (i : ℕ). get_or (y ∷ []) i 0) none in
+    subst (λ n. answers j n) (sym same) (subst (λ n. answers n y) (sym place) here)
+
+more_bits : (words : List ℕ) (y : ℕ) → words_bits 64 (words ++ y ∷ []) ≡ words_bits 64 words ++ word_bits 64 y
+more_bits words y = flat_map-append (word_bits 64) words (y ∷ []) ∙ ap (λ (xs : List Bool). words_bits 64 words ++ xs) (append-nil (word_bits 64 y))
+
+pub next_answered : (answers : ℕ → ℕ → Type 0) (k y : ℕ) (bits more : List Bool) → IsAnswered answers k bits → answers k y →
+    more ≡ bits ++ word_bits 64 y →
+    IsAnswered answers (k + 1) more
+next_answered answers k y bits more so_far here e = record {
+  answered = so_far.answered ++ y ∷ [];
+  counted = length-append so_far.answered (y ∷ []) ∙ ap (λ n. n + 1) so_far.counted;
+  each = λ j h. more_each answers so_far.answered k y j so_far.counted so_far.each here h (cases_lt j k);
+  whole = e ∙ ap (λ (xs : List Bool). xs ++ word_bits 64 y) so_far.whole ∙ sym (more_bits so_far.answered y);
+}
+
+-- each word has 64 booleans
+pub length_words : (words : List ℕ) → length (words_bits 64 words) ≡ 64 * length words
+length_words [] = refl
+length_words (x ∷ words) =
+    omega (arith, length-append (word_bits 64 x) (words_bits 64 words), length_window (bit x) 0 64, length_words words)
+
+-- all words are whole
+pub all_answered : (answers : ℕ → ℕ → Type 0) (k n : ℕ) (bits : List Bool) → IsAnswered answers k bits → n ≡ 64 * k → IsWordwise answers n bits
+all_answered answers k n bits so_far e =
+    let count : k ≡ words_for 64 n = omega arith in
+    record {
+      answered = so_far.answered;
+      counted = so_far.counted ∙ count;
+      each = λ j h. so_far.each j (omega arith);
+      cut = so_far.whole ∙ sym (take_all n (words_bits 64 so_far.answered) (omega (arith, length_words so_far.answered, so_far.counted)));
+    }
+
+-- the first of two lists and some of the second
+take_both : (xs ys : List Bool) (m n : ℕ) → length xs ≡ m → take (m + n) (xs ++ ys) ≡ xs ++ take n ys
+take_both [] ys m n e = let none : m + n ≡ n = omega arith in ap (λ k. take k ys) none
+take_both (x ∷ xs) ys zero n e = absurd (omega arith)
+take_both (x ∷ xs) ys (suc m) n e =
+    let count : suc m + n ≡ suc (m + n) = omega arith in
+    ap (λ k. take k (x ∷ (xs ++ ys))) count ∙ ap (λ rest. x ∷ rest) (take_both xs ys m n (omega arith))
+
+-- the last word is cut
+pub last_answered : (answers : ℕ → ℕ → Type 0) (k rest y n : ℕ) (bits more : List Bool) → IsAnswered answers k bits → answers k y → 0 < rest →
+    rest < 64 →
+    n ≡ 64 * k + rest → more ≡ bits ++ word_bits rest y → IsWordwise answers n more
+last_answered answers k rest y n bits more so_far here some few e last =
+    let all = next_answered answers k y bits (bits ++ word_bits 64 y) so_far here refl in
+    let count : k + 1 ≡ words_for 64 n = omega arith in
+    let size : length bits ≡ 64 * k = ap length so_far.whole ∙ length_words so_far.answered ∙ ap (λ m. 64 * m) so_far.counted in
+    let within : rest ≤ 64 = omega arith in
+    record {
+      answered = all.answered;
+      counted = all.counted ∙ count;
+      each = λ j h. all.each j (omega arith);
+      cut = last ∙ ap (λ (xs : List Bool). bits ++ xs) (sym (take_window (bit y) 0 rest 64 within))
+          ∙ sym (take_both bits (word_bits 64 y) (64 * k) rest size)
+          ∙ ap₂ (λ (m : ℕ) (xs : List Bool). take m xs) (sym e) all.whole;
+    }
+
+-- ---- the words of some bits of bytes
+
+pub whole_word : (bytes : List ℕ) (offset len k : ℕ) → k < len / 64 →
+    word (bits_of bytes (offset + 64 * k) 64) ≡ word_at 64 (bits_of bytes offset len) k
+whole_word bytes offset len k h =
+    let within : 64 * k + 64 ≤ len = omega arith in
+    ap word (sym (part_of_window (bit_at bytes) offset (64 * k) 64 len within))
+
+pub last_word : (bytes : List ℕ) (offset len : ℕ) →
+    word (bits_of bytes (offset + 64 * (len / 64)) (len - 64 * (len / 64))) ≡ word_at 64 (bits_of bytes offset len) (len / 64)
+last_word bytes offset len =
+    let rest = len - 64 * (len / 64) in
+    let parts : len ≡ 64 * (len / 64) + rest = omega arith in
+    let few : length (bits_of bytes (offset + 64 * (len / 64)) rest) ≤ 64 = omega (
+      arith,
+      length_window (bit_at bytes) (offset + 64 * (len / 64)) rest,
+    ) in
+    ap word (sym (ap (take 64) (drop_window (bit_at bytes) offset (64 * (len / 64)) rest len parts)
+    ∙ take_all 64 (bits_of bytes (offset + 64 * (len / 64)) rest) few))
+
+-- no bytes hold no bits
+pub packed_none : (bytes : List ℕ) → bytes ≡ [] → IsPacked bytes 0
+packed_none bytes e = record {
+  counted = ap length e;
+  zeros = λ i h. ap (λ bs. bit_at bs i) e ∙ bit_at_beyond [] i (omega arith);
+}

@@ -1,0 +1,4 @@
+pub mod Layers
+pub mod NormalForms
+pub mod NormalPairs
+pub mod Pairs

@@ -1,0 +1,139 @@
+-- Each type and each field reads back.
+use Rattle.std.proofs.Common.{Bool, map, subst}
+use Rattle.columnar_memory.specs.declared.DataType.{DataType, map-DataType}
+use Rattle.columnar_memory.specs.declared.DataType.TheOpen as layer
+use Rattle.columnar_memory.specs.declared.DataType.TheViews.{roll-DataType, roll-Field}
+use Rattle.columnar_memory.specs.declared.DataType.TheFolds.{ind-Field, fold-DataType, fold-Field, fold-roll-DataType, fold-roll-Field}
+use Rattle.columnar_memory.specs.declared.Field.{Field, map-Field}
+use Rattle.ipc_format_flatbuffers.specs.Objects.{Object}
+use Rattle.ipc_format_grammar.specs.Schemas.{Ids, IdsList}
+use Rattle.ipc_format_grammar.specs.SchemaObjects.{Told, told_of, told_step, told_field_step}
+use Rattle.ipc_format_grammar.specs.Writable.{Report, report_of, report_step, field_step, normalised_type, normalised_step}
+use Rattle.ipc_format_round_trip.specs.Schemas.{IdsTold, ids_step, ids_field_step, ids_of_field, texts_step, texts_field_step, has_texts}
+use Rattle.ipc_format_round_trip.proofs.SchemaSteps as leaves
+use Rattle.ipc_format_round_trip.proofs.SchemaSteps.{TypeClaim, FieldClaim, LayerClaim}
+use Rattle.ipc_format_round_trip.proofs.NestedSteps.{list_claim, large_list_claim, fixed_list_claim, map_claim, struct_claim, union_claim}
+use Rattle.ipc_format_round_trip.proofs.NestedSteps.{dictionary_claim, extension_claim}
+use Rattle.ipc_format_round_trip.proofs.FieldClaims.{field_claim}
+
+abbrev pub told_field : Field → Ids → Object
+told_field = fold-Field (IdsList → Told) (Ids → Object) told_step told_field_step
+
+abbrev pub normal_field : Field → Field
+normal_field = fold-Field DataType Field roll-DataType normalised_step
+
+abbrev pub report_field : Field → Report
+report_field = fold-Field Report Report report_step field_step
+
+abbrev ids_in_type : DataType → IdsTold
+ids_in_type = fold-DataType IdsTold (Ids → Ids) ids_step ids_field_step
+
+abbrev texts_in_type : DataType → Bool
+texts_in_type = fold-DataType Bool Bool texts_step texts_field_step
+
+-- what is shown of each type
+abbrev TypeHolds : DataType → Type 0
+TypeHolds d = TypeClaim (told_of d) (normalised_type d) (report_of d) (ids_in_type d) (texts_in_type d)
+
+-- what is shown of each field
+abbrev pub FieldHolds : Field → Type 0
+FieldHolds f = FieldClaim (told_field f) (normal_field f) (report_field f) (ids_of_field f) (has_texts f)
+
+-- a layer's claim is its type's
+at_roll : (x : layer.DataType-F DataType Field)
+    → LayerClaim (map-DataType DataType Field (IdsList → Told) (Ids → Object) told_of told_field x)
+    (map-DataType DataType Field DataType Field normalised_type normal_field x)
+    (map-DataType DataType Field Report Report report_of report_field x)
+    (map-DataType DataType Field IdsTold (Ids → Ids) ids_in_type ids_of_field x)
+    (map-DataType DataType Field Bool Bool texts_in_type has_texts x)
+    → TypeHolds (roll-DataType x)
+at_roll x h = rw (
+  fold-roll-DataType (IdsList → Told) (Ids → Object) told_step told_field_step x,
+  fold-roll-DataType DataType Field roll-DataType normalised_step x,
+  fold-roll-DataType Report Report report_step field_step x,
+  fold-roll-DataType IdsTold (Ids → Ids) ids_step ids_field_step x,
+  fold-roll-DataType Bool Bool texts_step texts_field_step x,
+) h
+
+at_roll_field : (x : layer.Field-F DataType Field)
+    → FieldClaim (told_field_step (map-Field DataType Field (IdsList → Told) (Ids → Object) told_of told_field x))
+    (normalised_step (map-Field DataType Field DataType Field normalised_type normal_field x))
+    (field_step (map-Field DataType Field Report Report report_of report_field x))
+    (ids_field_step (map-Field DataType Field IdsTold (Ids → Ids) ids_in_type ids_of_field x))
+    (texts_field_step (map-Field DataType Field Bool Bool texts_in_type has_texts x))
+    → FieldHolds (roll-Field x)
+at_roll_field x h = rw (
+  fold-roll-Field (IdsList → Told) (Ids → Object) told_step told_field_step x,
+  fold-roll-Field DataType Field roll-DataType normalised_step x,
+  fold-roll-Field Report Report report_step field_step x,
+  fold-roll-Field IdsTold (Ids → Ids) ids_step ids_field_step x,
+  fold-roll-Field Bool Bool texts_step texts_field_step x,
+) h
+
+abbrev ATypeThatHolds : Type 0
+ATypeThatHolds = (d : DataType) × TypeHolds d
+
+abbrev AFieldThatHolds : Type 0
+AFieldThatHolds = (f : Field) × FieldHolds f
+
+abbrev field_at : AFieldThatHolds → Field
+field_at e = e.0
+
+type_step : (y : layer.DataType-F ATypeThatHolds AFieldThatHolds)
+    → TypeHolds (roll-DataType (map-DataType ATypeThatHolds AFieldThatHolds DataType Field (λ e. e.0) (λ e. e.0) y))
+type_step layer.Null = at_roll layer.Null leaves.null_claim
+type_step layer.Boolean = at_roll layer.Boolean leaves.boolean_claim
+type_step layer.Int8 = at_roll layer.Int8 leaves.int8_claim
+type_step layer.Int16 = at_roll layer.Int16 leaves.int16_claim
+type_step layer.Int32 = at_roll layer.Int32 leaves.int32_claim
+type_step layer.Int64 = at_roll layer.Int64 leaves.int64_claim
+type_step layer.UInt8 = at_roll layer.UInt8 leaves.uint8_claim
+type_step layer.UInt16 = at_roll layer.UInt16 leaves.uint16_claim
+type_step layer.UInt32 = at_roll layer.UInt32 leaves.uint32_claim
+type_step layer.UInt64 = at_roll layer.UInt64 leaves.uint64_claim
+type_step layer.Float16 = at_roll layer.Float16 leaves.float16_claim
+type_step layer.Float32 = at_roll layer.Float32 leaves.float32_claim
+type_step layer.Float64 = at_roll layer.Float64 leaves.float64_claim
+type_step (layer.Timestamp unit timezone) = at_roll (layer.Timestamp unit timezone) (leaves.timestamp_claim unit timezone)
+type_step layer.Date32 = at_roll layer.Date32 leaves.date32_claim
+type_step layer.Date64 = at_roll layer.Date64 leaves.date64_claim
+type_step (layer.Time32 unit) = at_roll (layer.Time32 unit) (leaves.time32_claim unit)
+type_step (layer.Time64 unit) = at_roll (layer.Time64 unit) (leaves.time64_claim unit)
+type_step (layer.Duration unit) = at_roll (layer.Duration unit) (leaves.duration_claim unit)
+type_step (layer.Interval unit) = at_roll (layer.Interval unit) (leaves.interval_claim unit)
+type_step layer.Binary = at_roll layer.Binary leaves.binary_claim
+type_step (layer.FixedSizeBinary size) = at_roll (layer.FixedSizeBinary size) (leaves.fixed_binary_claim size)
+type_step layer.LargeBinary = at_roll layer.LargeBinary leaves.large_binary_claim
+type_step layer.Utf8 = at_roll layer.Utf8 leaves.utf8_claim
+type_step layer.LargeUtf8 = at_roll layer.LargeUtf8 leaves.large_utf8_claim
+type_step (layer.Decimal precision scale) = at_roll (layer.Decimal precision scale) (leaves.decimal_claim precision scale)
+type_step (layer.Decimal256 precision scale) = at_roll (layer.Decimal256 precision scale) (leaves.decimal256_claim precision scale)
+type_step (layer.List item) = at_roll (layer.List item.0) (list_claim (told_field item.0) (normal_field item.0) (report_field item.0)
+    (ids_of_field item.0) (has_texts item.0) item.1)
+type_step (layer.LargeList item) = at_roll (layer.LargeList item.0)
+    (large_list_claim (told_field item.0) (normal_field item.0) (report_field item.0) (ids_of_field item.0) (has_texts item.0) item.1)
+type_step (layer.FixedSizeList item size) = at_roll (layer.FixedSizeList item.0 size)
+    (fixed_list_claim size (told_field item.0) (normal_field item.0) (report_field item.0) (ids_of_field item.0) (has_texts item.0) item.1)
+type_step (layer.Map entry is_sorted) = at_roll (layer.Map entry.0 is_sorted)
+    (map_claim is_sorted (told_field entry.0) (normal_field entry.0) (report_field entry.0) (ids_of_field entry.0) (has_texts entry.0) entry.1)
+type_step (layer.Struct fields) = at_roll (layer.Struct (map field_at fields))
+    (struct_claim field_at told_field normal_field report_field ids_of_field has_texts (λ (e : AFieldThatHolds). e.1) fields)
+type_step (layer.Union fields numbers mode) = at_roll (layer.Union (map field_at fields) numbers mode)
+    (union_claim field_at told_field normal_field report_field ids_of_field has_texts (λ (e : AFieldThatHolds). e.1) fields numbers mode)
+type_step (layer.Dictionary key value is_ordered) = at_roll (layer.Dictionary key value.0 is_ordered)
+    (dictionary_claim key is_ordered (told_of value.0) (normalised_type value.0) (report_of value.0) (ids_in_type value.0)
+    (texts_in_type value.0) value.1)
+type_step (layer.Extension name inner metadata) = at_roll (layer.Extension name inner.0 metadata)
+    (extension_claim name metadata (told_of inner.0) (normalised_type inner.0) (report_of inner.0) (ids_in_type inner.0)
+    (texts_in_type inner.0) inner.1)
+
+field_step_holds : (y : layer.Field-F ATypeThatHolds AFieldThatHolds)
+    → FieldHolds (roll-Field (map-Field ATypeThatHolds AFieldThatHolds DataType Field (λ e. e.0) (λ e. e.0) y))
+field_step_holds y = at_roll_field (record { name = y.name; data_type = y.data_type.0; is_nullable = y.is_nullable; metadata = y.metadata })
+    (field_claim y.name y.is_nullable y.metadata (told_of y.data_type.0) (normalised_type y.data_type.0) (report_of y.data_type.0)
+    (ids_in_type y.data_type.0) (texts_in_type y.data_type.0) y.data_type.1)
+
+-- each field reads back
+pub field_holds : (f : Field) → FieldHolds f
+field_holds = ind-Field TypeHolds FieldHolds (λ x y is. subst (λ z. TypeHolds (roll-DataType z)) is (type_step y))
+    (λ x y is. subst (λ z. FieldHolds (roll-Field z)) is (field_step_holds y))

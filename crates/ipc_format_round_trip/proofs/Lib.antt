@@ -1,0 +1,13 @@
+pub mod Batches
+pub mod TypeTables
+pub mod MetadataPairs
+pub mod FieldSteps
+pub mod TypeSteps
+pub mod SchemaParts
+pub mod SchemaSteps
+pub mod NestedSteps
+pub mod Ordered
+pub mod FieldClaims
+pub mod Inductions
+pub mod SchemaMessages
+pub mod NormalReports

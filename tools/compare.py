@@ -1,0 +1,294 @@
+#!/usr/bin/env python3
+"""Compares the definitions of `specs/` with an independent reader and writer, on random inputs of every type.
+
+    compare.py [--count N] [--seed S] [--form stream|file] [--case K] [--long] [--alone]
+
+Half of the inputs are sound, as usual writers lay them, and half are damaged; one in twenty stands
+at a limit of the format. It prints how many the definitions and the reader read alike and refused
+alike, and how many bytes they lay alike. At the first disagreement the input is saved in bin/ and
+the exit status is 1. With --case one input of a seed is made and shown. With --long a few inputs
+with as many dictionaries as there may be, or one more, are compared, which takes a few minutes.
+With --alone the definitions are left out: each sound input has to read as what it was made of.
+"""
+
+import argparse
+import gc
+import os
+import sys
+import time
+from collections import Counter
+from random import Random
+
+import antt_library
+import arrow_reader
+from arrow_cases import Writer
+from arrow_damage import Damage
+from arrow_metadata import UNFINISHED
+from arrow_sealed import NotWritten, file_of, groups_of, schema_message, sealed, stream_of, why_not_sealable
+from arrow_special import SMALL, long_cases
+from arrow_trees import Spec, numbered
+from arrow_types import Schema, Table, child_fields
+from defined_values import Defined
+from definitions import TOP, deeply
+
+FOLDER = os.path.join(TOP, "bin")
+TOO_LARGE = "too large"
+
+
+class Disagreement(Exception):
+    """Two answers that differ."""
+
+
+def made_case(seed, number, form):
+    """An input by seed and number: the case, and whether it is damaged."""
+    random = Random("%s/%s" % (seed, number))
+    if number % 20 == 18:
+        return random.choice(SMALL)(random), False
+    damage = Damage(random) if number % 2 else None
+    case = Writer(random, damage).case(form)
+    if damage is None:
+        return case, False
+    return case._replace(content=damage.finish(case.content)), True
+
+
+def answer_of(read, form, content):
+    """A table, or why there is none."""
+    try:
+        return read(form, content)
+    except arrow_reader.Refused as refused:
+        return "%s: %s" % (refused.kind, refused)
+    except (arrow_reader.TooLarge, antt_library.TooLarge, MemoryError):
+        return TOO_LARGE
+
+
+def defined_answer(defined, form, content):
+    found = answer_of(defined.defined_table, form, content)
+    return "refused by the definitions" if found is None else found
+
+
+class Comparison:
+    """Counts what agrees, and tells what does not."""
+
+    def __init__(self, defined):
+        self.defined, self.counts, self.reasons, self.types = defined, Counter(), Counter(), Counter()
+
+    def compare(self, case, is_damaged, random):
+        read = answer_of(arrow_reader.read, case.form, case.content)
+        self.compare_with_case(case, is_damaged, read)
+        if self.defined is None:
+            self.counts["inputs %s" % ("read" if isinstance(read, Table) else "refused")] += 1
+            return
+        defined = defined_answer(self.defined, case.form, case.content)
+        if TOO_LARGE in (read, defined):
+            self.counts["inputs too large to be compared"] += 1
+        else:
+            self.compare_answers(case, is_damaged, read, defined)
+        if isinstance(read, Table):
+            self.compare_laying(read)
+            self.compare_choice(case, read, random)
+            self.compare_seal(read, random)
+            self.compare_writing(read, random)
+
+    def compare_with_case(self, case, is_damaged, read):
+        """A sound input reads as what it was made of, or is refused where it passes a limit."""
+        if not is_damaged and isinstance(read, Table) != (case.table is not None):
+            raise Disagreement("the reader gives %s" % (read,))
+        if not is_damaged and case.table is not None and read != case.table:
+            raise Disagreement("the reader does not give what was laid:\n%s\n%s" % (read, case.table))
+
+    def compare_answers(self, case, is_damaged, read, defined):
+        """What the reader and the definitions answer."""
+        if isinstance(read, Table):
+            if defined != read:
+                raise Disagreement("the reader gives\n%s\nthe definitions give\n%s" % (read, defined))
+            self.counts["inputs damaged, yet read alike" if is_damaged else "inputs sound, read alike"] += 1
+            self.note_types(read.schema.fields)
+            if case.form == "stream" and self.defined.defined_end(case.content):
+                raise Disagreement("the input is read whole; the definitions say that it is cut off")
+            return
+        if isinstance(defined, Table):
+            raise Disagreement("the reader refuses (%s)\nthe definitions give\n%s" % (read, defined))
+        self.counts["inputs refused alike"] += 1
+        self.reasons[read] += 1
+        if read.startswith(UNFINISHED) and not self.defined.defined_end(case.content):
+            raise Disagreement("the input is cut off within a message's beginning; the definitions say not")
+
+    def compare_choice(self, case, table, random):
+        """A choice of columns under a limit: the reader's, the definitions', and what it is of the whole table."""
+        width = len(table.schema.fields)
+        columns = random.sample(range(width), random.randint(0, width))
+        limit = random.choice((None, 0, 1, 2, 5, 2**64 - 1))
+        if self.defined.defined_choice(case.form, case.content, columns + [width], limit) is not None:
+            raise Disagreement("a choice of a column that isn't there")
+        read = answer_of(lambda form, content: arrow_reader.read(form, content, columns, limit), case.form, case.content)
+        rows = [tuple(row[k] for k in columns) for row in table.rows[:limit]] if columns else []
+        fields = tuple(table.schema.fields[k] for k in columns)
+        if read != Table(Schema(fields, table.schema.metadata), rows):
+            raise Disagreement("the reader's choice of %s under %s: %s" % (columns, limit, read))
+        defined = self.defined.defined_choice(case.form, case.content, columns, limit)
+        if defined != read:
+            raise Disagreement("the choice of %s under %s: the reader gives\n%s\nthe definitions give\n%s" % (
+                columns, limit, read, defined))
+        self.counts["choices read alike"] += 1
+
+    def compare_seal(self, table, random):
+        """A seal as both lay it; it reads back, by the reader and by the definitions."""
+        size, ours = random.randint(1, 4), None
+        if table.rows and random.random() < 0.2:
+            table = with_other_cell(table, random)
+        if not why_not_sealable(table.schema.fields):
+            try:
+                ours = sealed(table.schema, table.rows, size)
+            except NotWritten:
+                ours = None
+        if self.defined.defined_seal(table.schema, table.rows, size) != ours:
+            raise Disagreement("the seal in groups of %d is laid otherwise: %s" % (size, table))
+        self.counts["seals %s" % ("refused alike" if ours is None else "laid alike")] += 1
+        for read in (arrow_reader.read, self.defined.defined_table) if ours is not None else ():
+            found = answer_of(read, "stream", ours)
+            if found != table:
+                raise Disagreement("what is sealed reads back as %s instead of %s" % (found, table))
+
+    def note_types(self, fields):
+        for field in fields:
+            data_type = field.data_type
+            while data_type[0] in ("Dictionary", "Extension"):
+                self.types[data_type[0]] += 1
+                data_type = data_type[2]
+            self.types[data_type[0]] += 1
+            self.note_types(child_fields(data_type))
+
+    def compare_laying(self, table):
+        """The schema's message, and the numbers of its dictionaries, as both lay them."""
+        schema = table.schema
+        specs = numbered(schema.fields)
+        ours = schema_message(specs, schema.metadata)[0][8:]
+        if self.defined.defined_schema_message(schema, specs) != ours or not self.defined.numbers_alike(schema, specs):
+            raise Disagreement("the schema's message is laid otherwise: %s" % (schema,))
+        self.counts["schemas laid alike"] += 1
+
+    def compare_writing(self, table, random):
+        """A stream and a file of the rows in groups, with ids that some dictionaries may share."""
+        schema = table.schema
+        if any(holds_union(field.data_type) for field in schema.fields):
+            return
+        specs = numbered(schema.fields) if random.random() < 0.7 else renumbered(numbered(schema.fields), random)
+        groups = groups_of(table.rows, random.randint(1, 6))
+        if random.random() < 0.1:
+            return self.compare_misshaped(schema, specs, groups, random)
+        for form, write in (("stream", stream_of), ("file", file_of)):
+            try:
+                ours = write(specs, schema.metadata, groups)
+            except NotWritten as why:
+                if "values" in str(why):
+                    return
+                ours = None
+            if self.defined.defined_writing(form, schema, specs, groups) != ours:
+                raise Disagreement("a %s is laid otherwise: %s %s" % (form, specs, groups))
+            self.counts["%ss %s" % (form, "refused alike" if ours is None else "laid alike")] += 1
+
+    def compare_misshaped(self, schema, specs, groups, random):
+        """Nothing is written under ids of another shape than the fields."""
+        other = misshaped(specs, random)
+        for form in ("stream", "file") if other != specs else ():
+            if self.defined.defined_writing(form, schema, other, groups) is not None:
+                raise Disagreement("a %s is written under ids of another shape: %s" % (form, other))
+            self.counts["%ss refused alike" % form] += 1
+
+
+def misshaped(specs, random):
+    """Specs with one less, or with a dictionary's id left out, at some depth."""
+    if not specs:
+        return specs
+    place = random.randrange(len(specs))
+    spec = specs[place]
+    if spec.children and random.random() < 0.6:
+        spec = spec._replace(children=misshaped(spec.children, random))
+    elif spec.number is not None and random.random() < 0.7:
+        spec = spec._replace(number=None)
+    else:
+        return specs[:place] + specs[place + 1 :]
+    return specs[:place] + (spec,) + specs[place + 1 :]
+
+
+# Values of several types, most of which do not fit a column.
+OTHER_CELLS = (
+    True, ("number", "Int32", 1), ("number", "Int64", 1), ("pair", "DaysMs", 1, 2), ("text", b"a"), ("bytes", b"abc"),
+    ("items", ()), ("items", (None,)), ("items", (None, None)), ("fields", ()), ("fields", (None,)), ("fields", (None, None)), None,
+)
+
+
+def with_other_cell(table, random):
+    """A table with another value in one place."""
+    rows, at = list(table.rows), random.randrange(len(table.rows))
+    row, place = list(rows[at]), random.randrange(len(rows[at]))
+    row[place] = random.choice(OTHER_CELLS)
+    rows[at] = tuple(row)
+    return table._replace(rows=rows)
+
+
+def holds_union(data_type):
+    """Whether a union stands anywhere in a type, whose values are not written from slots."""
+    while data_type[0] in ("Dictionary", "Extension"):
+        data_type = data_type[2]
+    return data_type[0] == "Union" or any(holds_union(child.data_type) for child in child_fields(data_type))
+
+
+def renumbered(specs, random):
+    """Specs whose dictionaries have other ids, some of them the same."""
+    return tuple(
+        Spec(spec.field, None if spec.number is None else random.randint(-1, 2), renumbered(spec.children, random))
+        for spec in specs
+    )
+
+
+def saved(case, seed, number):
+    os.makedirs(FOLDER, exist_ok=True)
+    path = os.path.join(FOLDER, "disagreement_%s_%d.%s" % (seed, number, case.form))
+    with open(path, "wb") as out:
+        out.write(case.content)
+    return path
+
+
+def report(comparison, count, seconds):
+    print("%d inputs in %.1f s, %d a minute" % (count, seconds, 60 * count / seconds))
+    for name, number in sorted(comparison.counts.items()):
+        print("%8d %s" % (number, name))
+    print("refused for: " + ", ".join("%s %d" % reason for reason in comparison.reasons.most_common()))
+    print("fields read: " + ", ".join("%s %d" % kind for kind in sorted(comparison.types.items())))
+
+
+def run(options):
+    gc.set_threshold(200_000)
+    comparison, start = Comparison(None if options.alone else Defined()), time.perf_counter()
+    numbers = range(options.count) if options.case is None else [options.case]
+    long = long_cases() if options.long else []
+    for number in range(len(long)) if long else numbers:
+        case, is_damaged = (long[number], False) if long else made_case(options.seed, number, options.form)
+        try:
+            comparison.compare(case, is_damaged, Random("%s/%s/choice" % (options.seed, number)))
+        except Disagreement as disagreement:
+            print("case %d of seed %s, %s: %s" % (number, options.seed, saved(case, options.seed, number), disagreement))
+            return 1
+        except Exception:
+            print("case %d of seed %s: %s" % (number, options.seed, saved(case, options.seed, number)))
+            raise
+        if options.case is not None:
+            print(answer_of(arrow_reader.read, case.form, case.content))
+    report(comparison, len(long or numbers), time.perf_counter() - start)
+    return 0
+
+
+def main(words):
+    parser = argparse.ArgumentParser(description=__doc__, formatter_class=argparse.RawDescriptionHelpFormatter)
+    parser.add_argument("--count", type=int, default=2000)
+    parser.add_argument("--seed", default="1")
+    parser.add_argument("--form", choices=("stream", "file"))
+    parser.add_argument("--case", type=int)
+    parser.add_argument("--long", action="store_true")
+    parser.add_argument("--alone", action="store_true")
+    sys.exit(deeply(run, parser.parse_args(words)))
+
+
+if __name__ == "__main__":
+    main(sys.argv[1:])

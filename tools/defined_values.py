@@ -1,0 +1,224 @@
+"""The definitions of the project, called on bytes, with their values as the independent reader has them."""
+
+from antt_library import called, record_of, same
+from arrow_types import Field, Schema, Table
+from definitions import Definitions
+
+FLATBUFFERS, GRAMMAR, COLUMNS, WRITTEN = (
+    "ipc_format_flatbuffers", "ipc_format_grammar", "ipc_format_columns", "ipc_format_written",
+)
+
+NAMED_PARTS = {"Time32", "Time64", "Duration", "Interval"}
+WITH_CHILD = {"List", "LargeList", "FixedSizeList", "Map"}
+
+
+def as_field(value):
+    pairs = tuple((bytes(key), bytes(text)) for key, text in value.f_metadata)
+    return Field(bytes(value.f_name), as_type(value.f_data_type), value.f_is_nullable, pairs)
+
+
+def as_fields(values):
+    return tuple(map(as_field, values))
+
+
+def as_text(option):
+    return None if option is None else bytes(option[0])
+
+
+def as_type(value):
+    """A `DataType` of the definitions."""
+    name, parts = str(value[0]), value[1:]
+    if name in NAMED_PARTS:
+        return (name, str(parts[0][0]))
+    if name == "Timestamp":
+        return (name, str(parts[0][0]), as_text(parts[1]))
+    if name in WITH_CHILD:
+        return (name, as_field(parts[0])) + tuple(parts[1:])
+    if name == "Struct":
+        return (name, as_fields(parts[0]))
+    if name == "Union":
+        ids = None if parts[1] is None else tuple(parts[1][0])
+        return (name, as_fields(parts[0]), ids, str(parts[2][0]))
+    if name == "Dictionary":
+        return (name, str(parts[0][0]), as_type(parts[1]), parts[2])
+    if name == "Extension":
+        return (name, bytes(parts[0]), as_type(parts[1]), as_text(parts[2]))
+    return (name,) + tuple(parts)
+
+
+class Slots:
+    """Turns slots of the definitions into values; types of picks are turned once."""
+
+    def __init__(self):
+        self.types = {}
+
+    def type_of(self, value):
+        key = id(value)
+        if key not in self.types:
+            self.types[key] = (as_type(value), value)
+        return self.types[key][0]
+
+    def value(self, slot):
+        name = slot[0]
+        if name == "null":
+            return None
+        if name == "truth":
+            return slot[1]
+        if name in ("number", "pair", "triple"):
+            return (str(name), str(slot[1][0]), *slot[2:])
+        if name in ("text", "bytes"):
+            return (str(name), bytes(slot[1]))
+        if name in ("items", "fields"):
+            return (str(name), tuple(self.listed(slot[1])))
+        return ("pick", self.type_of(slot[1]), self.value(slot[2]))
+
+    def listed(self, slots):
+        while slots[0] == "slot_then":
+            yield self.value(slots[1])
+            slots = slots[2]
+
+
+def as_schema(value):
+    pairs = tuple((bytes(key), bytes(text)) for key, text in value.f_metadata)
+    return Schema(as_fields(value.f_fields), pairs)
+
+
+def as_table(value):
+    slots = Slots()
+    return Table(as_schema(value.f_schema), [tuple(map(slots.value, row)) for row in value.f_rows])
+
+
+class Terms:
+    """Turns values of the reader into values of the definitions."""
+
+    def __init__(self, definitions):
+        self.definitions = definitions
+
+    def plain(self, name, *parts):
+        """A constructor's value."""
+        code = self.definitions.tag(name)
+        return (self.definitions.space[code], *parts)
+
+    def text(self, option):
+        return None if option is None else (option,)
+
+    def field(self, field):
+        data_type = self.data_type(field.data_type)
+        return record_of(
+            name=field.name, data_type=data_type, is_nullable=field.is_nullable, metadata=list(field.metadata)
+        )
+
+    def fields(self, fields):
+        return [self.field(field) for field in fields]
+
+    def data_type(self, data_type):
+        name, parts = data_type[0], data_type[1:]
+        if name in NAMED_PARTS:
+            return self.plain(name, self.plain(parts[0]))
+        if name == "Timestamp":
+            return self.plain(name, self.plain(parts[0]), self.text(parts[1]))
+        if name in WITH_CHILD:
+            return self.plain(name, self.field(parts[0]), *parts[1:])
+        if name == "Struct":
+            return self.plain(name, self.fields(parts[0]))
+        if name == "Union":
+            ids = None if parts[1] is None else (list(parts[1]),)
+            return self.plain(name, self.fields(parts[0]), ids, self.plain(parts[2]))
+        if name == "Dictionary":
+            return self.plain(name, self.plain(parts[0]), self.data_type(parts[1]), parts[2])
+        if name == "Extension":
+            return self.plain(name, parts[0], self.data_type(parts[1]), self.text(parts[2]))
+        return self.plain(name, *parts)
+
+    def slot(self, value):
+        if value is None:
+            return self.plain("null")
+        if isinstance(value, bool):
+            return self.plain("truth", value)
+        name = value[0]
+        if name in ("number", "pair", "triple"):
+            return self.plain(name, self.plain(value[1]), *value[2:])
+        if name in ("text", "bytes"):
+            return self.plain(name, value[1])
+        if name in ("items", "fields"):
+            return self.plain(name, self.slots(value[1]))
+        return self.plain("pick", self.data_type(value[1]), self.slot(value[2]))
+
+    def slots(self, values):
+        out = self.plain("no_slot")
+        for value in reversed(values):
+            out = self.plain("slot_then", self.slot(value), out)
+        return out
+
+    def rows(self, rows):
+        return [[self.slot(value) for value in row] for row in rows]
+
+    def schema(self, schema):
+        return record_of(fields=self.fields(schema.fields), metadata=list(schema.metadata))
+
+    def ids(self, specs):
+        """The tree of dictionary ids beside some fields."""
+        out = self.plain("no_ids")
+        for spec in reversed(specs):
+            number = None if spec.number is None else (spec.number,)
+            out = self.plain("ids_then", self.plain("ids", number, self.ids(spec.children)), out)
+        return out
+
+
+class Defined:
+    """The definitions that are compared, compiled once.
+
+    Each answer of the definitions stands in one method here, which is where a new name of theirs goes.
+    """
+
+    def __init__(self):
+        self.definitions = Definitions()
+        self.terms, find = Terms(self.definitions), self.definitions.named
+        self.forms = {form: find(COLUMNS, form) for form in ("stream", "file")}
+        self.table, self.choice = find(COLUMNS, "table_of"), find(COLUMNS, "choice_of")
+        self.ends_early = find(COLUMNS, "EndsInLaterMessage")
+        self.laid, self.schema_message = find(FLATBUFFERS, "laid"), find(GRAMMAR, "schema_message")
+        self.default_ids, self.seal = find(WRITTEN, "default_ids"), find(WRITTEN, "sealed")
+        self.batch = find(WRITTEN, "batch_of_slots")
+        self.stream, self.file = find(WRITTEN, "written_stream"), find(WRITTEN, "written_file")
+
+    # ---- reading
+
+    def defined_table(self, form, content):
+        """The table that the definitions give, or None."""
+        found = called(self.table, self.forms[form], content)
+        return None if found is None else as_table(found[0])
+
+    def defined_choice(self, form, content, columns, limit):
+        """The table that the definitions give of chosen columns under a limit, or None."""
+        limit = None if limit is None else (limit,)
+        found = called(self.choice, self.forms[form], content, columns, limit)
+        return None if found is None else as_table(found[0])
+
+    def defined_end(self, content):
+        """Whether a stream ends within the first four bytes of a later message, as the definitions say."""
+        return called(self.ends_early, content)
+
+    # ---- writing
+
+    def defined_schema_message(self, schema, specs):
+        """The metadata of a written schema's message."""
+        return bytes(called(self.laid, called(self.schema_message, self.terms.schema(schema), self.terms.ids(specs))))
+
+    def numbers_alike(self, schema, specs):
+        """Whether the definitions number dictionaries as some specs do."""
+        return same(self.default_ids(self.terms.fields(schema.fields)), self.terms.ids(specs))
+
+    def defined_seal(self, schema, rows, size):
+        """The seal of rows in groups, or None."""
+        return as_text(called(self.seal, self.terms.schema(schema), self.terms.rows(rows), size))
+
+    def defined_writing(self, form, schema, specs, groups):
+        """A stream or a file of groups of rows, or None."""
+        ids, fields = self.terms.ids(specs), self.terms.fields(schema.fields)
+        batches = []
+        for rows in groups:
+            columns = [[self.terms.slot(row[place]) for row in rows] for place in range(len(fields))]
+            batches.append(called(self.batch, fields, ids, columns))
+        write = self.stream if form == "stream" else self.file
+        return as_text(called(write, self.terms.schema(schema), ids, batches))
