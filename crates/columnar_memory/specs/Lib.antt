@@ -21,6 +21,7 @@ pub use Rattle.columnar_memory_bitmap.specs.Operators
 pub use Rattle.columnar_memory_bitmap.specs.Results
 pub use Rattle.columnar_memory_bitmap.specs.Runs
 pub use Rattle.columnar_memory_kernels.specs.Kernels
+pub use Rattle.columnar_memory_kernels.specs.Writes
 pub use Rattle.columnar_memory_native.specs.Natural
 pub use Rattle.columnar_memory_native.specs.NumberLaws
 pub use Rattle.columnar_memory_native.specs.Numbers

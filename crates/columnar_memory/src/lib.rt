@@ -2,7 +2,9 @@
 //! hold, data types, bitmaps with their kernels, buffers, offsets and the values that they store.
 #![tactic(auto)]
 
-pub use columnar_memory_bitmap::{Bitmap, IntoIter as BitmapIntoIter, MutableBitmap, SlicesIterator};
+pub use columnar_memory_bitmap::{
+    Bitmap, IntoIter as BitmapIntoIter, MutableBitmap, SlicesIterator,
+};
 pub use columnar_memory_bits::{
     BitChunk, BitChunkIter, BitChunkIterExact, BitChunkOnes, BitChunks, BitChunksExact, BitmapIter,
     ZipValidity, ZipValidityIter, bytes_for, count_zeros, get_bit, is_set, set, set_bit,
@@ -11,7 +13,9 @@ pub use columnar_memory_buffer::{
     Buffer, Bytes, IntoIter as BufferIntoIter, Offsets, OffsetsBuffer, OffsetsLengths,
 };
 pub use columnar_memory_content::{Boxed, Items, Metadata, Text};
-pub use columnar_memory_kernels::{and, binary, or, quaternary, ternary, unary, xor};
+pub use columnar_memory_kernels::{
+    and, binary, binary_assign, or, quaternary, ternary, unary, unary_assign, xor,
+};
 pub use columnar_memory_native::{
     Index, IndexRange, NativeType, Offset, Steps, days_ms, i256, months_days_ns,
 };

@@ -1,2 +1,3 @@
 mod Wordwise
+mod InPlace
 mod Pairwise

@@ -80,7 +80,7 @@ get_or_words (x ∷ words) i h = get_or_either x words i (cases_lt i 64) (λ mor
 -- a word function that acts on each bit by one table gives the booleans of that table
 pub wordwise_pairwise : (table : Bool → Bool → Bool) (f : ℕ → ℕ → ℕ) (answers : ℕ → ℕ → Type 0) (xs ys zs : List Bool) → length xs ≡ length ys →
     ((a b i : ℕ) → bit (f a b) i ≡ table (bit a i) (bit b i)) → ((k y : ℕ) → answers k y → y ≡ f (word_at 64 xs k) (word_at 64 ys k)) →
-    IsWordwise answers (length xs) zs → zs ≡ pairwise table xs ys
+    IsWordwise 64 answers (length xs) zs → zs ≡ pairwise table xs ys
 wordwise_pairwise table f answers xs ys zs same acts known all =
     let n = length xs in
     let h : ℕ → Bool = λ i. table (get_or xs i false) (get_or ys i false) in
@@ -104,7 +104,7 @@ wordwise_pairwise table f answers xs ys zs same acts known all =
 -- what a kernel of such a word function may answer
 pub pairwise_or_none : (table : Bool → Bool → Bool) (f : ℕ → ℕ → ℕ) (answers : ℕ → ℕ →
     Type 0) (xs ys : List Bool) (result : Result (List Bool) Error) →
-    OrOutOfMemory result (IsWordwise answers (length xs)) → length xs ≡ length ys → ((a b i : ℕ) → bit (f a b) i ≡ table (bit a i) (bit b i)) →
+    OrOutOfMemory result (IsWordwise 64 answers (length xs)) → length xs ≡ length ys → ((a b i : ℕ) → bit (f a b) i ≡ table (bit a i) (bit b i)) →
     ((k y : ℕ) → answers k y → y ≡ f (word_at 64 xs k) (word_at 64 ys k)) → OrOutOfMemory result (λ zs. zs ≡ pairwise table xs ys)
 pairwise_or_none table f answers xs ys (Ok zs) all same acts known = wordwise_pairwise table f answers xs ys zs same acts known all
 pairwise_or_none table f answers xs ys (Err e) all same acts known = all

@@ -83,7 +83,7 @@ length_words (x ∷ words) =
     omega (arith, length-append (word_bits 64 x) (words_bits 64 words), length_window (bit x) 0 64, length_words words)
 
 -- all words are whole
-pub all_answered : (answers : ℕ → ℕ → Type 0) (k n : ℕ) (bits : List Bool) → IsAnswered answers k bits → n ≡ 64 * k → IsWordwise answers n bits
+pub all_answered : (answers : ℕ → ℕ → Type 0) (k n : ℕ) (bits : List Bool) → IsAnswered answers k bits → n ≡ 64 * k → IsWordwise 64 answers n bits
 all_answered answers k n bits so_far e =
     let count : k ≡ words_for 64 n = omega arith in
     record {
@@ -104,7 +104,7 @@ take_both (x ∷ xs) ys (suc m) n e =
 -- the last word is cut
 pub last_answered : (answers : ℕ → ℕ → Type 0) (k rest y n : ℕ) (bits more : List Bool) → IsAnswered answers k bits → answers k y → 0 < rest →
     rest < 64 →
-    n ≡ 64 * k + rest → more ≡ bits ++ word_bits rest y → IsWordwise answers n more
+    n ≡ 64 * k + rest → more ≡ bits ++ word_bits rest y → IsWordwise 64 answers n more
 last_answered answers k rest y n bits more so_far here some few e last =
     let all = next_answered answers k y bits (bits ++ word_bits 64 y) so_far here refl in
     let count : k + 1 ≡ words_for 64 n = omega arith in

@@ -2,9 +2,27 @@
 use Rattle.std.specs.Prelude.{◌≡◌, ℕ, ◌<◌, Bool, List, length, take, slice_index}
 use Rattle.columnar_memory_bits.specs.Words.{words_for, words_bits}
 
--- The booleans are those of words, cut to n: each word is an answer at its place.
-pub record IsWordwise (answers : ℕ → ℕ → Type 0) (n : ℕ) (result : List Bool) : Type 0 where
+-- The booleans are those of words of w bits, cut to n: each word is an answer at its place.
+pub record IsWordwise (w : ℕ) (answers : ℕ → ℕ → Type 0) (n : ℕ) (result : List Bool) : Type 0 where
   pub answered : List ℕ
-  pub counted : length answered ≡ words_for 64 n
-  pub each : (k : ℕ) → k < words_for 64 n → answers k (slice_index answered k)
-  pub cut : result ≡ take n (words_bits 64 answered)
+  pub counted : length answered ≡ words_for w n
+  pub each : (k : ℕ) → k < words_for w n → answers k (slice_index answered k)
+  pub cut : result ≡ take n (words_bits w answered)
+
+module _ {T : Type 0} (value : T → ℕ) where
+  -- a function answers a number to a number, and to two, each as a value of its type
+  pub record AnswersOne (post : T → T → Type 0) (word answer : ℕ) : Type 0 where
+    pub given : T
+    pub result : T
+    pub given_is : value given ≡ word
+    pub result_is : value result ≡ answer
+    pub answers : post given result
+
+  pub record AnswersTwo (post : T → T → T → Type 0) (first second answer : ℕ) : Type 0 where
+    pub left : T
+    pub right : T
+    pub result : T
+    pub left_is : value left ≡ first
+    pub right_is : value right ≡ second
+    pub result_is : value result ≡ answer
+    pub answers : post left right result

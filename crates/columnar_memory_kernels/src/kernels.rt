@@ -17,7 +17,7 @@ use std::alloc::Global;
 /// `OutOfMemory`.
 pub fn unary<F: Fn(u64) -> u64>(alloc: Global, lhs: &Bitmap, op: F) -> Result<Bitmap>
     requires { F.IsAlwaysCallable op }
-    ensures { OrOutOfMemory result (IsWordwise (λ k answer. F.post op (word_at 64 lhs.now k) answer) (length lhs.now)) }
+    ensures { OrOutOfMemory result (IsWordwise 64 (λ k answer. F.post op (word_at 64 lhs.now k) answer) (length lhs.now)) }
 {
     let (bytes, offset, len) = lhs.as_slice();
     Bitmap::from_u8_vec(unary_words(alloc, bytes, offset, len, op)?, len)
@@ -36,7 +36,7 @@ pub fn binary<F: Fn(u64, u64) -> u64>(
 ) -> Result<Bitmap>
     requires callable { F.IsAlwaysCallable op }
     requires lengths { length lhs.now ≡ length rhs.now }
-    ensures { OrOutOfMemory result (IsWordwise (λ k answer. F.post op (word_at 64 lhs.now k) (word_at 64 rhs.now k) answer) (length lhs.now)) }
+    ensures { OrOutOfMemory result (IsWordwise 64 (λ k answer. F.post op (word_at 64 lhs.now k) (word_at 64 rhs.now k) answer) (length lhs.now)) }
 {
     let (first, first_offset, len) = lhs.as_slice();
     let (second, second_offset, _) = rhs.as_slice();
@@ -61,7 +61,7 @@ pub fn ternary<F: Fn(u64, u64, u64) -> u64>(
     requires callable { F.IsAlwaysCallable op }
     requires second { length a1.now ≡ length a2.now }
     requires third { length a1.now ≡ length a3.now }
-    ensures { OrOutOfMemory result (IsWordwise (λ k answer.
+    ensures { OrOutOfMemory result (IsWordwise 64 (λ k answer.
         F.post op (word_at 64 a1.now k) (word_at 64 a2.now k) (word_at 64 a3.now k) answer) (length a1.now)) }
 {
     let (first, first_offset, len) = a1.as_slice();
@@ -98,7 +98,7 @@ pub fn quaternary<F: Fn(u64, u64, u64, u64) -> u64>(
     requires second { length a1.now ≡ length a2.now }
     requires third { length a1.now ≡ length a3.now }
     requires fourth { length a1.now ≡ length a4.now }
-    ensures { OrOutOfMemory result (IsWordwise (λ k answer.
+    ensures { OrOutOfMemory result (IsWordwise 64 (λ k answer.
         F.post op (word_at 64 a1.now k) (word_at 64 a2.now k) (word_at 64 a3.now k) (word_at 64 a4.now k) answer) (length a1.now)) }
 {
     let (first, first_offset, len) = a1.as_slice();

@@ -1,12 +1,16 @@
 //! Functions of words on the words of bitmaps.
 //!
 //! A kernel gives its word function the words of its bitmaps' lists of booleans, 64 bits each, the first in the least significant bit, and
-//! the last word filled with false. Its answer is the booleans of the answered words, cut to the length.
+//! the last word filled with false. Its answer is the booleans of the answered words, cut to the length. A kernel that writes its answer in
+//! place takes no memory, and its words have as many bits as the type that its word function takes.
 #![tactic(auto)]
 
+mod assign;
 mod kernels;
 mod words;
+mod write;
 
+pub use assign::{binary_assign, unary_assign};
 pub use kernels::{and, binary, or, quaternary, ternary, unary, xor};
 
 #[cfg(test)]

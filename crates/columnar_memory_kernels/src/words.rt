@@ -17,7 +17,7 @@ pub(crate) fn unary_words<F: Fn(u64) -> u64>(
     requires callable { F.IsAlwaysCallable op }
     requires in_range { offset + len ≤ 8 * length bytes.now }
     requires fits { offset + len < 2 ^ 64 }
-    ensures answers { IfOk result (λ v. IsWordwise (λ k answer. F.post op
+    ensures answers { IfOk result (λ v. IsWordwise 64 (λ k answer. F.post op
         (word_at 64 (bits_of bytes.now offset len) k)
         answer) len (bits_of v.items 0 len)) }
     ensures packed { IfOk result (λ v. IsPacked v.items len) }
@@ -55,7 +55,7 @@ pub(crate) fn binary_words<F: Fn(u64, u64) -> u64>(
     requires first_fits { first_offset + len < 2 ^ 64 }
     requires second_in_range { second_offset + len ≤ 8 * length second.now }
     requires second_fits { second_offset + len < 2 ^ 64 }
-    ensures answers { IfOk result (λ v. IsWordwise (λ k answer. F.post op
+    ensures answers { IfOk result (λ v. IsWordwise 64 (λ k answer. F.post op
         (word_at 64 (bits_of first.now first_offset len) k)
         (word_at 64 (bits_of second.now second_offset len) k)
         answer) len (bits_of v.items 0 len)) }
@@ -97,7 +97,7 @@ pub(crate) fn ternary_words<F: Fn(u64, u64, u64) -> u64>(
     requires second_fits { second_offset + len < 2 ^ 64 }
     requires third_in_range { third_offset + len ≤ 8 * length third.now }
     requires third_fits { third_offset + len < 2 ^ 64 }
-    ensures answers { IfOk result (λ v. IsWordwise (λ k answer. F.post op
+    ensures answers { IfOk result (λ v. IsWordwise 64 (λ k answer. F.post op
         (word_at 64 (bits_of first.now first_offset len) k)
         (word_at 64 (bits_of second.now second_offset len) k)
         (word_at 64 (bits_of third.now third_offset len) k)
@@ -146,7 +146,7 @@ pub(crate) fn quaternary_words<F: Fn(u64, u64, u64, u64) -> u64>(
     requires third_fits { third_offset + len < 2 ^ 64 }
     requires fourth_in_range { fourth_offset + len ≤ 8 * length fourth.now }
     requires fourth_fits { fourth_offset + len < 2 ^ 64 }
-    ensures answers { IfOk result (λ v. IsWordwise (λ k answer. F.post op
+    ensures answers { IfOk result (λ v. IsWordwise 64 (λ k answer. F.post op
         (word_at 64 (bits_of first.now first_offset len) k)
         (word_at 64 (bits_of second.now second_offset len) k)
         (word_at 64 (bits_of third.now third_offset len) k)

@@ -216,7 +216,7 @@ columns_below [] source standing limit n b below = Some []
 columns_below (child ∷ children) source standing limit n b below = do
   column ← child.1 source standing limit n b (first_ids below)
   columns ← columns_below children source standing limit (n + node_count child.0.data_type)
-    (b + buffer_count source.version child.0.data_type) (other_ids below)
+      (b + buffer_count source.version child.0.data_type) (other_ids below)
   Some (column ∷ columns)
 
 abbrev pub have_length : ℕ → List (List Slot) → Bool
@@ -290,7 +290,7 @@ union_slots children numbers mode spare own source standing limit n b here = do
   columns ← columns_below children source standing None (n + 1) (b + own) (ids_below here)
   _ ← guard (are_as_long mode count columns)
   slots ← all_of (window (λ i.
-    picked children columns (child_of numbers (signed_of true w8 (element_bytes 1 types i))) (natural (places i))) 0 count)
+      picked children columns (child_of numbers (signed_of true w8 (element_bytes 1 types i))) (natural (places i))) 0 count)
   Some (take (taken_of limit count) slots)
 
 -- ---- dictionaries (Arrow columnar format, "Dictionary-encoded Layout")
@@ -320,7 +320,7 @@ dictionary_slots key data_type source standing limit n b here = do
   validity ← validity_in source node b (taken_of limit count)
   keys ← buffer_at source (b + 1) (taken_of limit count * key_size key)
   _ ← guard (list_all (λ i. not (is_valid_at validity i) || is_key (length dictionary.slots) (key_at key source.is_little_endian keys i))
-    (window (λ i. i) 0 (taken_of limit count)))
+      (window (λ i. i) 0 (taken_of limit count)))
   Some (slots_by validity (λ i. slot_of_key dictionary.slots (key_at key source.is_little_endian keys i)) (taken_of limit count))
 
 -- ---- every type

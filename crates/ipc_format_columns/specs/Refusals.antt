@@ -1,5 +1,5 @@
 -- Why bytes are refused: what stands in them, whatever else is broken.
-use Rattle.std.specs.Prelude.{◌≡◌, ℕ, zero, suc, ◌+◌, Bool, true, false, List, [], ◌∷◌, length, codes, Option, Some, None, IfSome, nat_lt}
+use Rattle.std.specs.Prelude.{◌≡◌, ℕ, zero, suc, ◌+◌, Bool, true, false, List, [], ◌∷◌, length, codes, Option, Some, None, IsSome, IsSomeAnd, nat_lt}
 use Rattle.std.specs.Int.{w8}
 use Rattle.ipc_format_flatbuffers.specs.Reading.{◌>>=◌, guard}
 use Rattle.ipc_format_flatbuffers.specs.FlatBuffers.{Table, number_field, truth_field, table_field, vector_field, element_at}
@@ -43,7 +43,7 @@ IsFloat bytes field = number_field w8 bytes field 2 0 ≡ Some float_tag
 
 -- a float field stands in a schema, at some path
 abbrev pub HasFloatField : List ℕ → Table → Type 0
-HasFloatField bytes schema = (k : ℕ) × (path : List ℕ) × IfSome (field_of_schema bytes schema k path) (IsFloat bytes)
+HasFloatField bytes schema = (k : ℕ) × (path : List ℕ) × IsSomeAnd (field_of_schema bytes schema k path) (IsFloat bytes)
 
 -- the metadata with the schema, and the schema's table
 abbrev pub schema_in_message : Framed → message.Header → Option (List ℕ × Table)
@@ -60,7 +60,7 @@ schema_table file bytes = do
 
 -- a float field stands in the bytes
 abbrev pub HasFloat : Form → List ℕ → Type 0
-HasFloat form bytes = IfSome (schema_table form bytes) (λ found. HasFloatField found.0 found.1)
+HasFloat form bytes = IsSomeAnd (schema_table form bytes) (λ found. HasFloatField found.0 found.1)
 
 -- ---- a batch that is compressed, and a dictionary that adds to an earlier one (Message.fbs)
 
@@ -117,11 +117,11 @@ is_delta metadata _ = None
 -- a batch of the bytes is compressed
 abbrev pub HasCompression : Form → List ℕ → Type 0
 HasCompression form bytes = (among_dictionaries : Bool) × (k : ℕ) ×
-    IfSome (message_at form bytes among_dictionaries k) (λ found. IfSome (compression_in found) (λ table. Unit {0}))
+    IsSomeAnd (message_at form bytes among_dictionaries k) (λ found. IsSome (compression_in found))
 
 -- a dictionary of the bytes adds to an earlier one
 abbrev pub HasDelta : Form → List ℕ → Type 0
-HasDelta form bytes = (k : ℕ) × IfSome (message_at form bytes true k) (λ found. is_delta found.0 found.1 ≡ Some true)
+HasDelta form bytes = (k : ℕ) × IsSomeAnd (message_at form bytes true k) (λ found. is_delta found.0 found.1 ≡ Some true)
 
 -- ---- older files
 

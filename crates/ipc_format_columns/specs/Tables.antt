@@ -35,7 +35,7 @@ ids_at below (suc k) = ids_at (other_ids below) k
 abbrev pub column_in : Layout → List Dictionary → Source → Option ℕ → ℕ → Field → Option (List Slot)
 column_in layout standing source limit k field =
     slots_in field.data_type source standing limit (node_number layout.fields k) (buffer_number source.version layout.fields k)
-      (ids_at layout.below k)
+    (ids_at layout.below k)
 
 -- the columns of some fields, from column k on
 abbrev pub columns_from : Layout → List Dictionary → Source → ℕ → List Field → Option (List (List Slot))

@@ -12,7 +12,8 @@ map-map f g (x ∷ xs) = ap (λ rest. f (g x) ∷ rest) (map-map f g xs)
 
 -- two maps of a layer are one
 pub two_maps : {A B C D : Type 0} (f : DataType → A) (f_field : Field → B) (g : A → C) (g_field : B → D) (x : layer.DataType-F DataType Field)
-    → map-DataType A B C D g g_field (map-DataType DataType Field A B f f_field x) ≡ map-DataType DataType Field C D (λ t. g (f t)) (λ u. g_field (f_field u)) x
+    → map-DataType A B C D g g_field (map-DataType DataType Field A B f f_field x)
+    ≡ map-DataType DataType Field C D (λ t. g (f t)) (λ u. g_field (f_field u)) x
 two_maps f f_field g g_field (layer.Struct children) = ap layer.Struct (map-map g_field f_field children)
 two_maps f f_field g g_field (layer.Union children ids mode) = ap (λ more. layer.Union more ids mode) (map-map g_field f_field children)
 two_maps f f_field g g_field _ = refl
@@ -49,13 +50,15 @@ module _ {A B : Type 0} (v : DataType → Bool) (v_field : Field → Bool) (f g 
   abbrev pub ValidField : Type 0
   ValidField = (u : Field) × (v_field u ≡ true → f_field u ≡ g_field u)
 
-  valid_lists : (ys : List ValidField) → all_of (map v_field (map (λ e. e.0) ys)) ≡ true → map f_field (map (λ e. e.0) ys) ≡ map g_field (map (λ e. e.0) ys)
+  valid_lists : (ys : List ValidField) → all_of (map v_field (map (λ e. e.0) ys)) ≡ true → map f_field (map (λ e. e.0) ys)
+      ≡ map g_field (map (λ e. e.0) ys)
   valid_lists [] h = refl
   valid_lists (y ∷ ys) h =
       let parts = and_parts (v_field y.0) (all_of (map v_field (map (λ e. e.0) ys))) h in λ j. y.1 parts.0 j ∷ valid_lists ys parts.1 j
 
   pub valid_layers : (y : layer.DataType-F ValidType ValidField)
-      → valid_step (map-DataType DataType Field Bool Bool v v_field (map-DataType ValidType ValidField DataType Field (λ e. e.0) (λ e. e.0) y)) ≡ true
+      → valid_step (map-DataType DataType Field Bool Bool v v_field (map-DataType ValidType ValidField DataType Field (λ e. e.0) (λ e. e.0) y))
+      ≡ true
       → map-DataType DataType Field A B f f_field (map-DataType ValidType ValidField DataType Field (λ e. e.0) (λ e. e.0) y)
       ≡ map-DataType DataType Field A B g g_field (map-DataType ValidType ValidField DataType Field (λ e. e.0) (λ e. e.0) y)
   valid_layers (layer.List item) h = ap layer.List (item.1 h)

@@ -1,3 +1,8 @@
+pub mod Counts
+pub mod DefaultIds
+pub mod FlatColumns
+pub mod FreshColumns
+pub mod FreshStrings
 pub mod Layers
 pub mod NormalForms
 pub mod NormalPairs

@@ -5,13 +5,12 @@ use Rattle.std.specs.List.{list_all}
 use Rattle.std.proofs.lemmas.Bool.{and_parts, and_from}
 use Rattle.columnar_memory.specs.declared.DataType.{DataType, map-DataType}
 use Rattle.columnar_memory.specs.declared.DataType.TheOpen as layer
-use Rattle.columnar_memory.specs.declared.DataType.TheFolds.{fold-DataType, fold-Field, fold-roll-DataType, fold-roll-Field, ind-DataType}
+use Rattle.columnar_memory.specs.declared.DataType.TheFolds.{fold-Field, fold-roll-DataType, fold-roll-Field, ind-DataType}
 use Rattle.columnar_memory.specs.declared.DataType.TheViews.{roll-DataType, roll-Field}
 use Rattle.columnar_memory.specs.declared.Field.{Field, map-Field}
-use Rattle.columnar_memory.specs.declared.Schema.{Schema}
 use Rattle.ipc_format_grammar.specs.Writable.{Report, report_step, field_step, report_of, reports_of, over_all, plain, is_writable, normalised_step, normalised_type, normalised_pairs, normalised_field, normalised}
-use Rattle.ipc_format_laws.specs.NormalForm.{KeepsNormal, KeepsValid, KeepsWritable, valid_step, valid_field_step, is_valid_type, is_valid_field, is_valid_schema, are_sorted}
-use Rattle.ipc_format_laws.proofs.Layers.{two_maps, same_layers, SameType, SameField, valid_layers, ValidType, ValidField}
+use Rattle.ipc_format_laws.specs.NormalForm.{KeepsNormal, KeepsValid, KeepsWritable, valid_step, valid_field_step, is_valid_type, is_valid_field, are_sorted}
+use Rattle.ipc_format_laws.proofs.Layers.{two_maps, same_layers, valid_layers}
 use Rattle.ipc_format_laws.proofs.NormalPairs.{pairs_normal, pairs_sorted}
 
 abbrev normal : DataType → DataType
@@ -68,19 +67,21 @@ abbrev KeepsFieldReport : Field → Type 0
 KeepsFieldReport u = report_field (normal_field u) ≡ report_field u
 
 report_layer : (x : Layer) (y : layer.DataType-F ((t : DataType) × KeepsReport t) ((u : Field) × KeepsFieldReport u))
-    → map-DataType ((t : DataType) × KeepsReport t) ((u : Field) × KeepsFieldReport u) DataType Field (λ e. e.0) (λ e. e.0) y ≡ x → KeepsReport (roll-DataType x)
+    → map-DataType ((t : DataType) × KeepsReport t) ((u : Field) × KeepsFieldReport u) DataType Field (λ e. e.0) (λ e. e.0) y ≡ x
+    → KeepsReport (roll-DataType x)
 report_layer x y is =
     let below : map-DataType DataType Field Report Report (λ t. report_of (normal t)) (λ u. report_field (normal_field u)) x
-        ≡ map-DataType DataType Field Report Report report_of report_field x =
+    ≡ map-DataType DataType Field Report Report report_of report_field x =
     subst (λ (x : Layer). map-DataType DataType Field Report Report (λ t. report_of (normal t)) (λ u. report_field (normal_field u)) x
-      ≡ map-DataType DataType Field Report Report report_of report_field x) is
-      (same_layers (λ t. report_of (normal t)) report_of (λ u. report_field (normal_field u)) report_field y) in
+    ≡ map-DataType DataType Field Report Report report_of report_field x) is
+    (same_layers (λ t. report_of (normal t)) report_of (λ u. report_field (normal_field u)) report_field y) in
     ap report_of (normal_roll x) ∙ report_roll (map-DataType DataType Field DataType Field normal normal_field x)
     ∙ ap report_step (two_maps normal normal_field report_of report_field x ∙ below)
     ∙ sym (report_roll x)
 
 report_field_layer : (x : FieldLayer) (y : layer.Field-F ((t : DataType) × KeepsReport t) ((u : Field) × KeepsFieldReport u))
-    → map-Field ((t : DataType) × KeepsReport t) ((u : Field) × KeepsFieldReport u) DataType Field (λ e. e.0) (λ e. e.0) y ≡ x → KeepsFieldReport (roll-Field x)
+    → map-Field ((t : DataType) × KeepsReport t) ((u : Field) × KeepsFieldReport u) DataType Field (λ e. e.0) (λ e. e.0) y ≡ x
+    → KeepsFieldReport (roll-Field x)
 report_field_layer x y is =
     let below : report_of (normal x.data_type) ≡ report_of x.data_type =
     subst (λ (t : DataType). report_of (normal t) ≡ report_of t) (ap (λ (x : FieldLayer). x.data_type) is) y.data_type.1 in
@@ -114,21 +115,23 @@ abbrev IsNormalField : Field → Type 0
 IsNormalField u = valid_field u ≡ true → normal_field (normal_field u) ≡ normal_field u
 
 normal_layer_again : (x : Layer) (y : layer.DataType-F ((t : DataType) × IsNormal t) ((u : Field) × IsNormalField u))
-    → map-DataType ((t : DataType) × IsNormal t) ((u : Field) × IsNormalField u) DataType Field (λ e. e.0) (λ e. e.0) y ≡ x → IsNormal (roll-DataType x)
+    → map-DataType ((t : DataType) × IsNormal t) ((u : Field) × IsNormalField u) DataType Field (λ e. e.0) (λ e. e.0) y ≡ x
+    → IsNormal (roll-DataType x)
 normal_layer_again x y is h =
     let below : valid_step (map-DataType DataType Field Bool Bool is_valid_type valid_field x) ≡ true
-        → map-DataType DataType Field DataType Field (λ t. normal (normal t)) (λ u. normal_field (normal_field u)) x
-        ≡ map-DataType DataType Field DataType Field normal normal_field x =
+    → map-DataType DataType Field DataType Field (λ t. normal (normal t)) (λ u. normal_field (normal_field u)) x
+    ≡ map-DataType DataType Field DataType Field normal normal_field x =
     subst (λ (x : Layer). valid_step (map-DataType DataType Field Bool Bool is_valid_type valid_field x) ≡ true
-      → map-DataType DataType Field DataType Field (λ t. normal (normal t)) (λ u. normal_field (normal_field u)) x
-      ≡ map-DataType DataType Field DataType Field normal normal_field x) is
-      (valid_layers is_valid_type valid_field (λ t. normal (normal t)) normal (λ u. normal_field (normal_field u)) normal_field y) in
+    → map-DataType DataType Field DataType Field (λ t. normal (normal t)) (λ u. normal_field (normal_field u)) x
+    ≡ map-DataType DataType Field DataType Field normal normal_field x) is
+    (valid_layers is_valid_type valid_field (λ t. normal (normal t)) normal (λ u. normal_field (normal_field u)) normal_field y) in
     ap normal (normal_roll x) ∙ normal_roll (map-DataType DataType Field DataType Field normal normal_field x)
     ∙ ap roll-DataType (two_maps normal normal_field normal normal_field x ∙ below (sym (valid_roll x) ∙ h))
     ∙ sym (normal_roll x)
 
 normal_field_again : (x : FieldLayer) (y : layer.Field-F ((t : DataType) × IsNormal t) ((u : Field) × IsNormalField u))
-    → map-Field ((t : DataType) × IsNormal t) ((u : Field) × IsNormalField u) DataType Field (λ e. e.0) (λ e. e.0) y ≡ x → IsNormalField (roll-Field x)
+    → map-Field ((t : DataType) × IsNormal t) ((u : Field) × IsNormalField u) DataType Field (λ e. e.0) (λ e. e.0) y ≡ x
+    → IsNormalField (roll-Field x)
 normal_field_again x y is h =
     let parts = and_parts (is_valid_type x.data_type) (are_sorted x.metadata) (sym (valid_roll_field x) ∙ h) in
     let below : IsNormal x.data_type = subst IsNormal (ap (λ (x : FieldLayer). x.data_type) is) y.data_type.1 in
@@ -150,10 +153,12 @@ field_again field h =
     ap (λ (again : DataType). field_with field again (normalised_pairs again pairs)) (type_again field.data_type parts.0)
     ∙ ap (field_with field t) (pairs_normal t field.metadata parts.1)
 
-fields_again : (fields : List Field) → list_all is_valid_field fields ≡ true → map normalised_field (map normalised_field fields) ≡ map normalised_field fields
+fields_again : (fields : List Field) → list_all is_valid_field fields ≡ true → map normalised_field (map normalised_field fields)
+    ≡ map normalised_field fields
 fields_again [] h = refl
 fields_again (field ∷ fields) h =
-    let parts = and_parts (is_valid_field field) (list_all is_valid_field fields) h in λ j. field_again field parts.0 j ∷ fields_again fields parts.1 j
+    let parts = and_parts (is_valid_field field)
+    (list_all is_valid_field fields) h in λ j. field_again field parts.0 j ∷ fields_again fields parts.1 j
 
 pub keeps_normal : KeepsNormal
 unfolding normalised
@@ -170,21 +175,23 @@ abbrev StaysValidField : Field → Type 0
 StaysValidField u = valid_field u ≡ true → valid_field (normal_field u) ≡ valid_field u
 
 valid_layer : (x : Layer) (y : layer.DataType-F ((t : DataType) × StaysValid t) ((u : Field) × StaysValidField u))
-    → map-DataType ((t : DataType) × StaysValid t) ((u : Field) × StaysValidField u) DataType Field (λ e. e.0) (λ e. e.0) y ≡ x → StaysValid (roll-DataType x)
+    → map-DataType ((t : DataType) × StaysValid t) ((u : Field) × StaysValidField u) DataType Field (λ e. e.0) (λ e. e.0) y ≡ x
+    → StaysValid (roll-DataType x)
 valid_layer x y is h =
     let below : valid_step (map-DataType DataType Field Bool Bool is_valid_type valid_field x) ≡ true
-        → map-DataType DataType Field Bool Bool (λ t. is_valid_type (normal t)) (λ u. valid_field (normal_field u)) x
-        ≡ map-DataType DataType Field Bool Bool is_valid_type valid_field x =
+    → map-DataType DataType Field Bool Bool (λ t. is_valid_type (normal t)) (λ u. valid_field (normal_field u)) x
+    ≡ map-DataType DataType Field Bool Bool is_valid_type valid_field x =
     subst (λ (x : Layer). valid_step (map-DataType DataType Field Bool Bool is_valid_type valid_field x) ≡ true
-      → map-DataType DataType Field Bool Bool (λ t. is_valid_type (normal t)) (λ u. valid_field (normal_field u)) x
-      ≡ map-DataType DataType Field Bool Bool is_valid_type valid_field x) is
-      (valid_layers is_valid_type valid_field (λ t. is_valid_type (normal t)) is_valid_type (λ u. valid_field (normal_field u)) valid_field y) in
+    → map-DataType DataType Field Bool Bool (λ t. is_valid_type (normal t)) (λ u. valid_field (normal_field u)) x
+    ≡ map-DataType DataType Field Bool Bool is_valid_type valid_field x) is
+    (valid_layers is_valid_type valid_field (λ t. is_valid_type (normal t)) is_valid_type (λ u. valid_field (normal_field u)) valid_field y) in
     ap is_valid_type (normal_roll x) ∙ valid_roll (map-DataType DataType Field DataType Field normal normal_field x)
     ∙ ap valid_step (two_maps normal normal_field is_valid_type valid_field x ∙ below (sym (valid_roll x) ∙ h))
     ∙ sym (valid_roll x)
 
 valid_field_layer : (x : FieldLayer) (y : layer.Field-F ((t : DataType) × StaysValid t) ((u : Field) × StaysValidField u))
-    → map-Field ((t : DataType) × StaysValid t) ((u : Field) × StaysValidField u) DataType Field (λ e. e.0) (λ e. e.0) y ≡ x → StaysValidField (roll-Field x)
+    → map-Field ((t : DataType) × StaysValid t) ((u : Field) × StaysValidField u) DataType Field (λ e. e.0) (λ e. e.0) y ≡ x
+    → StaysValidField (roll-Field x)
 valid_field_layer x y is h =
     let parts = and_parts (is_valid_type x.data_type) (are_sorted x.metadata) (sym (valid_roll_field x) ∙ h) in
     let below : StaysValid x.data_type = subst StaysValid (ap (λ (x : FieldLayer). x.data_type) is) y.data_type.1 in
@@ -203,8 +210,9 @@ fields_valid (field ∷ fields) h =
     let here = and_parts (is_valid_type field.data_type) (are_sorted field.metadata) parts.0 in
     let t = normal field.data_type in
     and_from (is_valid_field (normalised_field field)) (list_all is_valid_field (map normalised_field fields))
-      (and_from (is_valid_type t) (are_sorted (normalised_pairs t field.metadata)) (type_valid field.data_type here.0 ∙ here.0) (pairs_sorted t field.metadata here.1))
-      (fields_valid fields parts.1)
+    (and_from (is_valid_type t) (are_sorted (normalised_pairs t field.metadata)) (type_valid field.data_type here.0
+    ∙ here.0) (pairs_sorted t field.metadata here.1))
+    (fields_valid fields parts.1)
 
 pub keeps_valid : KeepsValid
 unfolding normalised

@@ -1,1 +1,4 @@
+pub mod Counts
+pub mod DefaultIds
+pub mod Fresh
 pub mod NormalForm

@@ -21,13 +21,9 @@ fn schema_messages()
 /// The pairs of an extension as they are written, and its keys dropped where the type is none.
 #[tactic(auto, using(crate::proofs::WritableSchemas::pairs_of_extension, crate::proofs::WritableSchemas::normalised_x))]
 fn extensions()
-    ensures pairs {
-        written_pairs (Some (codes "e", Some (codes "m"))) ((codes "a", codes "1") ∷ [])
-        ≡ (extension_metadata_key, codes "m") ∷ (extension_name_key, codes "e") ∷ (codes "a", codes "1") ∷ []
-    }
-    ensures normalised {
-        normalised (record x_int32 { fields = record number_x { metadata = (extension_metadata_key, codes "m") ∷ [] } ∷ [] }) ≡ x_int32
-    }
+    ensures pairs { written_pairs (Some (codes "e", Some (codes "m"))) ((codes "a", codes "1") ∷ [])
+        ≡ (extension_metadata_key, codes "m") ∷ (extension_name_key, codes "e") ∷ (codes "a", codes "1") ∷ [] }
+    ensures normalised { normalised (record x_int32 { fields = record number_x { metadata = (extension_metadata_key, codes "m") ∷ [] } ∷ [] }) ≡ x_int32 }
 {}
 
 /// Nodes and buffers of a sparse union, with a validity bitmap more before V5, of a fixed-size list and of a struct.

@@ -54,7 +54,7 @@ bytes_column w slots =
 abbrev pub list_column : Width → Encoder → Encoder
 list_column w item slots =
     column_over (node_of slots) (validity_bytes slots ∷ offset_bytes w (map (λ slot. length (items_of slot)) slots) ∷ [])
-      (item (joined_items slots) ∷ [])
+    (item (joined_items slots) ∷ [])
 
 -- the columns of the fields of records, from field k on
 abbrev pub field_columns : List Encoder → List Slot → ℕ → List Encoded

@@ -81,7 +81,7 @@ abbrev mutual
       column_over (node_over n (cut_mask mask o n)) (mask_bytes (cut_mask mask o n) ∷ stored_buffers (offset_width (type_layer data_type)) (cut_stored stored o n)) []
   encode_range (lists data_type mask offsets child) o n = let taken = cut_list offsets o (n + 1) in
       column_over (node_over n (cut_mask mask o n)) (mask_bytes (cut_mask mask o n) ∷ moved_bytes (offset_width (type_layer data_type)) taken ∷ [])
-        (encode_range child (slice_index taken 0) (last_offset taken - slice_index taken 0) ∷ [])
+      (encode_range child (slice_index taken 0) (last_offset taken - slice_index taken 0) ∷ [])
   encode_range (fixed_lists data_type mask size child) o n =
       column_over (node_over n (cut_mask mask o n)) (mask_bytes (cut_mask mask o n) ∷ []) (encode_range child (size * o) (size * n) ∷ [])
   encode_range (records data_type mask count children) o n =

@@ -50,8 +50,8 @@ abbrev pub batch_blocks : ℕ → List Given → List Batch → Blocks
 batch_blocks place written [] = record { dictionaries = []; record_batches = [] }
 batch_blocks place written (batch ∷ batches) =
     dictionary_blocks place (to_write written batch.given) (λ here.
-      let message = record_message batch.rows batch.columns in
-      with_record_batch (block_of here message) (batch_blocks (place_after here message) (written_after written batch.given) batches))
+    let message = record_message batch.rows batch.columns in
+    with_record_batch (block_of here message) (batch_blocks (place_after here message) (written_after written batch.given) batches))
 
 -- ---- the footer
 

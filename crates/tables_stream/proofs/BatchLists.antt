@@ -141,9 +141,10 @@ pub batches_cut : (schema : Schema) (bytes : List ℕ) (first : ℕ) (batches : 
     → ((version : Version) → stream_batches schema version (length bytes) bytes first ≡ None) × (truncated_from (length bytes) bytes first 0 ≡ Some true)
 batches_cut schema bytes first batches place int32 read e =
     let most = length bytes - length batches - 1 in
-    let all : length batches + suc most ≡ length bytes = omega (arith, read.few, read.inside) in
-    (λ version. step_left schema version bytes first batches place most (Some cut_off) int32 read e all,
-      read.whole (suc most) all ∙ cut_here (length schema.fields) most bytes place e)
+    let all : length batches + suc most ≡ length bytes = omega (arith, read.few, read.inside) in (
+      λ version. step_left schema version bytes first batches place most (Some cut_off) int32 read e all,
+      read.whole (suc most) all ∙ cut_here (length schema.fields) most bytes place e,
+    )
 
 -- ---- how many rows there are
 

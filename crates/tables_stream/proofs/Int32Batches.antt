@@ -102,7 +102,7 @@ columns_are_int32 layout standing version metadata vectors body k (field ∷ res
 source_parts : {B : Type 0} (version : Version) (metadata : List ℕ) (header : Header) (table : flat.Table) (body : List ℕ) (f : Source → Option B)
     → (source_in true (stream_entry version (record { metadata = metadata; header = header; body = body })) table >>= f)
     ≡ (record_batch_in metadata table >>= (λ vectors. guard (not vectors.is_compressed) >>= (λ _. lengths_sum metadata vectors.buffers >>= (λ sum.
-      guard (nat_le sum (length body)) >>= (λ _. f (source_by version metadata vectors body))))))
+    guard (nat_le sum (length body)) >>= (λ _. f (source_by version metadata vectors body))))))
 unfolding source_in
 source_parts version metadata header table body f =
     bind_assoc {A = RecordBatch} (record_batch_in metadata table) _ f ∙

@@ -86,7 +86,7 @@ came_of (Some x) f y e = (x, refl, e)
 later_fit : (layout : Layout) (version : Version) (schema : Schema) (later : Option (List Framed)) (given : Option (List (List (List Slot))))
     → (later >>= later_batches layout version) ≡ given
     → (later >>= (λ more. later_batches layout version more >>= (λ batches. guard (nat_lt (length (rows_of_batches batches)) (2 ^ 64))
-      >>= (λ _. Some (record { schema = schema; rows = rows_of_batches batches }))))) ≡ fitting schema given
+    >>= (λ _. Some (record { schema = schema; rows = rows_of_batches batches }))))) ≡ fitting schema given
 later_fit layout version schema None given e = rw (sym e) refl
 later_fit layout version schema (Some more) given e = rw (sym e) refl
 
@@ -254,7 +254,7 @@ pub read_whole : (bytes : List ℕ) (found : SchemaIn) (place : ℕ) (schema : S
 read_whole bytes found place schema (Ok stored) e same int32_schema read =
     let whole = stream_from bytes found place schema e same int32_schema in (
       whole.table ∙ ap (fitting schema) (read.1 whole.version)
-      ∙ ap (λ (s : Schema). fitting s (Some (map batch_slots stored.batches))) (sym (read.0)) ∙ fits stored read.2,
+          ∙ ap (λ (s : Schema). fitting s (Some (map batch_slots stored.batches))) (sym (read.0)) ∙ fits stored read.2,
       whole.batches ∙ read.1 whole.version,
       subst IsInt32Schema (sym (read.0)) int32_schema,
     )

@@ -111,8 +111,8 @@ widths_of_cut n o count (batch ∷ batches) all =
     let begin = min (rows_of_cells batch) o in
     let taken = min (rows_of_cells batch - begin) count in
     window_if n (nat_lt 0 taken) (window_cells begin taken batch) (cut_of (o - begin) (count - taken) batches)
-      (length-map batch _ ∙ All-head (HasWidth n) batch batches all)
-      (widths_of_cut n (o - begin) (count - taken) batches (All-tail (HasWidth n) batch batches all))
+    (length-map batch _ ∙ All-head (HasWidth n) batch batches all)
+    (widths_of_cut n (o - begin) (count - taken) batches (All-tail (HasWidth n) batch batches all))
 
 -- a cut of such a table is one
 pub cut_is_int32 : (known same : Schema) (o count : ℕ) (batches windows : List (List (List (Option ℤ)))) → IsInt32Table known batches → same ≡ known

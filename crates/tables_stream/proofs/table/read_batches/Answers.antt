@@ -37,7 +37,7 @@ returns-in_default c =
     let too_many : 2 ^ 64 ≤ c.loop-batches.rows + batch.rows = search rules in
     let many : 2 ^ 64 ≤ sum_by rows_of_cells cells + rows_of_cells (stored_cells batch) = omega (arith, too_many, batch.counted, c.loop-batches.invariant.counted) in
     λ version. batches_many c.args.schema version c.args.bytes.now c.args.first cells (stored_cells batch) c.loop-batches.place c.in-Rows.after
-      c.requires.schema c.loop-batches.invariant.read step many
+    c.requires.schema c.loop-batches.invariant.read step many
 
 pub loop-batches-preserved : goal.loop-batches-preserved
 loop-batches-preserved c =
@@ -61,6 +61,9 @@ pub returns : goal.returns
 returns c =
     let n = length c.args.schema.fields in
     let cells : List (List Cells) = map stored_cells c.loop-batches.batches.items in
-    let step : step_at n c.args.bytes.now c.loop-batches.place ≡ Some ended = search rules in
-    (refl, λ version. batches_end c.args.schema version c.args.bytes.now c.args.first cells c.loop-batches.place c.requires.schema
-      c.loop-batches.invariant.read step, omega (arith, c.loop-batches.invariant.counted, c.loop-batches.invariant.fits))
+    let step : step_at n c.args.bytes.now c.loop-batches.place ≡ Some ended = search rules in (
+      refl,
+      λ version. batches_end c.args.schema version c.args.bytes.now c.args.first cells c.loop-batches.place c.requires.schema
+          c.loop-batches.invariant.read step,
+      omega (arith, c.loop-batches.invariant.counted, c.loop-batches.invariant.fits),
+    )

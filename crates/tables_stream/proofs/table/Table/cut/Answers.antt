@@ -15,6 +15,8 @@ pub invariant_of-result : goal.invariant_of-result
 invariant_of-result c =
     let same : c.in_ok-schema.schema ≡ c.self.inside.schema = search rules in
     let batches = map stored_cells c.self.inside.batches.items in
-    let windows : map stored_cells c.in_ok-batches.batches.items ≡ cut_of c.args.offset c.args.length batches = search rules in
-    (search rules, cut_is_int32 c.self.inside.schema c.in_ok-schema.schema c.args.offset c.args.length batches
-      (map stored_cells c.in_ok-batches.batches.items) c.self.invariant.1 same windows)
+    let windows : map stored_cells c.in_ok-batches.batches.items ≡ cut_of c.args.offset c.args.length batches = search rules in (
+      search rules,
+      cut_is_int32 c.self.inside.schema c.in_ok-schema.schema c.args.offset c.args.length batches
+          (map stored_cells c.in_ok-batches.batches.items) c.self.invariant.1 same windows,
+    )

@@ -1,0 +1,13 @@
+use Rattle.columnar_memory_bits.specs.Bits.{bits_of}
+use Rattle.columnar_memory_bits.specs.Words.{word_at}
+use Rattle.columnar_memory_kernels.specs.Kernels.{AnswersTwo}
+use Rattle.columnar_memory_kernels.proofs.InPlace.{IsWritten}
+use Rattle.columnar_memory_kernels.proofs.assign.assign_two.Given as goal
+
+abbrev pub invariant-loop-k : goal.invariant-loop-k
+invariant-loop-k g l = record {
+  callable : goal.F-IsAlwaysCallable g l.op;
+  written : IsWritten g.T.BitChunk.width (λ j. AnswersTwo g.T.BitChunk.value (λ x y z. g.F.Fn.post l.op (x, (y, tt)) z)
+      (word_at g.T.BitChunk.width (bits_of l.fn.bytes 0 l.len) j)
+      (word_at g.T.BitChunk.width (bits_of l.other l.offset l.len) j)) l.len l.k l.fn.bytes l.bytes;
+}

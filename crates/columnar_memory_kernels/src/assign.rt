@@ -1,0 +1,77 @@
+ghost use Rattle.std.specs.Prelude.{◌≡◌, ◌+◌, ◌*◌, ◌^◌, ◌<◌, ◌≤◌, length};
+ghost use Rattle.columnar_memory_bits.specs.Bits.{bits_of};
+ghost use Rattle.columnar_memory_bits.specs.Words.{word_at};
+ghost use Rattle.columnar_memory_kernels.specs.Kernels.{IsWordwise, AnswersOne, AnswersTwo};
+
+use crate::write::{bits_of_word, write_word};
+use columnar_memory_bitmap::{Bitmap, MutableBitmap};
+use columnar_memory_bits::{BitChunk, load_word};
+
+/// Writes the answers of a function to the words of some bits over them.
+fn assign_one<T: BitChunk, F: Fn(T) -> T>(bytes: &mut [u8], len: usize, op: F)
+    requires callable { F.IsAlwaysCallable op }
+    requires in_range { len ≤ 8 * length bytes.old }
+    ensures { IsWordwise T.width (λ k. AnswersOne T.value (F.post op) (word_at T.width (bits_of bytes.old 0 len) k)) len (bits_of bytes.new 0 len) }
+{
+    let width = T::bits();
+    for k in 0..len.div_ceil(width) {
+        let first = width * k;
+        let n = bits_of_word(width, first, len);
+        let answer = op(T::from_word(load_word(bytes, first, n)));
+        write_word(bytes, first, answer.to_word(), n);
+    }
+}
+
+/// Writes the answers of a function to the words of some bits, and of as many others, over the first.
+fn assign_two<T: BitChunk, F: Fn(T, T) -> T>(
+    bytes: &mut [u8],
+    len: usize,
+    other: &[u8],
+    offset: usize,
+    op: F,
+)
+    requires callable { F.IsAlwaysCallable op }
+    requires in_range { len ≤ 8 * length bytes.old }
+    requires other_in_range { offset + len ≤ 8 * length other.now }
+    requires other_fits { offset + len < 2 ^ 64 }
+    ensures { IsWordwise T.width (λ k. AnswersTwo T.value (F.post op)
+        (word_at T.width (bits_of bytes.old 0 len) k)
+        (word_at T.width (bits_of other.now offset len) k)) len (bits_of bytes.new 0 len) }
+{
+    let width = T::bits();
+    for k in 0..len.div_ceil(width) {
+        let first = width * k;
+        let n = bits_of_word(width, first, len);
+        let left = T::from_word(load_word(bytes, first, n));
+        let right = T::from_word(load_word(other, offset + first, n));
+        let answer = op(left, right);
+        write_word(bytes, first, answer.to_word(), n);
+    }
+}
+
+/// Replaces the words of a bitmap by the answers of a function to them, in place. A word has as many bits as the type `T`, and the last one
+/// is filled with false.
+pub fn unary_assign<T: BitChunk, F: Fn(T) -> T>(lhs: &mut MutableBitmap, op: F)
+    requires { F.IsAlwaysCallable op }
+    ensures { IsWordwise T.width (λ k. AnswersOne T.value (F.post op) (word_at T.width lhs.old k)) (length lhs.old) lhs.new }
+{
+    let none = MutableBitmap::new(lhs.allocator());
+    let (mut bytes, len) = std::mem::replace(lhs, none).into_inner();
+    assign_one(&mut bytes, len, op);
+    *lhs = MutableBitmap::from_vec(bytes, len);
+}
+
+/// Replaces the words of a bitmap by the answers of a function to them and to those of another of the same length, in place. A word has as
+/// many bits as the type `T`, and the last one is filled with false.
+pub fn binary_assign<T: BitChunk, F: Fn(T, T) -> T>(lhs: &mut MutableBitmap, rhs: &Bitmap, op: F)
+    requires callable { F.IsAlwaysCallable op }
+    requires lengths { length lhs.old ≡ length rhs.now }
+    ensures { IsWordwise T.width (λ k. AnswersTwo T.value (F.post op) (word_at T.width lhs.old k) (word_at T.width rhs.now k))
+        (length lhs.old) lhs.new }
+{
+    let none = MutableBitmap::new(lhs.allocator());
+    let (mut bytes, len) = std::mem::replace(lhs, none).into_inner();
+    let (other, offset, _) = rhs.as_slice();
+    assign_two(&mut bytes, len, other, offset, op);
+    *lhs = MutableBitmap::from_vec(bytes, len);
+}

@@ -1,0 +1,10 @@
+pub mod Options
+pub mod Numbers
+pub mod MetadataPairs
+pub mod TypeSteps
+pub mod FieldSteps
+pub mod FieldLists
+pub mod TypeReads
+pub mod FieldReads
+pub mod SchemaSteps
+pub mod ReportSteps

@@ -1,0 +1,59 @@
+use Rattle.std.proofs.Common.{◌≡◌, ◌∙◌, length, ap, rules}
+use Rattle.std.specs.Prelude.{Some, None, Err}
+use Rattle.ipc_format_flatbuffers.specs.Reading.{◌>>=◌}
+use Rattle.ipc_format_flatbuffers.specs.Views.{table_of, vector_of}
+use Rattle.ipc_format_grammar.specs.Schemas.{field_in, metadata_in, any_schema_in}
+use Rattle.ipc_format_metadata.specs.ReadViews.{fields_view}
+use Rattle.ipc_format_metadata.specs.Steps.{fields_in, order_in, tables_in, FloatAmong, FloatInSchema}
+use Rattle.ipc_format_metadata.proofs.Options.{refuses-first}
+use Rattle.ipc_format_metadata.proofs.SchemaSteps.{made, schema-no-order, schema-no-tables, schema-fields, float-in-schema}
+use Rattle.ipc_format_metadata.proofs.messages.any_schema_in.Goals as goal
+
+pub returns-in_default : goal.returns-in_default
+returns-in_default c =
+    let none : order_in c.args.bytes.now (table_of c.args.table.now) ≡ None = search rules in
+    schema-no-order c.args.bytes.now (table_of c.args.table.now) none
+
+pub returns-in_default-tables_in : goal.returns-in_default-tables_in
+returns-in_default-tables_in c =
+    let order : order_in c.args.bytes.now (table_of c.args.table.now) ≡ Some c.in-Some.is_little_endian = search rules in
+    let none : tables_in c.args.bytes.now (table_of c.args.table.now) ≡ None = search rules in
+    schema-no-tables c.args.bytes.now (table_of c.args.table.now) c.in-Some.is_little_endian order none
+
+pub returns-in_err-found : goal.returns-in_err-found
+returns-in_err-found c =
+    let v = vector_of c.in-Some-tables_in.vector in
+    let order : order_in c.args.bytes.now (table_of c.args.table.now) ≡ Some c.in-Some.is_little_endian = search rules in
+    let tables : tables_in c.args.bytes.now (table_of c.args.table.now) ≡ Some v = search rules in
+    let is : c.from_residual.result ≡ Err c.in_err-found.field-0.0 = search rules in
+    rw (is, schema-fields c.args.bytes.now (table_of c.args.table.now) c.in-Some.is_little_endian v order tables)
+    (refuses-first c.in_err-found.field-0.0 (FloatAmong c.args.bytes.now v)
+    (fields_in (field_in None c.args.bytes.now 64) c.args.bytes.now v (length c.args.bytes.now))
+    (FloatInSchema c.args.bytes.now (table_of c.args.table.now))
+    (λ found. metadata_in c.args.bytes.now (table_of c.args.table.now) 2 >>= made c.in-Some.is_little_endian found)
+    (float-in-schema c.args.bytes.now (table_of c.args.table.now) v tables) c.in_err-found.ensures)
+
+pub returns-in_err-metadata : goal.returns-in_err-metadata
+returns-in_err-metadata c =
+    let v = vector_of c.in-Some-tables_in.vector in
+    let order : order_in c.args.bytes.now (table_of c.args.table.now) ≡ Some c.in-Some.is_little_endian = search rules in
+    let tables : tables_in c.args.bytes.now (table_of c.args.table.now) ≡ Some v = search rules in
+    let is : c.from_residual-in_err-metadata.result ≡ Err c.in_err-metadata.field-0.0 = search rules in
+    let given : any_schema_in None c.args.bytes.now (table_of c.args.table.now) ≡
+    (metadata_in c.args.bytes.now (table_of c.args.table.now) 2 >>= made c.in-Some.is_little_endian (fields_view c.in_ok-found.found)) =
+    schema-fields c.args.bytes.now (table_of c.args.table.now) c.in-Some.is_little_endian v order tables
+    ∙ ap (λ o. o >>= (λ found. metadata_in c.args.bytes.now (table_of c.args.table.now) 2 >>= made c.in-Some.is_little_endian found))
+    c.in_ok-found.ensures in
+    rw (is, given) (refuses-first c.in_err-metadata.field-0.0 ⊥ (metadata_in c.args.bytes.now (table_of c.args.table.now) 2)
+    (FloatInSchema c.args.bytes.now (table_of c.args.table.now))
+    (made c.in-Some.is_little_endian (fields_view c.in_ok-found.found)) (λ never. absurd never) c.in_err-metadata.ensures)
+
+pub returns : goal.returns
+returns c =
+    let v = vector_of c.in-Some-tables_in.vector in
+    let order : order_in c.args.bytes.now (table_of c.args.table.now) ≡ Some c.in-Some.is_little_endian = search rules in
+    let tables : tables_in c.args.bytes.now (table_of c.args.table.now) ≡ Some v = search rules in
+    schema-fields c.args.bytes.now (table_of c.args.table.now) c.in-Some.is_little_endian v order tables
+    ∙ ap (λ o. o >>= (λ found. metadata_in c.args.bytes.now (table_of c.args.table.now) 2 >>= made c.in-Some.is_little_endian found))
+    c.in_ok-found.ensures
+    ∙ ap (λ o. o >>= made c.in-Some.is_little_endian (fields_view c.in_ok-found.found)) c.in_ok-metadata.ensures

@@ -1,0 +1,11 @@
+pub mod Views
+pub mod Leaves
+pub mod Reading
+pub mod Names
+pub mod Parts
+pub mod LayerViews
+pub mod FieldViews
+pub mod Steps
+pub mod ReadViews
+pub mod SchemaViews
+pub mod Reports

@@ -1,0 +1,50 @@
+-- The names of the kinds of broken rules.
+use Rattle.std.specs.Prelude.{◌≡◌, ℕ, List, codes}
+use Rattle.columnar_memory.specs.declared.Error.{Error}
+use Rattle.columnar_memory.specs.declared.Error.TheVariants.{OutOfSpec}
+use Rattle.ipc_format_metadata.specs.declared.out_of_spec.OutOfSpecKind.{OutOfSpecKind}
+use Rattle.ipc_format_metadata.specs.declared.out_of_spec.OutOfSpecKind.TheVariants as kinds
+
+abbrev pub name_of : OutOfSpecKind → List ℕ
+name_of kinds.InvalidHeader = codes "InvalidHeader"
+name_of kinds.InvalidFooter = codes "InvalidFooter"
+name_of kinds.NegativeFooterLength = codes "NegativeFooterLength"
+name_of kinds.InvalidFlatbufferFooter = codes "InvalidFlatbufferFooter"
+name_of kinds.MissingRecordBatches = codes "MissingRecordBatches"
+name_of kinds.InvalidFlatbufferRecordBatches = codes "InvalidFlatbufferRecordBatches"
+name_of kinds.MissingSchema = codes "MissingSchema"
+name_of kinds.InvalidFlatbufferSchema = codes "InvalidFlatbufferSchema"
+name_of kinds.MissingFields = codes "MissingFields"
+name_of kinds.InvalidFlatbufferDictionaries = codes "InvalidFlatbufferDictionaries"
+name_of kinds.InvalidFlatbufferBlock = codes "InvalidFlatbufferBlock"
+name_of kinds.InvalidFlatbufferMessage = codes "InvalidFlatbufferMessage"
+name_of kinds.MissingMessageHeader = codes "MissingMessageHeader"
+name_of kinds.InvalidFlatbufferHeader = codes "InvalidFlatbufferHeader"
+name_of kinds.UnexpectedNegativeInteger = codes "UnexpectedNegativeInteger"
+name_of kinds.UnexpectedMessageType = codes "UnexpectedMessageType"
+name_of kinds.MissingMessageBuffers = codes "MissingMessageBuffers"
+name_of kinds.InvalidFlatbufferBuffers = codes "InvalidFlatbufferBuffers"
+name_of kinds.MissingMessageNodes = codes "MissingMessageNodes"
+name_of kinds.InvalidFlatbufferNodes = codes "InvalidFlatbufferNodes"
+name_of kinds.InvalidFlatbufferBodyLength = codes "InvalidFlatbufferBodyLength"
+name_of kinds.MissingData = codes "MissingData"
+name_of kinds.InvalidFlatbufferData = codes "InvalidFlatbufferData"
+name_of kinds.InvalidFlatbufferVersion = codes "InvalidFlatbufferVersion"
+name_of kinds.InvalidFlatbufferCompression = codes "InvalidFlatbufferCompression"
+name_of kinds.ExpectedBuffer = codes "ExpectedBuffer"
+name_of (kinds.InvalidBuffer a b c d) = codes "InvalidBuffer"
+name_of (kinds.InvalidBuffersLength a b) = codes "InvalidBuffersLength"
+name_of (kinds.InvalidBitmap a b) = codes "InvalidBitmap"
+name_of kinds.InvalidFlatbufferIsDelta = codes "InvalidFlatbufferIsDelta"
+name_of kinds.InvalidFlatbufferId = codes "InvalidFlatbufferId"
+name_of (kinds.InvalidId a) = codes "InvalidId"
+name_of (kinds.InvalidIdDataType a) = codes "InvalidIdDataType"
+name_of kinds.InvalidDataType = codes "InvalidDataType"
+
+-- an error that says a rule's name
+abbrev pub IsNamed : List ℕ → Error → Type 0
+IsNamed name (OutOfSpec text) = text.now ≡ name
+IsNamed name _ = ⊥
+
+abbrev pub IsOutOfSpecBy : OutOfSpecKind → Error → Type 0
+IsOutOfSpecBy kind error = IsNamed (name_of kind) error

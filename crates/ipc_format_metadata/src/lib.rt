@@ -1,0 +1,22 @@
+//! The metadata of Arrow's messages: schemas of every type, read by FlatBuffers address.
+//!
+//! Each function gives what the definition of the format gives (`ipc_format_grammar/specs`).
+#![tactic(auto)]
+
+mod ipc_schema;
+mod layers;
+mod messages;
+mod out_of_spec;
+mod pairs;
+mod schemas;
+mod tags;
+mod types;
+mod writable;
+
+pub use ipc_schema::{IpcField, IpcSchema};
+pub use messages::{MOST_LEVELS, any_schema_in, deserialize_schema, schema_in};
+pub use out_of_spec::OutOfSpecKind;
+pub use writable::can_write;
+
+#[cfg(test)]
+mod tests;
