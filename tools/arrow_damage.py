@@ -2,21 +2,24 @@
 
 import struct
 
-from laying import Number, Structs, Table, Text, Vector
+from laying import FLOATING_POINT, Number, Structs, Table, Text, Vector
 
 EXTREMES = (0, 1, -1, 2, 3, 4, 5, 7, 8, 21, 22, 63, 64, 65, 127, 128, 255, 2**31 - 1, -(2**31), 2**32, 2**40, 2**63 - 1, -(2**63))
 
 
 # What is damaged: bytes and length of the whole, metadata, bodies and single buffers, numbers of slots, framing,
-# a dictionary that is left out, dictionaries of several types under one id, and what a type's table says.
+# a dictionary that is left out, dictionaries of several types under one id, what a type's table says, and what is not implemented.
 KINDS = (
     "byte", "cut", "tree", "tree", "tree", "structs", "structs", "body", "buffer", "buffer", "buffer", "count", "count",
-    "framing", "missing", "clash", "type", "type",
+    "framing", "missing", "clash", "type", "type", "feature",
 )
 
 
-# The slots of a field's table, and the one of its type's table.
-FIELD_SLOTS, TYPE_SLOT = 7, 3
+# The slots of a field's table, and those of its type's tag and table.
+FIELD_SLOTS, TAG_SLOT, TYPE_SLOT = 7, 2, 3
+
+# Where a record batch has its compression, and a dictionary batch its values and whether it is a delta.
+COMPRESSION_SLOT, VALUES_SLOT, DELTA_SLOT = 3, 1, 2
 
 
 def things_in(tree, found):
@@ -40,6 +43,22 @@ def parts_of_types(found):
         if isinstance(owner, Table) and len(owner.slots) == FIELD_SLOTS and index == TYPE_SLOT and isinstance(thing, Table)
     ]
     return [(table, index, slot) for table in tables for index, slot in enumerate(table.slots) if slot is not None]
+
+
+def is_record_batch(thing):
+    return isinstance(thing, Table) and len(thing.slots) > 2 and all(isinstance(slot, Structs) for slot in thing.slots[1:3])
+
+
+def features(found):
+    """Each place where a float, a compression or a dictionary's delta may stand, with what stands there."""
+    tables = [thing for _, _, thing in found if isinstance(thing, Table)]
+    floats = [(table, TAG_SLOT, Number(1, FLOATING_POINT)) for table in tables if len(table.slots) == FIELD_SLOTS]
+    compressions = [(table, COMPRESSION_SLOT, Table()) for table in tables if is_record_batch(table)]
+    deltas = [
+        (table, DELTA_SLOT, Number(1, 1)) for table in tables
+        if len(table.slots) > VALUES_SLOT and is_record_batch(table.slots[VALUES_SLOT])
+    ]
+    return floats + compressions + deltas
 
 
 def holds(tree, thing):
@@ -84,10 +103,14 @@ class Damage:
     # ---- metadata
 
     def tree(self, tree):
-        kind = self.is_due("tree", "structs", "type")
+        kind = self.is_due("tree", "structs", "type", "feature")
         if kind is None:
             return tree
         found = things_in(tree, [])
+        if kind == "feature":
+            for owner, index, thing in self.random.sample(features(found), min(1, len(features(found)))):
+                self.change(owner, index, thing)
+            return tree
         if self.random.random() < 0.1:
             return self.filled(tree, found)
         structs = [entry for entry in found if isinstance(entry[2], Structs) and entry[2].bytes]
@@ -108,7 +131,8 @@ class Damage:
 
     def change(self, owner, index, thing):
         if isinstance(owner, Table):
-            owner.slots = owner.slots[:index] + (thing,) + owner.slots[index + 1 :]
+            before = owner.slots + (None,) * (index - len(owner.slots))
+            owner.slots = before[:index] + (thing,) + before[index + 1 :]
         elif thing is None:
             del owner.items[index]
         else:

@@ -259,7 +259,7 @@ def buffers_of(column, version):
 
 
 class Reading:
-    """One input that is read: its schema, the dictionaries that stand, and the rows so far."""
+    """One input that is read: its schema, the dictionaries that stand, and the rows."""
 
     def __init__(self, schema, columns, limit):
         self.schema, self.limit, self.dictionaries, self.rows = schema, limit, {}, []

@@ -23,9 +23,10 @@ import antt_library
 import arrow_reader
 from arrow_cases import Writer
 from arrow_damage import Damage
-from arrow_metadata import UNFINISHED
+from arrow_metadata import NOT_IMPLEMENTED, UNFINISHED
 from arrow_sealed import NotWritten, file_of, groups_of, schema_message, sealed, stream_of, why_not_sealable
 from arrow_special import SMALL, long_cases
+from arrow_stored import StoredColumns
 from arrow_trees import Spec, numbered
 from arrow_types import Schema, Table, child_fields
 from defined_values import Defined
@@ -88,6 +89,7 @@ class Comparison:
             self.compare_choice(case, read, random)
             self.compare_seal(read, random)
             self.compare_writing(read, random)
+            self.compare_stored(read, random)
 
     def compare_with_case(self, case, is_damaged, read):
         """A sound input reads as what it was made of, or is refused where it passes a limit."""
@@ -105,6 +107,7 @@ class Comparison:
             self.note_types(read.schema.fields)
             if case.form == "stream" and self.defined.defined_end(case.content):
                 raise Disagreement("the input is read whole; the definitions say that it is cut off")
+            self.compare_messages(case, read)
             return
         if isinstance(defined, Table):
             raise Disagreement("the reader refuses (%s)\nthe definitions give\n%s" % (read, defined))
@@ -112,6 +115,31 @@ class Comparison:
         self.reasons[read] += 1
         if read.startswith(UNFINISHED) and not self.defined.defined_end(case.content):
             raise Disagreement("the input is cut off within a message's beginning; the definitions say not")
+        if read.startswith(NOT_IMPLEMENTED) and not (case.form == "file" and read.endswith("a float")):
+            self.compare_cause(case, read)
+
+    def compare_cause(self, case, read):
+        """What the reader has not implemented stands in the bytes, as the definitions find it.
+
+        They find a file's float only behind a whole footer; the reader looks for it first, so this is not compared.
+        """
+        defined, form, content = self.defined, case.form, case.content
+        causes = {
+            "a feather file": lambda: defined.has_feather_mark(form, content),
+            "a float": lambda: defined.has_float(form, content),
+            "a compressed batch": lambda: any(defined.has_compression(form, content, kind) for kind in (False, True)),
+            "a dictionary's delta": lambda: defined.has_delta(form, content),
+        }
+        if not causes[read.split(": ", 1)[1]]():
+            raise Disagreement("the reader refuses (%s), and the definitions do not find it" % read)
+        self.counts["causes of refusals found alike"] += 1
+
+    def compare_messages(self, case, read):
+        """In what is read nothing is compressed and no dictionary adds to another."""
+        defined, form, content = self.defined, case.form, case.content
+        if form == "stream" or read.rows:
+            if any(defined.has_compression(form, content, kind) for kind in (False, True)) or defined.has_delta(form, content):
+                raise Disagreement("the input is read whole; the definitions find a compression or a delta")
 
     def compare_choice(self, case, table, random):
         """A choice of columns under a limit: the reader's, the definitions', and what it is of the whole table."""
@@ -186,6 +214,26 @@ class Comparison:
             if self.defined.defined_writing(form, schema, specs, groups) != ours:
                 raise Disagreement("a %s is laid otherwise: %s %s" % (form, specs, groups))
             self.counts["%ss %s" % (form, "refused alike" if ours is None else "laid alike")] += 1
+
+    def compare_stored(self, table, random):
+        """Stored columns of the rows, cut out of longer ones: the cut has the rows, and is written as a stream that reads as them."""
+        if not table.rows or len(table.rows) > 50:
+            return
+        made, columns, offset = StoredColumns(random, self.defined.terms), [], random.randint(0, 2)
+        for k, field in enumerate(table.schema.fields):
+            slots = [row[k] for row in table.rows]
+            around = [random.choice(slots) for _ in range(offset + random.randint(0, 2))]
+            column = made.column(field.data_type, around[:offset] + slots + around[offset:])
+            cut, are_sound, found = self.defined.defined_cut(column, offset, len(slots))
+            if not are_sound or found != slots:
+                raise Disagreement("a cut of %s has %s (sound: %s)" % (field, found, are_sound))
+            columns.append(cut)
+        self.counts["stored columns cut alike"] += len(columns)
+        content = self.defined.defined_stored_stream(table.schema, numbered(table.schema.fields), columns)
+        read = answer_of(arrow_reader.read, "stream", content)
+        if read != table:
+            raise Disagreement("what stored columns are written as reads as %s instead of %s" % (read, table))
+        self.counts["stored columns' streams read alike"] += 1
 
     def compare_misshaped(self, schema, specs, groups, random):
         """Nothing is written under ids of another shape than the fields."""

@@ -1,12 +1,17 @@
 """The definitions of the project, called on bytes, with their values as the independent reader has them."""
 
+from itertools import takewhile
+
 from antt_library import called, record_of, same
 from arrow_types import Field, Schema, Table
 from definitions import Definitions
 
-FLATBUFFERS, GRAMMAR, COLUMNS, WRITTEN = (
-    "ipc_format_flatbuffers", "ipc_format_grammar", "ipc_format_columns", "ipc_format_written",
+FLATBUFFERS, GRAMMAR, COLUMNS, WRITTEN, ARRAYS = (
+    "ipc_format_flatbuffers", "ipc_format_grammar", "ipc_format_columns", "ipc_format_written", "nested_arrays",
 )
+
+# how many children of a field, and messages, are looked through
+MOST_TRIED = 150
 
 NAMED_PARTS = {"Time32", "Time64", "Duration", "Interval"}
 WITH_CHILD = {"List", "LargeList", "FixedSizeList", "Map"}
@@ -177,10 +182,15 @@ class Defined:
         self.forms = {form: find(COLUMNS, form) for form in ("stream", "file")}
         self.table, self.choice = find(COLUMNS, "table_of"), find(COLUMNS, "choice_of")
         self.ends_early = find(COLUMNS, "EndsInLaterMessage")
+        self.schema_table, self.child_at, self.is_float = (find(COLUMNS, name) for name in ("schema_table", "child_at", "IsFloat"))
+        self.message_at, self.is_delta = find(COLUMNS, "message_at"), find(COLUMNS, "is_delta")
+        self.compression, self.feather_mark = find(COLUMNS, "compression_in"), find(COLUMNS, "HasFeatherMark")
         self.laid, self.schema_message = find(FLATBUFFERS, "laid"), find(GRAMMAR, "schema_message")
         self.default_ids, self.seal = find(WRITTEN, "default_ids"), find(WRITTEN, "sealed")
         self.batch = find(WRITTEN, "batch_of_slots")
         self.stream, self.file = find(WRITTEN, "written_stream"), find(WRITTEN, "written_file")
+        self.stored_batch, self.stream_bytes = find(WRITTEN, "batch_of_stored"), find(WRITTEN, "stream_bytes")
+        self.slots, self.cut, self.is_sound = find(ARRAYS, "slots"), find(ARRAYS, "cut"), find(ARRAYS, "is_sound")
 
     # ---- reading
 
@@ -198,6 +208,43 @@ class Defined:
     def defined_end(self, content):
         """Whether a stream ends within the first four bytes of a later message, as the definitions say."""
         return called(self.ends_early, content)
+
+    # ---- causes of refusals, found by trying every place
+
+    def has_feather_mark(self, form, content):
+        return form == "file" and called(self.feather_mark, content)
+
+    def has_float(self, form, content):
+        """Whether a float field stands at some path of the schema."""
+        found = called(self.schema_table, self.forms[form], content)
+        if found is None:
+            return False
+        metadata, schema = found[0]
+        seen, tables = set(), self.children(metadata, schema, 1)
+        while tables:
+            table = tables.pop()
+            if called(self.is_float, metadata, table):
+                return True
+            place = repr(table.parts())
+            if place not in seen:
+                seen.add(place)
+                tables.extend(self.children(metadata, table, 5))
+        return False
+
+    def children(self, metadata, table, slot):
+        found = (called(self.child_at, metadata, table, slot, k) for k in range(MOST_TRIED))
+        return [child[0] for child in found if child is not None]
+
+    def messages(self, form, content, among_dictionaries):
+        """The messages that are found by their places; of a stream all of them."""
+        found = (called(self.message_at, self.forms[form], content, among_dictionaries, k) for k in range(MOST_TRIED))
+        return [message[0] for message in takewhile(lambda message: message is not None, found)]
+
+    def has_compression(self, form, content, among_dictionaries):
+        return any(self.compression(found) is not None for found in self.messages(form, content, among_dictionaries))
+
+    def has_delta(self, form, content):
+        return any(called(self.is_delta, *found) == (True,) for found in self.messages(form, content, True))
 
     # ---- writing
 
@@ -222,3 +269,17 @@ class Defined:
             batches.append(called(self.batch, fields, ids, columns))
         write = self.stream if form == "stream" else self.file
         return as_text(called(write, self.terms.schema(schema), ids, batches))
+
+    # ---- stored columns
+
+    def defined_cut(self, column, offset, length):
+        """A cut of a stored column, whether both are sound, and the values of the cut."""
+        cut, values = called(self.cut, column, offset, length), Slots()
+        are_sound = called(self.is_sound, column) and called(self.is_sound, cut)
+        return cut, are_sound, [values.value(slot) for slot in called(self.slots, cut)]
+
+    def defined_stored_stream(self, schema, specs, columns):
+        """A stream of one batch of stored columns."""
+        ids = self.terms.ids(specs)
+        batch = called(self.stored_batch, ids, columns)
+        return bytes(called(self.stream_bytes, self.terms.schema(schema), ids, [batch]))
