@@ -29,11 +29,12 @@ from arrow_special import SMALL, long_cases
 from arrow_stored import StoredColumns
 from arrow_trees import Spec, numbered
 from arrow_types import Schema, Table, child_fields
-from defined_values import Defined
+from defined_values import MOST_TRIED, Defined
 from definitions import TOP, deeply
 
 FOLDER = os.path.join(TOP, "bin")
 TOO_LARGE = "too large"
+END_MARK = b"\xff\xff\xff\xff\0\0\0\0"
 
 
 class Disagreement(Exception):
@@ -83,7 +84,7 @@ class Comparison:
         if TOO_LARGE in (read, defined):
             self.counts["inputs too large to be compared"] += 1
         else:
-            self.compare_answers(case, is_damaged, read, defined)
+            self.compare_answers(case, is_damaged, read, defined, random)
         if isinstance(read, Table):
             self.compare_laying(read)
             self.compare_choice(case, read, random)
@@ -98,7 +99,7 @@ class Comparison:
         if not is_damaged and case.table is not None and read != case.table:
             raise Disagreement("the reader does not give what was laid:\n%s\n%s" % (read, case.table))
 
-    def compare_answers(self, case, is_damaged, read, defined):
+    def compare_answers(self, case, is_damaged, read, defined, random):
         """What the reader and the definitions answer."""
         if isinstance(read, Table):
             if defined != read:
@@ -108,6 +109,7 @@ class Comparison:
             if case.form == "stream" and self.defined.defined_end(case.content):
                 raise Disagreement("the input is read whole; the definitions say that it is cut off")
             self.compare_messages(case, read)
+            self.compare_first_rows(case, read, random)
             return
         if isinstance(defined, Table):
             raise Disagreement("the reader refuses (%s)\nthe definitions give\n%s" % (read, defined))
@@ -115,14 +117,21 @@ class Comparison:
         self.reasons[read] += 1
         if read.startswith(UNFINISHED) and not self.defined.defined_end(case.content):
             raise Disagreement("the input is cut off within a message's beginning; the definitions say not")
-        if read.startswith(NOT_IMPLEMENTED) and not (case.form == "file" and read.endswith("a float")):
+        if read.startswith(UNFINISHED):
+            self.compare_unfinished(case.content)
+        if read.startswith(NOT_IMPLEMENTED):
             self.compare_cause(case, read)
 
-    def compare_cause(self, case, read):
-        """What the reader has not implemented stands in the bytes, as the definitions find it.
+    def compare_unfinished(self, content):
+        """What stands before an early end reads as with an end mark there, or both refuse it."""
+        ended = (answer_of(arrow_reader.read, "stream", content[: len(content) - left] + END_MARK) for left in range(4))
+        read = next((table.rows for table in ended if isinstance(table, Table)), None)
+        if self.defined.defined_rows_before_end(content) != read:
+            raise Disagreement("what stands before the input's early end reads otherwise than the definitions say")
+        self.counts["messages before an early end %s" % ("refused alike" if read is None else "read alike")] += 1
 
-        They find a file's float only behind a whole footer; the reader looks for it first, so this is not compared.
-        """
+    def compare_cause(self, case, read):
+        """What the reader has not implemented stands in the bytes, as the definitions find it."""
         defined, form, content = self.defined, case.form, case.content
         causes = {
             "a feather file": lambda: defined.has_feather_mark(form, content),
@@ -140,6 +149,18 @@ class Comparison:
         if form == "stream" or read.rows:
             if any(defined.has_compression(form, content, kind) for kind in (False, True)) or defined.has_delta(form, content):
                 raise Disagreement("the input is read whole; the definitions find a compression or a delta")
+
+    def compare_first_rows(self, case, read, random):
+        """The first messages have the first rows, and all messages have all of them."""
+        defined, form, content = self.defined, case.form, case.content
+        count = defined.message_count(form, content)
+        if count == MOST_TRIED:
+            return
+        some = random.randint(0, count)
+        first, whole = (defined.defined_first_rows(form, content, n) for n in (some, count))
+        if first is None or first != read.rows[: len(first)] or whole != read.rows:
+            raise Disagreement("the first %d of %d messages have the rows\n%s\nof\n%s" % (some, count, first, whole))
+        self.counts["first messages read alike"] += 1
 
     def compare_choice(self, case, table, random):
         """A choice of columns under a limit: the reader's, the definitions', and what it is of the whole table."""

@@ -185,6 +185,7 @@ class Defined:
         self.schema_table, self.child_at, self.is_float = (find(COLUMNS, name) for name in ("schema_table", "child_at", "IsFloat"))
         self.message_at, self.is_delta = find(COLUMNS, "message_at"), find(COLUMNS, "is_delta")
         self.compression, self.feather_mark = find(COLUMNS, "compression_in"), find(COLUMNS, "HasFeatherMark")
+        self.first_batches, self.behind_messages = find(COLUMNS, "first_batches"), find(COLUMNS, "behind_messages")
         self.laid, self.schema_message = find(FLATBUFFERS, "laid"), find(GRAMMAR, "schema_message")
         self.default_ids, self.seal = find(WRITTEN, "default_ids"), find(WRITTEN, "sealed")
         self.batch = find(WRITTEN, "batch_of_slots")
@@ -208,6 +209,25 @@ class Defined:
     def defined_end(self, content):
         """Whether a stream ends within the first four bytes of a later message, as the definitions say."""
         return called(self.ends_early, content)
+
+    def defined_first_rows(self, form, content, count):
+        """The rows of the first messages of a stream, or of a file's first record batches, or None."""
+        found = called(self.first_batches, self.forms[form], count, content)
+        if found is None:
+            return None
+        slots = Slots()
+        return [tuple(map(slots.value, row)) for batch in found[0] for row in zip(*batch)]
+
+    def defined_rows_before_end(self, content):
+        """The rows of the messages up to where a stream ends within the beginning of another one, or None."""
+        count = self.message_count("stream", content)
+        behind = called(self.behind_messages, count, content)
+        is_early = behind is not None and behind[0][0] == "nothing_whole"
+        return self.defined_first_rows("stream", content, count) if is_early else None
+
+    def message_count(self, form, content):
+        """How many messages stand behind a stream's schema, or record batches in a file."""
+        return len(self.messages(form, content, False))
 
     # ---- causes of refusals, found by trying every place
 

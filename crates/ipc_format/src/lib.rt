@@ -1,4 +1,7 @@
-//! Arrow's IPC format: FlatBuffers as Arrow's metadata uses them, and the definitions of the format.
+//! Arrow's IPC format: FlatBuffers as Arrow's metadata uses them, schemas in metadata, and the definitions of the format.
 #![tactic(auto)]
 
 pub use ipc_format_flatbuffers as flatbuffers;
+pub use ipc_format_metadata::{
+    IpcField, IpcSchema, OutOfSpecKind, can_write, deserialize_schema, schema_in,
+};

@@ -60,25 +60,37 @@ pub record Footer : Type 0 where
   pub dictionaries : List Block
   pub record_batches : List Block
 
--- The footer stands before its length and the mark at the end. Its list of record batches has to be there, that of dictionaries not.
-unfoldable pub footer_in : List ℕ → Option Footer
-footer_in bytes = do
+-- The footer's bytes: they stand before their length and the mark at the end, behind the mark at the beginning.
+unfoldable pub footer_bytes : List ℕ → Option (List ℕ)
+footer_bytes bytes = do
   _ ← guard (nat_le 10 (length bytes))
   _ ← guard (stands_at file_mark bytes 0)
   _ ← guard (stands_at file_mark bytes (length bytes - 6))
   stated ← signed_at w32 bytes (length bytes - 10)
   size ← natural stated
   _ ← guard (nat_le (size + 10) (length bytes))
-  footer ← window_at bytes (length bytes - 10 - size) size
+  window_at bytes (length bytes - 10 - size) size
+
+-- the footer's bytes and its schema's table, whatever else stands in the footer
+unfoldable pub footer_schema : List ℕ → Option (List ℕ × Table)
+footer_schema bytes = do
+  footer ← footer_bytes bytes
   root ← root_of footer
-  found_schema ← table_field footer root 1
-  schema ← found_schema
-  found_dictionaries ← vector_field footer root 2 24
-  dictionaries ← blocks_if footer found_dictionaries
-  found_batches ← vector_field footer root 3 24
+  found ← table_field footer root 1
+  schema ← found
+  Some (footer, schema)
+
+-- The footer's list of record batches has to be there, that of dictionaries not.
+unfoldable pub footer_in : List ℕ → Option Footer
+footer_in bytes = do
+  found ← footer_schema bytes
+  root ← root_of found.0
+  found_dictionaries ← vector_field found.0 root 2 24
+  dictionaries ← blocks_if found.0 found_dictionaries
+  found_batches ← vector_field found.0 root 3 24
   vector ← found_batches
-  record_batches ← blocks_of footer vector
-  Some (record { bytes = footer; schema = schema; dictionaries = dictionaries; record_batches = record_batches })
+  record_batches ← blocks_of found.0 vector
+  Some (record { bytes = found.0; schema = found.1; dictionaries = dictionaries; record_batches = record_batches })
 
 -- the metadata of a message, where there is one
 abbrev pub metadata_of : Frame → Option (List ℕ)

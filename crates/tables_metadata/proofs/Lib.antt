@@ -3,9 +3,3 @@ pub mod Sizes
 pub mod Tables
 pub mod Rest
 pub mod Int32Lemmas
-pub mod Options
-pub mod Types
-pub mod Pairs
-pub mod Fields
-pub mod FieldLists
-pub mod SchemaParts

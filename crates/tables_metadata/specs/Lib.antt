@@ -2,4 +2,3 @@ pub mod Views
 pub mod Lengths
 pub mod Int32Schemas
 pub mod Writing
-pub mod Reading

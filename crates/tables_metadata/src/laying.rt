@@ -50,8 +50,8 @@ pub fn schema_message(alloc: Global, schema: &Schema) -> Result<Vec<u8>>
     }
 }
 
-/// Whether the schema is one of those that are supported.
-fn is_int32_schema(schema: &Schema) -> bool
+/// Whether each column is a signed 32-bit integer, and neither a field nor the schema has custom metadata.
+pub fn is_int32_schema(schema: &Schema) -> bool
     ensures { IsTrue result ↔ IsInt32Schema schema.now }
 {
     if !schema.metadata.is_empty() {

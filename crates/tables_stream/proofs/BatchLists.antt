@@ -1,6 +1,8 @@
 -- The batches of a stream, read one after another.
-use Rattle.std.proofs.Common.{◌≡◌, ◌∙◌, ℕ, zero, suc, ◌+◌, ◌-◌, ◌≤◌, ◌<◌, ◌^◌, Bool, true, false, List, [], ◌∷◌, ◌++◌, length, map, refl, sym, ap, ap₂, subst, arith, append_assoc}
-use Rattle.std.specs.Prelude.{Option, Some, None, IfSome, Err, sum_by}
+use Rattle.std.proofs.Common.{◌≡◌, ◌∙◌, ℕ, zero, suc, ◌+◌, ◌-◌, ◌≤◌, ◌<◌, ◌^◌, Bool, true, false, List, [], ◌∷◌, ◌++◌, length, map, refl, sym}
+use Rattle.std.proofs.Common.{ap, ap₂, subst, arith, append_assoc, inl, inr}
+use Rattle.std.proofs.lemmas.Bool.{cases_lt}
+use Rattle.std.specs.Prelude.{Option, Some, None, IsSome, IfSome, IsSomeAnd, Err, sum_by, ◌⊎◌}
 use Rattle.std.proofs.lemmas.List.{map-append, append-nil, length-map, length-append}
 use Rattle.std.proofs.lemmas.List.Sums.{sum_by-cons, sum_by-append}
 use Rattle.std.proofs.lemmas.Grind.{flat_map-append}
@@ -15,12 +17,14 @@ use Rattle.tables_stream.specs.Cells.{slot_of}
 use Rattle.tables_stream.specs.Batches.{rows_of_cells}
 use Rattle.tables_stream.specs.declared.batches.Batch.{Batch}
 use Rattle.tables_stream.specs.Tables.{batch_slots, stored_cells}
-use Rattle.tables_stream.specs.Int32.{batch_by, Step, cut_off, ended, batch_then, step_of, step_at, behind, by_step, stream_batches, Decodes}
+use Rattle.tables_stream.specs.Int32.{batch_by, Step, cut_off, ended, batch_then, step_of, step_at, behind, by_step, stream_batches, first_from}
 use Rattle.tables_stream.specs.Faults.{fault_of}
-use Rattle.tables_stream.specs.Reading.{ReadsBatches}
+use Rattle.ipc_format_columns.specs.Refusals.{next_after}
+use Rattle.ipc_format_metadata.specs.Reading.{Refuses}
+use Rattle.tables_stream.specs.Reading.{ReadsBatches, HasTooManyFrom, IsUnfinishedFrom, IsCompressedThere, HasCompressedFrom}
 use Rattle.tables_metadata.specs.Int32Schemas.{IsInt32Schema}
 use Rattle.ipc_format.specs.Messages.{Version}
-use Rattle.tables_stream.proofs.Int32Batches.{counts_none, batches_step}
+use Rattle.tables_stream.proofs.Int32Batches.{counts_none, batches_step, first_step, one_on, truncated_next}
 use Rattle.tables_stream.proofs.ColumnLists.{Cells}
 
 -- ---- whether the stream is truncated
@@ -75,6 +79,10 @@ pub record BatchesRead (schema : Schema) (bytes : List ℕ) (first : ℕ) (batch
   pub left : (version : Version) (most : ℕ) → length batches + most ≡ length bytes
       → stream_batches schema version (length bytes) bytes first ≡ behind (map batch_slots batches) (stream_batches schema version most bytes place)
   pub whole : (most : ℕ) → length batches + most ≡ length bytes → truncated_from (length bytes) bytes first 0 ≡ truncated_from most bytes place 0
+  pub begun : (version : Version) (n : ℕ)
+      → first_from schema version (length batches + n) bytes first ≡ behind (map batch_slots batches) (first_from schema version n bytes place)
+  pub reached : (n : ℕ) → next_after (length batches + n) bytes first ≡ next_after n bytes place
+  pub before : (n : ℕ) → n < length batches → next_after n bytes first ≡ Some nothing_whole → ⊥
 
 behind_none : {A : Type 0} (rest : Option (List A)) → behind [] rest ≡ rest
 behind_none None = refl
@@ -91,6 +99,10 @@ batches_begin schema bytes first begun inside = record {
   left = λ version most all.
       let same : most ≡ length bytes = omega arith in rw (same) (sym (behind_none (stream_batches schema version (length bytes) bytes first)));
   whole = λ most all. let same : most ≡ length bytes = omega arith in rw (same) refl;
+  begun = λ version n.
+      ap (λ k. first_from schema version k bytes first) (omega arith) ∙ sym (behind_none (first_from schema version n bytes first));
+  reached = λ n. ap (λ k. next_after k bytes first) (omega arith);
+  before = λ n less. absurd (omega arith);
 }
 
 -- one step of the definition
@@ -98,10 +110,32 @@ step_left : (schema : Schema) (version : Version) (bytes : List ℕ) (first : �
     → IsInt32Schema schema → BatchesRead schema bytes first batches place → step_at (length schema.fields) bytes place ≡ step
     → length batches + suc most ≡ length bytes
     → stream_batches schema version (length bytes) bytes first
-    ≡ behind (map batch_slots batches) (step >>= by_step (λ after. stream_batches schema version most bytes after))
+    ≡ behind (map batch_slots batches) (step >>= by_step (Some []) (λ after. stream_batches schema version most bytes after))
 step_left schema version bytes first batches place most step int32 read e all =
     read.left version (suc most) all
     ∙ ap (λ rest. behind (map batch_slots batches) rest) (batches_step schema version most bytes place int32) ∙ rw e refl
+
+-- one step of the first messages
+first_left : (schema : Schema) (version : Version) (n : ℕ) (bytes : List ℕ) (first : ℕ) (batches : List (List Cells)) (place : ℕ) (step : Option Step)
+    → IsInt32Schema schema → BatchesRead schema bytes first batches place → step_at (length schema.fields) bytes place ≡ step
+    → first_from schema version (length batches + suc n) bytes first
+    ≡ behind (map batch_slots batches) (step >>= by_step None (λ after. first_from schema version n bytes after))
+first_left schema version n bytes first batches place step int32 read e =
+    read.begun version (suc n) ∙ ap (λ rest. behind (map batch_slots batches) rest) (first_step schema version n bytes place int32) ∙ rw e refl
+
+-- what was not whole before a batch and one more
+before_more : (n count width : ℕ) (bytes : List ℕ) (first place after : ℕ) (columns : List (List Slot)) → (n < count) ⊎ (count ≤ n) → n < count + 1
+    → ((n : ℕ) → n < count → next_after n bytes first ≡ Some nothing_whole → ⊥) → ((n : ℕ) → next_after (count + n) bytes first ≡ next_after n bytes place)
+    → step_at width bytes place ≡ Some (batch_then columns after) → next_after n bytes first ≡ Some nothing_whole → ⊥
+before_more n count width bytes first place after columns (inl less) h before reached e ends = before n less ends
+before_more n count width bytes first place after columns (inr last) h before reached e ends =
+    let here : n ≡ count + 0 = omega arith in
+    let there : next_after 0 bytes place ≡ Some nothing_whole = sym (reached 0) ∙ sym (ap (λ k. next_after k bytes first) here) ∙ ends in
+    absurd (not_both width bytes place columns after (truncated_next width bytes place there) e)
+  where
+    not_both : (width : ℕ) (bytes : List ℕ) (place : ℕ) (columns : List (List Slot)) (after : ℕ)
+        → step_at width bytes place ≡ Some cut_off → step_at width bytes place ≡ Some (batch_then columns after) → ⊥
+    not_both width bytes place columns after a b = let e : Some cut_off ≡ Some (batch_then columns after) = sym a ∙ b in absurd cc
 
 pub batches_next : (schema : Schema) (bytes : List ℕ) (first : ℕ) (batches more : List (List Cells)) (batch : List Cells) (place after : ℕ)
     → IsInt32Schema schema → BatchesRead schema bytes first batches place
@@ -119,6 +153,18 @@ batches_next schema bytes first batches more batch place after int32 read e on i
           (sym (map-append batch_slots batches (batch ∷ [])) ∙ ap (map batch_slots) (sym pushed));
       whole = λ most all.
           read.whole (suc most) (omega (arith, count)) ∙ cut_after_batch (length schema.fields) most bytes place (batch_slots batch) after e;
+      begun = λ version n.
+          ap (λ k. first_from schema version k bytes first) (omega (arith, count))
+          ∙ first_left schema version n bytes first batches place (Some (batch_then (batch_slots batch) after)) int32 read e
+          ∙ behind_behind (map batch_slots batches) (batch_slots batch ∷ []) (first_from schema version n bytes after)
+          ∙ ap (λ xs. behind xs (first_from schema version n bytes after))
+          (sym (map-append batch_slots batches (batch ∷ [])) ∙ ap (map batch_slots) (sym pushed));
+      reached = λ n.
+          ap (λ k. next_after k bytes first) (omega (arith, count)) ∙ read.reached (suc n)
+          ∙ one_on (length schema.fields) n bytes place (batch_slots batch) after e;
+      before = λ n less ends.
+          before_more n (length batches) (length schema.fields) bytes first place after (batch_slots batch) (cases_lt n (length batches))
+          (omega (arith, count)) read.before read.reached e ends;
     }
 
 pub batches_end : (schema : Schema) (version : Version) (bytes : List ℕ) (first : ℕ) (batches : List (List Cells)) (place : ℕ)
@@ -174,11 +220,24 @@ more_rows n batches (Some others) h =
     ap length (flat_map-append batch_rows (map batch_slots batches) others) ∙ length-append (rows_of_batches (map batch_slots batches)) (rows_of_batches others) in
     omega (arith, all, rows_counted batches)
 
+-- the first batches have too many rows
+first_many : (schema : Schema) (version : Version) (bytes : List ℕ) (first : ℕ) (batches : List (List Cells)) (batch : List Cells) (place after : ℕ)
+    → IsInt32Schema schema → BatchesRead schema bytes first batches place
+    → step_at (length schema.fields) bytes place ≡ Some (batch_then (batch_slots batch) after)
+    → 2 ^ 64 ≤ sum_by rows_of_cells (batches ++ batch ∷ []) → HasTooManyFrom schema version bytes first
+first_many schema version bytes first batches batch place after int32 read e many =
+    let same : first_from schema version (length batches + 1) bytes first ≡ Some (map batch_slots (batches ++ batch ∷ [])) =
+    first_left schema version 0 bytes first batches place (Some (batch_then (batch_slots batch) after)) int32 read e
+    ∙ ap (λ (xs : List (List (List Slot))). Some xs) (sym (map-append batch_slots batches (batch ∷ []))) in
+    let rows : 2 ^ 64 ≤ length (rows_of_batches (map batch_slots (batches ++ batch ∷ []))) = omega (arith, many, rows_counted (batches ++ batch ∷ [])) in
+    (length batches + 1, subst (λ given. IsSomeAnd given (λ all. 2 ^ 64 ≤ length (rows_of_batches all))) (sym same) rows)
+
 pub batches_many : (schema : Schema) (version : Version) (bytes : List ℕ) (first : ℕ) (batches : List (List Cells)) (batch : List Cells) (place after : ℕ)
     → IsInt32Schema schema → BatchesRead schema bytes first batches place
     → step_at (length schema.fields) bytes place ≡ Some (batch_then (batch_slots batch) after)
     → 2 ^ 64 ≤ sum_by rows_of_cells batches + rows_of_cells batch
     → IfSome (stream_batches schema version (length bytes) bytes first) (λ all. 2 ^ 64 ≤ length (rows_of_batches all))
+    × HasTooManyFrom schema version bytes first
 batches_many schema version bytes first batches batch place after int32 read e many =
     let most = length bytes - length batches - 1 in
     let all : length batches + suc most ≡ length bytes = omega (arith, read.few, read.inside) in
@@ -190,23 +249,68 @@ batches_many schema version bytes first batches batch place after int32 read e m
     let sum : sum_by rows_of_cells (batches ++ batch ∷ []) ≡ sum_by rows_of_cells batches + rows_of_cells batch =
     sum_by-append rows_of_cells batches (batch ∷ [])
     ∙ ap (λ (m : ℕ). sum_by rows_of_cells batches + m) (sum_by-cons rows_of_cells batch [] ∙ omega arith) in
-    subst (λ given. IfSome given (λ all. 2 ^ 64 ≤ length (rows_of_batches all))) (sym same)
-    (more_rows (2 ^ 64) (batches ++ batch ∷ []) (stream_batches schema version most bytes after) (omega (arith, sum, many)))
+    let enough : 2 ^ 64 ≤ sum_by rows_of_cells (batches ++ batch ∷ []) = omega (arith, sum, many) in (
+      subst (λ given. IfSome given (λ all. 2 ^ 64 ≤ length (rows_of_batches all))) (sym same)
+          (more_rows (2 ^ 64) (batches ++ batch ∷ []) (stream_batches schema version most bytes after) enough),
+      first_many schema version bytes first batches batch place after int32 read e enough,
+    )
+
+-- ---- what a message is refused for
+
+-- behind batches that were read nothing is truncated where what stands there is refused
+not_ended : (schema : Schema) (version : Version) (bytes : List ℕ) (first : ℕ) (batches : List (List Cells)) (place n : ℕ)
+    → IsInt32Schema schema → BatchesRead schema bytes first batches place → step_at (length schema.fields) bytes place ≡ None
+    → next_after n bytes place ≡ Some nothing_whole → IsSome (first_from schema version (length batches + n) bytes first) → ⊥
+not_ended schema version bytes first batches place zero int32 read e ends some =
+    let a : None ≡ Some cut_off = sym e ∙ truncated_next (length schema.fields) bytes place ends in absurd cc
+not_ended schema version bytes first batches place (suc n) int32 read e ends some =
+    let none : first_from schema version (length batches + suc n) bytes first ≡ None =
+    first_left schema version n bytes first batches place None int32 read e in
+    let nothing : Option (List (List (List Slot))) = None in
+    let holds : IsSome nothing = subst IsSome none some in absurd cc
+
+not_before : (schema : Schema) (version : Version) (bytes : List ℕ) (first : ℕ) (batches : List (List Cells)) (place n : ℕ)
+    → IsInt32Schema schema → BatchesRead schema bytes first batches place → step_at (length schema.fields) bytes place ≡ None
+    → (n < length batches) ⊎ (length batches ≤ n) → next_after n bytes first ≡ Some nothing_whole
+    → IsSome (first_from schema version n bytes first) → ⊥
+not_before schema version bytes first batches place n int32 read e (inl less) ends some = read.before n less ends
+not_before schema version bytes first batches place n int32 read e (inr more) ends some =
+    let behind_them = n - length batches in
+    let same : n ≡ length batches + behind_them = omega arith in
+    not_ended schema version bytes first batches place behind_them int32 read e
+    (sym (read.reached behind_them) ∙ ap (λ k. next_after k bytes first) (sym same) ∙ ends)
+    (subst (λ k. IsSome (first_from schema version k bytes first)) same some)
+
+pub not_unfinished : (schema : Schema) (version : Version) (bytes : List ℕ) (first : ℕ) (batches : List (List Cells)) (place : ℕ)
+    → IsInt32Schema schema → BatchesRead schema bytes first batches place → step_at (length schema.fields) bytes place ≡ None
+    → IsUnfinishedFrom schema version bytes first → ⊥
+not_unfinished schema version bytes first batches place int32 read e found =
+    not_before schema version bytes first batches place found.0 int32 read e (cases_lt found.0 (length batches)) found.1 found.2
+
+-- a compressed message that stands at a place stands behind the messages before it
+compressed_from : (schema : Schema) (bytes : List ℕ) (first : ℕ) (batches : List (List Cells)) (place : ℕ)
+    → BatchesRead schema bytes first batches place → IsCompressedThere (next_after 0 bytes place) → HasCompressedFrom bytes first
+compressed_from schema bytes first batches place read there = (length batches + 0, subst IsCompressedThere (sym (read.reached 0)) there)
 
 -- an error that comes of a message
-pub batches_error : {A : Type 0} (view : A → Step) (error : Error) (schema : Schema) (bytes : List ℕ) (first : ℕ) (batches : List (List Cells)) (place : ℕ)
+pub batches_error : (error : Error) (schema : Schema) (version : Version) (bytes : List ℕ) (first : ℕ) (batches : List (List Cells)) (place : ℕ)
     → IsInt32Schema schema → BatchesRead schema bytes first batches place
-    → Decodes {A = A} view (Err error) (step_at (length schema.fields) bytes place) → ReadsBatches schema bytes first (Err (fault_of error))
-batches_error view OutOfMemory schema bytes first batches place int32 read e = tt
-batches_error view (OutOfSpec what) schema bytes first batches place int32 read e =
-    λ version. batches_refused schema version bytes first batches place int32 read e
-batches_error view (NotYetImplemented what) schema bytes first batches place int32 read e =
-    λ version. batches_refused schema version bytes first batches place int32 read e
-batches_error view (External from what) schema bytes first batches place int32 read e = absurd e
-batches_error view (Io what) schema bytes first batches place int32 read e = absurd e
-batches_error view (InvalidArgumentError what) schema bytes first batches place int32 read e = absurd e
-batches_error view (ExternalFormat what) schema bytes first batches place int32 read e = absurd e
-batches_error view Overflow schema bytes first batches place int32 read e = absurd e
+    → Refuses (IsCompressedThere (next_after 0 bytes place)) error (step_at (length schema.fields) bytes place)
+    → ReadsBatches schema version bytes first (Err (fault_of error))
+batches_error OutOfMemory schema version bytes first batches place int32 read e = tt
+batches_error (OutOfSpec what) schema version bytes first batches place int32 read e = (
+  batches_refused schema version bytes first batches place int32 read e,
+  not_unfinished schema version bytes first batches place int32 read e,
+)
+batches_error (NotYetImplemented what) schema version bytes first batches place int32 read e = (
+  batches_refused schema version bytes first batches place int32 read e.0,
+  compressed_from schema bytes first batches place read e.1,
+)
+batches_error (External from what) schema version bytes first batches place int32 read e = absurd e
+batches_error (Io what) schema version bytes first batches place int32 read e = absurd e
+batches_error (InvalidArgumentError what) schema version bytes first batches place int32 read e = absurd e
+batches_error (ExternalFormat what) schema version bytes first batches place int32 read e = absurd e
+batches_error Overflow schema version bytes first batches place int32 read e = absurd e
 
 -- the rows of one batch more
 pub rows_more : (rows : ℕ) (batches more : List Batch) (batch : Batch) → rows ≡ sum_by rows_of_cells (map stored_cells batches) → more ≡ batches ++ batch ∷ []

@@ -14,17 +14,19 @@ use Rattle.columnar_memory.specs.declared.Schema.{Schema}
 use Rattle.nested_arrays.specs.Slots.{Slot}
 use Rattle.ipc_format_grammar.specs.Messages.{Version, V5, Header, schema, dictionary_batch, record_batch, RecordBatch, DictionaryBatch}
 use Rattle.ipc_format_grammar.specs.Messages.{record_batch_in, dictionary_batch_in, lengths_sum}
-use Rattle.ipc_format_grammar.specs.Schemas.{Ids, IdsList, ids}
+use Rattle.ipc_format_grammar.specs.Schemas.{Ids, IdsList}
 use Rattle.ipc_format_columns.specs.Layouts.{node_count, node_number, node_step, buffer_count, buffer_number, buffer_step}
 use Rattle.ipc_format_columns.specs.Columns.{Source, Dictionary, Reader, fixed_slots, validity_in, buffer_at, read_step, read_field_step, slots_in, first_ids, other_ids}
-use Rattle.ipc_format_columns.specs.Dictionaries.{Entry, Layout, Values, Finder, find_step, find_field_step, values_in, values_of, source_in, dictionary_in}
+use Rattle.ipc_format_columns.specs.Dictionaries.{Entry, Layout, Finder, find_step, find_field_step, values_in, values_of, source_in, dictionary_in}
 use Rattle.ipc_format_columns.specs.Framing.{Framed, Next, nothing_whole, at_end, message_then, next_at, by_next, dictionaries_after, later_messages}
 use Rattle.ipc_format_columns.specs.Tables.{columns_from, batch_in, batches_of, batches_behind, stream_entry, ids_at}
 use Rattle.ipc_format.specs.Reading.{◌>>=◌, guard}
 use Rattle.ipc_format.specs.FlatBuffers as flat
 use Rattle.tables_metadata.specs.Int32Schemas.{IsInt32Schema, IsInt32Field}
 use Rattle.tables_stream.specs.Int32Values.{int32_slots}
-use Rattle.tables_stream.specs.Int32.{int32_columns, int32_batch, agreeing, batch_by, batch_then, step_of, step_at, behind, by_step, int32_layout, stream_batches}
+use Rattle.ipc_format_columns.specs.Refusals.{first_messages, next_after}
+use Rattle.tables_stream.specs.Int32.{int32_columns, int32_batch, agreeing, batch_by, cut_off, batch_then, step_of, step_at, behind, by_step}
+use Rattle.tables_stream.specs.Int32.{int32_layout, stream_batches, first_from}
 
 -- ---- one thing after another
 
@@ -40,6 +42,11 @@ bind_assoc (Some x) f g = refl
 bind_none : {A B : Type 0} (r : Option A) (f : A → Option B) → ((x : A) → f x ≡ None) → (r >>= f) ≡ None
 bind_none None f h = refl
 bind_none (Some x) f h = h x
+
+-- where something follows, there was something to follow
+pub came_of : {A B : Type 0} (r : Option A) (f : A → Option B) (y : B) → (r >>= f) ≡ Some y → (x : A) × (r ≡ Some x) × (f x ≡ Some y)
+came_of None f y e = absurd cc
+came_of (Some x) f y e = (x, refl, e)
 
 -- ---- the numbers of nodes and buffers
 
@@ -151,10 +158,11 @@ pushed columns None = refl
 pushed columns (Some batches) = refl
 
 -- what is behind a batch is asked for at its place alone
-only_there : (given : Option (List (List Slot))) (rest : ℕ → Option (List (List (List Slot)))) (after : ℕ)
-    → ((given >>= (λ columns. Some (batch_then columns after))) >>= by_step (λ place. rest after)) ≡ ((given >>= (λ columns. Some (batch_then columns after))) >>= by_step rest)
-only_there None rest after = refl
-only_there (Some columns) rest after = refl
+only_there : (if_ended : Option (List (List (List Slot)))) (given : Option (List (List Slot))) (rest : ℕ → Option (List (List (List Slot)))) (after : ℕ)
+    → ((given >>= (λ columns. Some (batch_then columns after))) >>= by_step if_ended (λ place. rest after))
+    ≡ ((given >>= (λ columns. Some (batch_then columns after))) >>= by_step if_ended rest)
+only_there if_ended None rest after = refl
+only_there if_ended (Some columns) rest after = refl
 
 -- what the definition makes of a message and those behind it
 abbrev by_message : ℕ → List ℕ → Framed → ℕ → Option (List Framed)
@@ -172,15 +180,15 @@ abbrev batch_message : List ℕ → flat.Table → List ℕ → Framed
 batch_message metadata table body = record { metadata = metadata; header = record_batch table; body = body }
 
 -- one batch before others, where the others are what the rest of the messages give
-one_more : (layout : Layout) (version : Version) (metadata : List ℕ) (table : flat.Table) (body : List ℕ) (given : Option (List (List Slot)))
-    (others : Option (List Framed)) (rest : Option (List (List (List Slot)))) (after : ℕ)
+one_more : (if_ended : Option (List (List (List Slot)))) (layout : Layout) (version : Version) (metadata : List ℕ) (table : flat.Table)
+    (body : List ℕ) (given : Option (List (List Slot))) (others : Option (List Framed)) (rest : Option (List (List (List Slot)))) (after : ℕ)
     → (others >>= later_batches layout version) ≡ rest → batch_in layout [] (stream_entry version (batch_message metadata table body)) table ≡ given
     → ((others >>= (λ more. Some (batch_message metadata table body ∷ more))) >>= later_batches layout version)
-    ≡ ((given >>= (λ columns. Some (batch_then columns after))) >>= by_step (λ place. rest))
-one_more layout version metadata table body None None rest after e here = refl
-one_more layout version metadata table body (Some columns) None rest after e here = rw (sym e) refl
-one_more layout version metadata table body None (Some more) rest after e here = rw here refl
-one_more layout version metadata table body (Some columns) (Some more) rest after e here =
+    ≡ ((given >>= (λ columns. Some (batch_then columns after))) >>= by_step if_ended (λ place. rest))
+one_more if_ended layout version metadata table body None None rest after e here = refl
+one_more if_ended layout version metadata table body (Some columns) None rest after e here = rw (sym e) refl
+one_more if_ended layout version metadata table body None (Some more) rest after e here = rw here refl
+one_more if_ended layout version metadata table body (Some columns) (Some more) rest after e here =
     rw (here, sym e) (pushed columns (later_batches layout version more))
 
 -- nothing comes of a dictionary
@@ -199,21 +207,22 @@ after_message : (layout : Layout) (version : Version) (most : ℕ) (bytes metada
     → All IsInt32Field layout.fields → layout.is_little_endian ≡ true
     → (by_message most bytes (record { metadata = metadata; header = header; body = body }) after >>= later_batches layout version)
     ≡ (step_of (length layout.fields) (message_then (record { metadata = metadata; header = header; body = body }) after)
-    >>= by_step (λ place. batches_behind layout version [] most bytes place 0))
+    >>= by_step (Some []) (λ place. batches_behind layout version [] most bytes place 0))
 after_message layout version most bytes metadata (schema table) body after all little = refl
 after_message layout version most bytes metadata (dictionary_batch table) body after all little =
     no_batch layout version metadata table body (later_messages most bytes after 1) all
 after_message layout version most bytes metadata (record_batch table) body after all little =
-    one_more layout version metadata table body (int32_batch (length layout.fields) metadata table body)
+    one_more (Some []) layout version metadata table body (int32_batch (length layout.fields) metadata table body)
     (later_messages most bytes after 0) (batches_behind layout version [] most bytes after 0) after refl
     (batch_is_int32 layout version metadata (record_batch table) table body all little)
-    ∙ only_there (int32_batch (length layout.fields) metadata table body) (λ place. batches_behind layout version [] most bytes place 0) after
+    ∙ only_there (Some []) (int32_batch (length layout.fields) metadata table body)
+    (λ place. batches_behind layout version [] most bytes place 0) after
 
 -- the same of whatever stands at a place
 at_next : (layout : Layout) (version : Version) (most : ℕ) (bytes : List ℕ) (given : Option Next)
     → All IsInt32Field layout.fields → layout.is_little_endian ≡ true
     → ((given >>= by_next None (Some []) (by_message most bytes)) >>= later_batches layout version)
-    ≡ ((given >>= step_of (length layout.fields)) >>= by_step (λ place. batches_behind layout version [] most bytes place 0))
+    ≡ ((given >>= step_of (length layout.fields)) >>= by_step (Some []) (λ place. batches_behind layout version [] most bytes place 0))
 at_next layout version most bytes None all little = refl
 at_next layout version most bytes (Some nothing_whole) all little = refl
 at_next layout version most bytes (Some at_end) all little = refl
@@ -223,9 +232,84 @@ at_next layout version most bytes (Some (message_then framed after)) all little 
 -- one step: what stands at a place, and the batches behind it
 pub batches_step : (known : Schema) (version : Version) (most : ℕ) (bytes : List ℕ) (place : ℕ) → IsInt32Schema known
     → stream_batches known version (suc most) bytes place
-    ≡ (step_at (length known.fields) bytes place >>= by_step (λ after. stream_batches known version most bytes after))
+    ≡ (step_at (length known.fields) bytes place >>= by_step (Some []) (λ after. stream_batches known version most bytes after))
 unfolding step_at
 batches_step known version most bytes place int32 = at_next (int32_layout known) version most bytes (next_at bytes place) int32.1 refl
+
+-- ---- the first messages, whatever stands behind them
+
+-- a message, and the first n behind it
+abbrev with_first : ℕ → List ℕ → Framed → ℕ → Option (List Framed)
+with_first n bytes framed after = do
+  others ← first_messages n bytes after
+  Some (framed ∷ others)
+
+-- the batches of the first n messages from a place on
+abbrev first_batches_from : Layout → Version → ℕ → List ℕ → ℕ → Option (List (List (List Slot)))
+first_batches_from layout version n bytes place = first_messages n bytes place >>= later_batches layout version
+
+-- nothing comes of a schema
+no_schema : (layout : Layout) (version : Version) (metadata : List ℕ) (table : flat.Table) (body : List ℕ) (others : Option (List Framed))
+    → ((others >>= (λ more. Some (record { metadata = metadata; header = schema table; body = body } ∷ more))) >>= later_batches layout version) ≡ None
+no_schema layout version metadata table body None = refl
+no_schema layout version metadata table body (Some more) = refl
+
+first_after : (layout : Layout) (version : Version) (n : ℕ) (bytes metadata : List ℕ) (header : Header) (body : List ℕ) (after : ℕ)
+    → All IsInt32Field layout.fields → layout.is_little_endian ≡ true
+    → (with_first n bytes (record { metadata = metadata; header = header; body = body }) after >>= later_batches layout version)
+    ≡ (step_of (length layout.fields) (message_then (record { metadata = metadata; header = header; body = body }) after)
+    >>= by_step None (λ place. first_batches_from layout version n bytes place))
+first_after layout version n bytes metadata (schema table) body after all little =
+    no_schema layout version metadata table body (first_messages n bytes after)
+first_after layout version n bytes metadata (dictionary_batch table) body after all little =
+    no_batch layout version metadata table body (first_messages n bytes after) all
+first_after layout version n bytes metadata (record_batch table) body after all little =
+    one_more None layout version metadata table body (int32_batch (length layout.fields) metadata table body)
+    (first_messages n bytes after) (first_batches_from layout version n bytes after) after refl
+    (batch_is_int32 layout version metadata (record_batch table) table body all little)
+    ∙ only_there None (int32_batch (length layout.fields) metadata table body) (λ place. first_batches_from layout version n bytes place) after
+
+first_next : (layout : Layout) (version : Version) (n : ℕ) (bytes : List ℕ) (given : Option Next)
+    → All IsInt32Field layout.fields → layout.is_little_endian ≡ true
+    → ((given >>= by_next None None (with_first n bytes)) >>= later_batches layout version)
+    ≡ ((given >>= step_of (length layout.fields)) >>= by_step None (λ place. first_batches_from layout version n bytes place))
+first_next layout version n bytes None all little = refl
+first_next layout version n bytes (Some nothing_whole) all little = refl
+first_next layout version n bytes (Some at_end) all little = refl
+first_next layout version n bytes (Some (message_then framed after)) all little =
+    first_after layout version n bytes framed.metadata framed.header framed.body after all little
+
+-- one step: the batch of the message at a place, and those of n messages behind it
+pub first_step : (known : Schema) (version : Version) (n : ℕ) (bytes : List ℕ) (place : ℕ) → IsInt32Schema known
+    → first_from known version (suc n) bytes place
+    ≡ (step_at (length known.fields) bytes place >>= by_step None (λ after. first_from known version n bytes after))
+unfolding step_at
+first_step known version n bytes place int32 = first_next (int32_layout known) version n bytes (next_at bytes place) int32.1 refl
+
+-- behind a message that has a batch stands what stands behind its place
+behind_one : (width n : ℕ) (bytes : List ℕ) (framed : Framed) (place after : ℕ) (columns : List (List Slot)) (given : Option (List (List Slot)))
+    → (given >>= (λ found. Some (batch_then found place))) ≡ Some (batch_then columns after) → next_after n bytes place ≡ next_after n bytes after
+behind_one width n bytes framed place after columns None e = absurd cc
+behind_one width n bytes framed place after columns (Some found) e = let same : place ≡ after = cc in ap (next_after n bytes) same
+
+one_on_next : (width n : ℕ) (bytes : List ℕ) (given : Option Next) (columns : List (List Slot)) (after : ℕ)
+    → (given >>= step_of width) ≡ Some (batch_then columns after)
+    → (given >>= by_next None None (λ framed place. next_after n bytes place)) ≡ next_after n bytes after
+one_on_next width n bytes None columns after e = absurd cc
+one_on_next width n bytes (Some nothing_whole) columns after e = absurd cc
+one_on_next width n bytes (Some at_end) columns after e = absurd cc
+one_on_next width n bytes (Some (message_then framed place)) columns after e =
+    behind_one width n bytes framed place after columns (batch_by width framed framed.header) e
+
+pub one_on : (width n : ℕ) (bytes : List ℕ) (place : ℕ) (columns : List (List Slot)) (after : ℕ)
+    → step_at width bytes place ≡ Some (batch_then columns after) → next_after (suc n) bytes place ≡ next_after n bytes after
+unfolding step_at
+one_on width n bytes place columns after e = one_on_next width n bytes (next_at bytes place) columns after e
+
+-- where nothing whole stands, the step says that
+pub truncated_next : (width : ℕ) (bytes : List ℕ) (place : ℕ) → next_after 0 bytes place ≡ Some nothing_whole → step_at width bytes place ≡ Some cut_off
+unfolding step_at
+truncated_next width bytes place e = rw e refl
 
 -- ---- whether the stream is truncated
 

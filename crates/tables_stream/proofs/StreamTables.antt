@@ -1,6 +1,6 @@
 -- The table of a stream whose schema has 32-bit integers alone.
-use Rattle.std.proofs.Common.{◌≡◌, ◌∙◌, ℕ, ◌<◌, ◌≤◌, ◌^◌, true, List, [], ◌∷◌, length, map, refl, sym, ap, ap₂, subst}
-use Rattle.std.specs.Prelude.{Option, Some, None, IfSome, IsSomeAnd, Result, Ok, Err, nat_lt}
+use Rattle.std.proofs.Common.{◌≡◌, ◌∙◌, ℕ, ◌<◌, ◌≤◌, ◌^◌, true, false, List, [], ◌∷◌, length, map, refl, sym, ap, ap₂, subst, inl, inr}
+use Rattle.std.specs.Prelude.{Option, Some, None, IsSome, IfSome, IsSomeAnd, Result, Ok, Err, nat_lt, ◌⊎◌}
 use Rattle.std.specs.List.{All}
 use Rattle.std.proofs.lemmas.List.Elements.{All-head, All-tail}
 use Rattle.std.proofs.lemmas.Bool.{lt-ltb, le-ltb}
@@ -17,23 +17,25 @@ use Rattle.columnar_memory.specs.declared.Schema.{Schema}
 use Rattle.nested_arrays.specs.Slots.{Slot}
 use Rattle.nested_arrays.specs.Tables as tables
 use Rattle.nested_arrays.specs.Tables.{rows_of_batches}
-use Rattle.ipc_format_grammar.specs.Messages.{Version, version_in}
+use Rattle.ipc_format_grammar.specs.Messages.{Version, V5, version_in}
 use Rattle.ipc_format_grammar.specs.Schemas.{SchemaIn}
 use Rattle.ipc_format_grammar.specs.Writable.{normalised, normalised_type, normalised_step, normalised_field, normalised_pairs, with_extension_under}
-use Rattle.ipc_format_columns.specs.Framing.{Framed, Stream, first_of, messages_of, later_messages, truncated_from, is_truncated}
+use Rattle.ipc_format_columns.specs.Framing.{Framed, Stream, Next, first_of, messages_of, later_messages, truncated_from, is_truncated}
 use Rattle.ipc_format_columns.specs.Dictionaries.{Layout}
 use Rattle.ipc_format_columns.specs.Tables.{stream, Contents, batches_of, batches_in, schema_of, stream_entry, layout_of, contents_of, table_of}
 use Rattle.ipc_format.specs.Reading.{◌>>=◌, guard}
 use Rattle.tables_metadata.specs.Int32Schemas.{IsInt32Schema, IsInt32Field}
-use Rattle.tables_metadata.specs.Reading as metadata
-use Rattle.tables_metadata.specs.Reading.{IsSupported, schema_found}
+use Rattle.tables_stream.specs.Supported.{IsSupported, schema_found}
 use Rattle.tables_stream.specs.declared.fault.Fault.{Fault}
 use Rattle.tables_stream.specs.declared.fault.Fault.TheVariants as faults
 use Rattle.tables_stream.specs.Faults.{fault_of}
 use Rattle.tables_stream.specs.Tables.{Stored, as_table, batch_slots, row_count}
-use Rattle.tables_stream.specs.Int32.{first_schema, fitting, int32_layout, stream_batches}
-use Rattle.tables_stream.specs.Reading.{ReadsBatches, ReadsStream, HasOtherSchema}
-use Rattle.tables_stream.proofs.Int32Batches.{bind_same, bind_assoc, later_batches}
+use Rattle.tables_stream.specs.Int32.{first_schema, fitting, int32_layout, stream_batches, first_from}
+use Rattle.tables_stream.specs.Reading.{ReadsSchema, ReadsBatches, ReadsStream, HasOtherSchema}
+use Rattle.tables_stream.specs.Reading.{IsCompressedThere, HasCompressedFrom, HasTooManyFrom, IsUnfinishedFrom}
+use Rattle.ipc_format_columns.specs.Refusals.{first_messages, first_batches, behind_messages, next_after, message_there, compression_in}
+use Rattle.ipc_format_columns.specs.Refusals.{HasFloat, HasCompression, HasTooManyRows, IsUnfinished}
+use Rattle.tables_stream.proofs.Int32Batches.{bind_same, bind_assoc, came_of, later_batches}
 use Rattle.tables_stream.proofs.BatchLists.{rows_counted}
 
 -- ---- the schema has its one form already
@@ -76,11 +78,6 @@ or_other other (Some x) = x
 
 same_pair : (a b : SchemaIn × ℕ) → Some a ≡ Some b → a ≡ b
 same_pair a b e = ap (or_other a) e
-
--- where something follows, there was something to follow
-came_of : {A B : Type 0} (r : Option A) (f : A → Option B) (y : B) → (r >>= f) ≡ Some y → (x : A) × (r ≡ Some x) × (f x ≡ Some y)
-came_of None f y e = absurd cc
-came_of (Some x) f y e = (x, refl, e)
 
 -- what a layout's batches make of later messages
 later_fit : (layout : Layout) (version : Version) (schema : Schema) (later : Option (List Framed)) (given : Option (List (List (List Slot))))
@@ -172,9 +169,28 @@ known_behind : (first : Framed × ℕ) (later : Option (List Framed)) (version :
 known_behind first later version found schema given v s same int32_schema batches =
     rw (v, s, same, layout_is schema int32_schema, schema_is_normal schema int32_schema) (later_fit (int32_layout schema) version schema later given batches)
 
--- a stream's table and batches are those behind its schema
+-- the first batches, where the first message is known
+first_known : (n : ℕ) (bytes : List ℕ) (first : Framed × ℕ) (version : Version) (found : SchemaIn) (schema : Schema)
+    → first_of bytes ≡ Some first → version_in first.0.metadata ≡ Some version → schema_of first.0 first.0.header ≡ Some found
+    → found ≡ schema_found schema → IsInt32Schema schema
+    → first_batches stream n bytes ≡ first_from schema version n bytes first.1
+unfolding first_batches
+first_known n bytes first version found schema e v s same int32_schema =
+    rw (e, v, s, same) (in_order (first_messages n bytes first.1) ∙ rw (layout_is schema int32_schema) refl)
+  where
+    in_order : (later : Option (List Framed)) → ((later >>= (λ more. Some (record { schema = schema_found schema; entries = map (stream_entry version) more })))
+        >>= batches_rest) ≡ (later >>= later_batches (layout_of (schema_found schema)) version)
+    in_order None = refl
+    in_order (Some more) = refl
+
+behind_known : (n : ℕ) (bytes : List ℕ) (first : Framed × ℕ) → first_of bytes ≡ Some first → behind_messages n bytes ≡ next_after n bytes first.1
+behind_known n bytes first e = rw e refl
+
+-- a stream's table and batches are those behind its schema, and so are its first batches and what stands behind some messages
 pub record IsStreamFrom (bytes : List ℕ) (schema : Schema) (place : ℕ) : Type 0 where
   pub version : Version
+  pub first : (n : ℕ) → first_batches stream n bytes ≡ first_from schema version n bytes place
+  pub behind : (n : ℕ) → behind_messages n bytes ≡ next_after n bytes place
   pub table : table_of stream bytes ≡ fitting schema (stream_batches schema version (length bytes) bytes place)
   pub batches : batches_in stream bytes ≡ stream_batches schema version (length bytes) bytes place
 
@@ -192,6 +208,9 @@ stream_from bytes found place schema e same int32_schema =
     let batches = stream_batches schema b.0 (length bytes) bytes a.0.1 in
     record {
       version = b.0;
+      first = λ n. first_known n bytes a.0 b.0 c.0 schema a.1 b.1 c.1 (known ∙ same) int32_schema
+          ∙ ap (λ (at : ℕ). first_from schema b.0 n bytes at) behind;
+      behind = λ n. behind_known n bytes a.0 a.1 ∙ ap (λ (at : ℕ). next_after n bytes at) behind;
       table = table_begins bytes (Some a.0) a.1 ∙ known_behind a.0 later b.0 c.0 schema batches b.1 c.1 (known ∙ same) int32_schema refl
           ∙ ap (λ (at : ℕ). fitting schema (stream_batches schema b.0 (length bytes) bytes at)) behind;
       batches = batches_first bytes a.0 a.1 ∙ batches_known a.0 later b.0 c.0 schema batches b.1 c.1 (known ∙ same) int32_schema refl
@@ -222,6 +241,32 @@ pub no_table : (bytes : List ℕ) → first_schema bytes ≡ None → table_of s
 unfolding first_schema
 no_table bytes none = no_first bytes (first_of bytes) refl none
 
+-- without a schema there are no first batches
+no_first_parts : (n : ℕ) (bytes : List ℕ) (first : Framed × ℕ) (version : Option Version) (found : Option SchemaIn) → first_of bytes ≡ Some first
+    → version_in first.0.metadata ≡ version → schema_of first.0 first.0.header ≡ found
+    → (version >>= (λ _. found >>= with_place first.1)) ≡ None → first_batches stream n bytes ≡ None
+unfolding first_batches
+no_first_parts n bytes first None found e v s none = rw (e, v) refl
+no_first_parts n bytes first (Some version) None e v s none = rw (e, v, s) refl
+no_first_parts n bytes first (Some version) (Some found) e v s none = absurd cc
+
+no_first_of : (n : ℕ) (bytes : List ℕ) (given : Option (Framed × ℕ)) → first_of bytes ≡ given
+    → (given >>= (λ first. version_in first.0.metadata >>= (λ _. schema_of first.0 first.0.header >>= with_place first.1))) ≡ None
+    → first_batches stream n bytes ≡ None
+unfolding first_batches
+no_first_of n bytes None e none = rw e refl
+no_first_of n bytes (Some first) e none =
+    no_first_parts n bytes first (version_in first.0.metadata) (schema_of first.0 first.0.header) e refl refl none
+
+no_first_batches : (n : ℕ) (bytes : List ℕ) → first_schema bytes ≡ None → first_batches stream n bytes ≡ None
+unfolding first_schema
+no_first_batches n bytes none = no_first_of n bytes (first_of bytes) refl none
+
+never_unfinished : (bytes : List ℕ) → first_schema bytes ≡ None → IsUnfinished bytes → ⊥
+never_unfinished bytes none found =
+    let nothing : Option (List (List (List Slot))) = None in
+    let holds : IsSome nothing = subst IsSome (no_first_batches found.0 bytes none) found.2 in absurd cc
+
 -- whether the stream is truncated
 cut_is : (bytes : List ℕ) (first : Framed × ℕ) → first_of bytes ≡ Some first → is_truncated bytes ≡ truncated_from (length bytes) bytes first.1 0
 unfolding is_truncated
@@ -249,68 +294,98 @@ too_many : (schema : Schema) (given : Option (List (List (List Slot)))) → IfSo
 too_many schema None h = refl
 too_many schema (Some batches) h = rw (le-ltb (length (rows_of_batches batches)) (2 ^ 64) h) refl
 
+-- what stands behind a schema, said of the whole stream
+unfinished_from : (bytes : List ℕ) (schema : Schema) (place : ℕ) (whole : IsStreamFrom bytes schema place) → IsUnfinished bytes
+    → IsUnfinishedFrom schema whole.version bytes place
+unfinished_from bytes schema place whole found =
+    (found.0, sym (whole.behind found.0) ∙ found.1, subst IsSome (whole.first found.0) found.2)
+
+compressed_in_stream : (bytes : List ℕ) (schema : Schema) (place : ℕ) (whole : IsStreamFrom bytes schema place) → HasCompressedFrom bytes place
+    → HasCompression stream bytes
+compressed_in_stream bytes schema place whole found =
+    (false, found.0, found_there (behind_messages found.0 bytes) (subst IsCompressedThere (sym (whole.behind found.0)) found.1))
+  where
+    found_there : (given : Option Next) → IsCompressedThere given → IsSomeAnd (given >>= message_there) (λ found. IsSome (compression_in found))
+    found_there None h = h
+    found_there (Some next) h = h
+
+many_in_stream : (bytes : List ℕ) (schema : Schema) (place : ℕ) (whole : IsStreamFrom bytes schema place)
+    → HasTooManyFrom schema whole.version bytes place → HasTooManyRows stream bytes
+many_in_stream bytes schema place whole found =
+    (found.0, subst (λ given. IsSomeAnd given (λ batches. 2 ^ 64 ≤ length (rows_of_batches batches))) (sym (whole.first found.0)) found.1)
+
+supported_schema : (bytes : List ℕ) (found : SchemaIn) (place : ℕ) (schema : Schema) → first_schema bytes ≡ Some (found, place)
+    → found ≡ schema_found schema → IsInt32Schema schema → IfSome (first_schema bytes) (λ first. IsSupported first.0)
+supported_schema bytes found place schema e same int32_schema =
+    let is : IsSupported (schema_found schema) = (refl, int32_schema) in
+    subst (λ given. IfSome given (λ first. IsSupported first.0)) (sym e) (subst IsSupported (sym same) is)
+
 pub read_whole : (bytes : List ℕ) (found : SchemaIn) (place : ℕ) (schema : Schema) (result : Result Stored Fault) → first_schema bytes ≡ Some (found, place)
-    → found ≡ schema_found schema → IsInt32Schema schema → ReadsBatches schema bytes place result → ReadsStream result bytes
+    → found ≡ schema_found schema → IsInt32Schema schema → ((version : Version) → ReadsBatches schema version bytes place result) → ReadsStream result bytes
 read_whole bytes found place schema (Ok stored) e same int32_schema read =
-    let whole = stream_from bytes found place schema e same int32_schema in (
-      whole.table ∙ ap (fitting schema) (read.1 whole.version)
-          ∙ ap (λ (s : Schema). fitting s (Some (map batch_slots stored.batches))) (sym (read.0)) ∙ fits stored read.2,
-      whole.batches ∙ read.1 whole.version,
-      subst IsInt32Schema (sym (read.0)) int32_schema,
+    let whole = stream_from bytes found place schema e same int32_schema in
+    let batches = read whole.version in (
+      whole.table ∙ ap (fitting schema) (batches.1)
+          ∙ ap (λ (s : Schema). fitting s (Some (map batch_slots stored.batches))) (sym (batches.0)) ∙ fits stored batches.2,
+      whole.batches ∙ batches.1,
+      subst IsInt32Schema (sym (batches.0)) int32_schema,
     )
 read_whole bytes found place schema (Err faults.Memory) e same int32_schema read = tt
 read_whole bytes found place schema (Err (faults.Ipc (errors.OutOfSpec what))) e same int32_schema read =
-    let whole = stream_from bytes found place schema e same int32_schema in whole.table ∙ ap (fitting schema) (read whole.version)
+    let whole = stream_from bytes found place schema e same int32_schema in
+    let refused = read whole.version in (
+      whole.table ∙ ap (fitting schema) (refused.0),
+      supported_schema bytes found place schema e same int32_schema,
+      λ unfinished. refused.1 (unfinished_from bytes schema place whole unfinished),
+    )
 read_whole bytes found place schema (Err (faults.Ipc (errors.NotYetImplemented what))) e same int32_schema read =
     let whole = stream_from bytes found place schema e same int32_schema in
-    subst (λ given. IfSome given (λ table. HasOtherSchema bytes)) (sym (whole.table ∙ ap (fitting schema) (read whole.version))) tt
-read_whole bytes found place schema (Err (faults.Ipc (errors.External from what))) e same int32_schema read = absurd read
-read_whole bytes found place schema (Err (faults.Ipc (errors.Io what))) e same int32_schema read = absurd read
-read_whole bytes found place schema (Err (faults.Ipc (errors.InvalidArgumentError what))) e same int32_schema read = absurd read
-read_whole bytes found place schema (Err (faults.Ipc (errors.ExternalFormat what))) e same int32_schema read = absurd read
-read_whole bytes found place schema (Err (faults.Ipc errors.Overflow)) e same int32_schema read = absurd read
-read_whole bytes found place schema (Err (faults.Ipc errors.OutOfMemory)) e same int32_schema read = absurd read
+    let refused = read whole.version in
+    inr (whole.table ∙ ap (fitting schema) (refused.0), inr (compressed_in_stream bytes schema place whole refused.1))
+read_whole bytes found place schema (Err (faults.Ipc (errors.External from what))) e same int32_schema read = absurd (read V5)
+read_whole bytes found place schema (Err (faults.Ipc (errors.Io what))) e same int32_schema read = absurd (read V5)
+read_whole bytes found place schema (Err (faults.Ipc (errors.InvalidArgumentError what))) e same int32_schema read = absurd (read V5)
+read_whole bytes found place schema (Err (faults.Ipc (errors.ExternalFormat what))) e same int32_schema read = absurd (read V5)
+read_whole bytes found place schema (Err (faults.Ipc errors.Overflow)) e same int32_schema read = absurd (read V5)
+read_whole bytes found place schema (Err (faults.Ipc errors.OutOfMemory)) e same int32_schema read = absurd (read V5)
 read_whole bytes found place schema (Err faults.Unfinished) e same int32_schema read =
     let whole = stream_from bytes found place schema e same int32_schema in
-    (whole.table ∙ ap (fitting schema) (read.0 whole.version), cut_behind_schema bytes found place e ∙ read.1)
+    let refused = read whole.version in (whole.table ∙ ap (fitting schema) (refused.0), cut_behind_schema bytes found place e ∙ refused.1)
 read_whole bytes found place schema (Err faults.TooManyRows) e same int32_schema read =
     let whole = stream_from bytes found place schema e same int32_schema in
-    whole.table ∙ too_many schema (stream_batches schema whole.version (length bytes) bytes place) (read whole.version)
-read_whole bytes found place schema (Err (faults.Lower error)) e same int32_schema read = absurd read
-read_whole bytes found place schema (Err (faults.NotSealable bar)) e same int32_schema read = absurd read
-read_whole bytes found place schema (Err faults.RowWidth) e same int32_schema read = absurd read
-read_whole bytes found place schema (Err faults.NoColumns) e same int32_schema read = absurd read
-read_whole bytes found place schema (Err faults.NoSuchColumn) e same int32_schema read = absurd read
+    let refused = read whole.version in (
+      whole.table ∙ too_many schema (stream_batches schema whole.version (length bytes) bytes place) refused.0,
+      many_in_stream bytes schema place whole refused.1,
+    )
+read_whole bytes found place schema (Err (faults.Lower error)) e same int32_schema read = absurd (read V5)
+read_whole bytes found place schema (Err (faults.NotSealable bar)) e same int32_schema read = absurd (read V5)
+read_whole bytes found place schema (Err faults.RowWidth) e same int32_schema read = absurd (read V5)
+read_whole bytes found place schema (Err faults.NoColumns) e same int32_schema read = absurd (read V5)
+read_whole bytes found place schema (Err faults.NoSuchColumn) e same int32_schema read = absurd (read V5)
 
 -- ---- from the first message on
 
-if_any : {A : Type 0} {P : Type 0} (given : Option A) → P → IfSome given (λ x. P)
-if_any None p = tt
-if_any (Some x) p = p
+-- why nothing of a schema is read
+causes : (bytes : List ℕ) → HasOtherSchema bytes ⊎ ((first_schema bytes ≡ None) × HasFloat stream bytes)
+    → HasOtherSchema bytes ⊎ ((table_of stream bytes ≡ None) × (HasFloat stream bytes ⊎ HasCompression stream bytes))
+causes bytes (inl other) = inl other
+causes bytes (inr float) = inr (no_table bytes float.0, inl float.1)
 
-pub first_error : {A : Type 0} (same : A → SchemaIn × ℕ → Type 0) (error : Error) (bytes : List ℕ) → metadata.Reads {A = A} {B = SchemaIn × ℕ} same (λ found. IsSupported found.0) (Err error) (first_schema bytes)
-    → ReadsStream (Err (fault_of error)) bytes
-first_error same errors.OutOfMemory bytes read = tt
-first_error same (errors.OutOfSpec what) bytes read = no_table bytes read
-first_error same (errors.NotYetImplemented what) bytes read = if_any (table_of stream bytes) read
-first_error same (errors.External from what) bytes read = absurd read
-first_error same (errors.Io what) bytes read = absurd read
-first_error same (errors.InvalidArgumentError what) bytes read = absurd read
-first_error same (errors.ExternalFormat what) bytes read = absurd read
-first_error same errors.Overflow bytes read = absurd read
+pub first_error : (error : Error) (bytes : List ℕ) → ReadsSchema (Err error) bytes → ReadsStream (Err (fault_of error)) bytes
+first_error errors.OutOfMemory bytes read = tt
+first_error (errors.OutOfSpec what) bytes read = (
+  no_table bytes read,
+  subst (λ given. IfSome given (λ found. IsSupported found.0)) (sym read) tt,
+  never_unfinished bytes read,
+)
+first_error (errors.NotYetImplemented what) bytes read = causes bytes read
+first_error (errors.External from what) bytes read = absurd read
+first_error (errors.Io what) bytes read = absurd read
+first_error (errors.InvalidArgumentError what) bytes read = absurd read
+first_error (errors.ExternalFormat what) bytes read = absurd read
+first_error errors.Overflow bytes read = absurd read
 
--- the schema and place of the first message, as they were read
-abbrev pub FirstRead : Schema → ℕ → SchemaIn × ℕ → Type 0
-FirstRead schema place found = ((found.0 ≡ schema_found schema) × (found.1 ≡ place)) × IsSupported found.0
-
-first_found : (bytes : List ℕ) (schema : Schema) (place : ℕ) (result : Result Stored Fault) (given : Option (SchemaIn × ℕ)) → first_schema bytes ≡ given → IsSomeAnd given (FirstRead schema place)
-    → ReadsBatches schema bytes place result → ReadsStream result bytes
-first_found bytes schema place result None e found read = absurd found
-first_found bytes schema place result (Some first) e found read =
-    let same : first.0 ≡ schema_found schema = found.0.0 in
-    let int32_schema : IsInt32Schema schema = subst (λ (s : SchemaIn). IsInt32Schema s.schema) same found.1.1 in
-    read_whole bytes first.0 place schema result (e ∙ ap (λ (at : ℕ). Some (first.0, at)) found.0.1) same int32_schema read
-
-pub first_then : (bytes : List ℕ) (schema : Schema) (place : ℕ) (result : Result Stored Fault) → IsSomeAnd (first_schema bytes) (FirstRead schema place)
-    → ReadsBatches schema bytes place result → ReadsStream result bytes
-first_then bytes schema place result found read = first_found bytes schema place result (first_schema bytes) refl found read
+pub first_then : (bytes : List ℕ) (schema : Schema) (place : ℕ) (result : Result Stored Fault) → ReadsSchema (Ok (schema, place)) bytes
+    → ((version : Version) → ReadsBatches schema version bytes place result) → ReadsStream result bytes
+first_then bytes schema place result first read =
+    read_whole bytes (schema_found schema) place schema result first.0 refl first.1 read

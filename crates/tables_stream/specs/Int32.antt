@@ -1,8 +1,6 @@
 -- Streams of 32-bit integer columns, each message and column in the order in which it is read.
-use Rattle.std.specs.Prelude.{◌≡◌, ℕ, zero, suc, ◌+◌, ◌*◌, ◌^◌, true, not, List, [], ◌∷◌, ◌++◌, length, Option, Some, None, Result, Ok, Err, nat_le, nat_lt}
+use Rattle.std.specs.Prelude.{ℕ, zero, suc, ◌+◌, ◌*◌, ◌^◌, true, not, List, [], ◌∷◌, ◌++◌, length, map, Option, Some, None, nat_le, nat_lt}
 use Rattle.std.specs.Option.{option_map}
-use Rattle.columnar_memory.specs.declared.Error.{Error}
-use Rattle.columnar_memory.specs.declared.Error.TheVariants as errors
 use Rattle.columnar_memory.specs.declared.Schema.{Schema}
 use Rattle.nested_arrays.specs.Slots.{Slot}
 use Rattle.nested_arrays.specs.Tables as tables
@@ -16,8 +14,9 @@ use Rattle.ipc_format_columns.specs.Columns as format
 use Rattle.tables_stream.specs.Int32Values as int32
 use Rattle.ipc_format_columns.specs.Framing as framing
 use Rattle.ipc_format.specs.Dictionaries.{Layout}
-use Rattle.ipc_format.specs.Tables.{agree_in_length, batches_behind, schema_of}
-use Rattle.tables_metadata.specs.Reading.{schema_found}
+use Rattle.ipc_format.specs.Tables.{agree_in_length, batches_behind, batches_of, schema_of, stream_entry}
+use Rattle.ipc_format.specs.Refusals.{first_messages}
+use Rattle.tables_stream.specs.Supported.{schema_found}
 
 -- n columns of 32-bit integers from column k on: each has one node and two buffers
 abbrev pub int32_columns : format.Source → ℕ → ℕ → Option (List (List Slot))
@@ -70,10 +69,11 @@ step_at n bytes place = do
 abbrev pub behind : {A : Type 0} → List A → Option (List A) → Option (List A)
 behind xs rest = option_map (λ ys. xs ++ ys) rest
 
-abbrev pub by_step : (ℕ → Option (List (List (List Slot)))) → Step → Option (List (List (List Slot)))
-by_step rest cut_off = None
-by_step rest ended = Some []
-by_step rest (batch_then columns after) = behind (columns ∷ []) (rest after)
+-- what comes of a step: nothing of a stream that is truncated there, one value of the end mark, and a batch before the rest
+abbrev pub by_step : Option (List (List (List Slot))) → (ℕ → Option (List (List (List Slot)))) → Step → Option (List (List (List Slot)))
+by_step if_ended rest cut_off = None
+by_step if_ended rest ended = if_ended
+by_step if_ended rest (batch_then columns after) = behind (columns ∷ []) (rest after)
 
 -- how the columns of a schema of 32-bit integers lie
 abbrev pub int32_layout : Schema → Layout
@@ -82,6 +82,12 @@ int32_layout schema = record { fields = schema.fields; below = (schema_found sch
 -- the batches of a stream of such columns from a place on, up to the end mark; at most so many messages are looked for
 abbrev pub stream_batches : Schema → Version → ℕ → List ℕ → ℕ → Option (List (List (List Slot)))
 stream_batches schema version most bytes place = batches_behind (int32_layout schema) version [] most bytes place 0
+
+-- the batches of the first n messages from a place on, whatever stands behind them
+abbrev pub first_from : Schema → Version → ℕ → List ℕ → ℕ → Option (List (List (List Slot)))
+first_from schema version n bytes place = do
+  later ← first_messages n bytes place
+  batches_of (int32_layout schema) [] (map (stream_entry version) later)
 
 -- the schema of a stream's first message, and the place of the next; its version has to be known
 unfoldable pub first_schema : List ℕ → Option (SchemaIn × ℕ)
@@ -97,11 +103,3 @@ fitting schema given = do
   batches ← given
   _ ← guard (nat_lt (length (rows_of_batches batches)) (2 ^ 64))
   Some (record { schema = schema; rows = rows_of_batches batches })
-
--- what was decoded is what the definition gives; what was refused it doesn't give; want of memory says nothing
-abbrev pub Decodes : {A B : Type 0} → (A → B) → Result A Error → Option B → Type 0
-Decodes view (Ok x) given = given ≡ Some (view x)
-Decodes view (Err errors.OutOfMemory) given = Unit {0}
-Decodes view (Err (errors.OutOfSpec what)) given = given ≡ None
-Decodes view (Err (errors.NotYetImplemented what)) given = given ≡ None
-Decodes view (Err _) given = ⊥

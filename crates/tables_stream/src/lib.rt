@@ -12,6 +12,7 @@ mod framing;
 mod output;
 mod parts;
 mod reading;
+mod supported;
 mod table;
 mod writing;
 

@@ -6,9 +6,10 @@ ghost use Rattle.tables_stream.specs.Cells.{Reads};
 ghost use Rattle.tables_stream.specs.Batches.{rows_of_cells, is_as_long};
 ghost use Rattle.tables_stream.specs.Frames.{GoesOnFrom};
 ghost use Rattle.tables_stream.specs.Tables.{batch_slots, stored_cells};
-ghost use Rattle.tables_stream.specs.Int32.{int32_columns, agreeing, int32_batch, step_at, first_schema, Decodes};
-ghost use Rattle.tables_metadata.specs.Reading as metadata;
-ghost use Rattle.tables_metadata.specs.Reading.{IsSupported, schema_found};
+ghost use Rattle.tables_stream.specs.Int32.{int32_columns, agreeing, int32_batch, step_at};
+ghost use Rattle.ipc_format_metadata.specs.Reading as schemas;
+ghost use Rattle.ipc_format_columns.specs.Refusals.{next_after};
+ghost use Rattle.tables_stream.specs.Reading.{ReadsSchema, IsCompressed, IsCompressedThere};
 ghost use Rattle.tables_stream.specs.Steps.{step_view};
 
 use crate::batches::Batch;
@@ -17,11 +18,13 @@ use crate::columns::int32_cells;
 use crate::fault::Fault;
 use crate::framing::{NextMessage, next_at};
 use crate::parts::BatchBytes;
+use crate::supported::is_supported;
 use columnar_memory::{Error, Result, Schema};
 use ipc_format::flatbuffers::Table;
+use ipc_format::schema_in;
 use std::alloc::Global;
 use std::rc::Rc;
-use tables_metadata::{Header, lengths_sum, record_batch_in, schema_in, version_in};
+use tables_metadata::{Header, lengths_sum, record_batch_in, version_in};
 
 /// How a table's bytes stand: in Arrow's file format or its streaming format.
 #[derive(Clone, Copy, Debug, PartialEq, Eq)]
@@ -33,10 +36,11 @@ pub enum Form {
 /// The schema of a stream's first message, and where the next message stands.
 ///
 /// - `OutOfSpec`: the bytes are truncated, or the first message is no schema.
-/// - `NotYetImplemented`: a column isn't a 32-bit integer, or more is said of the schema than this reads.
+/// - `NotYetImplemented`: a float field stands in the schema, a column isn't a 32-bit integer, or the schema is big-endian, or has a
+///   dictionary or custom metadata.
 #[tactic(auto, unfolding(crate::specs::Int32::first_schema, ipc_format_columns::specs::Framing::first_of))]
 pub fn first_schema(alloc: Global, bytes: &[u8]) -> Result<(Schema, usize)>
-    ensures value { metadata.Reads (λ read found. (found.0 ≡ schema_found read.0) × (found.1 ≡ read.1)) (λ found. IsSupported found.0) result (first_schema bytes.now) }
+    ensures value { ReadsSchema result bytes.now }
     ensures reach { IfOk result (λ found. (0 < found.1) × (found.1 ≤ length bytes.now)) }
 {
     let Some(NextMessage::Message(framed, after)) = next_at(bytes, 0) else {
@@ -48,7 +52,11 @@ pub fn first_schema(alloc: Global, bytes: &[u8]) -> Result<(Schema, usize)>
     if version_in(framed.metadata).is_none() {
         return Err(Error::OutOfSpec("InvalidFlatbufferVersion"));
     }
-    Ok((schema_in(alloc, framed.metadata, &table)?, after))
+    let (schema, ipc_schema) = schema_in(alloc, framed.metadata, &table)?;
+    if !is_supported(&schema, &ipc_schema) {
+        return Err(Error::NotYetImplemented("schemas of other columns"));
+    }
+    Ok((schema, after))
 }
 
 /// A message after the first, or how the stream ends there.
@@ -68,7 +76,7 @@ pub enum Next {
 /// - `OutOfMemory`: there was no memory for the cells.
 #[tactic(auto, unfolding(crate::specs::Int32::step_at))]
 pub fn next_batch(alloc: Global, bytes: &[u8], place: usize, width: usize) -> Result<Next>
-    ensures value { Decodes step_view result (step_at width bytes.now place) }
+    ensures value { schemas.Reads step_view (IsCompressedThere (next_after 0 bytes.now place)) result (step_at width bytes.now place) }
     ensures reach { IfOk result (GoesOnFrom place (length bytes.now)) }
 {
     let (framed, after) = match next_at(bytes, place) {
@@ -97,7 +105,8 @@ fn batch_of(
     body: &[u8],
     width: usize,
 ) -> Result<Batch>
-    ensures { Decodes (λ batch. batch_slots (stored_cells batch)) result (int32_batch width metadata.now (table_of table.now) body.now) }
+    ensures { schemas.Reads (λ batch. batch_slots (stored_cells batch)) (IsCompressed metadata.now (table_of table.now)) result
+        (int32_batch width metadata.now (table_of table.now) body.now) }
 {
     let Some(batch) = record_batch_in(metadata, table) else {
         return Err(Error::OutOfSpec("InvalidFlatbufferRecordBatches"));

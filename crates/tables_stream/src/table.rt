@@ -5,6 +5,7 @@ ghost use Rattle.nested_arrays.specs.Tables.{part};
 ghost use Rattle.tables_stream.specs.Cuts.{cut_of};
 ghost use Rattle.tables_stream.specs.Tables.{row_count, as_table, table_bytes};
 ghost use Rattle.tables_metadata.specs.Int32Schemas.{IsInt32Schema};
+ghost use Rattle.ipc_format.specs.Messages.{Version};
 ghost use Rattle.tables_stream.specs.Reading.{ReadsTable, ReadsBatches};
 ghost use Rattle.tables_stream.specs.declared.fault.Fault.TheVariants.{Memory};
 
@@ -130,7 +131,7 @@ fn read_batches(alloc: Global, bytes: &[u8], schema: Schema, first: usize) -> Re
     requires schema { IsInt32Schema schema }
     requires begun { 0 < first }
     requires inside { first ≤ length bytes.now }
-    ensures { ReadsBatches schema bytes.now first result }
+    ensures { (version : Version) → ReadsBatches schema version bytes.now first result }
 {
     let width = schema.fields.len();
     let mut batches = Vec::new(alloc);

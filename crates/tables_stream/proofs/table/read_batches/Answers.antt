@@ -1,11 +1,11 @@
-use Rattle.std.proofs.Common.{rules, arith, ◌≡◌, ◌+◌, ◌≤◌, ◌^◌, List, length, map, refl}
-use Rattle.std.specs.Prelude.{Err, Some, sum_by}
-use Rattle.tables_stream.specs.declared.reading.Next.{Next}
+use Rattle.std.proofs.Common.{rules, arith, ◌≡◌, ◌+◌, ◌≤◌, ◌^◌, List, Err, length, map, refl}
+use Rattle.std.specs.Prelude.{Some, sum_by}
 use Rattle.tables_stream.specs.Batches.{rows_of_cells}
 use Rattle.tables_stream.specs.Faults.{fault_of}
-use Rattle.tables_stream.specs.Int32.{cut_off, ended, batch_then, step_at, Decodes}
-use Rattle.tables_stream.specs.Reading.{ReadsBatches}
-use Rattle.tables_stream.specs.Steps.{step_view}
+use Rattle.ipc_format_columns.specs.Refusals.{next_after}
+use Rattle.ipc_format_metadata.specs.Reading.{Refuses}
+use Rattle.tables_stream.specs.Int32.{cut_off, ended, batch_then, step_at}
+use Rattle.tables_stream.specs.Reading.{ReadsBatches, IsCompressedThere}
 use Rattle.tables_stream.specs.Tables.{batch_slots, stored_cells}
 use Rattle.tables_stream.proofs.ColumnLists.{Cells}
 use Rattle.tables_stream.proofs.BatchLists.{batches_next, batches_end, batches_cut, batches_many, batches_error, rows_more, cells_more}
@@ -16,9 +16,13 @@ pub returns-in_err-next_batch : goal.returns-in_err-next_batch
 returns-in_err-next_batch c =
     let n = length c.args.schema.fields in
     let cells : List (List Cells) = map stored_cells c.loop-batches.batches.items in
-    let refused : Decodes {A = Next} step_view (Err c.in_err-next_batch.field-0.0) (step_at n c.args.bytes.now c.loop-batches.place) = search rules in
-    let whole : ReadsBatches c.args.schema c.args.bytes.now c.args.first (Err (fault_of c.in_err-next_batch.field-0.0)) =
-    batches_error {A = Next} step_view c.in_err-next_batch.field-0.0 c.args.schema c.args.bytes.now c.args.first cells c.loop-batches.place c.requires.schema c.loop-batches.invariant.read refused in
+    let error = c.in_err-next_batch.field-0.0 in
+    let refused : Refuses (IsCompressedThere (next_after 0 c.args.bytes.now c.loop-batches.place)) error
+    (step_at n c.args.bytes.now c.loop-batches.place) = search rules in
+    λ version.
+    let whole : ReadsBatches c.args.schema version c.args.bytes.now c.args.first (Err (fault_of error)) =
+    batches_error error c.args.schema version c.args.bytes.now c.args.first cells c.loop-batches.place c.requires.schema
+    c.loop-batches.invariant.read refused in
     search (rules, whole)
 
 pub returns-in-Truncated : goal.returns-in-Truncated
@@ -26,7 +30,8 @@ returns-in-Truncated c =
     let n = length c.args.schema.fields in
     let cells : List (List Cells) = map stored_cells c.loop-batches.batches.items in
     let step : step_at n c.args.bytes.now c.loop-batches.place ≡ Some cut_off = search rules in
-    batches_cut c.args.schema c.args.bytes.now c.args.first cells c.loop-batches.place c.requires.schema c.loop-batches.invariant.read step
+    let cut = batches_cut c.args.schema c.args.bytes.now c.args.first cells c.loop-batches.place c.requires.schema c.loop-batches.invariant.read step in
+    λ version. (cut.0 version, cut.1)
 
 pub returns-in_default : goal.returns-in_default
 returns-in_default c =
@@ -61,9 +66,10 @@ pub returns : goal.returns
 returns c =
     let n = length c.args.schema.fields in
     let cells : List (List Cells) = map stored_cells c.loop-batches.batches.items in
-    let step : step_at n c.args.bytes.now c.loop-batches.place ≡ Some ended = search rules in (
+    let step : step_at n c.args.bytes.now c.loop-batches.place ≡ Some ended = search rules in
+    λ version. (
       refl,
-      λ version. batches_end c.args.schema version c.args.bytes.now c.args.first cells c.loop-batches.place c.requires.schema
+      batches_end c.args.schema version c.args.bytes.now c.args.first cells c.loop-batches.place c.requires.schema
           c.loop-batches.invariant.read step,
       omega (arith, c.loop-batches.invariant.counted, c.loop-batches.invariant.fits),
     )

@@ -1,0 +1,30 @@
+//! Which schemas are read.
+ghost use Rattle.std.specs.Prelude.{◌≡◌, ◌↔◌, IsTrue, All};
+ghost use Rattle.ipc_format_metadata.specs.SchemaViews.{schema_view};
+ghost use Rattle.tables_stream.specs.Supported.{IsSupported, HasNoDictionary};
+
+use columnar_memory::Schema;
+use ipc_format::{IpcField, IpcSchema};
+use tables_metadata::is_int32_schema;
+
+/// Whether a schema is little-endian, of 32-bit integers alone, without dictionaries and custom metadata.
+pub fn is_supported(schema: &Schema, ipc_schema: &IpcSchema) -> bool
+    ensures { IsTrue result ↔ IsSupported (schema_view (schema.now, ipc_schema.now)) }
+{
+    if !ipc_schema.is_little_endian {
+        return false;
+    }
+    if !is_int32_schema(schema) {
+        return false;
+    }
+    if ipc_schema.fields.len() != schema.fields.len() {
+        return false;
+    }
+    have_no_dictionaries(ipc_schema.fields.as_slice())
+}
+
+fn have_no_dictionaries(fields: &[IpcField]) -> bool
+    ensures { IsTrue result ↔ All HasNoDictionary fields.now }
+{
+    fields.iter().all(|field| field.dictionary_id.is_none() && field.fields.is_empty())
+}
