@@ -27,6 +27,3 @@ pub use load::{load_word, low_bits};
 pub use utils::{bytes_for, get_bit, is_set, set, set_bit};
 pub use zip_validity::{Validity, ZipValidity};
 pub use zip_validity_iter::ZipValidityIter;
-
-#[cfg(test)]
-mod tests;
