@@ -257,7 +257,7 @@ impl Bitmap {
     }
 
     /// A copy of the bits.
-    fn to_mutable(&self) -> Result<MutableBitmap>
+    pub(crate) fn to_mutable(&self) -> Result<MutableBitmap>
         ensures { OrOutOfMemory result (λ m. m ≡ self.now) }
     {
         let mut copy = MutableBitmap::new(self.allocator());

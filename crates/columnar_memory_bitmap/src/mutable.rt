@@ -13,6 +13,7 @@ ghost use Rattle.columnar_memory_bitmap.specs.Results.{TakesBits, Grows, OrOutOf
 
 use crate::Bitmap;
 use crate::equal::same_bits;
+use crate::gathered::Gathered;
 use crate::operators::{Operator, combine_bits, invert_bytes};
 use columnar_memory_bits::{
     BitmapIter, append_bits, append_constant, bytes_for, count_zeros, get_bit, keep_bits, set_bit,
@@ -127,11 +128,11 @@ impl MutableBitmap {
         requires ends { IsFinite (I.remaining iter) }
         ensures { OrOutOfMemory result (λ b. WholeRun I.next_gives iter (λ p. b ≡ p.items)) }
     {
-        let mut bitmap = MutableBitmap::new(alloc);
+        let mut gathered = Gathered::new(alloc);
         for bit in iter {
-            bitmap.push(bit)?;
+            gathered.push(bit)?;
         }
-        Ok(bitmap)
+        gathered.finish()
     }
 
     /// How many bits there are.
