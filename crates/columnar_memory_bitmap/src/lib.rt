@@ -13,6 +13,7 @@ mod into_iter;
 mod mutable;
 mod operators;
 mod slices;
+mod text;
 mod validity;
 
 pub use bitmap::Bitmap;

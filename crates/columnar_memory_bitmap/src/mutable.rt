@@ -26,7 +26,7 @@ use std::marker::Model;
 /// bits need, the first bit in the least significant place of the first, and the spare bits of the last byte are zeros.
 ///
 /// A call that grows it and finds no memory, or would hold more bits than a `usize` counts, answers `OutOfMemory` and changes nothing.
-#[derive(Debug, Drop)]
+#[derive(Drop)]
 pub struct MutableBitmap {
     buffer: Vec<u8>,
     len: usize,

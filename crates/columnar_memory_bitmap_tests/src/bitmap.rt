@@ -192,3 +192,21 @@ fn bits_that_are_all_set_are_no_validity(rt: HostRuntime) -> Result<(), Fail> {
     assert!(rt; Option::<Bitmap>::try_from(none)?.map(|bits| bits.len()) == Some(9));
     Ok(())
 }
+
+#[test]
+fn bits_as_text(rt: HostRuntime) -> Result<(), Fail> {
+    for (offset, len, want) in [
+        (0, 0, "[]"),
+        (0, 8, "[0b01011011]"),
+        (0, 9, "[0b01011011, 0b_______1]"),
+        (0, 2, "[0b______11]"),
+        (1, 2, "[0b_____01_]"),
+        (6, 2, "[0b01______]"),
+        (1, 9, "[0b0101101_, 0b______01]"),
+        (2, 16, "[0b010110__, 0b00000001, 0b______11]"),
+    ] {
+        let bits = window(rt.alloc(), offset, len)?;
+        assert!(rt; format!(in rt.alloc(); "{bits:?}")?.as_str() == want, "{want}");
+    }
+    Ok(())
+}
