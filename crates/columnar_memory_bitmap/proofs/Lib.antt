@@ -4,3 +4,4 @@ pub mod Places
 pub mod RunLaws
 pub mod RunLemmas
 pub mod SameWords
+mod Gathering

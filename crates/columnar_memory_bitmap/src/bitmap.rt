@@ -21,7 +21,7 @@ use std::rc::Rc;
 
 /// Shared bits that are not changed, which a contract sees as their list, `true` where a bit is set (Arrow columnar format, "Validity
 /// bitmaps"). It is a window on bytes: a clone and a slice share them, and equal lists are equal bitmaps whatever stands around the bits.
-#[derive(Debug, Drop)]
+#[derive(Drop)]
 pub struct Bitmap {
     // the bits stand from bit `offset` on, and `unset_bits` of them are not set
     bytes: Rc<Vec<u8>>,
@@ -257,7 +257,7 @@ impl Bitmap {
     }
 
     /// A copy of the bits.
-    fn to_mutable(&self) -> Result<MutableBitmap>
+    pub(crate) fn to_mutable(&self) -> Result<MutableBitmap>
         ensures { OrOutOfMemory result (λ m. m ≡ self.now) }
     {
         let mut copy = MutableBitmap::new(self.allocator());

@@ -8,15 +8,15 @@
 
 mod bitmap;
 mod equal;
+mod gathered;
 mod into_iter;
 mod mutable;
 mod operators;
 mod slices;
+mod text;
+mod validity;
 
 pub use bitmap::Bitmap;
 pub use into_iter::IntoIter;
 pub use mutable::MutableBitmap;
 pub use slices::SlicesIterator;
-
-#[cfg(test)]
-mod tests;

@@ -13,6 +13,7 @@ ghost use Rattle.columnar_memory_bitmap.specs.Results.{TakesBits, Grows, OrOutOf
 
 use crate::Bitmap;
 use crate::equal::same_bits;
+use crate::gathered::Gathered;
 use crate::operators::{Operator, combine_bits, invert_bytes};
 use columnar_memory_bits::{
     BitmapIter, append_bits, append_constant, bytes_for, count_zeros, get_bit, keep_bits, set_bit,
@@ -25,7 +26,7 @@ use std::marker::Model;
 /// bits need, the first bit in the least significant place of the first, and the spare bits of the last byte are zeros.
 ///
 /// A call that grows it and finds no memory, or would hold more bits than a `usize` counts, answers `OutOfMemory` and changes nothing.
-#[derive(Debug, Drop)]
+#[derive(Drop)]
 pub struct MutableBitmap {
     buffer: Vec<u8>,
     len: usize,
@@ -127,11 +128,11 @@ impl MutableBitmap {
         requires ends { IsFinite (I.remaining iter) }
         ensures { OrOutOfMemory result (λ b. WholeRun I.next_gives iter (λ p. b ≡ p.items)) }
     {
-        let mut bitmap = MutableBitmap::new(alloc);
+        let mut gathered = Gathered::new(alloc);
         for bit in iter {
-            bitmap.push(bit)?;
+            gathered.push(bit)?;
         }
-        Ok(bitmap)
+        gathered.finish()
     }
 
     /// How many bits there are.

@@ -1,9 +1,11 @@
 ghost use Rattle.std.specs.Prelude.{◌≡◌, ℕ, ◌+◌, ◌*◌, ◌^◌, ◌≤◌, ◌<◌, ◌&&◌, ◌||◌, not, map, length};
 ghost use Rattle.columnar_memory_bits.specs.Bits.{IsPacked, bit, bit_at};
 ghost use Rattle.columnar_memory_bitmap.specs.Operators.{pairwise, table, xor};
+ghost use Rattle.columnar_memory_bitmap.specs.Results.{OrOutOfMemory};
 
 use crate::{Bitmap, MutableBitmap};
 use columnar_memory_bits::load_word;
+use columnar_memory_types::Result;
 use std::ops::{BitAnd, BitAndAssign, BitOr, BitOrAssign, BitXor, BitXorAssign, Not};
 
 /// An operator on two bits.
@@ -96,6 +98,72 @@ impl Not for MutableBitmap {
         bits.invert();
         bits
     }
+}
+
+impl BitAnd<&Bitmap> for &Bitmap {
+    type Output = Result<Bitmap>;
+
+    ghost can_bitand = { λ a b. length a.now ≡ length b.now };
+
+    ghost bitand_gives = { λ a b result. OrOutOfMemory result (λ bits. bits ≡ pairwise (λ x y. x && y) a.now b.now) };
+
+    /// # Errors
+    /// `OutOfMemory`: the bits found no memory.
+    fn bitand(self, rhs: &Bitmap) -> Result<Bitmap> {
+        combined_bitmap(self, rhs, Operator::And)
+    }
+}
+
+impl BitOr<&Bitmap> for &Bitmap {
+    type Output = Result<Bitmap>;
+
+    ghost can_bitor = { λ a b. length a.now ≡ length b.now };
+
+    ghost bitor_gives = { λ a b result. OrOutOfMemory result (λ bits. bits ≡ pairwise (λ x y. x || y) a.now b.now) };
+
+    /// # Errors
+    /// `OutOfMemory`: the bits found no memory.
+    fn bitor(self, rhs: &Bitmap) -> Result<Bitmap> {
+        combined_bitmap(self, rhs, Operator::Or)
+    }
+}
+
+impl BitXor<&Bitmap> for &Bitmap {
+    type Output = Result<Bitmap>;
+
+    ghost can_bitxor = { λ a b. length a.now ≡ length b.now };
+
+    ghost bitxor_gives = { λ a b result. OrOutOfMemory result (λ bits. bits ≡ pairwise xor a.now b.now) };
+
+    /// # Errors
+    /// `OutOfMemory`: the bits found no memory.
+    fn bitxor(self, rhs: &Bitmap) -> Result<Bitmap> {
+        combined_bitmap(self, rhs, Operator::Xor)
+    }
+}
+
+impl Not for &Bitmap {
+    type Output = Result<Bitmap>;
+
+    ghost not_gives = { λ bits result. OrOutOfMemory result (λ turned. turned ≡ map not bits.now) };
+
+    /// # Errors
+    /// `OutOfMemory`: the bits found no memory.
+    fn not(self) -> Result<Bitmap> {
+        let mut bits = self.to_mutable()?;
+        bits.invert();
+        bits.freeze()
+    }
+}
+
+/// The bits of two bitmaps under an operator.
+fn combined_bitmap(left: &Bitmap, right: &Bitmap, operator: Operator) -> Result<Bitmap>
+    requires { length left.now ≡ length right.now }
+    ensures { OrOutOfMemory result (λ bits. bits ≡ pairwise (table operator) left.now right.now) }
+{
+    let mut bits = left.to_mutable()?;
+    bits.combine(right, operator);
+    bits.freeze()
 }
 
 /// Turns each bit of some bytes.

@@ -7,3 +7,4 @@ pub mod Appends
 mod LastBytes
 pub mod Chunks
 mod Places
+mod Texts

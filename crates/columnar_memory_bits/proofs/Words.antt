@@ -110,7 +110,8 @@ eight_is b0 b1 b2 b3 b4 b5 b6 b7 = omega arith
 
 pub digit_eight : (bytes eight : List ℕ) (i : ℕ) → ((k : ℕ) → get_or bytes k 0 < 256) → i < 64 →
     eight ≡
-    get_or bytes 0 0 ∷ get_or bytes 1 0 ∷ get_or bytes 2 0 ∷ get_or bytes 3 0 ∷ get_or bytes 4 0 ∷ get_or bytes 5 0 ∷ get_or bytes 6 0 ∷ get_or bytes 7 0 ∷ [] →
+    get_or bytes 0 0 ∷ get_or bytes 1 0 ∷ get_or bytes 2 0 ∷ get_or bytes 3 0 ∷ get_or bytes 4 0 ∷ get_or bytes 5 0 ∷ get_or bytes 6 0
+    ∷ get_or bytes 7 0 ∷ [] →
     number.bit_at (from_le_bytes w64 eight) i ≡ digit bytes i
 digit_eight bytes eight i small h e =
     let f : ℕ → ℕ = λ k. get_or bytes k 0 in

@@ -5,3 +5,4 @@ pub mod Appends
 pub mod ZipValidity
 pub mod ZipValidityCases
 pub mod Chunks
+pub mod Text

@@ -12,6 +12,7 @@ mod chunks_exact;
 mod count;
 mod iterator;
 mod load;
+mod text;
 mod utils;
 mod zip_validity;
 mod zip_validity_iter;
@@ -24,9 +25,7 @@ pub use chunks_exact::{BitChunkIterExact, BitChunksExact};
 pub use count::count_zeros;
 pub use iterator::BitmapIter;
 pub use load::{load_word, low_bits};
+pub use text::fmt;
 pub use utils::{bytes_for, get_bit, is_set, set, set_bit};
 pub use zip_validity::{Validity, ZipValidity};
 pub use zip_validity_iter::ZipValidityIter;
-
-#[cfg(test)]
-mod tests;

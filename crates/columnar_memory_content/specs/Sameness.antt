@@ -28,7 +28,10 @@ same_code-implies (gnum m) (gnum n) h = ap gnum ((unsigned_Decides m n).0 h)
 same_code-implies (gnum m) (gcons a b) h = absurd (true≢false (sym h))
 same_code-implies (gcons a b) gnil h = absurd (true≢false (sym h))
 same_code-implies (gcons a b) (gnum n) h = absurd (true≢false (sym h))
-same_code-implies (gcons a b) (gcons c d) h = λ i. gcons (same_code-implies a c (first_so (same_code a c) (same_code b d) h) i) (same_code-implies b d (second_so (same_code a c) (same_code b d) h) i)
+same_code-implies (gcons a b) (gcons c d) h =
+    let heads = first_so (same_code a c) (same_code b d) h in
+    let tails = second_so (same_code a c) (same_code b d) h in
+    λ i. gcons (same_code-implies a c heads i) (same_code-implies b d tails i)
 
 same_code-itself : (x : Gv) → same_code x x ≡ true
 same_code-itself gnil = refl
@@ -42,7 +45,9 @@ module _ {A : Type 0} (c : Coded A) where
 
   pub same-Decides : (x y : A) → Decides (same x y) (x ≡ y)
   unfolding same
-  same-Decides x y = (λ h. c.inj x y (same_code-implies (c.code x) (c.code y) h), λ e. (λ i. same_code (c.code x) (c.code (sym e i))) ∙ same_code-itself (c.code x))
+  same-Decides x y =
+      (λ h. c.inj x y (same_code-implies (c.code x) (c.code y) h),
+      λ e. (λ i. same_code (c.code x) (c.code (sym e i))) ∙ same_code-itself (c.code x))
 
 -- a test that decides `≡` is an equivalence
 pub equivalence_from_Decides : {A : Type 0} (E : A → A → Bool) → ((x y : A) → Decides (E x y) (x ≡ y)) → IsEquivalence E

@@ -17,6 +17,3 @@ pub use boxed::Boxed;
 pub use items::Items;
 pub use metadata::Metadata;
 pub use text::Text;
-
-#[cfg(test)]
-mod tests;

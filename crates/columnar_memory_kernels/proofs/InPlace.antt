@@ -198,7 +198,7 @@ word_of_bits w bytes offset len k n few within (inr rest) =
     ap word (sym (ap (take w) (drop_window (bit_at bytes) offset (w * k) n len (sym rest))
     ∙ take_all w (bits_of bytes (offset + w * k) n) (omega (arith, length_window (bit_at bytes) (offset + w * k) n))))
 
--- a word that is not yet written
+-- a word that is still to be written
 pub word_behind : (w : ℕ) (answers : ℕ → ℕ → Type 0) (old mid : List ℕ) (len k n : ℕ) → IsWritten w answers len k old mid → n ≤ w →
     w * k + n ≤ len → (n ≡ w) ⊎ (w * k + n ≡ len) → word (bits_of mid (w * k) n) ≡ word_at w (bits_of old 0 len) k
 word_behind w answers old mid len k n so_far few within most =

@@ -12,6 +12,3 @@ mod write;
 
 pub use assign::{binary_assign, unary_assign};
 pub use kernels::{and, binary, or, quaternary, ternary, unary, xor};
-
-#[cfg(test)]
-mod tests;

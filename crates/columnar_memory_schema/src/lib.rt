@@ -12,6 +12,3 @@ mod schema;
 pub use data_type::{DataType, Field};
 pub use extension::{EXTENSION_METADATA, EXTENSION_NAME, get_extension};
 pub use schema::{Schema, SchemaRef};
-
-#[cfg(test)]
-mod tests;

@@ -33,8 +33,8 @@ begun : (c : After-extend_bits) →
     × ((c.args.held + c.if-held-gt0.done) % 8 ≡ 0) × (c.if-held-gt0.done ≤ c.args.len)
 begun c = elim c.if-held-gt0.branch [
   | then-held-gt0+else-done-len w ↦ (
-    let one = filled c.args.to.now.items c.reserve.new.self.items w.fill_last.new.to.items c.args.bytes.now c.args.held c.args.offset w.min-done.result
-        w.load_word.result c.reserve.ensures.items w.fill_last.ensures.added w.load_word.ensures in
+    let one = filled c.args.to.now.items c.reserve.new.self.items w.fill_last.new.to.items c.args.bytes.now c.args.held c.args.offset
+        w.min-done.result w.load_word.result c.reserve.ensures.items w.fill_last.ensures.added w.load_word.ensures in
         rw (w.to-is, w.done-is) one,
     omega arith,
     omega arith,

@@ -1,4 +1,5 @@
 use Rattle.std.proofs.Common.{◌∙◌, sym}
+use Rattle.std.proofs.lemmas.Result.{MatchResult-weaker}
 use Rattle.std.proofs.iter.runs.Made.{run_of_exit}
 use Rattle.columnar_memory_bitmap.proofs.mutable.MutableBitmap.from_iter.Goals as goal
 
@@ -7,4 +8,5 @@ returns g c =
     let given = c.into_iter-bit-iterator in
     let run = run_of_exit g.I.Iterator.next_gives given.result c.loop-bit.yielded c.loop-bit.bit-iterator c.loop-bit.yielded_by
     c.next.new.self c.in-None.ensures.steps in
-    (run.0, run.1 ∙ given.ensures.into_iter_gives, run.2, c.loop-bit.invariant ∙ sym run.3.0)
+    MatchResult-weaker c.finish.result c.finish.ensures
+    (λ b same. (run.0, run.1 ∙ given.ensures.into_iter_gives, run.2, same ∙ c.loop-bit.invariant ∙ sym run.3.0)) (λ e q. q)

@@ -2,4 +2,4 @@ use Rattle.std.proofs.Common.{◌≡◌}
 use Rattle.columnar_memory_bitmap.proofs.mutable.MutableBitmap.from_iter.Given as goal
 
 abbrev pub invariant-loop-bit : goal.invariant-loop-bit
-invariant-loop-bit g l = l.bitmap ≡ l.yielded
+invariant-loop-bit g l = l.gathered ≡ l.yielded

@@ -5,4 +5,5 @@ use Rattle.columnar_memory_content.proofs.metadata.MetadataPartialEq.eq.Goals as
 
 pub returns-clause-exact : goal.returns-clause-exact
 returns-clause-exact c =
-    let same = btree_map_eq-Decides bytes_eq-Decides bytes_eq-Decides c.self.inside.map c.other.inside.map c.eq.result c.eq.ensures in search (rules, same)
+    let same = btree_map_eq-Decides bytes_eq-Decides bytes_eq-Decides c.self.inside.map c.other.inside.map c.eq.result c.eq.ensures in
+    search (rules, same)

@@ -13,7 +13,8 @@ loop-index-preserved g c =
           let is : into_iter_items c.loop-index.rest ≡ w.in-Some.field ∷ into_iter_items c.next.new.self =
           c.next.ensures.items ∙ ap (λ o. option_to_list o ++ into_iter_items c.next.new.self) w.in-Some.is in
           let size = ap length is in
-          (omega arith, KeptFrom-turn _ _ _ _ _ _ _ _ _ is (_, refl, w.predicate-is_wanted.ensures) (w.kept-is ∙ w.in_ok-keep_if.ensures) c.loop-index.invariant.1)
+          let wanted = w.predicate-is_wanted.ensures in
+          (omega arith, KeptFrom-turn _ _ _ _ _ _ _ _ _ is (_, refl, wanted) (w.kept-is ∙ w.in_ok-keep_if.ensures) c.loop-index.invariant.1)
       | in_default w ↦
           let none = w.in_default.ensures.cases in
           let size : into_iter_len c.loop-index.rest ≡ length (into_iter_items c.loop-index.rest) = c.loop-index.rest.rest.ok.0 in
