@@ -18,6 +18,3 @@ pub use reading::{
     reference_field, root_of, string_at, string_field, table_at, table_field, truth_field, u8_at,
     u8_field, u16_at, u32_at, vector_at, vector_field, window,
 };
-
-#[cfg(test)]
-mod tests;

@@ -17,6 +17,3 @@ pub use ipc_schema::{IpcField, IpcSchema};
 pub use messages::{MOST_LEVELS, any_schema_in, deserialize_schema, schema_in};
 pub use out_of_spec::OutOfSpecKind;
 pub use writable::can_write;
-
-#[cfg(test)]
-mod tests;

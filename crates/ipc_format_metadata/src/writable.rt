@@ -228,6 +228,8 @@ fn are_distinct(ids: &[i32]) -> bool
     true
 }
 
+/// What is asked of a type.
+// match table: an arm for each kind of the 35 types.
 #[cycle(reports)]
 fn report_of(data_type: &DataType) -> Report
     ensures { report_view result ≡ capped (writable.report_of data_type.now) }

@@ -1,0 +1,4 @@
+pub mod NumberedLists
+pub mod FittingLists
+pub mod BesideLists
+pub mod FloatLists
