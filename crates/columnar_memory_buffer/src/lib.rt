@@ -16,6 +16,3 @@ pub use into_iter::IntoIter;
 pub use offsets::Offsets;
 pub use offsets_buffer::OffsetsBuffer;
 pub use offsets_lengths::OffsetsLengths;
-
-#[cfg(test)]
-mod tests;

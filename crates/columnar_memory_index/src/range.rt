@@ -2,7 +2,7 @@
 
 ghost use Rattle.std.specs.Prelude.{◌≡◌, ◌+ℤ◌, ◌≤ℤ◌, ℕ, pos};
 ghost use Rattle.std.specs.Iterator.{YieldsFirstBy, item_count};
-ghost use Rattle.columnar_memory_native.specs.Ranges.{integers, SpansTo};
+ghost use Rattle.columnar_memory_index.specs.Ranges.{integers, SpansTo};
 
 use crate::index::Index;
 use std::marker::Model;
@@ -17,7 +17,7 @@ pub struct IndexRange<I: Index> {
 
 impl<I: Index> Model for IndexRange<I> {
     ghost use Rattle.std.specs.Prelude.{◌+ℤ◌, ℤ, List, pos};
-    ghost use Rattle.columnar_memory_native.specs.Ranges.{integers};
+    ghost use Rattle.columnar_memory_index.specs.Ranges.{integers};
 
     ghost Value = { List ℤ };
 

@@ -1,6 +1,6 @@
 use Rattle.std.proofs.Common.{◌∙◌, ap, sym, length, arith}
-use Rattle.columnar_memory_native.specs.Ranges.{length-integers}
-use Rattle.columnar_memory_native.proofs.range.IndexRangeIterator.size_hint.Goals as goal
+use Rattle.columnar_memory_index.specs.Ranges.{length-integers}
+use Rattle.columnar_memory_index.proofs.range.IndexRangeIterator.size_hint.Goals as goal
 
 pub returns-clause-lower : goal.returns-clause-lower
 returns-clause-lower g c =
