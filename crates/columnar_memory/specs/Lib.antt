@@ -29,6 +29,7 @@ pub use Rattle.columnar_memory_native.specs.Numbers
 pub use Rattle.columnar_memory_native.specs.Wide
 pub use Rattle.columnar_memory_buffer.specs.Growth
 pub use Rattle.columnar_memory_buffer.specs.Lending
+pub use Rattle.columnar_memory_buffer.specs.SliceLaws
 pub use Rattle.columnar_memory_buffer.specs.Spans
 pub use Rattle.columnar_memory_buffer.specs.SpansEqual
 pub use Rattle.columnar_memory_buffer.specs.Window

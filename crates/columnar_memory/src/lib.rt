@@ -11,6 +11,7 @@ pub use columnar_memory_bits::{
 };
 pub use columnar_memory_buffer::{
     Buffer, Bytes, IntoIter as BufferIntoIter, Offsets, OffsetsBuffer, OffsetsLengths,
+    a_slice_of_a_sliced_buffer_is_one_slice, a_slice_of_sliced_offsets_is_one_slice,
 };
 pub use columnar_memory_content::{Boxed, Items, Metadata, Text};
 pub use columnar_memory_index::{Index, IndexRange, Offset, Steps};

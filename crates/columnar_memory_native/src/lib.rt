@@ -1,6 +1,7 @@
 //! The values of one width that columnar memory stores, and their bytes.
 #![tactic(auto)]
 
+mod arrays;
 mod intervals;
 mod native_integers;
 mod native_type;
