@@ -22,13 +22,14 @@ pub use Rattle.columnar_memory_bitmap.specs.Results
 pub use Rattle.columnar_memory_bitmap.specs.Runs
 pub use Rattle.columnar_memory_kernels.specs.Kernels
 pub use Rattle.columnar_memory_kernels.specs.Writes
-pub use Rattle.columnar_memory_native.specs.Natural
+pub use Rattle.columnar_memory_index.specs.Natural
+pub use Rattle.columnar_memory_index.specs.Ranges
 pub use Rattle.columnar_memory_native.specs.NumberLaws
 pub use Rattle.columnar_memory_native.specs.Numbers
-pub use Rattle.columnar_memory_native.specs.Ranges
 pub use Rattle.columnar_memory_native.specs.Wide
 pub use Rattle.columnar_memory_buffer.specs.Growth
 pub use Rattle.columnar_memory_buffer.specs.Lending
+pub use Rattle.columnar_memory_buffer.specs.SliceLaws
 pub use Rattle.columnar_memory_buffer.specs.Spans
 pub use Rattle.columnar_memory_buffer.specs.SpansEqual
 pub use Rattle.columnar_memory_buffer.specs.Window

@@ -11,14 +11,14 @@ pub use columnar_memory_bits::{
 };
 pub use columnar_memory_buffer::{
     Buffer, Bytes, IntoIter as BufferIntoIter, Offsets, OffsetsBuffer, OffsetsLengths,
+    a_slice_of_a_sliced_buffer_is_one_slice, a_slice_of_sliced_offsets_is_one_slice,
 };
 pub use columnar_memory_content::{Boxed, Items, Metadata, Text};
+pub use columnar_memory_index::{Index, IndexRange, Offset, Steps};
 pub use columnar_memory_kernels::{
     and, binary, binary_assign, or, quaternary, ternary, unary, unary_assign, xor,
 };
-pub use columnar_memory_native::{
-    Index, IndexRange, NativeType, Offset, Steps, days_ms, i256, months_days_ns,
-};
+pub use columnar_memory_native::{NativeType, days_ms, i256, months_days_ns};
 pub use columnar_memory_schema::{
     DataType, EXTENSION_METADATA, EXTENSION_NAME, Field, Schema, SchemaRef, get_extension,
 };

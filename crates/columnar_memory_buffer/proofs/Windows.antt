@@ -3,15 +3,15 @@ use Rattle.std.proofs.Common.{◌≡◌, ℕ, ◌+◌, ◌-◌, ◌≤◌, List,
 use Rattle.std.proofs.lemmas.List.{take-take, drop-drop, drop-take, length-take-le}
 use Rattle.columnar_memory_buffer.specs.Window.{window}
 
-window-window-plus : {T : Type 0} (xs : List T) (a b k m : ℕ) → m ≤ k → window (window xs a (b + k)) b m ≡ window xs (a + b) m
-window-window-plus xs a b k m h = rw (drop-take b k (drop a xs), take-take m k (drop b (drop a xs)) h, drop-drop b a xs) refl
+windows_join-plus : {T : Type 0} (xs : List T) (a b k m : ℕ) → m ≤ k → window (window xs a (b + k)) b m ≡ window xs (a + b) m
+windows_join-plus xs a b k m h = rw (drop-take b k (drop a xs), take-take m k (drop b (drop a xs)) h, drop-drop b a xs) refl
 
 -- a window on a window is one window
-pub window-window : {T : Type 0} (xs : List T) (a n b m : ℕ) → b + m ≤ n → window (window xs a n) b m ≡ window xs (a + b) m
-window-window xs a n b m h =
+pub windows_join : {T : Type 0} (xs : List T) (a n b m : ℕ) → b + m ≤ n → window (window xs a n) b m ≡ window xs (a + b) m
+windows_join xs a n b m h =
     let e : n ≡ b + (n - b) = omega arith in
     let le : m ≤ n - b = omega arith in
-    rw e (window-window-plus xs a b (n - b) m le)
+    rw e (windows_join-plus xs a b (n - b) m le)
 
 pub length-window : {T : Type 0} (xs : List T) (a n : ℕ) → a + n ≤ length xs → length (window xs a n) ≡ n
 length-window xs a n h =

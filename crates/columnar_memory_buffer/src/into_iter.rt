@@ -1,4 +1,4 @@
-ghost use Rattle.std.specs.Prelude.{◌≡◌};
+ghost use Rattle.std.specs.Prelude.{◌≡◌, length, Some};
 ghost use Rattle.std.specs.Iterator.{YieldsFirst, YieldsLast, item_count};
 
 use crate::{Buffer, Bytes};
@@ -56,7 +56,9 @@ impl<T: Copy> Iterator for IntoIter<T> {
         Some(item)
     }
 
-    fn size_hint(&self) -> (usize, Option<usize>) {
+    fn size_hint(&self) -> (usize, Option<usize>)
+        ensures { result ≡ (length self.now, Some (length self.now)) }
+    {
         let left = self.end_index - self.index;
         (left, Some(left))
     }

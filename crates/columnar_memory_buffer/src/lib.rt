@@ -5,6 +5,7 @@
 mod buffer;
 mod bytes;
 mod into_iter;
+mod laws;
 mod offsets;
 mod offsets_buffer;
 mod offsets_lengths;
@@ -13,9 +14,7 @@ mod places;
 pub use buffer::Buffer;
 pub use bytes::Bytes;
 pub use into_iter::IntoIter;
+pub use laws::{a_slice_of_a_sliced_buffer_is_one_slice, a_slice_of_sliced_offsets_is_one_slice};
 pub use offsets::Offsets;
 pub use offsets_buffer::OffsetsBuffer;
 pub use offsets_lengths::OffsetsLengths;
-
-#[cfg(test)]
-mod tests;

@@ -6,7 +6,7 @@ ghost use Rattle.columnar_memory_buffer.specs.SpansEqual.{spans_eq, spans_eq_equ
 ghost use Rattle.columnar_memory_buffer.specs.Spans.{AreOffsets, IsStored, stored, extended, last_of, first_spans, no_spans, offset_at, shortened};
 
 use crate::places::{are_offsets, number_at, span_count};
-use columnar_memory_native::Offset;
+use columnar_memory_index::Offset;
 use columnar_memory_types::{Error, Result};
 use std::alloc::{AllocError, Global};
 use std::marker::Model;

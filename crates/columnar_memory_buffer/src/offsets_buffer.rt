@@ -8,7 +8,7 @@ ghost use Rattle.columnar_memory_buffer.specs.Spans.{AreOffsets, last_of, no_spa
 use crate::offsets::converted;
 use crate::places::{are_offsets, number_at, window_of};
 use crate::{Buffer, Offsets, OffsetsLengths};
-use columnar_memory_native::Offset;
+use columnar_memory_index::Offset;
 use columnar_memory_types::{Error, Result};
 use either::Either;
 use std::alloc::{AllocError, Global};

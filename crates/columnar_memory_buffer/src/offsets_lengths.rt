@@ -1,9 +1,10 @@
-ghost use Rattle.std.specs.Prelude.{◌≡◌};
-ghost use Rattle.std.specs.Iterator.{YieldsFirst, item_count};
+ghost use Rattle.std.specs.Prelude.{◌≡◌, length, Some, IfSome};
+ghost use Rattle.std.specs.Iterator.{UpTo, YieldsFirst, item_count};
+ghost use Rattle.std.specs.Iterator.SizeHint.{IsWithinCount};
 ghost use Rattle.columnar_memory_buffer.specs.Spans.{IsStored, stored};
 
 use crate::places::{number_at, span_count};
-use columnar_memory_native::Offset;
+use columnar_memory_index::Offset;
 use std::marker::Model;
 
 /// The lengths between offsets in order, which a contract sees as those that are left.
@@ -49,7 +50,11 @@ impl<'a, O: Offset> Iterator for OffsetsLengths<'a, O> {
         Some(length)
     }
 
-    fn size_hint(&self) -> (usize, Option<usize>) {
+    fn size_hint(&self) -> (usize, Option<usize>)
+        ensures lower { IsWithinCount result.0 (item_count (λ s. s) self.now) }
+        ensures upper { IfSome result.1 (UpTo (item_count (λ s. s) self.now)) }
+        ensures exact { result ≡ (length self.now, Some (length self.now)) }
+    {
         let left = span_count(self.offsets);
         (left, Some(left))
     }

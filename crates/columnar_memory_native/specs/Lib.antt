@@ -1,5 +1,3 @@
-pub mod Natural
 pub mod NumberLaws
 pub mod Numbers
-pub mod Ranges
 pub mod Wide

@@ -5,6 +5,7 @@ ghost use Rattle.std.proofs.Common.{refl, rules};
 ghost use Rattle.columnar_memory_types.specs.declared.kinds.PrimitiveType.TheVariants as kinds;
 ghost use Rattle.columnar_memory_native.specs.Numbers.{two, three, first_number, second_number, third_number};
 
+use crate::arrays::array_of;
 use crate::native_type::NativeType;
 use columnar_memory_types::PrimitiveType;
 
@@ -60,25 +61,21 @@ impl NativeType for days_ms {
     }
 
     fn from_le_bytes(bytes: [u8; 8]) -> days_ms {
-        let [d0, d1, d2, d3, m0, m1, m2, m3] = bytes;
         days_ms(
-            i32::from_le_bytes([d0, d1, d2, d3]),
-            i32::from_le_bytes([m0, m1, m2, m3]),
+            i32::from_le_bytes(array_of(&bytes[..4])),
+            i32::from_le_bytes(array_of(&bytes[4..])),
         )
     }
 
     fn from_be_bytes(bytes: [u8; 8]) -> days_ms {
-        let [d0, d1, d2, d3, m0, m1, m2, m3] = bytes;
         days_ms(
-            i32::from_be_bytes([d0, d1, d2, d3]),
-            i32::from_be_bytes([m0, m1, m2, m3]),
+            i32::from_be_bytes(array_of(&bytes[..4])),
+            i32::from_be_bytes(array_of(&bytes[4..])),
         )
     }
 
     fn bytes_from_slice(slice: &[u8]) -> [u8; 8] {
-        let mut bytes = [0; 8];
-        bytes.copy_from_slice(slice);
-        bytes
+        array_of(slice)
     }
 
     ghost size_law = { refl };
@@ -157,61 +154,23 @@ impl NativeType for months_days_ns {
     }
 
     fn from_le_bytes(bytes: [u8; 16]) -> months_days_ns {
-        let [
-            m0,
-            m1,
-            m2,
-            m3,
-            d0,
-            d1,
-            d2,
-            d3,
-            n0,
-            n1,
-            n2,
-            n3,
-            n4,
-            n5,
-            n6,
-            n7,
-        ] = bytes;
         months_days_ns(
-            i32::from_le_bytes([m0, m1, m2, m3]),
-            i32::from_le_bytes([d0, d1, d2, d3]),
-            i64::from_le_bytes([n0, n1, n2, n3, n4, n5, n6, n7]),
+            i32::from_le_bytes(array_of(&bytes[..4])),
+            i32::from_le_bytes(array_of(&bytes[4..8])),
+            i64::from_le_bytes(array_of(&bytes[8..])),
         )
     }
 
     fn from_be_bytes(bytes: [u8; 16]) -> months_days_ns {
-        let [
-            m0,
-            m1,
-            m2,
-            m3,
-            d0,
-            d1,
-            d2,
-            d3,
-            n0,
-            n1,
-            n2,
-            n3,
-            n4,
-            n5,
-            n6,
-            n7,
-        ] = bytes;
         months_days_ns(
-            i32::from_be_bytes([m0, m1, m2, m3]),
-            i32::from_be_bytes([d0, d1, d2, d3]),
-            i64::from_be_bytes([n0, n1, n2, n3, n4, n5, n6, n7]),
+            i32::from_be_bytes(array_of(&bytes[..4])),
+            i32::from_be_bytes(array_of(&bytes[4..8])),
+            i64::from_be_bytes(array_of(&bytes[8..])),
         )
     }
 
     fn bytes_from_slice(slice: &[u8]) -> [u8; 16] {
-        let mut bytes = [0; 16];
-        bytes.copy_from_slice(slice);
-        bytes
+        array_of(slice)
     }
 
     ghost size_law = { refl };

@@ -1,24 +1,12 @@
-//! The values of one width that columnar memory stores, the integers among them that number items and
-//! say where they begin, and counts of steps.
+//! The values of one width that columnar memory stores, and their bytes.
 #![tactic(auto)]
 
-mod index;
-mod integers;
+mod arrays;
 mod intervals;
 mod native_integers;
 mod native_type;
-mod offset;
-mod range;
-mod steps;
 mod wide;
 
-pub use index::Index;
 pub use intervals::{days_ms, months_days_ns};
 pub use native_type::NativeType;
-pub use offset::Offset;
-pub use range::IndexRange;
-pub use steps::Steps;
 pub use wide::i256;
-
-#[cfg(test)]
-mod tests;

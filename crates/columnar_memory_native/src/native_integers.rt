@@ -5,6 +5,7 @@ ghost use Rattle.std.proofs.Common.{ap, refl, rules};
 ghost use Rattle.columnar_memory_types.specs.declared.kinds.PrimitiveType.TheVariants as kinds;
 ghost use Rattle.columnar_memory_native.specs.Numbers.{one};
 
+use crate::arrays::array_of;
 use crate::native_type::NativeType;
 use columnar_memory_types::PrimitiveType;
 
@@ -38,9 +39,7 @@ impl NativeType for i8 {
     }
 
     fn bytes_from_slice(slice: &[u8]) -> [u8; 1] {
-        let mut bytes = [0; 1];
-        bytes.copy_from_slice(slice);
-        bytes
+        array_of(slice)
     }
 
     ghost size_law = { refl };
@@ -82,9 +81,7 @@ impl NativeType for i16 {
     }
 
     fn bytes_from_slice(slice: &[u8]) -> [u8; 2] {
-        let mut bytes = [0; 2];
-        bytes.copy_from_slice(slice);
-        bytes
+        array_of(slice)
     }
 
     ghost size_law = { refl };
@@ -126,9 +123,7 @@ impl NativeType for i32 {
     }
 
     fn bytes_from_slice(slice: &[u8]) -> [u8; 4] {
-        let mut bytes = [0; 4];
-        bytes.copy_from_slice(slice);
-        bytes
+        array_of(slice)
     }
 
     ghost size_law = { refl };
@@ -170,9 +165,7 @@ impl NativeType for i64 {
     }
 
     fn bytes_from_slice(slice: &[u8]) -> [u8; 8] {
-        let mut bytes = [0; 8];
-        bytes.copy_from_slice(slice);
-        bytes
+        array_of(slice)
     }
 
     ghost size_law = { refl };
@@ -214,9 +207,7 @@ impl NativeType for i128 {
     }
 
     fn bytes_from_slice(slice: &[u8]) -> [u8; 16] {
-        let mut bytes = [0; 16];
-        bytes.copy_from_slice(slice);
-        bytes
+        array_of(slice)
     }
 
     ghost size_law = { refl };
@@ -258,9 +249,7 @@ impl NativeType for u8 {
     }
 
     fn bytes_from_slice(slice: &[u8]) -> [u8; 1] {
-        let mut bytes = [0; 1];
-        bytes.copy_from_slice(slice);
-        bytes
+        array_of(slice)
     }
 
     ghost size_law = { refl };
@@ -302,9 +291,7 @@ impl NativeType for u16 {
     }
 
     fn bytes_from_slice(slice: &[u8]) -> [u8; 2] {
-        let mut bytes = [0; 2];
-        bytes.copy_from_slice(slice);
-        bytes
+        array_of(slice)
     }
 
     ghost size_law = { refl };
@@ -346,9 +333,7 @@ impl NativeType for u32 {
     }
 
     fn bytes_from_slice(slice: &[u8]) -> [u8; 4] {
-        let mut bytes = [0; 4];
-        bytes.copy_from_slice(slice);
-        bytes
+        array_of(slice)
     }
 
     ghost size_law = { refl };
@@ -390,9 +375,7 @@ impl NativeType for u64 {
     }
 
     fn bytes_from_slice(slice: &[u8]) -> [u8; 8] {
-        let mut bytes = [0; 8];
-        bytes.copy_from_slice(slice);
-        bytes
+        array_of(slice)
     }
 
     ghost size_law = { refl };

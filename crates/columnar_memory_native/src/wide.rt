@@ -10,6 +10,7 @@ ghost use Rattle.columnar_memory_native.specs.Numbers.{FitsWide, one};
 ghost use Rattle.columnar_memory_native.specs.Wide.{high_half, low_half};
 ghost use Rattle.columnar_memory_types.specs.declared.kinds.PrimitiveType.TheVariants as kinds;
 
+use crate::arrays::array_of;
 use crate::native_type::NativeType;
 use columnar_memory_types::PrimitiveType;
 use std::cmp::Ordering;
@@ -186,9 +187,7 @@ impl NativeType for i256 {
     }
 
     fn bytes_from_slice(slice: &[u8]) -> [u8; 32] {
-        let mut bytes = [0; 32];
-        bytes.copy_from_slice(slice);
-        bytes
+        array_of(slice)
     }
 
     ghost size_law = { refl };

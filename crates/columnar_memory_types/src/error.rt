@@ -11,7 +11,7 @@ use std::string::FromUtf8Error;
 #[derive(Debug, Drop, thiserror::Error)]
 pub enum Error {
     /// The format allows it, and these crates do not do it.
-    #[error("Not yet implemented: {0}")]
+    #[error("Not implemented: {0}")]
     NotYetImplemented(&'static str),
 
     /// An argument that breaks a rule of the call.

@@ -2,11 +2,11 @@
 
 ghost use Rattle.std.specs.Prelude.{◌≡◌, ◌-◌, ◌+ℤ◌, MatchOption, ◌↔◌, ◌<◌, ◌≤◌, ◌≤ℤ◌, ◌^◌, ℕ, pos};
 ghost use Rattle.columnar_memory_native.specs.Numbers.{one};
-ghost use Rattle.columnar_memory_native.specs.Ranges.{integers};
-ghost use Rattle.columnar_memory_native.specs.Natural.{IsNumber, IsNumberOf, IsValueOf};
+ghost use Rattle.columnar_memory_index.specs.Ranges.{integers};
+ghost use Rattle.columnar_memory_index.specs.Natural.{IsNumber, IsNumberOf, IsValueOf};
 
-use crate::native_type::NativeType;
 use crate::range::IndexRange;
+use columnar_memory_native::NativeType;
 use num_traits::CheckedAdd;
 
 /// An integer that can number items, as a key or an offset does. `value` is its integer, and

@@ -1,7 +1,7 @@
 use Rattle.std.proofs.Common.{◌≡◌, ◌+ℤ◌, ◌∙◌, ap, sym, subst, pos, arith, rules, Some, None}
 use Rattle.std.proofs.lemmas.Int.{ints}
-use Rattle.columnar_memory_native.specs.Ranges.{integers-next}
-use Rattle.columnar_memory_native.proofs.range.IndexRangeIterator.next.Goals as goal
+use Rattle.columnar_memory_index.specs.Ranges.{integers-next}
+use Rattle.columnar_memory_index.proofs.range.IndexRangeIterator.next.Goals as goal
 
 pub unreachable-requires : goal.unreachable-requires
 unreachable-requires g c =

@@ -28,11 +28,11 @@ use denote.Triple.Table.{entered}
 use denote.Triple.Walked.{Stays, walk_of, ends_at, walk_Meets}
 use contract.CodeStep
 use Rattle.std.specs.contracts.marker.PhantomData as marker
-use Rattle.columnar_memory_native.specs.contracts.steps.Steps as steps
-use Rattle.columnar_memory_native.specs.contracts.steps.Steps.new.{ended, clauses}
-use Rattle.columnar_memory_native.specs.contracts.steps.Steps.new.Key.{name as #self}
-use Rattle.columnar_memory_native.proofs.steps.Steps.new.Statement as stated
-use Rattle.columnar_memory_native.proofs.steps.Steps.new.Code as code
+use Rattle.columnar_memory_index.specs.contracts.steps.Steps as steps
+use Rattle.columnar_memory_index.specs.contracts.steps.Steps.new.{ended, clauses}
+use Rattle.columnar_memory_index.specs.contracts.steps.Steps.new.Key.{name as #self}
+use Rattle.columnar_memory_index.proofs.steps.Steps.new.Statement as stated
+use Rattle.columnar_memory_index.proofs.steps.Steps.new.Code as code
 
 -- the fields of the value, which are a marker alone
 abbrev Fields : RattleType

@@ -1,8 +1,8 @@
 //! Indices one after another.
 
-ghost use Rattle.std.specs.Prelude.{◌≡◌, ◌+ℤ◌, ◌≤ℤ◌, ℕ, pos};
+ghost use Rattle.std.specs.Prelude.{◌≡◌, ◌+ℤ◌, ◌≤ℤ◌, ℕ, pos, length, Some};
 ghost use Rattle.std.specs.Iterator.{YieldsFirstBy, item_count};
-ghost use Rattle.columnar_memory_native.specs.Ranges.{integers, SpansTo};
+ghost use Rattle.columnar_memory_index.specs.Ranges.{integers, SpansTo};
 
 use crate::index::Index;
 use std::marker::Model;
@@ -17,7 +17,7 @@ pub struct IndexRange<I: Index> {
 
 impl<I: Index> Model for IndexRange<I> {
     ghost use Rattle.std.specs.Prelude.{◌+ℤ◌, ℤ, List, pos};
-    ghost use Rattle.columnar_memory_native.specs.Ranges.{integers};
+    ghost use Rattle.columnar_memory_index.specs.Ranges.{integers};
 
     ghost Value = { List ℤ };
 
@@ -58,7 +58,9 @@ impl<I: Index> Iterator for IndexRange<I> {
         Some(first)
     }
 
-    fn size_hint(&self) -> (usize, Option<usize>) {
+    fn size_hint(&self) -> (usize, Option<usize>)
+        ensures { result ≡ (length self.now, Some (length self.now)) }
+    {
         (self.left, Some(self.left))
     }
 }

@@ -26,11 +26,11 @@ use denote.Triple.Spec.{Meets, triple_of}
 use denote.Triple.Table.{entered}
 use denote.Triple.Walked.{Stays, stay_ref, walk_of, ends_at, Goes-ref, walk_Meets}
 use contract.CodeStep
-use Rattle.columnar_memory_native.specs.contracts.steps.Steps as steps
-use Rattle.columnar_memory_native.specs.contracts.steps.Steps.tick.{ended, clauses}
-use Rattle.columnar_memory_native.specs.contracts.steps.Steps.tick.Key.{name as #self}
-use Rattle.columnar_memory_native.proofs.steps.Steps.tick.Statement as stated
-use Rattle.columnar_memory_native.proofs.steps.Steps.tick.Code as code
+use Rattle.columnar_memory_index.specs.contracts.steps.Steps as steps
+use Rattle.columnar_memory_index.specs.contracts.steps.Steps.tick.{ended, clauses}
+use Rattle.columnar_memory_index.specs.contracts.steps.Steps.tick.Key.{name as #self}
+use Rattle.columnar_memory_index.proofs.steps.Steps.tick.Statement as stated
+use Rattle.columnar_memory_index.proofs.steps.Steps.tick.Code as code
 
 module _ {M : Type 1} {𝓤 : Ura M} (𝓛 : Logic 𝓤) (𝓜 : Model 𝓤 𝓛.H) (𝓡 : Running 𝓤 𝓛.H 𝓜) where
   open 𝓛 use {H}

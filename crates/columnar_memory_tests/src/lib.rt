@@ -1,0 +1,13 @@
+//! Tests of native values, indices, buffers and offsets.
+#![tactic(auto)]
+
+#[cfg(test)]
+mod buffers;
+#[cfg(test)]
+mod indices;
+#[cfg(test)]
+mod native;
+#[cfg(test)]
+mod offsets;
+#[cfg(test)]
+mod shared_offsets;
