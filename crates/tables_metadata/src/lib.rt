@@ -13,6 +13,3 @@ pub use messages::{
     message_in, node_at, record_batch_in, version_in,
 };
 pub use schemas::schema_in;
-
-#[cfg(test)]
-mod tests;
