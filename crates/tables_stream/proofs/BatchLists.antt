@@ -40,15 +40,18 @@ behind_batch n most bytes framed place after columns (Some found) is e =
     let same : place ≡ after = cc in
     rw (none, same) refl
 
-cut_behind_next : (n most : ℕ) (bytes : List ℕ) (given : Option Next) (columns : List (List Slot)) (after : ℕ) → (given >>= step_of n) ≡ Some (batch_then columns after)
+cut_behind_next : (n most : ℕ) (bytes : List ℕ) (given : Option Next) (columns : List (List Slot)) (after : ℕ)
+    → (given >>= step_of n) ≡ Some (batch_then columns after)
     → (given >>= by_next (Some true) (Some false) (cut_behind most bytes)) ≡ truncated_from most bytes after 0
 cut_behind_next n most bytes None columns after e = absurd cc
 cut_behind_next n most bytes (Some nothing_whole) columns after e = absurd cc
 cut_behind_next n most bytes (Some at_end) columns after e = absurd cc
-cut_behind_next n most bytes (Some (message_then framed place)) columns after e = behind_batch n most bytes framed place after columns (batch_by n framed framed.header) refl e
+cut_behind_next n most bytes (Some (message_then framed place)) columns after e =
+    behind_batch n most bytes framed place after columns (batch_by n framed framed.header) refl e
 
 -- behind a batch the stream is truncated where what follows is
-cut_after_batch : (n most : ℕ) (bytes : List ℕ) (place : ℕ) (columns : List (List Slot)) (after : ℕ) → step_at n bytes place ≡ Some (batch_then columns after)
+cut_after_batch : (n most : ℕ) (bytes : List ℕ) (place : ℕ) (columns : List (List Slot)) (after : ℕ)
+    → step_at n bytes place ≡ Some (batch_then columns after)
     → truncated_from (suc most) bytes place 0 ≡ truncated_from most bytes after 0
 unfolding step_at
 cut_after_batch n most bytes place columns after e = cut_behind_next n most bytes (next_at bytes place) columns after e
@@ -57,7 +60,8 @@ no_cut_batch : (place : ℕ) (given : Option (List (List Slot))) → (given >>= 
 no_cut_batch place None e = absurd cc
 no_cut_batch place (Some found) e = absurd cc
 
-cut_here_next : (n most : ℕ) (bytes : List ℕ) (given : Option Next) → (given >>= step_of n) ≡ Some cut_off → (given >>= by_next (Some true) (Some false) (cut_behind most bytes)) ≡ Some true
+cut_here_next : (n most : ℕ) (bytes : List ℕ) (given : Option Next) → (given >>= step_of n) ≡ Some cut_off
+    → (given >>= by_next (Some true) (Some false) (cut_behind most bytes)) ≡ Some true
 cut_here_next n most bytes None e = absurd cc
 cut_here_next n most bytes (Some nothing_whole) e = refl
 cut_here_next n most bytes (Some at_end) e = absurd cc
@@ -138,7 +142,8 @@ batches_refused schema version bytes first batches place int32 read e =
 
 pub batches_cut : (schema : Schema) (bytes : List ℕ) (first : ℕ) (batches : List (List Cells)) (place : ℕ)
     → IsInt32Schema schema → BatchesRead schema bytes first batches place → step_at (length schema.fields) bytes place ≡ Some cut_off
-    → ((version : Version) → stream_batches schema version (length bytes) bytes first ≡ None) × (truncated_from (length bytes) bytes first 0 ≡ Some true)
+    → ((version : Version) → stream_batches schema version (length bytes) bytes first ≡ None)
+    × (truncated_from (length bytes) bytes first 0 ≡ Some true)
 batches_cut schema bytes first batches place int32 read e =
     let most = length bytes - length batches - 1 in
     let all : length batches + suc most ≡ length bytes = omega (arith, read.few, read.inside) in (
@@ -170,11 +175,14 @@ more_rows : (n : ℕ) (batches : List (List Cells)) (rest : Option (List (List (
     → IfSome (behind (map batch_slots batches) rest) (λ all. n ≤ length (rows_of_batches all))
 more_rows n batches None h = tt
 more_rows n batches (Some others) h =
-    let all : length (rows_of_batches (map batch_slots batches ++ others)) ≡ length (rows_of_batches (map batch_slots batches)) + length (rows_of_batches others) =
-    ap length (flat_map-append batch_rows (map batch_slots batches) others) ∙ length-append (rows_of_batches (map batch_slots batches)) (rows_of_batches others) in
+    let all : length (rows_of_batches (map batch_slots batches ++ others))
+    ≡ length (rows_of_batches (map batch_slots batches)) + length (rows_of_batches others) =
+    ap length (flat_map-append batch_rows (map batch_slots batches) others)
+    ∙ length-append (rows_of_batches (map batch_slots batches)) (rows_of_batches others) in
     omega (arith, all, rows_counted batches)
 
-pub batches_many : (schema : Schema) (version : Version) (bytes : List ℕ) (first : ℕ) (batches : List (List Cells)) (batch : List Cells) (place after : ℕ)
+pub batches_many : (schema : Schema) (version : Version) (bytes : List ℕ) (first : ℕ) (batches : List (List Cells)) (batch : List Cells)
+    (place after : ℕ)
     → IsInt32Schema schema → BatchesRead schema bytes first batches place
     → step_at (length schema.fields) bytes place ≡ Some (batch_then (batch_slots batch) after)
     → 2 ^ 64 ≤ sum_by rows_of_cells batches + rows_of_cells batch
@@ -194,7 +202,8 @@ batches_many schema version bytes first batches batch place after int32 read e m
     (more_rows (2 ^ 64) (batches ++ batch ∷ []) (stream_batches schema version most bytes after) (omega (arith, sum, many)))
 
 -- an error that comes of a message
-pub batches_error : {A : Type 0} (view : A → Step) (error : Error) (schema : Schema) (bytes : List ℕ) (first : ℕ) (batches : List (List Cells)) (place : ℕ)
+pub batches_error : {A : Type 0} (view : A → Step) (error : Error) (schema : Schema) (bytes : List ℕ) (first : ℕ) (batches : List (List Cells))
+    (place : ℕ)
     → IsInt32Schema schema → BatchesRead schema bytes first batches place
     → Decodes {A = A} view (Err error) (step_at (length schema.fields) bytes place) → ReadsBatches schema bytes first (Err (fault_of error))
 batches_error view OutOfMemory schema bytes first batches place int32 read e = tt
@@ -209,14 +218,18 @@ batches_error view (ExternalFormat what) schema bytes first batches place int32 
 batches_error view Overflow schema bytes first batches place int32 read e = absurd e
 
 -- the rows of one batch more
-pub rows_more : (rows : ℕ) (batches more : List Batch) (batch : Batch) → rows ≡ sum_by rows_of_cells (map stored_cells batches) → more ≡ batches ++ batch ∷ []
+pub rows_more : (rows : ℕ) (batches more : List Batch) (batch : Batch) → rows ≡ sum_by rows_of_cells (map stored_cells batches)
+    → more ≡ batches ++ batch ∷ []
     → rows + batch.rows ≡ sum_by rows_of_cells (map stored_cells more)
 rows_more rows batches more batch before_it pushed =
-    let all : sum_by rows_of_cells (map stored_cells more) ≡ sum_by rows_of_cells (map stored_cells batches) + sum_by rows_of_cells (stored_cells batch ∷ []) =
+    let all : sum_by rows_of_cells (map stored_cells more) ≡ sum_by rows_of_cells (map stored_cells batches)
+    + sum_by rows_of_cells (stored_cells batch ∷ []) =
     ap (λ xs. sum_by rows_of_cells (map stored_cells xs)) pushed ∙ ap (sum_by rows_of_cells) (map-append stored_cells batches (batch ∷ []))
     ∙ sum_by-append rows_of_cells (map stored_cells batches) (stored_cells batch ∷ []) in
-    let one : sum_by rows_of_cells (stored_cells batch ∷ []) ≡ rows_of_cells (stored_cells batch) + 0 = sum_by-cons rows_of_cells (stored_cells batch) [] in
+    let one : sum_by rows_of_cells (stored_cells batch ∷ []) ≡ rows_of_cells (stored_cells batch) + 0 =
+    sum_by-cons rows_of_cells (stored_cells batch) [] in
     omega (arith, all, one, before_it, batch.counted)
 
-pub cells_more : (batches more : List Batch) (batch : Batch) → more ≡ batches ++ batch ∷ [] → map stored_cells more ≡ map stored_cells batches ++ stored_cells batch ∷ []
+pub cells_more : (batches more : List Batch) (batch : Batch) → more ≡ batches ++ batch ∷ []
+    → map stored_cells more ≡ map stored_cells batches ++ stored_cells batch ∷ []
 cells_more batches more batch pushed = ap (map stored_cells) pushed ∙ map-append stored_cells batches (batch ∷ [])

@@ -19,12 +19,16 @@ use Rattle.tables_stream.specs.Int32.{first_schema, stream_batches}
 -- what the batches are that stand behind a schema: those that were read
 abbrev pub ReadsBatches : Schema → List ℕ → ℕ → Result Stored Fault → Type 0
 ReadsBatches schema bytes place (Ok stored) =
-    (stored.schema ≡ schema) × ((version : Version) → stream_batches schema version (length bytes) bytes place ≡ Some (map batch_slots stored.batches)) × (row_count stored < 2 ^ 64)
+    (stored.schema ≡ schema) × ((version : Version) → stream_batches schema version (length bytes) bytes place
+    ≡ Some (map batch_slots stored.batches)) × (row_count stored < 2 ^ 64)
 ReadsBatches schema bytes place (Err faults.Memory) = Unit {0}
-ReadsBatches schema bytes place (Err (faults.Ipc (errors.OutOfSpec what))) = (version : Version) → stream_batches schema version (length bytes) bytes place ≡ None
-ReadsBatches schema bytes place (Err (faults.Ipc (errors.NotYetImplemented what))) = (version : Version) → stream_batches schema version (length bytes) bytes place ≡ None
+ReadsBatches schema bytes place (Err (faults.Ipc (errors.OutOfSpec what))) =
+    (version : Version) → stream_batches schema version (length bytes) bytes place ≡ None
+ReadsBatches schema bytes place (Err (faults.Ipc (errors.NotYetImplemented what))) =
+    (version : Version) → stream_batches schema version (length bytes) bytes place ≡ None
 ReadsBatches schema bytes place (Err faults.Unfinished) =
-    ((version : Version) → stream_batches schema version (length bytes) bytes place ≡ None) × (truncated_from (length bytes) bytes place 0 ≡ Some true)
+    ((version : Version) → stream_batches schema version (length bytes) bytes place ≡ None)
+    × (truncated_from (length bytes) bytes place 0 ≡ Some true)
 ReadsBatches schema bytes place (Err faults.TooManyRows) =
     (version : Version) → IfSome (stream_batches schema version (length bytes) bytes place) (λ batches. 2 ^ 64 ≤ length (rows_of_batches batches))
 ReadsBatches schema bytes place (Err _) = ⊥
@@ -33,7 +37,8 @@ ReadsBatches schema bytes place (Err _) = ⊥
 abbrev pub HasOtherSchema : List ℕ → Type 0
 HasOtherSchema bytes = IfSome (first_schema bytes) (λ found. ¬ IsSupported found.0)
 
--- What is read is the table that the format gives, batch by batch, under a schema of those that are supported. What is refused as out of specification, or for too
+-- What is read is the table that the format gives, batch by batch, under a schema of those that are supported. What is refused as out of
+-- specification, or for too
 -- many rows, the format doesn't give; an unfinished stream ends within the first four bytes of a later message; what isn't implemented has
 -- another schema, if it is a table at all. Memory may run out anywhere.
 abbrev pub ReadsStream : Result Stored Fault → List ℕ → Type 0

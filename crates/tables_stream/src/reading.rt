@@ -36,7 +36,8 @@ pub enum Form {
 /// - `NotYetImplemented`: a column isn't a 32-bit integer, or more is said of the schema than this reads.
 #[tactic(auto, unfolding(crate::specs::Int32::first_schema, ipc_format_columns::specs::Framing::first_of))]
 pub fn first_schema(alloc: Global, bytes: &[u8]) -> Result<(Schema, usize)>
-    ensures value { metadata.Reads (λ read found. (found.0 ≡ schema_found read.0) × (found.1 ≡ read.1)) (λ found. IsSupported found.0) result (first_schema bytes.now) }
+    ensures value { metadata.Reads (λ read found. (found.0 ≡ schema_found read.0) × (found.1 ≡ read.1)) (λ found. IsSupported found.0) result
+        (first_schema bytes.now) }
     ensures reach { IfOk result (λ found. (0 < found.1) × (found.1 ≤ length bytes.now)) }
 {
     let Some(NextMessage::Message(framed, after)) = next_at(bytes, 0) else {

@@ -18,7 +18,8 @@ returns-in_err-next_batch c =
     let cells : List (List Cells) = map stored_cells c.loop-batches.batches.items in
     let refused : Decodes {A = Next} step_view (Err c.in_err-next_batch.field-0.0) (step_at n c.args.bytes.now c.loop-batches.place) = search rules in
     let whole : ReadsBatches c.args.schema c.args.bytes.now c.args.first (Err (fault_of c.in_err-next_batch.field-0.0)) =
-    batches_error {A = Next} step_view c.in_err-next_batch.field-0.0 c.args.schema c.args.bytes.now c.args.first cells c.loop-batches.place c.requires.schema c.loop-batches.invariant.read refused in
+    batches_error {A = Next} step_view c.in_err-next_batch.field-0.0 c.args.schema c.args.bytes.now c.args.first cells c.loop-batches.place
+    c.requires.schema c.loop-batches.invariant.read refused in
     search (rules, whole)
 
 pub returns-in-Truncated : goal.returns-in-Truncated
@@ -33,9 +34,11 @@ returns-in_default c =
     let n = length c.args.schema.fields in
     let cells : List (List Cells) = map stored_cells c.loop-batches.batches.items in
     let batch = c.in-Rows.batch in
-    let step : step_at n c.args.bytes.now c.loop-batches.place ≡ Some (batch_then (batch_slots (stored_cells batch)) c.in-Rows.after) = search rules in
+    let step : step_at n c.args.bytes.now c.loop-batches.place ≡ Some (batch_then (batch_slots (stored_cells batch)) c.in-Rows.after) =
+    search rules in
     let too_many : 2 ^ 64 ≤ c.loop-batches.rows + batch.rows = search rules in
-    let many : 2 ^ 64 ≤ sum_by rows_of_cells cells + rows_of_cells (stored_cells batch) = omega (arith, too_many, batch.counted, c.loop-batches.invariant.counted) in
+    let many : 2 ^ 64 ≤ sum_by rows_of_cells cells + rows_of_cells (stored_cells batch) =
+    omega (arith, too_many, batch.counted, c.loop-batches.invariant.counted) in
     λ version. batches_many c.args.schema version c.args.bytes.now c.args.first cells (stored_cells batch) c.loop-batches.place c.in-Rows.after
     c.requires.schema c.loop-batches.invariant.read step many
 
@@ -44,7 +47,8 @@ loop-batches-preserved c =
     let n = length c.args.schema.fields in
     let cells : List (List Cells) = map stored_cells c.loop-batches.batches.items in
     let batch = c.in-Rows.batch in
-    let step : step_at n c.args.bytes.now c.loop-batches.place ≡ Some (batch_then (batch_slots (stored_cells batch)) c.in-Rows.after) = search rules in
+    let step : step_at n c.args.bytes.now c.loop-batches.place ≡ Some (batch_then (batch_slots (stored_cells batch)) c.in-Rows.after) =
+    search rules in
     let pushed = c.in_ok-push-in-Rows.ensures.items in
     let sum : c.in-Some.sum ≡ c.loop-batches.rows + batch.rows = search rules in
     let more = rows_more c.loop-batches.rows c.loop-batches.batches.items c.push.new.self.items batch c.loop-batches.invariant.counted pushed in
@@ -54,7 +58,8 @@ loop-batches-preserved c =
       widths = widths_more n c.args.bytes.now c.loop-batches.place c.in-Rows.after c.loop-batches.batches.items c.push.new.self.items batch step
           c.loop-batches.invariant.widths (cells_more c.loop-batches.batches.items c.push.new.self.items batch pushed);
       read = batches_next c.args.schema c.args.bytes.now c.args.first cells (map stored_cells c.push.new.self.items) (stored_cells batch)
-          c.loop-batches.place c.in-Rows.after c.requires.schema c.loop-batches.invariant.read step (search rules) (search rules) (cells_more c.loop-batches.batches.items c.push.new.self.items batch pushed);
+          c.loop-batches.place c.in-Rows.after c.requires.schema c.loop-batches.invariant.read step (search rules) (search rules)
+          (cells_more c.loop-batches.batches.items c.push.new.self.items batch pushed);
     }
 
 pub returns : goal.returns
