@@ -71,7 +71,8 @@ fn fields_in(alloc: Global, bytes: &[u8], table: &Table) -> Result<Vec<Field>>
 
 /// The field of a Field table.
 fn field_in(alloc: Global, bytes: &[u8], table: &Table) -> Result<Field>
-    ensures { (levels left : ℕ) → Reads (λ read found. found ≡ (field_found read, left)) (λ found. IsInt32Field found.0.field) result (format.field_in None bytes.now (suc levels) (table_of table.now) (suc left)) }
+    ensures { (levels left : ℕ) → Reads (λ read found. found ≡ (field_found read, left)) (λ found. IsInt32Field found.0.field) result
+        (format.field_in None bytes.now (suc levels) (table_of table.now) (suc left)) }
 {
     let Some(name) = name_in(bytes, table) else {
         return Err(Error::OutOfSpec("InvalidFlatbufferSchema"));
@@ -99,7 +100,9 @@ fn name_in<'a>(bytes: &'a [u8], table: &Table) -> Option<&'a str>
 
 /// Refuses each type but the signed 32-bit integer.
 fn type_is_int32(bytes: &[u8], field: &Table) -> Result<()>
-    ensures { (read : flatbuffers.Table → format.Visits format.FieldIn) (left : ℕ) → Reads (λ read found. found ≡ (record { data_type = DataType.Int32; below = format.no_ids }, left)) IsInt32 result (type_found read bytes.now (table_of field.now) left) }
+    ensures { (read : flatbuffers.Table → format.Visits format.FieldIn) (left : ℕ)
+        → Reads (λ read found. found ≡ (record { data_type = DataType.Int32; below = format.no_ids }, left)) IsInt32 result
+        (type_found read bytes.now (table_of field.now) left) }
 {
     let Some(tag) = u8_field(bytes, field, 2, 0) else {
         return Err(Error::OutOfSpec("InvalidFlatbufferSchema"));

@@ -20,7 +20,10 @@ returns-in_default-truth_field c =
 
 pub returns-in_err-type_is_int32 : goal.returns-in_err-type_is_int32
 returns-in_err-type_is_int32 c =
-    λ levels left. let whole : ReadsField (Err c.in_err-type_is_int32.field-0.0) left (format.field_in None c.args.bytes.now (suc levels) (table_of c.args.table.now) (suc left)) = field-type-refused c.in_err-type_is_int32.field-0.0 c.args.bytes.now levels left (table_of c.args.table.now) (c.in_err-type_is_int32.ensures (format.field_in None c.args.bytes.now levels) left) in
+    λ levels left. let whole : ReadsField (Err c.in_err-type_is_int32.field-0.0) left
+    (format.field_in None c.args.bytes.now (suc levels) (table_of c.args.table.now) (suc left)) =
+    field-type-refused c.in_err-type_is_int32.field-0.0 c.args.bytes.now levels left (table_of c.args.table.now)
+    (c.in_err-type_is_int32.ensures (format.field_in None c.args.bytes.now levels) left) in
     search (rules, whole)
 
 pub returns-in-Some-Some : goal.returns-in-Some-Some
@@ -35,7 +38,10 @@ returns-in-None c =
 
 pub returns-in_err-without_pairs : goal.returns-in_err-without_pairs
 returns-in_err-without_pairs c =
-    λ levels left. let whole : ReadsField (Err c.in_err-without_pairs.field-0.0) left (format.field_in None c.args.bytes.now (suc levels) (table_of c.args.table.now) (suc left)) = field-pairs-refused c.in_err-without_pairs.field-0.0 c.args.bytes.now levels left (table_of c.args.table.now) c.in_err-without_pairs.ensures in
+    λ levels left. let whole : ReadsField (Err c.in_err-without_pairs.field-0.0) left
+    (format.field_in None c.args.bytes.now (suc levels) (table_of c.args.table.now) (suc left)) =
+    field-pairs-refused c.in_err-without_pairs.field-0.0 c.args.bytes.now levels left
+    (table_of c.args.table.now) c.in_err-without_pairs.ensures in
     search (rules, whole)
 
 pub returns : goal.returns
@@ -43,5 +49,12 @@ returns c =
     let name : name_found c.args.bytes.now (table_of c.args.table.now) ≡ Some c.in-Some.name.now = search rules in
     let nullable : truth_field c.args.bytes.now (table_of c.args.table.now) 1 ≡ Some c.in-Some-truth_field.is_nullable = search rules in
     let dictionary : table_field c.args.bytes.now (table_of c.args.table.now) 4 ≡ Some None = search rules in
-    let made : c.new.result ≡ record { name = c.in-Some.name.now; data_type = types.Int32; is_nullable = c.in-Some-truth_field.is_nullable; metadata = [] } = search rules in
-    λ levels left. field-read c.args.bytes.now levels left (table_of c.args.table.now) c.in-Some.name.now c.in-Some-truth_field.is_nullable c.new.result name nullable (c.in_ok-type_is_int32.ensures (format.field_in None c.args.bytes.now levels) left) dictionary c.in_ok-without_pairs.ensures made
+    let made : c.new.result ≡ record {
+      name = c.in-Some.name.now;
+      data_type = types.Int32;
+      is_nullable = c.in-Some-truth_field.is_nullable;
+      metadata = [];
+    } = search rules in
+    λ levels left. field-read c.args.bytes.now levels left (table_of c.args.table.now) c.in-Some.name.now c.in-Some-truth_field.is_nullable
+    c.new.result name nullable (c.in_ok-type_is_int32.ensures (format.field_in None c.args.bytes.now levels) left) dictionary
+    c.in_ok-without_pairs.ensures made

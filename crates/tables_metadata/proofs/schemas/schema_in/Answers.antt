@@ -29,4 +29,5 @@ pub returns : goal.returns
 returns c =
     let little : little_found c.args.bytes.now (table_of c.args.table.now) ≡ Some true = search rules in
     let made : c.from_fields.result ≡ record { fields = c.in_ok-fields.fields.items; metadata = [] } = search rules in
-    schema-read c.args.bytes.now (table_of c.args.table.now) c.in_ok-fields.fields.items c.from_fields.result little c.in_ok-without_pairs.ensures c.in_ok-fields.ensures made
+    schema-read c.args.bytes.now (table_of c.args.table.now) c.in_ok-fields.fields.items c.from_fields.result little c.in_ok-without_pairs.ensures
+    c.in_ok-fields.ensures made

@@ -10,7 +10,8 @@ pub returns-then-tag-eq2 : goal.returns-then-tag-eq2
 returns-then-tag-eq2 c =
     let number : number_field w8 c.args.bytes.now (table_of c.args.field.now) 2 0 ≡ Some c.in-Some.tag = search rules in
     let table : table_field c.args.bytes.now (table_of c.args.field.now) 3 ≡ Some (Some (table_of c.in-Some-Some.table)) = search rules in
-    λ read left. int_type_found read c.args.bytes.now (table_of c.args.field.now) (table_of c.in-Some-Some.table) left c.int_is_int32.result (number ∙ ap Some c.if-tag-eq2.true) table c.int_is_int32.ensures
+    λ read left. int_type_found read c.args.bytes.now (table_of c.args.field.now) (table_of c.in-Some-Some.table) left c.int_is_int32.result
+    (number ∙ ap Some c.if-tag-eq2.true) table c.int_is_int32.ensures
 
 pub returns-then-tag-gt21 : goal.returns-then-tag-gt21
 returns-then-tag-gt21 c =
