@@ -3,7 +3,7 @@
 
     streams.py inputs FOLDER STDOUT     inputs and commands for `tables_files`, and what it must print
     streams.py samples FOLDER           the small streams of `make demo`
-    streams.py constants                the streams of the tests of `tables`, as byte strings
+    streams.py constants                the stream of the tests of `tables`, as an array of bytes
     streams.py bench FILE BATCHES       batches of 65,536 rows of two columns, one value in eight missing
     streams.py show FILE                the rows of a stream of Int32 columns
     streams.py check FOLDER STDOUT      that the first command would make what stands there
@@ -13,8 +13,8 @@ import os
 import sys
 import tempfile
 
-from cases import EXAMPLE, file_cases, with_type
-from laying import END, V4, batch_message, field, int_type, schema_message, stream, usual
+from cases import EXAMPLE, file_cases
+from laying import END, V4, batch_message, field, schema_message, stream, usual
 from reading import Refused, read, run
 
 
@@ -65,20 +65,12 @@ def write_samples(folder):
 
 
 def print_constants():
-    """The streams of the tests of `tables`, as the text of a module."""
-    print("// Streams laid by `tools/streams.py constants`.")
-    for name, words, content in (
-        ("EXAMPLE", "A nullable column x with the rows 7 and null.", EXAMPLE),
-        ("SECOND_ROW", "The second row of the example.", stream([b"x"], [[[None]]])),
-        ("UINT64", "A column of unsigned 64-bit numbers, without rows.", with_type(int_type(64, False))),
-        ("USUAL", "Columns a and b as usual writers lay them: (1, null), (2, 4), no rows, (5, 6).",
-         stream([b"a", b"b"], [[[1, 2], [None, 4]], [[], []], [[5], [6]]], usual, 8, V4, False)),
-        ("USUAL_CUT", "Its rows (2, 4) and (5, 6).", stream([b"a", b"b"], [[[2], [4]], [[5], [6]]])),
-    ):
-        print("\n// %s\npub const %s: [u8; %d] = [" % (words, name, len(content)))
-        for at in range(0, len(content), 16):
-            print("    " + " ".join("%d," % byte for byte in content[at : at + 16]))
-        print("];")
+    """The stream of the tests of `tables`, as the text of a module."""
+    print("// A stream laid by `tools/streams.py constants`.")
+    print("\n// A nullable column x with the rows 7 and null.\npub const EXAMPLE: [u8; %d] = [" % len(EXAMPLE))
+    for at in range(0, len(EXAMPLE), 16):
+        print("    " + " ".join("%d," % byte for byte in EXAMPLE[at : at + 16]))
+    print("];")
 
 
 def write_bench(path, batches):

@@ -103,7 +103,8 @@ objects_of (field ∷ fields) no_ids = object_then (field (ids None no_ids)) (ob
 objects_of (field ∷ fields) (ids_then first others) = object_then (field first) (objects_of fields others)
 
 abbrev pub nested : ℕ → Object → List (Ids → Object) → IdsList → Told
-nested tag type_table fields below = record { tag = tag; type_table = type_table; children = objects_of fields below; dictionary = None; extension = None }
+nested tag type_table fields below =
+    record { tag = tag; type_table = type_table; children = objects_of fields below; dictionary = None; extension = None }
 
 -- One layer of a type, where each type below stands as what tells it by the ids below it. Floats are not written; they are told as they
 -- would be.
@@ -177,12 +178,14 @@ id_number (Some id) = cast_unsigned w64 id
 
 abbrev pub encoding_object : Option (IntegerType × Bool) → Option ℤ → Option Object
 encoding_object None id = None
-encoding_object (Some (key, is_ordered)) id = Some (table (number_then w64 (id_number id) (refers_then (integer_object key) (number_then w8 (truth is_ordered) (number_then w16 0 no_field)))))
+encoding_object (Some (key, is_ordered)) id =
+    Some (table (number_then w64 (id_number id) (refers_then (integer_object key) (number_then w8 (truth is_ordered) (number_then w16 0 no_field)))))
 
 abbrev pub field_table : List ℕ → Bool → List (List ℕ × List ℕ) → Told → Option ℤ → Object
 field_table name is_nullable pairs told id =
     table (refers_then (text name) (number_then w8 (truth is_nullable) (number_then w8 told.tag (refers_then told.type_table
-    (refers_if (encoding_object told.dictionary id) (refers_then (references told.children) (refers_if (metadata_object (written_pairs told.extension pairs)) no_field)))))))
+    (refers_if (encoding_object told.dictionary id)
+    (refers_then (references told.children) (refers_if (metadata_object (written_pairs told.extension pairs)) no_field)))))))
 
 abbrev pub told_field_step : layer.Field-F (IdsList → Told) (Ids → Object) → Ids → Object
 told_field_step field (ids id below) = field_table field.name field.is_nullable field.metadata (field.data_type below) id
@@ -197,13 +200,15 @@ field_object field (ids id below) = field_table field.name field.is_nullable fie
 -- a schema, little-endian
 unfoldable pub schema_object : Schema → IdsList → Object
 schema_object schema below =
-    table (number_then w16 0 (refers_then (references (objects_of (map field_object schema.fields) below)) (refers_if (metadata_object schema.metadata) (absent_then no_field))))
+    table (number_then w16 0 (refers_then (references (objects_of (map field_object schema.fields) below))
+    (refers_if (metadata_object schema.metadata) (absent_then no_field))))
 
 -- ---- messages, in version V5
 
 -- a message of a header's tag and object, and the length of its body
 abbrev pub message_object : ℕ → Object → ℕ → Object
-message_object tag header body_length = table (number_then w16 4 (number_then w8 tag (refers_then header (number_then w64 body_length (absent_then no_field)))))
+message_object tag header body_length =
+    table (number_then w16 4 (number_then w8 tag (refers_then header (number_then w64 body_length (absent_then no_field)))))
 
 abbrev pub schema_message : Schema → IdsList → Object
 schema_message schema below = message_object 1 (schema_object schema below) 0
@@ -214,7 +219,8 @@ structs_object structs = elements (length structs) (flat_map (λ (s : ℕ × ℕ
 
 -- a record batch: how many rows, its nodes (slots, nulls), and its buffers (offset, length)
 abbrev pub record_batch_object : ℕ → List (ℕ × ℕ) → List (ℕ × ℕ) → Object
-record_batch_object rows nodes buffers = table (number_then w64 rows (refers_then (structs_object nodes) (refers_then (structs_object buffers) (absent_then no_field))))
+record_batch_object rows nodes buffers =
+    table (number_then w64 rows (refers_then (structs_object nodes) (refers_then (structs_object buffers) (absent_then no_field))))
 
 -- a dictionary batch: its id, and its values as a record batch
 abbrev pub dictionary_batch_object : ℤ → Object → Object

@@ -47,7 +47,8 @@ at_place (x ∷ xs) (suc k) = at_place xs k
 
 -- the tags in the order of their numbers, from 1 on; another number is no type
 abbrev pub tags : List Tag
-tags = null ∷ int ∷ floating_point ∷ binary ∷ utf8 ∷ bool ∷ decimal ∷ date ∷ time ∷ timestamp ∷ interval ∷ list ∷ struct ∷ union ∷ fixed_size_binary ∷ fixed_size_list ∷ map ∷ duration ∷ large_binary ∷ large_utf8 ∷ large_list ∷ []
+tags = null ∷ int ∷ floating_point ∷ binary ∷ utf8 ∷ bool ∷ decimal ∷ date ∷ time ∷ timestamp ∷ interval ∷ list ∷ struct ∷ union ∷ fixed_size_binary
+    ∷ fixed_size_list ∷ map ∷ duration ∷ large_binary ∷ large_utf8 ∷ large_list ∷ []
 
 abbrev pub tag_of : ℕ → Option Tag
 tag_of zero = None

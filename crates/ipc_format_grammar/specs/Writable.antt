@@ -50,7 +50,8 @@ leaf is_allowed = record { is_allowed = is_allowed; levels = 0; dictionaries = 0
 
 -- a type over one field
 abbrev pub over : Bool → Report → Report
-over is_allowed child = record { is_allowed = is_allowed && child.is_allowed; levels = child.levels + 1; dictionaries = child.dictionaries; shape = plain }
+over is_allowed child =
+    record { is_allowed = is_allowed && child.is_allowed; levels = child.levels + 1; dictionaries = child.dictionaries; shape = plain }
 
 -- the levels of the deepest of some fields
 abbrev pub deepest : List Report → ℕ
@@ -159,7 +160,8 @@ with_extension_under pairs type_layer = with_extension_of pairs type_layer
 
 -- a field's custom metadata with the keys of an extension as its type has it
 abbrev pub normalised_pairs : DataType → List (List ℕ × List ℕ) → List (List ℕ × List ℕ)
-normalised_pairs data_type pairs = with_extension_under (without_key extension_metadata_key (without_key extension_name_key pairs)) (out-DataType data_type)
+normalised_pairs data_type pairs =
+    with_extension_under (without_key extension_metadata_key (without_key extension_name_key pairs)) (out-DataType data_type)
 
 abbrev pub normalised_step : layer.Field-F DataType Field → Field
 normalised_step field = roll-Field (record field { metadata = normalised_pairs field.data_type field.metadata })

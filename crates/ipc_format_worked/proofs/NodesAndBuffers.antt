@@ -45,7 +45,8 @@ nodes_of_struct =
 
 -- ---- buffers
 
-buffers_of_field : (version : Version) (field : Field) → fold-Field ℕ ℕ (buffer_step version) (λ field. field.data_type) field ≡ buffer_count version field.data_type
+buffers_of_field : (version : Version) (field : Field) → fold-Field ℕ ℕ (buffer_step version) (λ field. field.data_type) field
+    ≡ buffer_count version field.data_type
 buffers_of_field version field = fold-roll-Field ℕ ℕ (buffer_step version) (λ field. field.data_type)
     (record { name = field.name; data_type = field.data_type; is_nullable = field.is_nullable; metadata = field.metadata })
 
@@ -81,4 +82,12 @@ buffers_of_struct =
     ∙ rw (buffers_of_x V5) refl
 
 -- for the worked values
-pub ruleset counts = (nodes_of_union, nodes_of_fixed_size_list, nodes_of_struct, buffers_of_union, buffers_of_older_union, buffers_of_fixed_size_list, buffers_of_struct)
+pub ruleset counts = (
+  nodes_of_union,
+  nodes_of_fixed_size_list,
+  nodes_of_struct,
+  buffers_of_union,
+  buffers_of_older_union,
+  buffers_of_fixed_size_list,
+  buffers_of_struct,
+)

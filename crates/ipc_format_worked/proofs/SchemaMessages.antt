@@ -51,14 +51,17 @@ told_dictionary : told_of (types.Dictionary integers.Int32 types.Utf8 false)
     ≡ (λ below. record (flat 5 empty_table below) { dictionary = Some (integers.Int32, false) })
 unfolding roll-DataType denote.Hole.Carrier.roll
 told_dictionary = fold-roll-DataType (IdsList → Told) (Ids → Object) told_step told_field_step (layer.Dictionary integers.Int32 types.Utf8 false)
-    ∙ ap {B = IdsList → Told} (λ (told : IdsList → Told) (below : IdsList). record (told below) { dictionary = Some (integers.Int32, false) }) told_utf8
+    ∙ ap {B = IdsList → Told} (λ (told : IdsList → Told) (below : IdsList). record (told below) { dictionary = Some (integers.Int32, false) })
+    told_utf8
 
 -- how an extension is told
 told_extension : told_of (types.Extension (codes "e") types.Int32 (Some (codes "m")))
     ≡ (λ below. record (flat 2 (int_object 32 true) below) { extension = Some (codes "e", Some (codes "m")) })
 unfolding roll-DataType denote.Hole.Carrier.roll
-told_extension = fold-roll-DataType (IdsList → Told) (Ids → Object) told_step told_field_step (layer.Extension (codes "e") types.Int32 (Some (codes "m")))
-    ∙ ap {B = IdsList → Told} (λ (told : IdsList → Told) (below : IdsList). record (told below) { extension = Some (codes "e", Some (codes "m")) }) told_int32
+told_extension =
+    fold-roll-DataType (IdsList → Told) (Ids → Object) told_step told_field_step (layer.Extension (codes "e") types.Int32 (Some (codes "m")))
+    ∙ ap {B = IdsList → Told} (λ (told : IdsList → Told) (below : IdsList). record (told below) { extension = Some (codes "e", Some (codes "m")) })
+    told_int32
 
 -- the object of the schema message of d
 d_object : Object
@@ -100,3 +103,5 @@ x_extension_laid = refl
 -- the schema message of the extension has these bytes
 pub x_extension_bytes : laid (schema_message x_extension no_ids) ≡ x_extension_metadata
 x_extension_bytes = ap laid x_extension_told ∙ x_extension_laid
+
+pub ruleset metadata_bytes = (x_bytes, d_bytes, x_extension_bytes)

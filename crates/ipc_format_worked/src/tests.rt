@@ -11,7 +11,7 @@ ghost use Rattle.ipc_format_worked.specs.Examples.{number_x, schema_x, x_int32, 
 ghost use Rattle.ipc_format_worked.specs.Examples.{x_extension_metadata, union_of, one_union, in_lists};
 
 /// The metadata of three schema messages, byte by byte.
-#[tactic(auto, using(crate::proofs::SchemaMessages::x_bytes, crate::proofs::SchemaMessages::d_bytes, crate::proofs::SchemaMessages::x_extension_bytes))]
+#[tactic(auto, using(crate::proofs::SchemaMessages::metadata_bytes))]
 fn schema_messages()
     ensures number { laid (schema_message x_int32 no_ids) ≡ x_metadata }
     ensures dictionary { laid (schema_message d_dictionary id_0) ≡ d_metadata }
@@ -23,7 +23,8 @@ fn schema_messages()
 fn extensions()
     ensures pairs { written_pairs (Some (codes "e", Some (codes "m"))) ((codes "a", codes "1") ∷ [])
         ≡ (extension_metadata_key, codes "m") ∷ (extension_name_key, codes "e") ∷ (codes "a", codes "1") ∷ [] }
-    ensures normalised { normalised (record x_int32 { fields = record number_x { metadata = (extension_metadata_key, codes "m") ∷ [] } ∷ [] }) ≡ x_int32 }
+    ensures normalised { normalised (record x_int32 { fields = record number_x { metadata = (extension_metadata_key, codes "m") ∷ [] } ∷ [] })
+        ≡ x_int32 }
 {}
 
 /// Nodes and buffers of a sparse union, with a validity bitmap more before V5, of a fixed-size list and of a struct.

@@ -32,7 +32,8 @@ columns_of_rows fields rows = window (column_of_rows rows) 0 (length fields)
 
 -- the batches of a seal
 abbrev pub seal_batches : Schema → List (List Slot) → ℕ → List Batch
-seal_batches schema rows n = map (λ group. batch_of_slots schema.fields (default_ids schema.fields) (columns_of_rows schema.fields group)) (groups_of n rows)
+seal_batches schema rows n =
+    map (λ group. batch_of_slots schema.fields (default_ids schema.fields) (columns_of_rows schema.fields group)) (groups_of n rows)
 
 -- the bytes of a seal
 unfoldable pub seal_bytes : Schema → List (List Slot) → ℕ → List ℕ

@@ -78,7 +78,8 @@ abbrev mutual
   pub encode_range : Column → ℕ → ℕ → Encoded
   encode_range (nulls data_type count) o n = column_over (n, n) [] []
   encode_range (flat data_type mask stored) o n =
-      column_over (node_over n (cut_mask mask o n)) (mask_bytes (cut_mask mask o n) ∷ stored_buffers (offset_width (type_layer data_type)) (cut_stored stored o n)) []
+      column_over (node_over n (cut_mask mask o n))
+      (mask_bytes (cut_mask mask o n) ∷ stored_buffers (offset_width (type_layer data_type)) (cut_stored stored o n)) []
   encode_range (lists data_type mask offsets child) o n = let taken = cut_list offsets o (n + 1) in
       column_over (node_over n (cut_mask mask o n)) (mask_bytes (cut_mask mask o n) ∷ moved_bytes (offset_width (type_layer data_type)) taken ∷ [])
       (encode_range child (slice_index taken 0) (last_offset taken - slice_index taken 0) ∷ [])

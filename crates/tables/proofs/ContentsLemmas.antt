@@ -16,13 +16,15 @@ use Rattle.std.proofs.lemmas.Map.Text.{btree_map_updates_text, is_eq-slice_cmp}
 use Rattle.tables.specs.Contents.{contents_of}
 
 -- a function of what is chosen
-option_map-cond : {X Y : Type 0} (f : X → Y) (b : Bool) (x : X) (o : Option X) → cond b (Some (f x)) (option_map f o) ≡ option_map f (cond b (Some x) o)
+option_map-cond : {X Y : Type 0} (f : X → Y) (b : Bool) (x : X) (o : Option X)
+    → cond b (Some (f x)) (option_map f o) ≡ option_map f (cond b (Some x) o)
 option_map-cond f true x o = refl
 option_map-cond f false x o = refl
 
 -- the items under the first entry whose key has the bytes q
 find-entries : {A B : Type 0} (q : List ℕ) (es : List (String A × Vec ℕ B)) →
-    map_of.find (slice_cmp nat_cmp) q (map (λ e. (string_bytes e.0, e.1.items)) es) ≡ option_map (λ v. v.items) (lookup (is_at (λ k. slice_cmp nat_cmp q (string_bytes k))) es)
+    map_of.find (slice_cmp nat_cmp) q (map (λ e. (string_bytes e.0, e.1.items)) es)
+    ≡ option_map (λ v. v.items) (lookup (is_at (λ k. slice_cmp nat_cmp q (string_bytes k))) es)
 find-entries q [] = refl
 find-entries q (e ∷ es) =
     ap (cond (eq_by_cmp (slice_cmp nat_cmp) q (string_bytes e.0)) (Some e.1.items)) (find-entries q es)
@@ -33,7 +35,8 @@ pub get-contents_of : {A B : Type 0} (q : List ℕ) (m : BTreeMap (String A) (Ve
 get-contents_of q m = get-from_entries nat_list_cmp_total _ q ∙ find-entries q m.entries
 
 -- a look-up after an insertion, by the test of either side
-inserted_at : {X Y : Type 0} (f : X → Y) (b c : Bool) (x : X) (o : Option X) → b ≡ c → option_map f (cond b (Some x) o) ≡ cond c (Some (f x)) (option_map f o)
+inserted_at : {X Y : Type 0} (f : X → Y) (b c : Bool) (x : X) (o : Option X) → b ≡ c
+    → option_map f (cond b (Some x) o) ≡ cond c (Some (f x)) (option_map f o)
 inserted_at f b c x o e = ap (λ t. option_map f (cond t (Some x) o)) e ∙ sym (option_map-cond f c x o)
 
 -- the map after an insertion spells the contents with those bytes under that name
@@ -44,6 +47,7 @@ contents_of-insert name bytes m n h =
     same_map nat_list_cmp_total (slice_cmp-IsAntisymmetric nat_cmp-IsAntisymmetric) _ _ (λ q.
     get-contents_of q n
     ∙ ap (option_map (λ v. v.items)) (btree_map_updates_text name m n (Some bytes) h q)
-    ∙ inserted_at (λ v. v.items) (bytes_eq name q) (eq_by_cmp (slice_cmp nat_cmp) q name) bytes (get_by_text m q) (sym (is_eq-slice_cmp name q) ∙ (eq_by_cmp_equiv nat_list_cmp_total).symm name q)
+    ∙ inserted_at (λ v. v.items) (bytes_eq name q) (eq_by_cmp (slice_cmp nat_cmp) q name) bytes (get_by_text m q)
+    (sym (is_eq-slice_cmp name q) ∙ (eq_by_cmp_equiv nat_list_cmp_total).symm name q)
     ∙ ap (cond (eq_by_cmp (slice_cmp nat_cmp) q name) (Some bytes.items)) (sym (get-contents_of q m))
     ∙ sym (get-insert nat_list_cmp_total (contents_of m.entries) name bytes.items q))

@@ -28,7 +28,8 @@ none_chosen : {A : Type 0} (b : Bool) (x : A) → (b ≡ true → ⊥) → cond 
 none_chosen true x e = absurd (e refl)
 none_chosen false x e = refl
 
-pub number_of_parsed : {E : Type 0} (word : List ℕ) (r : Result ℕ E) → slice_index word 0 ≢ 43 → ParsesUnsigned 64 10 word r → result_ok r ≡ number_of word
+pub number_of_parsed : {E : Type 0} (word : List ℕ) (r : Result ℕ E) → slice_index word 0 ≢ 43 → ParsesUnsigned 64 10 word r
+    → result_ok r ≡ number_of word
 number_of_parsed {E} word (Ok x) p h =
     let k = parse_plain own {E = E} 64 word (Ok x) h p in
     ap Some k.1 ∙ sym (chosen (is_number word) (digits_value 10 word) (tests_hold word k.0.0 k.0.1 k.0.2))

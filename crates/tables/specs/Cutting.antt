@@ -7,7 +7,8 @@ use Rattle.tables_stream.specs.Tables.{Stored, as_table, batch_slots, row_count,
 
 -- some bytes are a stream of this table, batch by batch
 abbrev pub IsStreamOf : List ℕ → Stored → Type 0
-IsStreamOf bytes stored = (table_of stream bytes ≡ Some (as_table stored)) × (batches_in stream bytes ≡ Some (map batch_slots stored.batches)) × IsInt32Schema stored.schema
+IsStreamOf bytes stored =
+    (table_of stream bytes ≡ Some (as_table stored)) × (batches_in stream bytes ≡ Some (map batch_slots stored.batches)) × IsInt32Schema stored.schema
 
 -- the stream of n rows from row o on: of each batch that has such a row, those rows
 abbrev pub cut_bytes : ℕ → ℕ → Stored → List ℕ

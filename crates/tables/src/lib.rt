@@ -11,6 +11,3 @@ pub use memory_places::MemoryPlaces;
 pub use places::{FilePlaces, Places};
 pub use program::{Failure, run};
 pub use tables_stream::{Fault, Faults, Form, SealBar, Table};
-
-#[cfg(test)]
-mod tests;

@@ -27,17 +27,20 @@ pub first_fails : {P Q : Type 0} (a : Bool) → a ≡ false → (IsTrue a ↔ P)
 first_fails a is p = (λ t. absurd cc, λ both. p.1 both.0)
 
 -- one field more
-pub all-next : (fields : List Field) (i : ℕ) (field : Field) → i < length fields → field ≡ get_or fields i field → All IsInt32Field (take i fields) → IsInt32Field field → All IsInt32Field (take (i + 1) fields)
+pub all-next : (fields : List Field) (i : ℕ) (field : Field) → i < length fields → field ≡ get_or fields i field → All IsInt32Field (take i fields)
+    → IsInt32Field field → All IsInt32Field (take (i + 1) fields)
 all-next fields i field lt is before here = All-more IsInt32Field fields i field lt before (subst IsInt32Field is here)
 
 -- all fields
-pub all-done : (schema : Schema) (fields : List Field) (i : ℕ) → schema.metadata ≡ [] → fields ≡ schema.fields → length fields ≤ i → All IsInt32Field (take i fields) → (IsTrue true ↔ IsInt32Schema schema)
+pub all-done : (schema : Schema) (fields : List Field) (i : ℕ) → schema.metadata ≡ [] → fields ≡ schema.fields → length fields ≤ i
+    → All IsInt32Field (take i fields) → (IsTrue true ↔ IsInt32Schema schema)
 all-done schema fields i none same h all =
     let whole : take i fields ≡ schema.fields = take_all i fields h ∙ same in
     (λ t. (none, subst (All IsInt32Field) whole all), λ first. refl)
 
 -- the error for a schema's message whose root can't be laid
-pub schema-refused : (error : LayError) (made : Error) (schema : Schema) → Lays (Err error) (piece_of (schema_message schema no_ids)) → IsRefusalOf error made → IsSchemaRefusal made schema
+pub schema-refused : (error : LayError) (made : Error) (schema : Schema) → Lays (Err error) (piece_of (schema_message schema no_ids))
+    → IsRefusalOf error made → IsSchemaRefusal made schema
 schema-refused TooLong Overflow schema h is = refused TooLong Overflow (schema_message schema no_ids) h is
 schema-refused Memory OutOfMemory schema h is = tt
 schema-refused TooLong made schema h is = absurd is

@@ -27,12 +27,14 @@ sum-init bytes v m e =
     rw (all, here) (sym (plus-zero (lengths_from bytes v.place v.count)))
 
 -- two ways to add what comes next
-next-same : (p : Option Pair) (rest : Option ℕ) → (p >>= (λ b. natural b.second >>= (λ length. rest >>= (λ others. Some (length + others))))) ≡ ((p >>= (λ b. natural b.second)) >>= (λ length. rest >>= (λ others. Some (length + others))))
+next-same : (p : Option Pair) (rest : Option ℕ) → (p >>= (λ b. natural b.second >>= (λ length. rest >>= (λ others. Some (length + others)))))
+    ≡ ((p >>= (λ b. natural b.second)) >>= (λ length. rest >>= (λ others. Some (length + others))))
 next-same None rest = refl
 next-same (Some p) rest = refl
 
 -- the next buffer's length, and those behind it
-length-next : (bytes : List ℕ) (v : Vector) (k m : ℕ) → k < v.count → lengths_left bytes v k (suc m) ≡ (length_at bytes v k >>= (λ length. lengths_left bytes v (k + 1) m >>= (λ others. Some (length + others))))
+length-next : (bytes : List ℕ) (v : Vector) (k m : ℕ) → k < v.count → lengths_left bytes v k (suc m)
+    ≡ (length_at bytes v k >>= (λ length. lengths_left bytes v (k + 1) m >>= (λ others. Some (length + others))))
 unfolding length_at struct_at lengths_left
 length-next bytes v k m h =
     let is : nat_lt k v.count ≡ true = search (rules, h) in
@@ -40,22 +42,28 @@ length-next bytes v k m h =
     rw (is, next) (next-same (pair_at bytes (v.place + 16 * k)) (lengths_from bytes (v.place + 16 * k + 16) m))
 
 -- where the next buffer states no length, there is no sum
-pub sum-none : (bytes : List ℕ) (v : Vector) (sum k : ℕ) → k < v.count → length_at bytes v k ≡ None → IsLeft bytes v sum k → lengths_sum bytes v ≡ None
+pub sum-none : (bytes : List ℕ) (v : Vector) (sum k : ℕ) → k < v.count → length_at bytes v k ≡ None → IsLeft bytes v sum k
+    → lengths_sum bytes v ≡ None
 sum-none bytes v sum k h none left =
     let m = v.count - k - 1 in
     let e : k + suc m ≡ v.count = omega arith in
-    let next : lengths_left bytes v k (suc m) ≡ None = length-next bytes v k m h ∙ ap (λ (x : Option ℕ). x >>= (λ length. lengths_left bytes v (k + 1) m >>= (λ others. Some (length + others)))) none in
+    let next : lengths_left bytes v k (suc m) ≡ None = length-next bytes v k m h
+    ∙ ap (λ (x : Option ℕ). x >>= (λ length. lengths_left bytes v (k + 1) m >>= (λ others. Some (length + others)))) none in
     left (suc m) e ∙ ap (λ (x : Option ℕ). option_map (λ n. sum + n) x) next
 
-plus-plus : (sum length : ℕ) (rest : Option ℕ) → option_map (λ n. sum + n) (rest >>= (λ others. Some (length + others))) ≡ option_map (λ n. sum + length + n) rest
+plus-plus : (sum length : ℕ) (rest : Option ℕ) → option_map (λ n. sum + n) (rest >>= (λ others. Some (length + others)))
+    ≡ option_map (λ n. sum + length + n) rest
 plus-plus sum length None = refl
 plus-plus sum length (Some n) = let e : sum + (length + n) ≡ sum + length + n = omega arith in ap Some e
 
 -- a length that is added
-pub sum-next : (bytes : List ℕ) (v : Vector) (sum k length : ℕ) → k < v.count → length_at bytes v k ≡ Some length → IsLeft bytes v sum k → IsLeft bytes v (sum + length) (k + 1)
+pub sum-next : (bytes : List ℕ) (v : Vector) (sum k length : ℕ) → k < v.count → length_at bytes v k ≡ Some length → IsLeft bytes v sum k
+    → IsLeft bytes v (sum + length) (k + 1)
 sum-next bytes v sum k length h is left m e =
     let e2 : k + suc m ≡ v.count = omega arith in
-    let next : lengths_left bytes v k (suc m) ≡ (lengths_left bytes v (k + 1) m >>= (λ others. Some (length + others))) = length-next bytes v k m h ∙ ap (λ (x : Option ℕ). x >>= (λ length. lengths_left bytes v (k + 1) m >>= (λ others. Some (length + others)))) is in
+    let next : lengths_left bytes v k (suc m) ≡ (lengths_left bytes v (k + 1) m >>= (λ others. Some (length + others))) =
+    length-next bytes v k m h ∙ ap (λ (x : Option ℕ). x >>= (λ length. lengths_left bytes v (k + 1) m >>= (λ others. Some (length + others))))
+    is in
     left (suc m) e2 ∙ ap (λ (x : Option ℕ). option_map (λ n. sum + n) x) next ∙ plus-plus sum length (lengths_left bytes v (k + 1) m)
 
 at-least : (sum n : ℕ) (rest : Option ℕ) → option_map (λ n. sum + n) rest ≡ Some n → sum ≤ n
@@ -63,11 +71,13 @@ at-least sum n None e = absurd cc
 at-least sum n (Some others) e = let same : sum + others ≡ n = cc in omega arith
 
 -- a length that makes the sum too long
-pub sum-long : (bytes : List ℕ) (v : Vector) (sum k length : ℕ) → k < v.count → length_at bytes v k ≡ Some length → 2 ^ 64 ≤ sum + length → IsLeft bytes v sum k → IsNoneOrLong (lengths_sum bytes v)
+pub sum-long : (bytes : List ℕ) (v : Vector) (sum k length : ℕ) → k < v.count → length_at bytes v k ≡ Some length → 2 ^ 64 ≤ sum + length
+    → IsLeft bytes v sum k → IsNoneOrLong (lengths_sum bytes v)
 sum-long bytes v sum k length h is long left n e =
     let m = v.count - k - 1 in
     let e2 : k + 1 + m ≡ v.count = omega arith in
-    let least : sum + length ≤ n = at-least (sum + length) n (lengths_left bytes v (k + 1) m) (sym (sum-next bytes v sum k length h is left m e2) ∙ e) in
+    let least : sum + length ≤ n =
+    at-least (sum + length) n (lengths_left bytes v (k + 1) m) (sym (sum-next bytes v sum k length h is left m e2) ∙ e) in
     omega arith
 
 -- all lengths are added

@@ -33,9 +33,17 @@ pub references-over : (first : List Piece) (p : Piece) (others : List Piece) →
 unfolding references_piece
 references-over first p others =
     let pieces : List Piece = first ++ p ∷ others in
-    let own : List ℕ = padded (replicate 4 0 ++ to_le_bytes w32 (length pieces) ++ reference_bytes 8 (next_multiple_of (8 + 4 * length pieces) 8) pieces) in
-    let parts : flat_map (λ (piece : Piece). piece.bytes) pieces ≡ flat_map (λ (piece : Piece). piece.bytes) first ++ flat_map (λ (piece : Piece). piece.bytes) (p ∷ others) = flat_map-append (λ (piece : Piece). piece.bytes) first (p ∷ others) in
-    omega (arith, ap length parts, length-append own (flat_map (λ (piece : Piece). piece.bytes) pieces), length-append (flat_map (λ (piece : Piece). piece.bytes) first) (flat_map (λ (piece : Piece). piece.bytes) (p ∷ others)), length-append p.bytes (flat_map (λ (piece : Piece). piece.bytes) others))
+    let own : List ℕ =
+    padded (replicate 4 0 ++ to_le_bytes w32 (length pieces) ++ reference_bytes 8 (next_multiple_of (8 + 4 * length pieces) 8) pieces) in
+    let parts : flat_map (λ (piece : Piece). piece.bytes) pieces ≡ flat_map (λ (piece : Piece). piece.bytes) first
+    ++ flat_map (λ (piece : Piece). piece.bytes) (p ∷ others) = flat_map-append (λ (piece : Piece). piece.bytes) first (p ∷ others) in
+    omega (
+      arith,
+      ap length parts,
+      length-append own (flat_map (λ (piece : Piece). piece.bytes) pieces),
+      length-append (flat_map (λ (piece : Piece). piece.bytes) first) (flat_map (λ (piece : Piece). piece.bytes) (p ∷ others)),
+      length-append p.bytes (flat_map (λ (piece : Piece). piece.bytes) others),
+    )
 
 -- a vector has its elements' bytes
 pub elements-over : (count : ℕ) (content : List ℕ) → length content ≤ length (elements_piece count content).bytes
@@ -60,7 +68,8 @@ unfolding message_bytes
 message-over root = omega (arith, length-append (to_le_bytes w32 (8 + root.entry) ++ replicate {A = ℕ} 4 0) root.bytes)
 
 -- the error for a message whose root can't be laid
-pub refused : (error : LayError) (made : Error) (object : Object) → Lays (Err error) (piece_of object) → IsRefusalOf error made → IsRefusal made (laid object)
+pub refused : (error : LayError) (made : Error) (object : Object) → Lays (Err error) (piece_of object) → IsRefusalOf error made
+    → IsRefusal made (laid object)
 unfolding laid
 refused TooLong Overflow object h is = omega (arith, message-over (piece_of object))
 refused Memory OutOfMemory object h is = tt

@@ -17,7 +17,9 @@ structs_of content = elements (length content / 16) content
 
 -- the message of a record batch, by the bytes of its nodes and buffers
 abbrev pub batch_message : ℕ → List ℕ → List ℕ → ℕ → Object
-batch_message rows nodes buffers body_length = message_object 3 (table (number_then w64 rows (refers_then (structs_of nodes) (refers_then (structs_of buffers) (absent_then no_field))))) body_length
+batch_message rows nodes buffers body_length =
+    message_object 3 (table (number_then w64 rows (refers_then (structs_of nodes) (refers_then (structs_of buffers) (absent_then no_field)))))
+    body_length
 
 -- why a message isn't written: memory ran out, or its bytes are 2 GiB or more
 abbrev pub IsRefusal : Error → List ℕ → Type 0

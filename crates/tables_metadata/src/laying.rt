@@ -39,7 +39,8 @@ fn refusal(error: LayError) -> Error
 /// - `NotYetImplemented`: a column isn't a 32-bit integer, or the schema or a field has custom metadata.
 /// - `Overflow`: the message would have more than 2^31 - 1 bytes.
 pub fn schema_message(alloc: Global, schema: &Schema) -> Result<Vec<u8>>
-    ensures { MatchResult result (λ v. IsInt32Schema schema.now × (v.items ≡ laid (objects.schema_message schema.now no_ids))) (λ e. IsSchemaRefusal e schema.now) }
+    ensures { MatchResult result (λ v. IsInt32Schema schema.now × (v.items ≡ laid (objects.schema_message schema.now no_ids)))
+        (λ e. IsSchemaRefusal e schema.now) }
 {
     if !is_int32_schema(schema) {
         return Err(Error::NotYetImplemented("types other than Int32, and custom metadata"));
@@ -153,7 +154,8 @@ pub fn record_batch_message(
     buffers: &[u8],
     body_length: u64,
 ) -> Result<Vec<u8>>
-    ensures { MatchResult result (λ v. v.items ≡ laid (batch_message rows nodes.now buffers.now body_length)) (λ e. IsRefusal e (laid (batch_message rows nodes.now buffers.now body_length))) }
+    ensures { MatchResult result (λ v. v.items ≡ laid (batch_message rows nodes.now buffers.now body_length))
+        (λ e. IsRefusal e (laid (batch_message rows nodes.now buffers.now body_length))) }
 {
     match lay_batch_message(alloc, rows, nodes, buffers, body_length) {
         Ok(root) => Ok(message_bytes(alloc, &root)?),
@@ -200,7 +202,8 @@ fn lay_message(
     header: &Laid,
     body_length: u64,
 ) -> std::result::Result<Laid, LayError>
-    ensures { Lays result (layout.table_piece (layout.number w16 4 ∷ layout.number w8 tag ∷ layout.refers (piece_view header.now) ∷ layout.number w64 body_length ∷ layout.absent ∷ [])) }
+    ensures { Lays result (layout.table_piece
+        (layout.number w16 4 ∷ layout.number w8 tag ∷ layout.refers (piece_view header.now) ∷ layout.number w64 body_length ∷ layout.absent ∷ [])) }
 {
     let slots = [
         Slot::Short(V5),

@@ -11,6 +11,3 @@ pub use messages::{
     Buffer, FieldNode, Header, Message, MetadataVersion, RecordBatch, buffer_at, lengths_sum,
     message_in, node_at, record_batch_in, version_in,
 };
-
-#[cfg(test)]
-mod tests;

@@ -159,7 +159,8 @@ fn length_in(bytes: &[u8], buffers: &Vector, k: usize) -> Option<u64>
 /// How many bytes all buffers of a batch state together; none of them may be negative.
 pub fn lengths_sum(bytes: &[u8], buffers: &Vector) -> Option<u64>
     requires { buffers.now.place + buffers.now.count * 16 ≤ length bytes.now }
-    ensures { MatchOption result (IsNoneOrLong (format.lengths_sum bytes.now (vector_of buffers.now))) (λ n. format.lengths_sum bytes.now (vector_of buffers.now) ≡ Some n) }
+    ensures { MatchOption result (IsNoneOrLong (format.lengths_sum bytes.now (vector_of buffers.now)))
+        (λ n. format.lengths_sum bytes.now (vector_of buffers.now) ≡ Some n) }
 {
     let mut sum: u64 = 0;
     for k in 0..buffers.count {

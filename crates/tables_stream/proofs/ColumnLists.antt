@@ -43,17 +43,20 @@ begin_left batch width m all =
 
 -- one step of the definition
 step : (batch : Source) (width : ℕ) (columns : List Cells) (k : ℕ) → k < width → ColumnsLeft batch width columns k
-    → int32_columns batch 0 width ≡ behind (batch_slots columns) (int32_slots batch k (2 * k) >>= (λ column. int32_columns batch (k + 1) (width - k - 1) >>= (λ others. Some (column ∷ others))))
+    → int32_columns batch 0 width ≡ behind (batch_slots columns)
+    (int32_slots batch k (2 * k) >>= (λ column. int32_columns batch (k + 1) (width - k - 1) >>= (λ others. Some (column ∷ others))))
 step batch width columns k lt left =
     let all : k + suc (width - k - 1) ≡ width = omega arith in
     left (suc (width - k - 1)) all
 
-pub column_refused : (batch : Source) (width : ℕ) (columns : List Cells) (k : ℕ) → k < width → ColumnsLeft batch width columns k → int32_slots batch k (2 * k) ≡ None
+pub column_refused : (batch : Source) (width : ℕ) (columns : List Cells) (k : ℕ) → k < width → ColumnsLeft batch width columns k
+    → int32_slots batch k (2 * k) ≡ None
     → agreeing (int32_columns batch 0 width) ≡ None
 column_refused batch width columns k lt left e = rw (step batch width columns k lt left, e) refl
 
 -- one column behind others, before more
-one_behind : (xs : List (List Slot)) (x : List Slot) (given : Option (List (List Slot))) → behind xs (given >>= (λ others. Some (x ∷ others))) ≡ behind (xs ++ x ∷ []) given
+one_behind : (xs : List (List Slot)) (x : List Slot) (given : Option (List (List Slot)))
+    → behind xs (given >>= (λ others. Some (x ∷ others))) ≡ behind (xs ++ x ∷ []) given
 one_behind xs x None = refl
 one_behind xs x (Some others) = ap (λ (ys : List (List Slot)). Some ys) (sym (append_assoc xs (x ∷ []) others))
 
@@ -61,7 +64,8 @@ pub column_next : (batch : Source) (width : ℕ) (columns more : List Cells) (co
     → int32_slots batch k (2 * k) ≡ Some (map slot_of column) → more ≡ columns ++ column ∷ [] → ColumnsLeft batch width more (k + 1)
 column_next batch width columns more column k lt left e pushed m all =
     let m_is : width - k - 1 ≡ m = omega arith in
-    let whole : int32_columns batch 0 width ≡ behind (batch_slots columns) (int32_columns batch (k + 1) m >>= (λ others. Some (map slot_of column ∷ others))) = step batch width columns k lt left ∙ rw (e, m_is) refl in
+    let whole : int32_columns batch 0 width ≡ behind (batch_slots columns)
+    (int32_columns batch (k + 1) m >>= (λ others. Some (map slot_of column ∷ others))) = step batch width columns k lt left ∙ rw (e, m_is) refl in
     whole ∙ one_behind (batch_slots columns) (map slot_of column) (int32_columns batch (k + 1) m)
     ∙ ap (λ xs. behind xs (int32_columns batch (k + 1) m)) (sym (map-append (map slot_of) columns (column ∷ [])) ∙ ap batch_slots (sym pushed))
 
@@ -79,7 +83,8 @@ agree rows (column ∷ columns) all =
     let here : length (map slot_of column) ≡ rows = length-map column slot_of ∙ All-head (λ (c : Cells). length c ≡ rows) column columns all in
     rw (here) (as_long rows columns (All-tail (λ (c : Cells). length c ≡ rows) column columns all))
 
-pub columns_done : (batch : Source) (width rows k : ℕ) (columns : List Cells) → width ≤ k → k ≤ width → ColumnsLeft batch width columns k → All (λ (column : Cells). length column ≡ rows) columns
+pub columns_done : (batch : Source) (width rows k : ℕ) (columns : List Cells) → width ≤ k → k ≤ width → ColumnsLeft batch width columns k
+    → All (λ (column : Cells). length column ≡ rows) columns
     → agreeing (int32_columns batch 0 width) ≡ Some (batch_slots columns)
 columns_done batch width rows k columns h h' left all =
     let whole : int32_columns batch 0 width ≡ Some (batch_slots columns ++ []) = left 0 (omega arith) in
@@ -103,7 +108,8 @@ and_false : (b : Bool) → (b && false) ≡ false
 and_false true = refl
 and_false false = refl
 
-one_fails : (p : List Slot → Bool) (xs : List (List Slot)) (x : List Slot) (others : List (List Slot)) → p x ≡ false → list_all p (xs ++ x ∷ others) ≡ false
+one_fails : (p : List Slot → Bool) (xs : List (List Slot)) (x : List Slot) (others : List (List Slot)) → p x ≡ false
+    → list_all p (xs ++ x ∷ others) ≡ false
 one_fails p [] x others e = rw e refl
 one_fails p (y ∷ xs) x others e = rw (one_fails p xs x others e) (and_false (p y))
 
@@ -111,7 +117,8 @@ refused_if : (columns : List (List Slot)) → agree_in_length columns ≡ false 
 refused_if columns e = rw e refl
 
 -- columns of which one is of another length than the first don't agree
-disagree : (rows : ℕ) (columns : List Cells) (column : Cells) (given : Option (List (List Slot))) → 0 < length columns → All (λ (c : Cells). length c ≡ rows) columns → (length column ≡ rows → ⊥)
+disagree : (rows : ℕ) (columns : List Cells) (column : Cells) (given : Option (List (List Slot))) → 0 < length columns
+    → All (λ (c : Cells). length c ≡ rows) columns → (length column ≡ rows → ⊥)
     → agreeing (behind (batch_slots columns ++ map slot_of column ∷ []) given) ≡ None
 disagree rows columns column None some all other = refl
 disagree rows [] column (Some others) some all other = absurd (omega arith)
@@ -124,11 +131,14 @@ disagree rows (first ∷ firsts) column (Some others) some all other =
     refused_if ((batch_slots (first ∷ firsts) ++ map slot_of column ∷ []) ++ others)
     (ap (list_all (λ (c : List Slot). length c == length (map slot_of first))) same ∙ fails)
 
-pub column_disagrees : (batch : Source) (width rows k : ℕ) (columns : List Cells) (column : Cells) → k < width → 0 < length columns → ColumnsLeft batch width columns k
+pub column_disagrees : (batch : Source) (width rows k : ℕ) (columns : List Cells) (column : Cells) → k < width → 0 < length columns
+    → ColumnsLeft batch width columns k
     → int32_slots batch k (2 * k) ≡ Some (map slot_of column) → All (λ (c : Cells). length c ≡ rows) columns → (length column ≡ rows → ⊥)
     → agreeing (int32_columns batch 0 width) ≡ None
 column_disagrees batch width rows k columns column lt some left e all other =
-    let whole : int32_columns batch 0 width ≡ behind (batch_slots columns) (int32_columns batch (k + 1) (width - k - 1) >>= (λ others. Some (map slot_of column ∷ others))) = step batch width columns k lt left ∙ rw e refl in
+    let whole : int32_columns batch 0 width ≡ behind (batch_slots columns)
+    (int32_columns batch (k + 1) (width - k - 1) >>= (λ others. Some (map slot_of column ∷ others))) =
+    step batch width columns k lt left ∙ rw e refl in
     ap agreeing (whole ∙ one_behind (batch_slots columns) (map slot_of column) (int32_columns batch (k + 1) (width - k - 1)))
     ∙ disagree rows columns column (int32_columns batch (k + 1) (width - k - 1)) some all other
 
@@ -143,7 +153,8 @@ long_more (first ∷ firsts) column fits all =
     All-push (λ (c : Cells). length c ≡ length first) (first ∷ firsts) column all (eqb-true (length column) (length first) fits)
 
 pub gathered_next : (batch : Source) (width : ℕ) (columns more : List Cells) (column : Cells) (k : ℕ) → k < width → Gathered batch width columns k
-    → int32_slots batch k (2 * k) ≡ Some (map slot_of column) → is_as_long columns column ≡ true → more ≡ columns ++ column ∷ [] → Gathered batch width more (k + 1)
+    → int32_slots batch k (2 * k) ≡ Some (map slot_of column) → is_as_long columns column ≡ true → more ≡ columns ++ column ∷ []
+    → Gathered batch width more (k + 1)
 gathered_next batch width columns more column k lt gathered e fits pushed = record {
   counted = ap length pushed ∙ length-append columns (column ∷ []) ∙ ap (λ n. n + 1) gathered.counted;
   long = subst (λ xs. All (λ (c : Cells). length c ≡ rows_of_cells xs) xs) (sym pushed) (long_more columns column fits gathered.long);
@@ -159,7 +170,9 @@ pub gathered_other : (batch : Source) (width k : ℕ) (columns : List Cells) (co
     → int32_slots batch k (2 * k) ≡ Some (map slot_of column) → is_as_long columns column ≡ false → agreeing (int32_columns batch 0 width) ≡ None
 gathered_other batch width k [] column lt gathered e other = absurd cc
 gathered_other batch width k (first ∷ firsts) column lt gathered e other =
-    column_disagrees batch width (length first) k (first ∷ firsts) column lt (omega arith) gathered.left e gathered.long (eqb-false (length column) (length first) other)
+    column_disagrees batch width (length first) k (first ∷ firsts) column lt (omega arith) gathered.left e gathered.long
+    (eqb-false (length column) (length first) other)
 
-pub gathered_all : (batch : Source) (width k : ℕ) (columns : List Cells) → width ≤ k → k ≤ width → Gathered batch width columns k → agreeing (int32_columns batch 0 width) ≡ Some (batch_slots columns)
+pub gathered_all : (batch : Source) (width k : ℕ) (columns : List Cells) → width ≤ k → k ≤ width → Gathered batch width columns k
+    → agreeing (int32_columns batch 0 width) ≡ Some (batch_slots columns)
 gathered_all batch width k columns h h' gathered = columns_done batch width (rows_of_cells columns) k columns h h' gathered.left gathered.long

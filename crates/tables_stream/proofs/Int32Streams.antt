@@ -67,7 +67,8 @@ message_is : (fields : List Field) (columns : List (List Slot)) → All IsInt32F
     → message_bytes (record_message (rows_of_slots columns) (columns_of_slots fields columns)) ≡ int32_message columns
 unfolding record_message int32_message
 message_is fields columns all same =
-    ap (λ (c : Encoded). message_bytes (message_of record_tag (batch_object (rows_of_slots columns) c) c.buffers)) (columns_together fields columns all same)
+    ap (λ (c : Encoded). message_bytes (message_of record_tag (batch_object (rows_of_slots columns) c) c.buffers))
+    (columns_together fields columns all same)
 
 -- the batches have a column a field
 abbrev pub HaveWidth : List Field → List (List (List Slot)) → Type 0
@@ -95,7 +96,8 @@ objects_same (field ∷ fields) n all =
     let here : numbered field.data_type n ≡ (ids None no_ids, n) =
     ap (λ data_type. numbered data_type n) ((All-head IsInt32Field field fields all).0) ∙ no_number n in
     rw here
-    (ap (λ (others : Objects). object_then (field_object field (ids None no_ids)) others) (objects_same fields n (All-tail IsInt32Field field fields all)))
+    (ap (λ (others : Objects). object_then (field_object field (ids None no_ids)) others)
+    (objects_same fields n (All-tail IsInt32Field field fields all)))
 
 schema_same : (schema : Schema) → All IsInt32Field schema.fields → schema_message schema (default_ids schema.fields) ≡ schema_message schema no_ids
 unfolding schema_object default_ids

@@ -48,7 +48,8 @@ columns_width source k (suc n) columns e =
     let others = columns_width source (k + 1) n b.0 b.1 in
     ap length (sym (ap (or_none []) b.2)) ∙ ap suc others
 
-batch_width : (n : ℕ) (metadata : List ℕ) (table : flat.Table) (body : List ℕ) (columns : List (List Slot)) → int32_batch n metadata table body ≡ Some columns
+batch_width : (n : ℕ) (metadata : List ℕ) (table : flat.Table) (body : List ℕ) (columns : List (List Slot))
+    → int32_batch n metadata table body ≡ Some columns
     → length columns ≡ n
 unfolding int32_batch
 batch_width n metadata table body columns e =
@@ -82,7 +83,8 @@ step_of_width n (message_then framed place) columns after e =
     let a = came_of {A = List (List Slot)} (batch_by n framed framed.header) _ (batch_then columns after) e in
     ap length (sym (ap or_step a.2)) ∙ by_width n framed framed.header a.0 a.1
 
-step_width : (n : ℕ) (bytes : List ℕ) (place : ℕ) (columns : List (List Slot)) (after : ℕ) → step_at n bytes place ≡ Some (batch_then columns after) → length columns ≡ n
+step_width : (n : ℕ) (bytes : List ℕ) (place : ℕ) (columns : List (List Slot)) (after : ℕ) → step_at n bytes place ≡ Some (batch_then columns after)
+    → length columns ≡ n
 unfolding step_at
 step_width n bytes place columns after e =
     let a = came_of {A = Next} (next_at bytes place) _ (batch_then columns after) e in
@@ -94,12 +96,14 @@ pub widths_more : (n : ℕ) (bytes : List ℕ) (place after : ℕ) (batches more
     → All (HasWidth n) (map stored_cells batches) → map stored_cells more ≡ map stored_cells batches ++ stored_cells batch ∷ []
     → All (HasWidth n) (map stored_cells more)
 widths_more n bytes place after batches more batch step all pushed =
-    let here : length (stored_cells batch) ≡ n = sym (length-map (stored_cells batch) (map slot_of)) ∙ step_width n bytes place (batch_slots (stored_cells batch)) after step in
+    let here : length (stored_cells batch) ≡ n =
+    sym (length-map (stored_cells batch) (map slot_of)) ∙ step_width n bytes place (batch_slots (stored_cells batch)) after step in
     subst (All (HasWidth n)) (sym pushed) (All-push (HasWidth n) (map stored_cells batches) (stored_cells batch) all here)
 
 -- ---- windows
 
-window_if : (n : ℕ) (is_kept : Bool) (window : List (List (Option ℤ))) (others : List (List (List (Option ℤ)))) → HasWidth n window → All (HasWidth n) others
+window_if : (n : ℕ) (is_kept : Bool) (window : List (List (Option ℤ))) (others : List (List (List (Option ℤ)))) → HasWidth n window
+    → All (HasWidth n) others
     → All (HasWidth n) ((if is_kept then window ∷ [] else []) ++ others)
 window_if n true window others here all = All-cons (HasWidth n) window others here all
 window_if n false window others here all = all
@@ -122,7 +126,8 @@ cut_is_int32 known same o count batches windows sound e cut =
 
 -- ---- written batches
 
-widths_of_slots : (n : ℕ) (batches : List (List (List (Option ℤ)))) → All (HasWidth n) batches → All (λ (c : List (List Slot)). length c ≡ n) (map batch_slots batches)
+widths_of_slots : (n : ℕ) (batches : List (List (List (Option ℤ)))) → All (HasWidth n) batches
+    → All (λ (c : List (List Slot)). length c ≡ n) (map batch_slots batches)
 widths_of_slots n [] all = All-nil (λ (c : List (List Slot)). length c ≡ n)
 widths_of_slots n (batch ∷ batches) all =
     All-cons (λ (c : List (List Slot)). length c ≡ n) (batch_slots batch) (map batch_slots batches)
@@ -131,7 +136,9 @@ widths_of_slots n (batch ∷ batches) all =
 
 -- what was appended is the table's stream
 pub table_appended : {A E : Type 0} (result : Result A E) (old new : Option (List ℕ)) (stored : Stored) → IsInt32Table stored.schema stored.batches
-    → OnOk result (Appends old new (int32_stream stored.schema no_ids (map batch_slots stored.batches))) → OnOk result (Appends old new (table_bytes stored))
+    → OnOk result (Appends old new (int32_stream stored.schema no_ids (map batch_slots stored.batches)))
+    → OnOk result (Appends old new (table_bytes stored))
 table_appended result old new stored known written =
     on_ok result (subst (λ (bytes : List ℕ). Appends old new bytes)
-    (int32_streams stored.schema (map batch_slots stored.batches) known.0 (widths_of_slots (length stored.schema.fields) stored.batches known.1))) written
+    (int32_streams stored.schema (map batch_slots stored.batches) known.0 (widths_of_slots (length stored.schema.fields) stored.batches known.1)))
+    written

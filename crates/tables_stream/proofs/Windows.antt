@@ -40,9 +40,12 @@ slot_of_if true value = refl
 slot_of_if false value = refl
 
 -- the cells of the numbers that stand in some bytes are the slots of those bytes
-slots_from : (validity : Validity) (bytes : List ℕ) (i n : ℕ) → map slot_of (cells_from validity i (window (int32_at bytes) i n)) ≡ window (int32_slot validity bytes) i n
+slots_from : (validity : Validity) (bytes : List ℕ) (i n : ℕ) → map slot_of (cells_from validity i (window (int32_at bytes) i n))
+    ≡ window (int32_slot validity bytes) i n
 slots_from validity bytes i zero = refl
-slots_from validity bytes i (suc n) = ap₂ (λ (x : Slot) xs. x ∷ xs) (slot_of_if (is_valid_at validity i) (int32_at bytes i)) (slots_from validity bytes (i + 1) n)
+slots_from validity bytes i (suc n) =
+    ap₂ (λ (x : Slot) xs. x ∷ xs) (slot_of_if (is_valid_at validity i) (int32_at bytes i)) (slots_from validity bytes (i + 1) n)
 
-pub slots_of_cells : (validity : Validity) (bytes : List ℕ) (values : List ℤ) (n : ℕ) → values ≡ window (int32_at bytes) 0 n → map slot_of (cells_of validity values) ≡ window (int32_slot validity bytes) 0 n
+pub slots_of_cells : (validity : Validity) (bytes : List ℕ) (values : List ℤ) (n : ℕ) → values ≡ window (int32_at bytes) 0 n
+    → map slot_of (cells_of validity values) ≡ window (int32_slot validity bytes) 0 n
 slots_of_cells validity bytes values n read = ap (λ xs. map slot_of (cells_of validity xs)) read ∙ slots_from validity bytes 0 n

@@ -19,7 +19,14 @@ slot_of (Some n) = number kinds.Int32 n
 
 -- a batch as the definition has it, little-endian
 abbrev pub batch_of : BatchBytes → format.Source
-batch_of bytes = record { metadata = bytes.metadata.now; vectors = batch_view bytes.batch; version = V5; is_little_endian = true; room = bytes.body.now; origin = 0 }
+batch_of bytes = record {
+  metadata = bytes.metadata.now;
+  vectors = batch_view bytes.batch;
+  version = V5;
+  is_little_endian = true;
+  room = bytes.body.now;
+  origin = 0;
+}
 
 -- what was read is what the definition gives; what was refused as out of specification it doesn't give; want of memory says nothing
 abbrev pub Reads : {A B : Type 0} → (A → B) → Result A Error → Option B → Type 0

@@ -42,4 +42,5 @@ framed_view found = (record { metadata = found.0.metadata.now; header = header_v
 abbrev pub next_view : NextMessage → format.Next
 next_view messages.Truncated = format.nothing_whole
 next_view messages.End = format.at_end
-next_view (messages.Message framed after) = format.message_then (record { metadata = framed.metadata.now; header = header_view framed.header; body = framed.body.now }) after
+next_view (messages.Message framed after) =
+    format.message_then (record { metadata = framed.metadata.now; header = header_view framed.header; body = framed.body.now }) after

@@ -12,7 +12,8 @@ returns-in_err-nodes c =
     let buffers : Piece = elements_piece (length c.args.buffers.now / 16) c.args.buffers.now in
     let batch : List Slot = number w64 c.args.rows ∷ refers nodes ∷ refers buffers ∷ absent ∷ [] in
     let message : List Slot = number w16 4 ∷ number w8 3 ∷ refers (table_piece batch) ∷ number w64 c.args.body_length ∷ absent ∷ [] in
-    let le : length nodes.bytes ≤ length (table_piece message).bytes = omega (arith, table-over batch 1 nodes refl, table-over message 2 (table_piece batch) refl) in
+    let le : length nodes.bytes ≤ length (table_piece message).bytes =
+    omega (arith, table-over batch 1 nodes refl, table-over message 2 (table_piece batch) refl) in
     let given : Lays (Err c.in_err-nodes.field-0.0) nodes = search rules in
     let whole : Lays (Err c.in_err-nodes.field-0.0) (table_piece message) = lays-over c.in_err-nodes.field-0.0 nodes (table_piece message) le given in
     search (rules, whole)
@@ -23,9 +24,11 @@ returns-in_err-buffers c =
     let buffers : Piece = elements_piece (length c.args.buffers.now / 16) c.args.buffers.now in
     let batch : List Slot = number w64 c.args.rows ∷ refers nodes ∷ refers buffers ∷ absent ∷ [] in
     let message : List Slot = number w16 4 ∷ number w8 3 ∷ refers (table_piece batch) ∷ number w64 c.args.body_length ∷ absent ∷ [] in
-    let le : length buffers.bytes ≤ length (table_piece message).bytes = omega (arith, table-over batch 2 buffers refl, table-over message 2 (table_piece batch) refl) in
+    let le : length buffers.bytes ≤ length (table_piece message).bytes =
+    omega (arith, table-over batch 2 buffers refl, table-over message 2 (table_piece batch) refl) in
     let given : Lays (Err c.in_err-buffers.field-0.0) buffers = search rules in
-    let whole : Lays (Err c.in_err-buffers.field-0.0) (table_piece message) = lays-over c.in_err-buffers.field-0.0 buffers (table_piece message) le given in
+    let whole : Lays (Err c.in_err-buffers.field-0.0) (table_piece message) =
+    lays-over c.in_err-buffers.field-0.0 buffers (table_piece message) le given in
     search (rules, whole)
 
 pub returns-in_err-table : goal.returns-in_err-table
@@ -36,5 +39,6 @@ returns-in_err-table c =
     let message : List Slot = number w16 4 ∷ number w8 3 ∷ refers (table_piece batch) ∷ number w64 c.args.body_length ∷ absent ∷ [] in
     let le = table-over message 2 (table_piece batch) refl in
     let given : Lays (Err c.in_err-table.field-0.0) (table_piece batch) = search rules in
-    let whole : Lays (Err c.in_err-table.field-0.0) (table_piece message) = lays-over c.in_err-table.field-0.0 (table_piece batch) (table_piece message) le given in
+    let whole : Lays (Err c.in_err-table.field-0.0) (table_piece message) =
+    lays-over c.in_err-table.field-0.0 (table_piece batch) (table_piece message) le given in
     search (rules, whole)

@@ -5,8 +5,10 @@ use Rattle.tables_metadata.proofs.laying.record_batch_message.Goals as goal
 
 pub returns-in-Err : goal.returns-in-Err
 returns-in-Err c =
-    refused c.in-Err.error c.refusal.result (batch_message c.args.rows c.args.nodes.now c.args.buffers.now c.args.body_length) c.in-Err.ensures c.refusal.ensures
+    refused c.in-Err.error c.refusal.result (batch_message c.args.rows c.args.nodes.now c.args.buffers.now c.args.body_length) c.in-Err.ensures
+    c.refusal.ensures
 
 pub returns-in_ok-message_bytes-in-Ok : goal.returns-in_ok-message_bytes-in-Ok
 returns-in_ok-message_bytes-in-Ok c =
-    laid-is (batch_message c.args.rows c.args.nodes.now c.args.buffers.now c.args.body_length) (piece_view c.in-Ok.root) c.in_ok-message_bytes-in-Ok.field-0.items c.in_ok-message_bytes-in-Ok.ensures c.in-Ok.ensures
+    laid-is (batch_message c.args.rows c.args.nodes.now c.args.buffers.now c.args.body_length)
+    (piece_view c.in-Ok.root) c.in_ok-message_bytes-in-Ok.field-0.items c.in_ok-message_bytes-in-Ok.ensures c.in-Ok.ensures

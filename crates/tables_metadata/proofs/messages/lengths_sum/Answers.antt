@@ -13,7 +13,8 @@ pub returns-in_err-length : goal.returns-in_err-length
 returns-in_err-length c =
     let v = vector_of c.args.buffers.now in
     let none : length_at c.args.bytes.now v c.loop-k.k ≡ None = search rules in
-    let h : IsNoneOrLong (lengths_sum c.args.bytes.now v) = none-or-long _ (sum-none c.args.bytes.now v c.loop-k.sum c.loop-k.k c.loop-k-test.true none c.loop-k.invariant) in
+    let h : IsNoneOrLong (lengths_sum c.args.bytes.now v) =
+    none-or-long _ (sum-none c.args.bytes.now v c.loop-k.sum c.loop-k.k c.loop-k-test.true none c.loop-k.invariant) in
     search (rules, h)
 
 pub returns-in_err-sum : goal.returns-in_err-sum
@@ -21,7 +22,8 @@ returns-in_err-sum c =
     let v = vector_of c.args.buffers.now in
     let some : length_at c.args.bytes.now v c.loop-k.k ≡ Some c.in_ok-length.length = search rules in
     let long : 2 ^ 64 ≤ c.loop-k.sum + c.in_ok-length.length = search rules in
-    let h : IsNoneOrLong (lengths_sum c.args.bytes.now v) = sum-long c.args.bytes.now v c.loop-k.sum c.loop-k.k c.in_ok-length.length c.loop-k-test.true some long c.loop-k.invariant in
+    let h : IsNoneOrLong (lengths_sum c.args.bytes.now v) =
+    sum-long c.args.bytes.now v c.loop-k.sum c.loop-k.k c.in_ok-length.length c.loop-k-test.true some long c.loop-k.invariant in
     search (rules, h)
 
 pub loop-k-preserved : goal.loop-k-preserved

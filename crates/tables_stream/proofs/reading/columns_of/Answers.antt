@@ -15,8 +15,10 @@ returns-in_err-column-clause-value c =
     let k = c.loop-k.k in
     let batch = batch_of c.args.bytes.now in
     let read : Reads {A = Cells} (map slot_of) (Err c.in_err-column.field-0.0) (int32_slots batch k (2 * k)) = search rules in
-    let whole : Reads {A = Vec Cells Global × ℕ} (λ found. batch_slots found.0.items) (Err c.in_err-column.field-0.0) (agreeing (int32_columns batch 0 c.args.width)) =
-    gathered_error c.in_err-column.field-0.0 batch c.args.width c.loop-k.columns.items k (omega arith) c.loop-k.invariant read {A = Vec Cells Global × ℕ} (λ found. batch_slots found.0.items) in
+    let whole : Reads {A = Vec Cells Global × ℕ} (λ found. batch_slots found.0.items) (Err c.in_err-column.field-0.0)
+    (agreeing (int32_columns batch 0 c.args.width)) =
+    gathered_error c.in_err-column.field-0.0 batch c.args.width c.loop-k.columns.items k
+    (omega arith) c.loop-k.invariant read {A = Vec Cells Global × ℕ} (λ found. batch_slots found.0.items) in
     search (rules, whole)
 
 pub returns-then-not-as_long-clause-value : goal.returns-then-not-as_long-clause-value
@@ -35,7 +37,9 @@ loop-k-preserved c =
     let column = c.in_ok-column.column in
     let read : int32_slots batch k (2 * k) ≡ Some (map slot_of column) = c.in_ok-column.ensures in
     let fits : is_as_long c.loop-k.columns.items column ≡ true = search rules in
-    gathered_next batch c.args.width c.loop-k.columns.items c.push.new.self.items column k (omega arith) c.loop-k.invariant read fits c.in_ok-push.ensures.items
+    gathered_next batch c.args.width c.loop-k.columns.items c.push.new.self.items column k
+    (omega arith) c.loop-k.invariant read fits c.in_ok-push.ensures.items
 
 pub returns-clause-value : goal.returns-clause-value
-returns-clause-value c = gathered_all (batch_of c.args.bytes.now) c.args.width c.loop-k.k c.loop-k.columns.items (omega arith) (omega arith) c.loop-k.invariant
+returns-clause-value c =
+    gathered_all (batch_of c.args.bytes.now) c.args.width c.loop-k.k c.loop-k.columns.items (omega arith) (omega arith) c.loop-k.invariant
