@@ -1,6 +1,8 @@
 -- The slots of a column in a batch, for every type, each byte at its place (Arrow columnar format, "Physical Memory Layout"; Arrow IPC,
 -- "RecordBatch message"). Nothing where a rule of the format is broken.
-use Rattle.std.specs.Prelude.{ℕ, ◌+◌, ◌*◌, ◌/◌, min, ℤ, pos, negsuc, Bool, true, false, not, ◌||◌, ◌&&◌, List, [], ◌∷◌, length, map, replicate, take, Option, Some, None, nat_le, nat_lt, ◌==◌, if◌then◌else◌, slice_range, slice_index, slice_index_or}
+use Rattle.std.specs.Prelude.{ℕ, ◌+◌, ◌*◌, ◌/◌, min, ℤ, pos, negsuc, Bool, true, false, not, ◌||◌, ◌&&◌, List, [], ◌∷◌, length, map}
+use Rattle.std.specs.Prelude.{replicate, take, Option, Some, None, nat_le, nat_lt, ◌==◌, if◌then◌else◌, slice_range, slice_index}
+use Rattle.std.specs.Prelude.{slice_index_or}
 use Rattle.std.specs.Prelude.{int_lt}
 use Rattle.std.specs.Ordering.{int_eq}
 use Rattle.std.specs.List.{list_all}

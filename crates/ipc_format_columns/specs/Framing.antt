@@ -1,5 +1,6 @@
 -- The messages of a stream, by position (Arrow IPC, "Encapsulated message format", "IPC Streaming Format").
-use Rattle.std.specs.Prelude.{◌≡◌, ℕ, zero, suc, ◌+◌, ℤ, pos, negsuc, Bool, true, false, List, [], ◌∷◌, length, Option, Some, None, nat_lt, if◌then◌else◌}
+use Rattle.std.specs.Prelude.{◌≡◌, ℕ, zero, suc, ◌+◌, ℤ, pos, negsuc, Bool, true, false, List, [], ◌∷◌, length, Option, Some, None, nat_lt}
+use Rattle.std.specs.Prelude.{if◌then◌else◌}
 use Rattle.std.specs.Int.{w32}
 use Rattle.ipc_format_flatbuffers.specs.Reading.{◌>>=◌, guard, window_at}
 use Rattle.ipc_format_flatbuffers.specs.FlatBuffers.{signed_at}
@@ -42,7 +43,8 @@ pub record Framed : Type 0 where
 -- The message whose metadata stands before a place, and where the next one stands. A schema has no body, and the length that it states
 -- is not looked at.
 abbrev pub framed_by : List ℕ → List ℕ → ℕ → message.Header → ℤ → Option (Framed × ℕ)
-framed_by bytes metadata place (message.schema table) body_length = Some (record { metadata = metadata; header = message.schema table; body = [] }, place)
+framed_by bytes metadata place (message.schema table) body_length =
+    Some (record { metadata = metadata; header = message.schema table; body = [] }, place)
 framed_by bytes metadata place header body_length = do
   size ← natural body_length
   body ← window_at bytes place size

@@ -1,5 +1,6 @@
 -- Single values in the bytes of a buffer (Arrow columnar format, "Fixed-size Primitive Layout", "Byte Order (Endianness)").
-use Rattle.std.specs.Prelude.{ℕ, ◌+◌, ◌-◌, ◌*◌, ◌/◌, ◌%◌, ◌^◌, ℤ, pos, negsuc, Bool, true, false, List, take, drop, nat_lt, ◌==◌, if◌then◌else◌, slice_index}
+use Rattle.std.specs.Prelude.{ℕ, ◌+◌, ◌-◌, ◌*◌, ◌/◌, ◌%◌, ◌^◌, ℤ, pos, negsuc, Bool, true, false, List, take, drop, nat_lt, ◌==◌}
+use Rattle.std.specs.Prelude.{if◌then◌else◌, slice_index}
 use Rattle.std.specs.Int.{Width, w8, w16, w32, w64, w128, from_le_bytes, from_be_bytes, cast_signed}
 use Rattle.columnar_memory.specs.declared.IntegerType.{IntegerType}
 use Rattle.columnar_memory.specs.declared.IntegerType.TheVariants as integers
@@ -66,7 +67,8 @@ value_of kinds.UInt32 little bytes = unsigned_number kinds.UInt32 little w32 byt
 value_of kinds.UInt64 little bytes = unsigned_number kinds.UInt64 little w64 bytes
 value_of kinds.DaysMs little bytes = pair kinds.DaysMs (signed_of little w32 (take 4 bytes)) (signed_of little w32 (drop 4 bytes))
 value_of kinds.MonthDayNano little bytes =
-    triple kinds.MonthDayNano (signed_of little w32 (take 4 bytes)) (signed_of little w32 (take 4 (drop 4 bytes))) (signed_of little w64 (drop 8 bytes))
+    triple kinds.MonthDayNano (signed_of little w32 (take 4 bytes)) (signed_of little w32 (take 4 (drop 4 bytes)))
+    (signed_of little w64 (drop 8 bytes))
 value_of _ little bytes = null
 
 -- the bytes of element i, where each has so many

@@ -7,7 +7,8 @@ use Rattle.std.proofs.lemmas.List.{map-append, append-nil, length-map, length-ap
 use Rattle.std.proofs.lemmas.List.Sums.{sum_by-cons, sum_by-append}
 use Rattle.std.proofs.lemmas.Grind.{flat_map-append}
 use Rattle.columnar_memory.specs.declared.Error.{Error}
-use Rattle.columnar_memory.specs.declared.Error.TheVariants.{NotYetImplemented, External, Io, InvalidArgumentError, ExternalFormat, Overflow, OutOfSpec, OutOfMemory}
+use Rattle.columnar_memory.specs.declared.Error.TheVariants.{NotYetImplemented, External, Io, InvalidArgumentError, ExternalFormat}
+use Rattle.columnar_memory.specs.declared.Error.TheVariants.{Overflow, OutOfSpec, OutOfMemory}
 use Rattle.columnar_memory.specs.declared.Schema.{Schema}
 use Rattle.nested_arrays.specs.Slots.{Slot, window}
 use Rattle.nested_arrays.specs.Tables.{row_at, batch_rows, rows_of_columns, rows_of_batches}
@@ -44,15 +45,18 @@ behind_batch n most bytes framed place after columns (Some found) is e =
     let same : place ≡ after = cc in
     rw (none, same) refl
 
-cut_behind_next : (n most : ℕ) (bytes : List ℕ) (given : Option Next) (columns : List (List Slot)) (after : ℕ) → (given >>= step_of n) ≡ Some (batch_then columns after)
+cut_behind_next : (n most : ℕ) (bytes : List ℕ) (given : Option Next) (columns : List (List Slot)) (after : ℕ)
+    → (given >>= step_of n) ≡ Some (batch_then columns after)
     → (given >>= by_next (Some true) (Some false) (cut_behind most bytes)) ≡ truncated_from most bytes after 0
 cut_behind_next n most bytes None columns after e = absurd cc
 cut_behind_next n most bytes (Some nothing_whole) columns after e = absurd cc
 cut_behind_next n most bytes (Some at_end) columns after e = absurd cc
-cut_behind_next n most bytes (Some (message_then framed place)) columns after e = behind_batch n most bytes framed place after columns (batch_by n framed framed.header) refl e
+cut_behind_next n most bytes (Some (message_then framed place)) columns after e =
+    behind_batch n most bytes framed place after columns (batch_by n framed framed.header) refl e
 
 -- behind a batch the stream is truncated where what follows is
-cut_after_batch : (n most : ℕ) (bytes : List ℕ) (place : ℕ) (columns : List (List Slot)) (after : ℕ) → step_at n bytes place ≡ Some (batch_then columns after)
+cut_after_batch : (n most : ℕ) (bytes : List ℕ) (place : ℕ) (columns : List (List Slot)) (after : ℕ)
+    → step_at n bytes place ≡ Some (batch_then columns after)
     → truncated_from (suc most) bytes place 0 ≡ truncated_from most bytes after 0
 unfolding step_at
 cut_after_batch n most bytes place columns after e = cut_behind_next n most bytes (next_at bytes place) columns after e
@@ -61,7 +65,8 @@ no_cut_batch : (place : ℕ) (given : Option (List (List Slot))) → (given >>= 
 no_cut_batch place None e = absurd cc
 no_cut_batch place (Some found) e = absurd cc
 
-cut_here_next : (n most : ℕ) (bytes : List ℕ) (given : Option Next) → (given >>= step_of n) ≡ Some cut_off → (given >>= by_next (Some true) (Some false) (cut_behind most bytes)) ≡ Some true
+cut_here_next : (n most : ℕ) (bytes : List ℕ) (given : Option Next) → (given >>= step_of n) ≡ Some cut_off
+    → (given >>= by_next (Some true) (Some false) (cut_behind most bytes)) ≡ Some true
 cut_here_next n most bytes None e = absurd cc
 cut_here_next n most bytes (Some nothing_whole) e = refl
 cut_here_next n most bytes (Some at_end) e = absurd cc
@@ -125,7 +130,8 @@ first_left schema version n bytes first batches place step int32 read e =
 
 -- what was not whole before a batch and one more
 before_more : (n count width : ℕ) (bytes : List ℕ) (first place after : ℕ) (columns : List (List Slot)) → (n < count) ⊎ (count ≤ n) → n < count + 1
-    → ((n : ℕ) → n < count → next_after n bytes first ≡ Some nothing_whole → ⊥) → ((n : ℕ) → next_after (count + n) bytes first ≡ next_after n bytes place)
+    → ((n : ℕ) → n < count → next_after n bytes first ≡ Some nothing_whole → ⊥)
+        → ((n : ℕ) → next_after (count + n) bytes first ≡ next_after n bytes place)
     → step_at width bytes place ≡ Some (batch_then columns after) → next_after n bytes first ≡ Some nothing_whole → ⊥
 before_more n count width bytes first place after columns (inl less) h before reached e ends = before n less ends
 before_more n count width bytes first place after columns (inr last) h before reached e ends =
@@ -184,7 +190,8 @@ batches_refused schema version bytes first batches place int32 read e =
 
 pub batches_cut : (schema : Schema) (bytes : List ℕ) (first : ℕ) (batches : List (List Cells)) (place : ℕ)
     → IsInt32Schema schema → BatchesRead schema bytes first batches place → step_at (length schema.fields) bytes place ≡ Some cut_off
-    → ((version : Version) → stream_batches schema version (length bytes) bytes first ≡ None) × (truncated_from (length bytes) bytes first 0 ≡ Some true)
+    → ((version : Version) → stream_batches schema version (length bytes) bytes first ≡ None)
+        × (truncated_from (length bytes) bytes first 0 ≡ Some true)
 batches_cut schema bytes first batches place int32 read e =
     let most = length bytes - length batches - 1 in
     let all : length batches + suc most ≡ length bytes = omega (arith, read.few, read.inside) in (
@@ -216,8 +223,10 @@ more_rows : (n : ℕ) (batches : List (List Cells)) (rest : Option (List (List (
     → IfSome (behind (map batch_slots batches) rest) (λ all. n ≤ length (rows_of_batches all))
 more_rows n batches None h = tt
 more_rows n batches (Some others) h =
-    let all : length (rows_of_batches (map batch_slots batches ++ others)) ≡ length (rows_of_batches (map batch_slots batches)) + length (rows_of_batches others) =
-    ap length (flat_map-append batch_rows (map batch_slots batches) others) ∙ length-append (rows_of_batches (map batch_slots batches)) (rows_of_batches others) in
+    let all : length (rows_of_batches (map batch_slots batches ++ others))
+        ≡ length (rows_of_batches (map batch_slots batches)) + length (rows_of_batches others) =
+    ap length (flat_map-append batch_rows (map batch_slots batches) others)
+        ∙ length-append (rows_of_batches (map batch_slots batches)) (rows_of_batches others) in
     omega (arith, all, rows_counted batches)
 
 -- the first batches have too many rows
@@ -229,10 +238,12 @@ first_many schema version bytes first batches batch place after int32 read e man
     let same : first_from schema version (length batches + 1) bytes first ≡ Some (map batch_slots (batches ++ batch ∷ [])) =
     first_left schema version 0 bytes first batches place (Some (batch_then (batch_slots batch) after)) int32 read e
     ∙ ap (λ (xs : List (List (List Slot))). Some xs) (sym (map-append batch_slots batches (batch ∷ []))) in
-    let rows : 2 ^ 64 ≤ length (rows_of_batches (map batch_slots (batches ++ batch ∷ []))) = omega (arith, many, rows_counted (batches ++ batch ∷ [])) in
+    let rows : 2 ^ 64 ≤ length (rows_of_batches (map batch_slots (batches ++ batch ∷ []))) =
+        omega (arith, many, rows_counted (batches ++ batch ∷ [])) in
     (length batches + 1, subst (λ given. IsSomeAnd given (λ all. 2 ^ 64 ≤ length (rows_of_batches all))) (sym same) rows)
 
-pub batches_many : (schema : Schema) (version : Version) (bytes : List ℕ) (first : ℕ) (batches : List (List Cells)) (batch : List Cells) (place after : ℕ)
+pub batches_many : (schema : Schema) (version : Version) (bytes : List ℕ) (first : ℕ) (batches : List (List Cells)) (batch : List Cells)
+    (place after : ℕ)
     → IsInt32Schema schema → BatchesRead schema bytes first batches place
     → step_at (length schema.fields) bytes place ≡ Some (batch_then (batch_slots batch) after)
     → 2 ^ 64 ≤ sum_by rows_of_cells batches + rows_of_cells batch
@@ -313,14 +324,18 @@ batches_error (ExternalFormat what) schema version bytes first batches place int
 batches_error Overflow schema version bytes first batches place int32 read e = absurd e
 
 -- the rows of one batch more
-pub rows_more : (rows : ℕ) (batches more : List Batch) (batch : Batch) → rows ≡ sum_by rows_of_cells (map stored_cells batches) → more ≡ batches ++ batch ∷ []
+pub rows_more : (rows : ℕ) (batches more : List Batch) (batch : Batch) → rows ≡ sum_by rows_of_cells (map stored_cells batches)
+    → more ≡ batches ++ batch ∷ []
     → rows + batch.rows ≡ sum_by rows_of_cells (map stored_cells more)
 rows_more rows batches more batch before_it pushed =
-    let all : sum_by rows_of_cells (map stored_cells more) ≡ sum_by rows_of_cells (map stored_cells batches) + sum_by rows_of_cells (stored_cells batch ∷ []) =
+    let all : sum_by rows_of_cells (map stored_cells more) ≡ sum_by rows_of_cells (map stored_cells batches)
+        + sum_by rows_of_cells (stored_cells batch ∷ []) =
     ap (λ xs. sum_by rows_of_cells (map stored_cells xs)) pushed ∙ ap (sum_by rows_of_cells) (map-append stored_cells batches (batch ∷ []))
     ∙ sum_by-append rows_of_cells (map stored_cells batches) (stored_cells batch ∷ []) in
-    let one : sum_by rows_of_cells (stored_cells batch ∷ []) ≡ rows_of_cells (stored_cells batch) + 0 = sum_by-cons rows_of_cells (stored_cells batch) [] in
+    let one : sum_by rows_of_cells (stored_cells batch ∷ []) ≡ rows_of_cells (stored_cells batch) + 0 =
+        sum_by-cons rows_of_cells (stored_cells batch) [] in
     omega (arith, all, one, before_it, batch.counted)
 
-pub cells_more : (batches more : List Batch) (batch : Batch) → more ≡ batches ++ batch ∷ [] → map stored_cells more ≡ map stored_cells batches ++ stored_cells batch ∷ []
+pub cells_more : (batches more : List Batch) (batch : Batch) → more ≡ batches ++ batch ∷ []
+    → map stored_cells more ≡ map stored_cells batches ++ stored_cells batch ∷ []
 cells_more batches more batch pushed = ap (map stored_cells) pushed ∙ map-append stored_cells batches (batch ∷ [])

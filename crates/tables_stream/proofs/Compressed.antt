@@ -12,7 +12,8 @@ or_other other None = other
 or_other other (Some x) = x
 
 -- a batch that is read as compressed refers to a compression
-pub compressed_is : (metadata : List ℕ) (table : Table) (batch : RecordBatch) → record_batch_in metadata table ≡ Some batch → batch.is_compressed ≡ true
+pub compressed_is : (metadata : List ℕ) (table : Table) (batch : RecordBatch) → record_batch_in metadata table ≡ Some batch
+    → batch.is_compressed ≡ true
     → IsCompressed metadata table
 unfolding record_batch_in
 compressed_is metadata table batch e is =

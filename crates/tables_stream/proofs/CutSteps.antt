@@ -1,5 +1,6 @@
 -- One step of cutting batches, and windows of windows.
-use Rattle.std.proofs.Common.{◌≡◌, ◌∙◌, ℕ, zero, suc, ◌+◌, ◌-◌, ◌≤◌, ◌<◌, ℤ, List, [], ◌∷◌, ◌++◌, length, map, take, drop, get_or, ap, ap₂, refl, sym, arith, append_assoc}
+use Rattle.std.proofs.Common.{◌≡◌, ◌∙◌, ℕ, zero, suc, ◌+◌, ◌-◌, ◌≤◌, ◌<◌, ℤ, List, [], ◌∷◌, ◌++◌, length, map, take, drop, get_or, ap, ap₂}
+use Rattle.std.proofs.Common.{refl, sym, arith, append_assoc}
 use Rattle.std.specs.Prelude.{Option, min, nat_lt, if◌then◌else◌, slice_range}
 use Rattle.std.proofs.lemmas.List.{drop-take, drop_more, map-append}
 use Rattle.std.proofs.Math.Seq.{drop-nil}

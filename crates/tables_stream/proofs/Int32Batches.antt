@@ -16,7 +16,8 @@ use Rattle.ipc_format_grammar.specs.Messages.{Version, V5, Header, schema, dicti
 use Rattle.ipc_format_grammar.specs.Messages.{record_batch_in, dictionary_batch_in, lengths_sum}
 use Rattle.ipc_format_grammar.specs.Schemas.{Ids, IdsList}
 use Rattle.ipc_format_columns.specs.Layouts.{node_count, node_number, node_step, buffer_count, buffer_number, buffer_step}
-use Rattle.ipc_format_columns.specs.Columns.{Source, Dictionary, Reader, fixed_slots, validity_in, buffer_at, read_step, read_field_step, slots_in, first_ids, other_ids}
+use Rattle.ipc_format_columns.specs.Columns.{Source, Dictionary, Reader, fixed_slots, validity_in, buffer_at, read_step, read_field_step}
+use Rattle.ipc_format_columns.specs.Columns.{slots_in, first_ids, other_ids}
 use Rattle.ipc_format_columns.specs.Dictionaries.{Entry, Layout, Finder, find_step, find_field_step, values_in, values_of, source_in, dictionary_in}
 use Rattle.ipc_format_columns.specs.Framing.{Framed, Next, nothing_whole, at_end, message_then, next_at, by_next, dictionaries_after, later_messages}
 use Rattle.ipc_format_columns.specs.Tables.{columns_from, batch_in, batches_of, batches_behind, stream_entry, ids_at}
@@ -64,21 +65,25 @@ node_numbers [] (suc k) all h = omega arith
 node_numbers (field ∷ fields) (suc k) all h =
     let here : node_count field.data_type ≡ 1 = rw ((All-head IsInt32Field field fields all).0) node_count_int32 in
     let others : node_number fields k ≡ k = node_numbers fields k (All-tail IsInt32Field field fields all) (omega arith) in
-    let next : node_number (field ∷ fields) (suc k) ≡ node_count field.data_type + node_number fields k = sum_by-cons (λ (f : Field). node_count f.data_type) field (take k fields) in
+    let next : node_number (field ∷ fields) (suc k) ≡ node_count field.data_type + node_number fields k =
+        sum_by-cons (λ (f : Field). node_count f.data_type) field (take k fields) in
     next ∙ rw (here, others) (omega arith)
 
-buffer_numbers : (version : Version) (fields : List Field) (k : ℕ) → All IsInt32Field fields → k ≤ length fields → buffer_number version fields k ≡ 2 * k
+buffer_numbers : (version : Version) (fields : List Field) (k : ℕ) → All IsInt32Field fields → k ≤ length fields
+    → buffer_number version fields k ≡ 2 * k
 buffer_numbers version fields zero all h = refl
 buffer_numbers version [] (suc k) all h = omega arith
 buffer_numbers version (field ∷ fields) (suc k) all h =
     let here : buffer_count version field.data_type ≡ 2 = rw ((All-head IsInt32Field field fields all).0) (buffer_count_int32 version) in
     let others : buffer_number version fields k ≡ 2 * k = buffer_numbers version fields k (All-tail IsInt32Field field fields all) (omega arith) in
-    let next : buffer_number version (field ∷ fields) (suc k) ≡ buffer_count version field.data_type + buffer_number version fields k = sum_by-cons (λ (f : Field). buffer_count version f.data_type) field (take k fields) in
+    let next : buffer_number version (field ∷ fields) (suc k) ≡ buffer_count version field.data_type + buffer_number version fields k =
+        sum_by-cons (λ (f : Field). buffer_count version f.data_type) field (take k fields) in
     next ∙ rw (here, others) (omega arith)
 
 -- ---- columns and batches
 
-slots_of_int32 : (source : Source) (standing : List Dictionary) (n b : ℕ) (here : Ids) → slots_in types.Int32 source standing None n b here ≡ int32_slots source n b
+slots_of_int32 : (source : Source) (standing : List Dictionary) (n b : ℕ) (here : Ids)
+    → slots_in types.Int32 source standing None n b here ≡ int32_slots source n b
 unfolding roll-DataType denote.Hole.Carrier.roll
 slots_of_int32 source standing n b here =
     ap (λ (read : Reader). read source standing None n b here) (para-roll-DataType Reader Reader read_step read_field_step layer.Int32)
@@ -94,15 +99,19 @@ version_aside : (version : Version) (metadata : List ℕ) (vectors : RecordBatch
 unfolding fixed_slots validity_in buffer_at
 version_aside version metadata vectors body n b = refl
 
-columns_are_int32 : (layout : Layout) (standing : List Dictionary) (version : Version) (metadata : List ℕ) (vectors : RecordBatch) (body : List ℕ) (k : ℕ)
+columns_are_int32 : (layout : Layout) (standing : List Dictionary) (version : Version) (metadata : List ℕ) (vectors : RecordBatch) (body : List ℕ)
+    (k : ℕ)
     (rest : List Field) → All IsInt32Field layout.fields → k + length rest ≡ length layout.fields → All IsInt32Field rest
-    → columns_from layout standing (source_by version metadata vectors body) k rest ≡ int32_columns (source_by V5 metadata vectors body) k (length rest)
+    → columns_from layout standing (source_by version metadata vectors body) k rest
+        ≡ int32_columns (source_by V5 metadata vectors body) k (length rest)
 columns_are_int32 layout standing version metadata vectors body k [] all counted firsts = refl
 columns_are_int32 layout standing version metadata vectors body k (field ∷ rest) all counted firsts =
     let n : node_number layout.fields k ≡ k = node_numbers layout.fields k all (omega arith) in
     let b : buffer_number version layout.fields k ≡ 2 * k = buffer_numbers version layout.fields k all (omega arith) in
-    let others = columns_are_int32 layout standing version metadata vectors body (k + 1) rest all (omega arith) (All-tail IsInt32Field field rest firsts) in
-    let here = slots_of_int32 (source_by version metadata vectors body) standing k (2 * k) (ids_at layout.below k) ∙ version_aside version metadata vectors body k (2 * k) in
+    let others =
+        columns_are_int32 layout standing version metadata vectors body (k + 1) rest all (omega arith) (All-tail IsInt32Field field rest firsts) in
+    let here = slots_of_int32 (source_by version metadata vectors body) standing k (2 * k) (ids_at layout.below k)
+        ∙ version_aside version metadata vectors body k (2 * k) in
     rw ((All-head IsInt32Field field rest firsts).0, n, b, here, others) refl
 
 -- what is made of a message's batch, part by part
@@ -122,7 +131,8 @@ source_parts version metadata header table body f =
 
 pub batch_is_int32 : (layout : Layout) (version : Version) (metadata : List ℕ) (header : Header) (table : flat.Table) (body : List ℕ)
     → All IsInt32Field layout.fields → layout.is_little_endian ≡ true
-    → batch_in layout [] (stream_entry version (record { metadata = metadata; header = header; body = body })) table ≡ int32_batch (length layout.fields) metadata table body
+    → batch_in layout [] (stream_entry version (record { metadata = metadata; header = header; body = body })) table
+        ≡ int32_batch (length layout.fields) metadata table body
 unfolding batch_in int32_batch
 batch_is_int32 layout version metadata header table body all little =
     rw (little) (source_parts version metadata header table body (λ source. agreeing (columns_from layout [] source 0 layout.fields)) ∙
@@ -141,7 +151,8 @@ no_values id here = ap (λ (find : Finder). find id here) (para-roll-DataType Fi
 no_values_of : (fields : List Field) (id : ℤ) (below : IdsList) → All IsInt32Field fields → values_of fields id below ≡ None
 no_values_of [] id below all = refl
 no_values_of (field ∷ fields) id below all =
-    rw ((All-head IsInt32Field field fields all).0, no_values id (first_ids below)) (no_values_of fields id (other_ids below) (All-tail IsInt32Field field fields all))
+    rw ((All-head IsInt32Field field fields all).0, no_values id (first_ids below))
+        (no_values_of fields id (other_ids below) (All-tail IsInt32Field field fields all))
 
 no_dictionary : (layout : Layout) (entry : Entry) (table : flat.Table) → All IsInt32Field layout.fields → dictionary_in layout [] entry table ≡ None
 unfolding dictionary_in
@@ -153,12 +164,14 @@ no_dictionary layout entry table all =
 
 -- ---- messages, one after another
 
-pushed : (columns : List (List Slot)) (given : Option (List (List (List Slot)))) → (given >>= (λ batches. Some (columns ∷ batches))) ≡ behind (columns ∷ []) given
+pushed : (columns : List (List Slot)) (given : Option (List (List (List Slot))))
+    → (given >>= (λ batches. Some (columns ∷ batches))) ≡ behind (columns ∷ []) given
 pushed columns None = refl
 pushed columns (Some batches) = refl
 
 -- what is behind a batch is asked for at its place alone
-only_there : (if_ended : Option (List (List (List Slot)))) (given : Option (List (List Slot))) (rest : ℕ → Option (List (List (List Slot)))) (after : ℕ)
+only_there : (if_ended : Option (List (List (List Slot)))) (given : Option (List (List Slot))) (rest : ℕ → Option (List (List (List Slot))))
+    (after : ℕ)
     → ((given >>= (λ columns. Some (batch_then columns after))) >>= by_step if_ended (λ place. rest after))
     ≡ ((given >>= (λ columns. Some (batch_then columns after))) >>= by_step if_ended rest)
 only_there if_ended None rest after = refl
@@ -250,7 +263,8 @@ first_batches_from layout version n bytes place = first_messages n bytes place >
 
 -- nothing comes of a schema
 no_schema : (layout : Layout) (version : Version) (metadata : List ℕ) (table : flat.Table) (body : List ℕ) (others : Option (List Framed))
-    → ((others >>= (λ more. Some (record { metadata = metadata; header = schema table; body = body } ∷ more))) >>= later_batches layout version) ≡ None
+    → ((others >>= (λ more. Some (record { metadata = metadata; header = schema table; body = body } ∷ more))) >>= later_batches layout version)
+        ≡ None
 no_schema layout version metadata table body None = refl
 no_schema layout version metadata table body (Some more) = refl
 
@@ -307,14 +321,16 @@ unfolding step_at
 one_on width n bytes place columns after e = one_on_next width n bytes (next_at bytes place) columns after e
 
 -- where nothing whole stands, the step says that
-pub truncated_next : (width : ℕ) (bytes : List ℕ) (place : ℕ) → next_after 0 bytes place ≡ Some nothing_whole → step_at width bytes place ≡ Some cut_off
+pub truncated_next : (width : ℕ) (bytes : List ℕ) (place : ℕ) → next_after 0 bytes place ≡ Some nothing_whole
+    → step_at width bytes place ≡ Some cut_off
 unfolding step_at
 truncated_next width bytes place e = rw e refl
 
 -- ---- whether the stream is truncated
 
 -- the header of a message that has a batch
-pub counts_none : (n : ℕ) (metadata : List ℕ) (header : Header) (body : List ℕ) (columns : List (List Slot)) → batch_by n (record { metadata = metadata; header = header; body = body }) header ≡ Some columns
+pub counts_none : (n : ℕ) (metadata : List ℕ) (header : Header) (body : List ℕ) (columns : List (List Slot))
+    → batch_by n (record { metadata = metadata; header = header; body = body }) header ≡ Some columns
     → dictionaries_after 0 header ≡ Some 0
 counts_none n metadata (schema table) body columns e = absurd cc
 counts_none n metadata (dictionary_batch table) body columns e = absurd cc

@@ -19,7 +19,8 @@ use Rattle.ipc_format_written.specs.Encoding.{Encoded, Encoder, encode, encode_s
 use Rattle.ipc_format_written.specs.Ids.{Numbering, number_step, numbered, number_fields, default_ids}
 use Rattle.ipc_format_written.specs.GivenDictionaries.{Giver, given_by, give_step, give_field_step}
 use Rattle.ipc_format_written.specs.WrittenMessages.{message_bytes, message_of, batch_object, record_tag, record_message, schema_written}
-use Rattle.ipc_format_written.specs.WrittenStreams.{columns_of_slots, given_of_slots, rows_of_slots, batch_of_slots, messages_after, stream_messages, bytes_of_messages, stream_bytes}
+use Rattle.ipc_format_written.specs.WrittenStreams.{columns_of_slots, given_of_slots, rows_of_slots, batch_of_slots, messages_after}
+use Rattle.ipc_format_written.specs.WrittenStreams.{stream_messages, bytes_of_messages, stream_bytes}
 use Rattle.tables_metadata.specs.Int32Schemas.{IsInt32Schema, IsInt32Field}
 use Rattle.tables_stream.specs.Int32Written.{int32_buffers, nodes_of, int32_message, int32_stream}
 

@@ -56,16 +56,19 @@ field_is_normal field first =
     let data_type : normalised_type field.data_type ≡ field.data_type = ap normalised_type first.0 ∙ type_is_normal ∙ sym (first.0) in
     let pairs : normalised_pairs (normalised_type field.data_type) field.metadata ≡ field.metadata =
     ap₂ normalised_pairs (ap normalised_type first.0 ∙ type_is_normal) first.1 ∙ pairs_are_normal ∙ sym (first.1) in
-    ap₂ (λ (t : DataType) (m : List (List ℕ × List ℕ)). record { name = field.name; data_type = t; is_nullable = field.is_nullable; metadata = m }) data_type pairs
+    ap₂ (λ (t : DataType) (m : List (List ℕ × List ℕ)). record { name = field.name; data_type = t; is_nullable = field.is_nullable; metadata = m })
+        data_type pairs
 
 fields_are_normal : (fields : List Field) → All IsInt32Field fields → map normalised_field fields ≡ fields
 fields_are_normal [] all = refl
 fields_are_normal (field ∷ fields) all =
-    ap₂ (λ (x : Field) xs. x ∷ xs) (field_is_normal field (All-head IsInt32Field field fields all)) (fields_are_normal fields (All-tail IsInt32Field field fields all))
+    ap₂ (λ (x : Field) xs. x ∷ xs) (field_is_normal field (All-head IsInt32Field field fields all))
+        (fields_are_normal fields (All-tail IsInt32Field field fields all))
 
 schema_is_normal : (schema : Schema) → IsInt32Schema schema → normalised schema ≡ schema
 unfolding normalised
-schema_is_normal schema first = ap (λ (fields : List Field). record { fields = fields; metadata = schema.metadata }) (fields_are_normal schema.fields first.1)
+schema_is_normal schema first =
+    ap (λ (fields : List Field). record { fields = fields; metadata = schema.metadata }) (fields_are_normal schema.fields first.1)
 
 -- ---- the stream's parts
 
@@ -156,18 +159,21 @@ layout_is schema first = ap (λ (s : Schema). layout_by_ids s.fields) (schema_is
     layout_by_ids fields = record { fields = fields; below = (schema_found schema).ids; is_little_endian = true }
 
 -- the batches and the table of messages whose version and schema are known
-batches_known : (first : Framed × ℕ) (later : Option (List Framed)) (version : Version) (found : SchemaIn) (schema : Schema) (given : Option (List (List (List Slot))))
+batches_known : (first : Framed × ℕ) (later : Option (List Framed)) (version : Version) (found : SchemaIn) (schema : Schema)
+    (given : Option (List (List (List Slot))))
     → version_in first.0.metadata ≡ Some version → schema_of first.0 first.0.header ≡ Some found → found ≡ schema_found schema → IsInt32Schema schema
     → (later >>= later_batches (int32_layout schema) version) ≡ given
     → rest_behind batches_rest first later ≡ given
 batches_known first later version found schema given v s same int32_schema batches = rw (v, s, same, layout_is schema int32_schema) batches
 
-known_behind : (first : Framed × ℕ) (later : Option (List Framed)) (version : Version) (found : SchemaIn) (schema : Schema) (given : Option (List (List (List Slot))))
+known_behind : (first : Framed × ℕ) (later : Option (List Framed)) (version : Version) (found : SchemaIn) (schema : Schema)
+    (given : Option (List (List (List Slot))))
     → version_in first.0.metadata ≡ Some version → schema_of first.0 first.0.header ≡ Some found → found ≡ schema_found schema → IsInt32Schema schema
     → (later >>= later_batches (int32_layout schema) version) ≡ given
     → rest_behind table_rest first later ≡ fitting schema given
 known_behind first later version found schema given v s same int32_schema batches =
-    rw (v, s, same, layout_is schema int32_schema, schema_is_normal schema int32_schema) (later_fit (int32_layout schema) version schema later given batches)
+    rw (v, s, same, layout_is schema int32_schema, schema_is_normal schema int32_schema)
+        (later_fit (int32_layout schema) version schema later given batches)
 
 -- the first batches, where the first message is known
 first_known : (n : ℕ) (bytes : List ℕ) (first : Framed × ℕ) (version : Version) (found : SchemaIn) (schema : Schema)
@@ -178,7 +184,8 @@ unfolding first_batches
 first_known n bytes first version found schema e v s same int32_schema =
     rw (e, v, s, same) (in_order (first_messages n bytes first.1) ∙ rw (layout_is schema int32_schema) refl)
   where
-    in_order : (later : Option (List Framed)) → ((later >>= (λ more. Some (record { schema = schema_found schema; entries = map (stream_entry version) more })))
+    in_order : (later : Option (List Framed))
+        → ((later >>= (λ more. Some (record { schema = schema_found schema; entries = map (stream_entry version) more })))
         >>= batches_rest) ≡ (later >>= later_batches (layout_of (schema_found schema)) version)
     in_order None = refl
     in_order (Some more) = refl
@@ -222,18 +229,22 @@ no_version : (first : Framed × ℕ) (later : Option (List Framed)) → version_
 no_version first None e = refl
 no_version first (Some more) e = rw e refl
 
-no_schema : (first : Framed × ℕ) (later : Option (List Framed)) (version : Version) → version_in first.0.metadata ≡ Some version → schema_of first.0 first.0.header ≡ None → rest_behind table_rest first later ≡ None
+no_schema : (first : Framed × ℕ) (later : Option (List Framed)) (version : Version) → version_in first.0.metadata ≡ Some version
+    → schema_of first.0 first.0.header ≡ None → rest_behind table_rest first later ≡ None
 no_schema first None version v e = refl
 no_schema first (Some more) version v e = rw (v, e) refl
 
-no_parts : (bytes : List ℕ) (first : Framed × ℕ) (version : Option Version) (found : Option SchemaIn) → first_of bytes ≡ Some first → version_in first.0.metadata ≡ version → schema_of first.0 first.0.header ≡ found
+no_parts : (bytes : List ℕ) (first : Framed × ℕ) (version : Option Version) (found : Option SchemaIn) → first_of bytes ≡ Some first
+    → version_in first.0.metadata ≡ version → schema_of first.0 first.0.header ≡ found
     → (version >>= (λ _. found >>= with_place first.1)) ≡ None → table_of stream bytes ≡ None
 no_parts bytes first None found e v s none = table_begins bytes (Some first) e ∙ no_version first (later_messages (length bytes) bytes first.1 0) v
-no_parts bytes first (Some version) None e v s none = table_begins bytes (Some first) e ∙ no_schema first (later_messages (length bytes) bytes first.1 0) version v s
+no_parts bytes first (Some version) None e v s none =
+    table_begins bytes (Some first) e ∙ no_schema first (later_messages (length bytes) bytes first.1 0) version v s
 no_parts bytes first (Some version) (Some found) e v s none = absurd cc
 
 no_first : (bytes : List ℕ) (given : Option (Framed × ℕ)) → first_of bytes ≡ given
-    → (given >>= (λ first. version_in first.0.metadata >>= (λ _. schema_of first.0 first.0.header >>= with_place first.1))) ≡ None → table_of stream bytes ≡ None
+    → (given >>= (λ first. version_in first.0.metadata >>= (λ _. schema_of first.0 first.0.header >>= with_place first.1))) ≡ None
+        → table_of stream bytes ≡ None
 no_first bytes None e none = table_begins bytes None e
 no_first bytes (Some first) e none = no_parts bytes first (version_in first.0.metadata) (schema_of first.0 first.0.header) e refl refl none
 
@@ -272,7 +283,8 @@ cut_is : (bytes : List ℕ) (first : Framed × ℕ) → first_of bytes ≡ Some 
 unfolding is_truncated
 cut_is bytes first e = rw e refl
 
-cut_behind_schema : (bytes : List ℕ) (found : SchemaIn) (place : ℕ) → first_schema bytes ≡ Some (found, place) → is_truncated bytes ≡ truncated_from (length bytes) bytes place 0
+cut_behind_schema : (bytes : List ℕ) (found : SchemaIn) (place : ℕ) → first_schema bytes ≡ Some (found, place)
+    → is_truncated bytes ≡ truncated_from (length bytes) bytes place 0
 unfolding first_schema
 cut_behind_schema bytes found place e =
     let a = came_of {A = Framed × ℕ} (first_of bytes) _ (found, place) e in
@@ -287,10 +299,12 @@ cut_behind_schema bytes found place e =
 -- batches whose rows fit are a table, and others are none
 fits : (stored : Stored) → row_count stored < 2 ^ 64 → fitting stored.schema (Some (map batch_slots stored.batches)) ≡ Some (as_table stored)
 fits stored h =
-    let few : nat_lt (length (rows_of_batches (map batch_slots stored.batches))) (2 ^ 64) ≡ true = rw (rows_counted stored.batches) (lt-ltb (row_count stored) (2 ^ 64) h) in
+    let few : nat_lt (length (rows_of_batches (map batch_slots stored.batches))) (2 ^ 64) ≡ true =
+        rw (rows_counted stored.batches) (lt-ltb (row_count stored) (2 ^ 64) h) in
     rw few refl
 
-too_many : (schema : Schema) (given : Option (List (List (List Slot)))) → IfSome given (λ batches. 2 ^ 64 ≤ length (rows_of_batches batches)) → fitting schema given ≡ None
+too_many : (schema : Schema) (given : Option (List (List (List Slot)))) → IfSome given (λ batches. 2 ^ 64 ≤ length (rows_of_batches batches))
+    → fitting schema given ≡ None
 too_many schema None h = refl
 too_many schema (Some batches) h = rw (le-ltb (length (rows_of_batches batches)) (2 ^ 64) h) refl
 
@@ -320,8 +334,10 @@ supported_schema bytes found place schema e same int32_schema =
     let is : IsSupported (schema_found schema) = (refl, int32_schema) in
     subst (λ given. IfSome given (λ first. IsSupported first.0)) (sym e) (subst IsSupported (sym same) is)
 
-pub read_whole : (bytes : List ℕ) (found : SchemaIn) (place : ℕ) (schema : Schema) (result : Result Stored Fault) → first_schema bytes ≡ Some (found, place)
-    → found ≡ schema_found schema → IsInt32Schema schema → ((version : Version) → ReadsBatches schema version bytes place result) → ReadsStream result bytes
+pub read_whole : (bytes : List ℕ) (found : SchemaIn) (place : ℕ) (schema : Schema) (result : Result Stored Fault)
+    → first_schema bytes ≡ Some (found, place)
+    → found ≡ schema_found schema → IsInt32Schema schema → ((version : Version) → ReadsBatches schema version bytes place result)
+        → ReadsStream result bytes
 read_whole bytes found place schema (Ok stored) e same int32_schema read =
     let whole = stream_from bytes found place schema e same int32_schema in
     let batches = read whole.version in (

@@ -1,5 +1,6 @@
 -- The windows that a cut of a table makes of its batches hold the rows that the cut is to have.
-use Rattle.std.proofs.Common.{◌≡◌, ◌∙◌, ℕ, zero, suc, ◌+◌, ◌-◌, ◌≤◌, ◌<◌, ℤ, List, [], ◌∷◌, ◌++◌, length, map, take, drop, get_or, refl, ap, ap₂, sym, arith, Bool, true, false}
+use Rattle.std.proofs.Common.{◌≡◌, ◌∙◌, ℕ, zero, suc, ◌+◌, ◌-◌, ◌≤◌, ◌<◌, ℤ, List, [], ◌∷◌, ◌++◌, length, map, take, drop, get_or, refl, ap}
+use Rattle.std.proofs.Common.{ap₂, sym, arith, Bool, true, false}
 use Rattle.std.specs.Prelude.{Option, min, nat_lt, if◌then◌else◌, slice_range}
 use Rattle.std.proofs.lemmas.Grind.{common_steps, flat_map-append}
 use Rattle.std.proofs.lemmas.List.{take-map, drop-map, get_or-take, get_or-drop, map-append, append-nil, take_all}

@@ -1,5 +1,6 @@
 -- Windows of a function's values, and the cells that they make.
-use Rattle.std.proofs.Common.{◌≡◌, ◌∙◌, ℕ, zero, suc, ◌+◌, ℤ, Bool, true, false, List, [], ◌∷◌, ◌++◌, length, map, refl, ap, ap₂, arith, add-zero, add-one, zero-add, if◌then◌else◌}
+use Rattle.std.proofs.Common.{◌≡◌, ◌∙◌, ℕ, zero, suc, ◌+◌, ℤ, Bool, true, false, List, [], ◌∷◌, ◌++◌, length, map, refl, ap, ap₂, arith}
+use Rattle.std.proofs.Common.{add-zero, add-one, zero-add, if◌then◌else◌}
 use Rattle.std.specs.Prelude.{Some, None}
 use Rattle.columnar_memory.specs.declared.PrimitiveType.TheVariants as kinds
 use Rattle.nested_arrays.specs.Slots.{Slot, null, number, window}
