@@ -131,7 +131,7 @@ first_left schema version n bytes first batches place step int32 read e =
 -- what was not whole before a batch and one more
 before_more : (n count width : ℕ) (bytes : List ℕ) (first place after : ℕ) (columns : List (List Slot)) → (n < count) ⊎ (count ≤ n) → n < count + 1
     → ((n : ℕ) → n < count → next_after n bytes first ≡ Some nothing_whole → ⊥)
-        → ((n : ℕ) → next_after (count + n) bytes first ≡ next_after n bytes place)
+    → ((n : ℕ) → next_after (count + n) bytes first ≡ next_after n bytes place)
     → step_at width bytes place ≡ Some (batch_then columns after) → next_after n bytes first ≡ Some nothing_whole → ⊥
 before_more n count width bytes first place after columns (inl less) h before reached e ends = before n less ends
 before_more n count width bytes first place after columns (inr last) h before reached e ends =
@@ -191,7 +191,7 @@ batches_refused schema version bytes first batches place int32 read e =
 pub batches_cut : (schema : Schema) (bytes : List ℕ) (first : ℕ) (batches : List (List Cells)) (place : ℕ)
     → IsInt32Schema schema → BatchesRead schema bytes first batches place → step_at (length schema.fields) bytes place ≡ Some cut_off
     → ((version : Version) → stream_batches schema version (length bytes) bytes first ≡ None)
-        × (truncated_from (length bytes) bytes first 0 ≡ Some true)
+    × (truncated_from (length bytes) bytes first 0 ≡ Some true)
 batches_cut schema bytes first batches place int32 read e =
     let most = length bytes - length batches - 1 in
     let all : length batches + suc most ≡ length bytes = omega (arith, read.few, read.inside) in (
@@ -224,9 +224,9 @@ more_rows : (n : ℕ) (batches : List (List Cells)) (rest : Option (List (List (
 more_rows n batches None h = tt
 more_rows n batches (Some others) h =
     let all : length (rows_of_batches (map batch_slots batches ++ others))
-        ≡ length (rows_of_batches (map batch_slots batches)) + length (rows_of_batches others) =
+    ≡ length (rows_of_batches (map batch_slots batches)) + length (rows_of_batches others) =
     ap length (flat_map-append batch_rows (map batch_slots batches) others)
-        ∙ length-append (rows_of_batches (map batch_slots batches)) (rows_of_batches others) in
+    ∙ length-append (rows_of_batches (map batch_slots batches)) (rows_of_batches others) in
     omega (arith, all, rows_counted batches)
 
 -- the first batches have too many rows
@@ -239,7 +239,7 @@ first_many schema version bytes first batches batch place after int32 read e man
     first_left schema version 0 bytes first batches place (Some (batch_then (batch_slots batch) after)) int32 read e
     ∙ ap (λ (xs : List (List (List Slot))). Some xs) (sym (map-append batch_slots batches (batch ∷ []))) in
     let rows : 2 ^ 64 ≤ length (rows_of_batches (map batch_slots (batches ++ batch ∷ []))) =
-        omega (arith, many, rows_counted (batches ++ batch ∷ [])) in
+    omega (arith, many, rows_counted (batches ++ batch ∷ [])) in
     (length batches + 1, subst (λ given. IsSomeAnd given (λ all. 2 ^ 64 ≤ length (rows_of_batches all))) (sym same) rows)
 
 pub batches_many : (schema : Schema) (version : Version) (bytes : List ℕ) (first : ℕ) (batches : List (List Cells)) (batch : List Cells)
@@ -329,11 +329,11 @@ pub rows_more : (rows : ℕ) (batches more : List Batch) (batch : Batch) → row
     → rows + batch.rows ≡ sum_by rows_of_cells (map stored_cells more)
 rows_more rows batches more batch before_it pushed =
     let all : sum_by rows_of_cells (map stored_cells more) ≡ sum_by rows_of_cells (map stored_cells batches)
-        + sum_by rows_of_cells (stored_cells batch ∷ []) =
+    + sum_by rows_of_cells (stored_cells batch ∷ []) =
     ap (λ xs. sum_by rows_of_cells (map stored_cells xs)) pushed ∙ ap (sum_by rows_of_cells) (map-append stored_cells batches (batch ∷ []))
     ∙ sum_by-append rows_of_cells (map stored_cells batches) (stored_cells batch ∷ []) in
     let one : sum_by rows_of_cells (stored_cells batch ∷ []) ≡ rows_of_cells (stored_cells batch) + 0 =
-        sum_by-cons rows_of_cells (stored_cells batch) [] in
+    sum_by-cons rows_of_cells (stored_cells batch) [] in
     omega (arith, all, one, before_it, batch.counted)
 
 pub cells_more : (batches more : List Batch) (batch : Batch) → more ≡ batches ++ batch ∷ []

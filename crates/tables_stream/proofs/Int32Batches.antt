@@ -66,7 +66,7 @@ node_numbers (field ∷ fields) (suc k) all h =
     let here : node_count field.data_type ≡ 1 = rw ((All-head IsInt32Field field fields all).0) node_count_int32 in
     let others : node_number fields k ≡ k = node_numbers fields k (All-tail IsInt32Field field fields all) (omega arith) in
     let next : node_number (field ∷ fields) (suc k) ≡ node_count field.data_type + node_number fields k =
-        sum_by-cons (λ (f : Field). node_count f.data_type) field (take k fields) in
+    sum_by-cons (λ (f : Field). node_count f.data_type) field (take k fields) in
     next ∙ rw (here, others) (omega arith)
 
 buffer_numbers : (version : Version) (fields : List Field) (k : ℕ) → All IsInt32Field fields → k ≤ length fields
@@ -77,7 +77,7 @@ buffer_numbers version (field ∷ fields) (suc k) all h =
     let here : buffer_count version field.data_type ≡ 2 = rw ((All-head IsInt32Field field fields all).0) (buffer_count_int32 version) in
     let others : buffer_number version fields k ≡ 2 * k = buffer_numbers version fields k (All-tail IsInt32Field field fields all) (omega arith) in
     let next : buffer_number version (field ∷ fields) (suc k) ≡ buffer_count version field.data_type + buffer_number version fields k =
-        sum_by-cons (λ (f : Field). buffer_count version f.data_type) field (take k fields) in
+    sum_by-cons (λ (f : Field). buffer_count version f.data_type) field (take k fields) in
     next ∙ rw (here, others) (omega arith)
 
 -- ---- columns and batches
@@ -103,15 +103,15 @@ columns_are_int32 : (layout : Layout) (standing : List Dictionary) (version : Ve
     (k : ℕ)
     (rest : List Field) → All IsInt32Field layout.fields → k + length rest ≡ length layout.fields → All IsInt32Field rest
     → columns_from layout standing (source_by version metadata vectors body) k rest
-        ≡ int32_columns (source_by V5 metadata vectors body) k (length rest)
+    ≡ int32_columns (source_by V5 metadata vectors body) k (length rest)
 columns_are_int32 layout standing version metadata vectors body k [] all counted firsts = refl
 columns_are_int32 layout standing version metadata vectors body k (field ∷ rest) all counted firsts =
     let n : node_number layout.fields k ≡ k = node_numbers layout.fields k all (omega arith) in
     let b : buffer_number version layout.fields k ≡ 2 * k = buffer_numbers version layout.fields k all (omega arith) in
     let others =
-        columns_are_int32 layout standing version metadata vectors body (k + 1) rest all (omega arith) (All-tail IsInt32Field field rest firsts) in
+    columns_are_int32 layout standing version metadata vectors body (k + 1) rest all (omega arith) (All-tail IsInt32Field field rest firsts) in
     let here = slots_of_int32 (source_by version metadata vectors body) standing k (2 * k) (ids_at layout.below k)
-        ∙ version_aside version metadata vectors body k (2 * k) in
+    ∙ version_aside version metadata vectors body k (2 * k) in
     rw ((All-head IsInt32Field field rest firsts).0, n, b, here, others) refl
 
 -- what is made of a message's batch, part by part
@@ -132,7 +132,7 @@ source_parts version metadata header table body f =
 pub batch_is_int32 : (layout : Layout) (version : Version) (metadata : List ℕ) (header : Header) (table : flat.Table) (body : List ℕ)
     → All IsInt32Field layout.fields → layout.is_little_endian ≡ true
     → batch_in layout [] (stream_entry version (record { metadata = metadata; header = header; body = body })) table
-        ≡ int32_batch (length layout.fields) metadata table body
+    ≡ int32_batch (length layout.fields) metadata table body
 unfolding batch_in int32_batch
 batch_is_int32 layout version metadata header table body all little =
     rw (little) (source_parts version metadata header table body (λ source. agreeing (columns_from layout [] source 0 layout.fields)) ∙
@@ -152,7 +152,7 @@ no_values_of : (fields : List Field) (id : ℤ) (below : IdsList) → All IsInt3
 no_values_of [] id below all = refl
 no_values_of (field ∷ fields) id below all =
     rw ((All-head IsInt32Field field fields all).0, no_values id (first_ids below))
-        (no_values_of fields id (other_ids below) (All-tail IsInt32Field field fields all))
+    (no_values_of fields id (other_ids below) (All-tail IsInt32Field field fields all))
 
 no_dictionary : (layout : Layout) (entry : Entry) (table : flat.Table) → All IsInt32Field layout.fields → dictionary_in layout [] entry table ≡ None
 unfolding dictionary_in
@@ -264,7 +264,7 @@ first_batches_from layout version n bytes place = first_messages n bytes place >
 -- nothing comes of a schema
 no_schema : (layout : Layout) (version : Version) (metadata : List ℕ) (table : flat.Table) (body : List ℕ) (others : Option (List Framed))
     → ((others >>= (λ more. Some (record { metadata = metadata; header = schema table; body = body } ∷ more))) >>= later_batches layout version)
-        ≡ None
+    ≡ None
 no_schema layout version metadata table body None = refl
 no_schema layout version metadata table body (Some more) = refl
 

@@ -57,13 +57,13 @@ field_is_normal field first =
     let pairs : normalised_pairs (normalised_type field.data_type) field.metadata ≡ field.metadata =
     ap₂ normalised_pairs (ap normalised_type first.0 ∙ type_is_normal) first.1 ∙ pairs_are_normal ∙ sym (first.1) in
     ap₂ (λ (t : DataType) (m : List (List ℕ × List ℕ)). record { name = field.name; data_type = t; is_nullable = field.is_nullable; metadata = m })
-        data_type pairs
+    data_type pairs
 
 fields_are_normal : (fields : List Field) → All IsInt32Field fields → map normalised_field fields ≡ fields
 fields_are_normal [] all = refl
 fields_are_normal (field ∷ fields) all =
     ap₂ (λ (x : Field) xs. x ∷ xs) (field_is_normal field (All-head IsInt32Field field fields all))
-        (fields_are_normal fields (All-tail IsInt32Field field fields all))
+    (fields_are_normal fields (All-tail IsInt32Field field fields all))
 
 schema_is_normal : (schema : Schema) → IsInt32Schema schema → normalised schema ≡ schema
 unfolding normalised
@@ -173,7 +173,7 @@ known_behind : (first : Framed × ℕ) (later : Option (List Framed)) (version :
     → rest_behind table_rest first later ≡ fitting schema given
 known_behind first later version found schema given v s same int32_schema batches =
     rw (v, s, same, layout_is schema int32_schema, schema_is_normal schema int32_schema)
-        (later_fit (int32_layout schema) version schema later given batches)
+    (later_fit (int32_layout schema) version schema later given batches)
 
 -- the first batches, where the first message is known
 first_known : (n : ℕ) (bytes : List ℕ) (first : Framed × ℕ) (version : Version) (found : SchemaIn) (schema : Schema)
@@ -244,7 +244,7 @@ no_parts bytes first (Some version) (Some found) e v s none = absurd cc
 
 no_first : (bytes : List ℕ) (given : Option (Framed × ℕ)) → first_of bytes ≡ given
     → (given >>= (λ first. version_in first.0.metadata >>= (λ _. schema_of first.0 first.0.header >>= with_place first.1))) ≡ None
-        → table_of stream bytes ≡ None
+    → table_of stream bytes ≡ None
 no_first bytes None e none = table_begins bytes None e
 no_first bytes (Some first) e none = no_parts bytes first (version_in first.0.metadata) (schema_of first.0 first.0.header) e refl refl none
 
@@ -300,7 +300,7 @@ cut_behind_schema bytes found place e =
 fits : (stored : Stored) → row_count stored < 2 ^ 64 → fitting stored.schema (Some (map batch_slots stored.batches)) ≡ Some (as_table stored)
 fits stored h =
     let few : nat_lt (length (rows_of_batches (map batch_slots stored.batches))) (2 ^ 64) ≡ true =
-        rw (rows_counted stored.batches) (lt-ltb (row_count stored) (2 ^ 64) h) in
+    rw (rows_counted stored.batches) (lt-ltb (row_count stored) (2 ^ 64) h) in
     rw few refl
 
 too_many : (schema : Schema) (given : Option (List (List (List Slot)))) → IfSome given (λ batches. 2 ^ 64 ≤ length (rows_of_batches batches))
@@ -337,7 +337,7 @@ supported_schema bytes found place schema e same int32_schema =
 pub read_whole : (bytes : List ℕ) (found : SchemaIn) (place : ℕ) (schema : Schema) (result : Result Stored Fault)
     → first_schema bytes ≡ Some (found, place)
     → found ≡ schema_found schema → IsInt32Schema schema → ((version : Version) → ReadsBatches schema version bytes place result)
-        → ReadsStream result bytes
+    → ReadsStream result bytes
 read_whole bytes found place schema (Ok stored) e same int32_schema read =
     let whole = stream_from bytes found place schema e same int32_schema in
     let batches = read whole.version in (

@@ -1,6 +1,7 @@
 //! Writing to a device whose failures are counted.
-ghost use Rattle.std.specs.Prelude.{◌≡◌, OnOk};
+ghost use Rattle.std.specs.Prelude.{◌≡◌, OnOk, IfErr};
 ghost use Rattle.std.specs.Io.KnownBytes.{Appends};
+ghost use Rattle.tables_stream.specs.Refusals.{IsDeviceError};
 
 use columnar_memory::{Error, Result};
 use std::io;
@@ -26,7 +27,9 @@ impl<T: Faults> Faults for &mut T {
 }
 
 /// What a failed write says: `OutOfMemory` for want of memory, `Io` where the count of failures rose, and else `OutOfSpec`.
-fn refusal(error: io::Error, has_failed: bool) -> Error {
+fn refusal(error: io::Error, has_failed: bool) -> Error
+    ensures { IsDeviceError result }
+{
     if has_failed {
         Error::Io(error)
     } else if error.kind() == ErrorKind::OutOfMemory {
@@ -42,7 +45,8 @@ fn refusal(error: io::Error, has_failed: bool) -> Error {
 /// - `OutOfSpec`: it took nothing of a piece, or refused it without a failure.
 /// - `OutOfMemory`: it had no memory for them.
 pub fn put<W: Write + Faults>(writer: &mut W, bytes: &[u8]) -> Result<()>
-    ensures { OnOk result (Appends (W.contents writer.old) (W.contents writer.new) bytes.now) }
+    ensures written { OnOk result (Appends (W.contents writer.old) (W.contents writer.new) bytes.now) }
+    ensures refused { IfErr result IsDeviceError }
 {
     let mut rest = bytes;
     while !rest.is_empty() {

@@ -3,6 +3,7 @@ ghost use Rattle.std.specs.Prelude.{◌≡◌, ◌+◌, ◌≤◌, ◌<◌, ◌^
 ghost use Rattle.std.specs.Io.KnownBytes.{Appends};
 ghost use Rattle.nested_arrays.specs.Tables.{part};
 ghost use Rattle.tables_stream.specs.Cuts.{cut_of};
+ghost use Rattle.tables_stream.specs.Refusals.{IsWriteFault};
 ghost use Rattle.tables_stream.specs.Tables.{row_count, as_table, table_bytes};
 ghost use Rattle.tables_metadata.specs.Int32Schemas.{IsInt32Schema};
 ghost use Rattle.ipc_format.specs.Messages.{Version};
@@ -120,7 +121,8 @@ impl Table {
         alloc: Global,
         writer: &mut W,
     ) -> Result<(), Fault>
-        ensures { OnOk result (Appends (W.contents writer.old) (W.contents writer.new) (table_bytes self.now)) }
+        ensures written { OnOk result (Appends (W.contents writer.old) (W.contents writer.new) (table_bytes self.now)) }
+        ensures refused { IfErr result IsWriteFault }
     {
         Ok(write_table(alloc, writer, &self.schema, &self.batches)?)
     }

@@ -1,5 +1,7 @@
 //! Streams from tables (Arrow IPC, "IPC streaming format"): the schema, a record batch message for each batch, and the end mark.
-ghost use Rattle.std.specs.Prelude.{◌≡◌, ◌+◌, ◌-◌, ◌*◌, ◌%◌, ◌≤◌, ◌<◌, ◌^◌, ◌++◌, [], length, map, replicate, OnOk, IfOk, slice_range};
+ghost use Rattle.std.specs.Prelude.{◌≡◌, ◌+◌, ◌-◌, ◌*◌, ◌%◌, ◌≤◌, ◌<◌, ◌^◌, ◌++◌, [], length, map, replicate, OnOk, IfOk, IfErr, slice_range};
+ghost use Rattle.tables_metadata.specs.Int32Schemas.{IsInt32Schema};
+ghost use Rattle.tables_stream.specs.Refusals.{IsDeviceError, IsWriteError};
 ghost use Rattle.std.specs.Int.{next_multiple_of};
 ghost use Rattle.std.specs.List.{flat_map};
 ghost use Rattle.std.specs.Io.KnownBytes.{Appends};
@@ -46,8 +48,10 @@ pub fn write_table<W: Write + Faults>(
     schema: &Schema,
     batches: &[Batch],
 ) -> Result<()>
-    ensures { OnOk result (Appends (W.contents writer.old) (W.contents writer.new)
+    requires { IsInt32Schema schema.now }
+    ensures written { OnOk result (Appends (W.contents writer.old) (W.contents writer.new)
         (int32_written.int32_stream schema.now no_ids (map batch_slots (map stored_cells batches.now)))) }
+    ensures refused { IfErr result IsWriteError }
 {
     let metadata = schema_message(alloc, schema)?;
     put_metadata(writer, &metadata)?;
@@ -59,7 +63,8 @@ pub fn write_table<W: Write + Faults>(
 
 /// Writes a message's marker, its length and its metadata.
 fn put_metadata<W: Write + Faults>(writer: &mut W, metadata: &[u8]) -> Result<()>
-    ensures { OnOk result (Appends (W.contents writer.old) (W.contents writer.new) (messages_format.framed metadata.now [])) }
+    ensures written { OnOk result (Appends (W.contents writer.old) (W.contents writer.new) (messages_format.framed metadata.now [])) }
+    ensures refused { IfErr result IsWriteError }
 {
     if metadata.len() > MOST_METADATA - 8 {
         return Err(Error::Overflow);
@@ -72,8 +77,9 @@ fn put_metadata<W: Write + Faults>(writer: &mut W, metadata: &[u8]) -> Result<()
 
 /// Writes a batch: its metadata, and for each column the validity bitmap, if a cell is null, and the values.
 fn put_batch<W: Write + Faults>(alloc: Global, writer: &mut W, batch: &Batch) -> Result<()>
-    ensures { OnOk result (Appends (W.contents writer.old) (W.contents writer.new)
+    ensures written { OnOk result (Appends (W.contents writer.old) (W.contents writer.new)
         (int32_written.int32_message (batch_slots (stored_cells batch.now)))) }
+    ensures refused { IfErr result IsWriteError }
 {
     let layout = layout_of(alloc, batch)?;
     let rows = batch.rows as u64;
@@ -108,6 +114,7 @@ fn layout_of(alloc: Global, batch: &Batch) -> Result<Layout>
         map buffers_format.null_count (batch_slots (stored_cells batch.now))) }
     ensures body { IfOk result (λ layout. layout.body_length ≡
         length (messages_format.body_bytes (buffers_of (batch_slots (stored_cells batch.now))))) }
+    ensures refused { IfErr result IsWriteError }
 {
     let mut nodes = Vec::new(alloc);
     let mut buffers = Vec::new(alloc);
@@ -129,8 +136,9 @@ fn layout_of(alloc: Global, batch: &Batch) -> Result<Layout>
 /// Writes the buffers of a batch's columns, of which `null_counts` says how many cells are null.
 fn put_body<W: Write + Faults>(writer: &mut W, batch: &Batch, null_counts: &[usize]) -> Result<()>
     requires { null_counts.now ≡ map buffers_format.null_count (batch_slots (stored_cells batch.now)) }
-    ensures { OnOk result (Appends (W.contents writer.old) (W.contents writer.new)
+    ensures written { OnOk result (Appends (W.contents writer.old) (W.contents writer.new)
         (messages_format.body_bytes (buffers_of (batch_slots (stored_cells batch.now))))) }
+    ensures refused { IfErr result IsDeviceError }
 {
     for (k, column) in batch.columns.iter().enumerate() {
         put_column(writer, column, batch.start, batch.rows, null_counts[k])?;
@@ -149,8 +157,9 @@ fn put_column<W: Write + Faults>(
     requires inside { start + rows ≤ length column.now }
     requires fits { start + rows < 2 ^ 64 }
     requires counted { nulls ≡ buffers_format.null_count (map slot_of (slice_range column.now start (start + rows))) }
-    ensures { OnOk result (Appends (W.contents writer.old) (W.contents writer.new)
+    ensures written { OnOk result (Appends (W.contents writer.old) (W.contents writer.new)
         (messages_format.body_bytes (int32_written.int32_buffers (map slot_of (slice_range column.now start (start + rows)))))) }
+    ensures refused { IfErr result IsDeviceError }
 {
     if nulls > 0 {
         put_validity(writer, column, start, rows)?;
@@ -173,6 +182,7 @@ fn lay_column(
         ++ struct_bytes (offset + next_multiple_of (validity_size count nulls) 64, 4 * count)) }
     ensures end { IfOk result (λ end. end ≡
         offset + next_multiple_of (validity_size count nulls) 64 + next_multiple_of (4 * count) 64) }
+    ensures refused { IfErr result IsWriteError }
 {
     let count = count as u64;
     let nulls = nulls as u64;
@@ -190,6 +200,7 @@ fn lay_buffer(buffers: &mut Vec<u8>, offset: u64, length: u64) -> Result<u64>
     requires { offset % 64 ≡ 0 }
     ensures place { OnOk result (buffers.new.items ≡ buffers.old.items ++ struct_bytes (offset, length)) }
     ensures end { IfOk result (λ end. end ≡ offset + next_multiple_of length 64) }
+    ensures refused { IfErr result IsWriteError }
 {
     lay_struct(buffers, offset, length)?;
     let end = offset
@@ -204,7 +215,8 @@ fn lay_buffer(buffers: &mut Vec<u8>, offset: u64, length: u64) -> Result<u64>
 /// Adds a struct of two numbers.
 #[tactic(auto, unfolding(crate::specs::Structs::struct_bytes))]
 fn lay_struct(bytes: &mut Vec<u8>, first: u64, second: u64) -> Result<()>
-    ensures { OnOk result (bytes.new.items ≡ bytes.old.items ++ struct_bytes (first, second)) }
+    ensures written { OnOk result (bytes.new.items ≡ bytes.old.items ++ struct_bytes (first, second)) }
+    ensures refused { IfErr result IsWriteError }
 {
     bytes.extend_from_slice(&first.to_le_bytes())?;
     bytes.extend_from_slice(&second.to_le_bytes())?;
@@ -214,8 +226,9 @@ fn lay_struct(bytes: &mut Vec<u8>, first: u64, second: u64) -> Result<()>
 /// Writes zeros after a buffer of `length` bytes.
 #[tactic(auto, using(crate::proofs::Appending::appends_nothing))]
 fn put_padding<W: Write + Faults>(writer: &mut W, length: usize) -> Result<()>
-    ensures { OnOk result
+    ensures written { OnOk result
         (Appends (W.contents writer.old) (W.contents writer.new) (replicate ((64 - length % 64) % 64) 0)) }
+    ensures refused { IfErr result IsDeviceError }
 {
     let past = length % ALIGNMENT;
     if past == 0 {
@@ -234,8 +247,9 @@ fn put_validity<W: Write + Faults>(
 ) -> Result<()>
     requires inside { start + rows ≤ length column.now }
     requires fits { start + rows < 2 ^ 64 }
-    ensures { OnOk result (Appends (W.contents writer.old) (W.contents writer.new)
+    ensures written { OnOk result (Appends (W.contents writer.old) (W.contents writer.new)
         (messages_format.padded_buffer (int32_written.bitmap_bytes rows (map slot_of (slice_range column.now start (start + rows)))))) }
+    ensures refused { IfErr result IsDeviceError }
 {
     let mut done = 0;
     while done < rows {
@@ -256,8 +270,9 @@ fn put_values<W: Write + Faults>(
 ) -> Result<()>
     requires inside { start + rows ≤ length column.now }
     requires fits { start + rows < 2 ^ 64 }
-    ensures { OnOk result (Appends (W.contents writer.old) (W.contents writer.new)
+    ensures written { OnOk result (Appends (W.contents writer.old) (W.contents writer.new)
         (messages_format.padded_buffer (flat_map int32_written.value_bytes (map slot_of (slice_range column.now start (start + rows)))))) }
+    ensures refused { IfErr result IsDeviceError }
 {
     let mut done = 0;
     while done < rows {

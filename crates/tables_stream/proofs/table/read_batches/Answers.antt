@@ -31,7 +31,7 @@ returns-in-Truncated c =
     let cells : List (List Cells) = map stored_cells c.loop-batches.batches.items in
     let step : step_at n c.args.bytes.now c.loop-batches.place ≡ Some cut_off = search rules in
     let cut =
-        batches_cut c.args.schema c.args.bytes.now c.args.first cells c.loop-batches.place c.requires.schema c.loop-batches.invariant.read step in
+    batches_cut c.args.schema c.args.bytes.now c.args.first cells c.loop-batches.place c.requires.schema c.loop-batches.invariant.read step in
     λ version. (cut.0 version, cut.1)
 
 pub returns-in_default : goal.returns-in_default
@@ -40,10 +40,10 @@ returns-in_default c =
     let cells : List (List Cells) = map stored_cells c.loop-batches.batches.items in
     let batch = c.in-Rows.batch in
     let step : step_at n c.args.bytes.now c.loop-batches.place ≡ Some (batch_then (batch_slots (stored_cells batch)) c.in-Rows.after) =
-        search rules in
+    search rules in
     let too_many : 2 ^ 64 ≤ c.loop-batches.rows + batch.rows = search rules in
     let many : 2 ^ 64 ≤ sum_by rows_of_cells cells + rows_of_cells (stored_cells batch) =
-        omega (arith, too_many, batch.counted, c.loop-batches.invariant.counted) in
+    omega (arith, too_many, batch.counted, c.loop-batches.invariant.counted) in
     λ version. batches_many c.args.schema version c.args.bytes.now c.args.first cells (stored_cells batch) c.loop-batches.place c.in-Rows.after
     c.requires.schema c.loop-batches.invariant.read step many
 
@@ -53,7 +53,7 @@ loop-batches-preserved c =
     let cells : List (List Cells) = map stored_cells c.loop-batches.batches.items in
     let batch = c.in-Rows.batch in
     let step : step_at n c.args.bytes.now c.loop-batches.place ≡ Some (batch_then (batch_slots (stored_cells batch)) c.in-Rows.after) =
-        search rules in
+    search rules in
     let pushed = c.in_ok-push-in-Rows.ensures.items in
     let sum : c.in-Some.sum ≡ c.loop-batches.rows + batch.rows = search rules in
     let more = rows_more c.loop-batches.rows c.loop-batches.batches.items c.push.new.self.items batch c.loop-batches.invariant.counted pushed in
@@ -64,7 +64,7 @@ loop-batches-preserved c =
           c.loop-batches.invariant.widths (cells_more c.loop-batches.batches.items c.push.new.self.items batch pushed);
       read = batches_next c.args.schema c.args.bytes.now c.args.first cells (map stored_cells c.push.new.self.items) (stored_cells batch)
           c.loop-batches.place c.in-Rows.after c.requires.schema c.loop-batches.invariant.read step (search rules) (search rules)
-              (cells_more c.loop-batches.batches.items c.push.new.self.items batch pushed);
+          (cells_more c.loop-batches.batches.items c.push.new.self.items batch pushed);
     }
 
 pub returns : goal.returns

@@ -6,8 +6,8 @@ use Rattle.tables_stream.proofs.Placed.{rows_are_of_cells}
 use Rattle.tables_stream.proofs.Messages.{batch_written}
 use Rattle.tables_stream.proofs.writing.put_batch.Goals as goal
 
-pub returns : goal.returns
-returns g c =
+pub returns-clause-written : goal.returns-clause-written
+returns-clause-written g c =
     let batch = c.args.batch.now in
     let layout = c.in_ok-layout in
     on_ok c.put_body.result
@@ -15,5 +15,5 @@ returns g c =
     c.deref-3.result.now
     (batch.counted ∙ sym (rows_are_of_cells (stored_cells batch))) (c.deref.ensures.value ∙ layout.ensures.nodes) (c.deref-2.ensures.value
     ∙ layout.ensures.buffers) layout.ensures.body
-    (c.deref-3.ensures.value ∙ c.in_ok-metadata.ensures) c.in_ok-put_metadata.ensures)
-    c.put_body.ensures
+    (c.deref-3.ensures.value ∙ c.in_ok-metadata.ensures) c.in_ok-put_metadata.ensures.written)
+    c.put_body.ensures.written

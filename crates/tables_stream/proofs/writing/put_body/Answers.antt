@@ -19,4 +19,4 @@ loop-k-preserved g c =
     let column = c.column-item.result in
     let here : get_or columns c.loop-k.k column ≡ column = search rules in
     let inside : c.loop-k.k < length columns = search rules in
-    column_written _ _ _ columns batch.start batch.rows c.loop-k.k column inside here c.loop-k.invariant c.in_ok-put_column.ensures
+    column_written _ _ _ columns batch.start batch.rows c.loop-k.k column inside here c.loop-k.invariant c.in_ok-put_column.ensures.written

@@ -19,11 +19,11 @@ loop-done-preserved g c =
       λ more. omega arith,
       bitmap_block _ _ _ cells start done count eights (omega arith) c.loop-done.invariant.2
           (appends_known _ _ c.div_ceil.result
-          ((count + 7) / 8) c.validity_block-bytes.result _ size c.validity_block-bytes.ensures c.in_ok-put.ensures),
+          ((count + 7) / 8) c.validity_block-bytes.result _ size c.validity_block-bytes.ensures c.in_ok-put.ensures.written),
     )
 
-pub returns : goal.returns
-returns g c =
+pub returns-clause-written : goal.returns-clause-written
+returns-clause-written g c =
     let cells = c.args.column.now in
     let start = c.args.start in
     let rows = c.args.rows in
@@ -36,4 +36,4 @@ returns g c =
     (appends_padded _ _ _ (bitmap_bytes rows slots) c.div_ceil-2.result same
     (subst (λ (k : ℕ). Appends (g.W.Write.contents c.args.writer.now) (g.W.Write.contents c.loop-done.writer)
     (bitmap_bytes k (slots_between cells start (start + k)))) all c.loop-done.invariant.2))
-    c.put_padding.ensures
+    c.put_padding.ensures.written

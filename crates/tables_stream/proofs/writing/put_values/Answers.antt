@@ -16,11 +16,11 @@ loop-done-preserved g c =
     let count = c.min-count.result in (
       omega arith,
       values_block _ _ _ cells start done count c.loop-done.invariant.1
-          (appends_known _ _ (4 * count) (4 * count) c.values_block-bytes.result _ refl c.values_block-bytes.ensures c.in_ok-put.ensures),
+          (appends_known _ _ (4 * count) (4 * count) c.values_block-bytes.result _ refl c.values_block-bytes.ensures c.in_ok-put.ensures.written),
     )
 
-pub returns : goal.returns
-returns g c =
+pub returns-clause-written : goal.returns-clause-written
+returns-clause-written g c =
     let cells = c.args.column.now in
     let start = c.args.start in
     let rows = c.args.rows in
@@ -34,4 +34,4 @@ returns g c =
     (appends_padded _ _ _ (flat_map value_bytes slots) (4 * (rows % 64)) same
     (subst (λ (k : ℕ). Appends (g.W.Write.contents c.args.writer.now) (g.W.Write.contents c.loop-done.writer)
     (flat_map value_bytes (slots_between cells start (start + k)))) all c.loop-done.invariant.1))
-    c.put_padding.ensures
+    c.put_padding.ensures.written

@@ -8,8 +8,8 @@ use Rattle.tables_stream.specs.Tables.{Stored, batch_slots, stored_cells}
 use Rattle.tables_stream.proofs.Widths.{table_appended}
 use Rattle.tables_stream.proofs.table.Table.write_stream.Goals as goal
 
-pub returns : goal.returns
-returns g c =
+pub returns-clause-written : goal.returns-clause-written
+returns-clause-written g c =
     let stored : Stored = record { schema = c.self.inside.schema; batches = map stored_cells c.self.inside.batches.items } in
     let written : OnOk c.write_table.result (Appends (g.W.Write.contents c.args.writer.now) (g.W.Write.contents c.write_table.new.writer)
     (int32_stream stored.schema no_ids (map batch_slots stored.batches))) = search rules in
