@@ -1,7 +1,7 @@
 # make demo    builds the proved program as bin/tables and cuts the samples with it
 # make test    the whole gate: every proof from nothing, each test, each program, the must-fail edits
 # make bench   measures bin/tables against cp and plain Rust on a stream of about 250 MB, and on a tenth of it
-# make definitions   runs the definitions of specs/ on laid and damaged inputs of every type, against an independent reader
+# make definitions   runs the definitions of specs/ on worked values, and on laid and damaged inputs against an independent reader
 
 RT ?= rt
 PYTHON ?= python3 -B
@@ -38,11 +38,13 @@ program:
 	cp $(PROGRAM)/out/tables_program bin/tables
 
 test:
+	$(PYTHON) tools/worked.py
 	$(PYTHON) tools/compare.py --count 400 --seed 7
 	$(PYTHON) tools/streams.py check crates/tables_files/data crates/tables_files/stdout
 	$(RT) ci
 
 definitions:
+	$(PYTHON) tools/worked.py
 	$(PYTHON) tools/compare.py --count $(COUNT) --seed $(SEED)
 
 bench: program

@@ -93,6 +93,11 @@ def as_table(value):
     return Table(as_schema(value.f_schema), [tuple(map(slots.value, row)) for row in value.f_rows])
 
 
+def as_encoded(value):
+    """The nodes and buffers of a column."""
+    return list(map(tuple, value.f_nodes)), list(map(bytes, value.f_buffers))
+
+
 class Terms:
     """Turns values of the reader into values of the definitions."""
 
@@ -181,7 +186,7 @@ class Defined:
         self.terms, find = Terms(self.definitions), self.definitions.named
         self.forms = {form: find(COLUMNS, form) for form in ("stream", "file")}
         self.table, self.choice = find(COLUMNS, "table_of"), find(COLUMNS, "choice_of")
-        self.ends_early = find(COLUMNS, "EndsInLaterMessage")
+        self.ends_early, self.is_truncated = find(COLUMNS, "EndsInLaterMessage"), find(COLUMNS, "is_truncated")
         self.schema_table, self.child_at, self.is_float = (find(COLUMNS, name) for name in ("schema_table", "child_at", "IsFloat"))
         self.message_at, self.is_delta = find(COLUMNS, "message_at"), find(COLUMNS, "is_delta")
         self.compression, self.feather_mark = find(COLUMNS, "compression_in"), find(COLUMNS, "HasFeatherMark")
@@ -189,6 +194,7 @@ class Defined:
         self.laid, self.schema_message = find(FLATBUFFERS, "laid"), find(GRAMMAR, "schema_message")
         self.default_ids, self.seal = find(WRITTEN, "default_ids"), find(WRITTEN, "sealed")
         self.batch = find(WRITTEN, "batch_of_slots")
+        self.encode, self.encode_stored = find(WRITTEN, "encode"), find(WRITTEN, "encode_stored")
         self.stream, self.file = find(WRITTEN, "written_stream"), find(WRITTEN, "written_file")
         self.stored_batch, self.stream_bytes = find(WRITTEN, "batch_of_stored"), find(WRITTEN, "stream_bytes")
         self.slots, self.cut, self.is_sound = find(ARRAYS, "slots"), find(ARRAYS, "cut"), find(ARRAYS, "is_sound")
@@ -209,6 +215,11 @@ class Defined:
     def defined_end(self, content):
         """Whether a stream ends within the first four bytes of a later message, as the definitions say."""
         return called(self.ends_early, content)
+
+    def defined_truncation(self, content):
+        """Whether a stream ends within the first four bytes of a later message, or None where it breaks off otherwise."""
+        found = called(self.is_truncated, content)
+        return None if found is None else found[0]
 
     def defined_first_rows(self, form, content, count):
         """The rows of the first messages of a stream, or of a file's first record batches, or None."""
@@ -268,6 +279,10 @@ class Defined:
 
     # ---- writing
 
+    def defined_encoding(self, data_type, slots):
+        """The nodes and buffers of a column of slots."""
+        return as_encoded(called(self.encode, self.terms.data_type(data_type), list(map(self.terms.slot, slots))))
+
     def defined_schema_message(self, schema, specs):
         """The metadata of a written schema's message."""
         return bytes(called(self.laid, called(self.schema_message, self.terms.schema(schema), self.terms.ids(specs))))
@@ -297,6 +312,10 @@ class Defined:
         cut, values = called(self.cut, column, offset, length), Slots()
         are_sound = called(self.is_sound, column) and called(self.is_sound, cut)
         return cut, are_sound, [values.value(slot) for slot in called(self.slots, cut)]
+
+    def defined_stored_encoding(self, column):
+        """The nodes and buffers of a stored column."""
+        return as_encoded(called(self.encode_stored, column))
 
     def defined_stored_stream(self, schema, specs, columns):
         """A stream of one batch of stored columns."""
