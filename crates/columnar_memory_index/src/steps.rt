@@ -18,7 +18,7 @@ impl Model for Steps {
 }
 
 impl Steps {
-    /// No step yet.
+    /// No steps.
     pub fn new() -> Self
         ensures { result.count ≡ 0 }
     {

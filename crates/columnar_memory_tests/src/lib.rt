@@ -1,8 +1,10 @@
-//! Tests of native values, indices, buffers and offsets.
+//! Tests of errors, native values, indices, buffers and offsets.
 #![tactic(auto)]
 
 #[cfg(test)]
 mod buffers;
+#[cfg(test)]
+mod errors;
 #[cfg(test)]
 mod indices;
 #[cfg(test)]

@@ -2,7 +2,7 @@ use Rattle.std.proofs.Common.{◌≡◌, ◌≤◌}
 use Rattle.columnar_memory_buffer.specs.Spans.{extended, last_of}
 use Rattle.columnar_memory_buffer.proofs.offsets.Offsets.try_extend_from_lengths.Given as goal
 
--- the spans so far are of the lengths so far
+-- the spans are those that stood before and one for each length that was given
 abbrev pub invariant-loop-length : goal.invariant-loop-length
 invariant-loop-length g l = record {
   grown : l.self ≡ extended l.initial.self l.yielded;
