@@ -1,5 +1,5 @@
 -- Bytes of booleans that are lent in chunks, to be written.
-use Rattle.std.specs.Prelude.{◌≡◌, ℕ, ◌*◌, ◌<◌, ◌++◌, Bool, List, Option, length, MatchOption}
+use Rattle.std.specs.Prelude.{◌≡◌, ℕ, ◌*◌, ◌<◌, ◌++◌, List, Option, length, MatchOption}
 use Rattle.std.specs.Borrow.{MutBor}
 
 -- the bytes of the chunks that are left, those behind the last chunk, and how many bits these have

@@ -1,4 +1,4 @@
-use Rattle.std.proofs.Common.{◌≡◌, ◌∙◌, ◌*◌, ◌/◌, ◌≤◌, ap, ap₂, arith, take, length-take}
+use Rattle.std.proofs.Common.{◌≡◌, ◌∙◌, ◌*◌, ◌/◌, ap, arith, take, length-take}
 use Rattle.std.proofs.lemmas.List.{take-take}
 use Rattle.columnar_memory_bits.proofs.Chunks.{chunks_within}
 use Rattle.columnar_memory_bits.proofs.chunks_exact_mut.BitChunksExactMut.new.Goals as goal
