@@ -206,7 +206,10 @@ fn bits_as_text(rt: HostRuntime) -> Result<(), Fail> {
         (2, 16, "[0b010110__, 0b00000001, 0b______11]"),
     ] {
         let bits = window(rt.alloc(), offset, len)?;
-        assert!(rt; format!(in rt.alloc(); "{bits:?}")?.as_str() == want, "{want}");
+        assert!(rt;
+            format!(in rt.alloc(); "{bits:?}")?.as_str() == want,
+            "{want}"
+        );
     }
     Ok(())
 }

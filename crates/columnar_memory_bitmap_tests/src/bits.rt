@@ -1,7 +1,8 @@
 use crate::cases::{BYTES, LENGTHS, bit, marked, unset};
 use columnar_memory_bits::{
-    BitChunk, BitChunkIterExact, BitChunkOnes, BitChunks, BitChunksExact, BitmapIter, ZipValidity,
-    append_bits, append_constant, count_zeros, get_bit, keep_bits, set_bit,
+    BitChunk, BitChunkIterExact, BitChunkOnes, BitChunks, BitChunksExact, BitChunksExactMut,
+    BitmapIter, ZipValidity, append_bits, append_constant, count_zeros, get_bit, keep_bits,
+    set_bit,
 };
 use std::alloc::{AllocError, Global};
 use std::test::Fail;
@@ -156,4 +157,32 @@ fn values_without_bits_are_all_there(rt: HostRuntime) -> Result<(), Fail> {
     let mut all = ZipValidity::new(values.into_iter(), None::<BitmapIter>);
     assert!(rt; all.next() == Some(Some(1)));
     Ok(())
+}
+
+/// Turns the bytes of each chunk of 16 bits.
+fn turn_chunks(bytes: &mut [u8; 5]) {
+    let chunks = BitChunksExactMut::<u16>::new(bytes, 37);
+    for chunk in chunks {
+        for byte in chunk {
+            *byte = !*byte;
+        }
+    }
+}
+
+#[test]
+fn chunks_are_lent(rt: HostRuntime) {
+    let mut bytes = [1, 2, 3, 4, 5];
+    turn_chunks(&mut bytes);
+    assert!(rt; bytes == [254, 253, 252, 251, 5]);
+}
+
+#[test]
+fn bytes_behind_the_chunks_are_lent(rt: HostRuntime) {
+    let mut bytes = [1, 2, 3, 4, 5];
+    let mut chunks = BitChunksExactMut::<u16>::new(&mut bytes, 37);
+    assert!(rt; chunks.remainder_len() == 5);
+    for byte in chunks.remainder() {
+        *byte = 0;
+    }
+    assert!(rt; bytes == [1, 2, 3, 4, 0]);
 }

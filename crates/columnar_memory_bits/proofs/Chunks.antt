@@ -1,4 +1,5 @@
 -- Chunks of bits.
+use Rattle.std.proofs.Math.Nat.{div-mul-le_self}
 use Rattle.std.proofs.Common.{◌≡◌, ◌∙◌, ℕ, zero, suc, ◌+◌, ◌-◌, ◌*◌, ◌/◌, ◌%◌, ◌^◌, ◌≤◌, ◌<◌, List, ◌∷◌, drop, refl, ap, ap₂, sym, arith}
 use Rattle.std.proofs.Math.Nat.{mul-le-mul_left, pow-le-pow_right}
 use Rattle.columnar_memory_bits.specs.Windows.{window}
@@ -59,3 +60,13 @@ word_fits bytes first n w x few e =
     let two : 0 < 2 = omega arith in
     let wider : 2 ^ n ≤ 2 ^ w = pow-le-pow_right two few in
     omega (arith, wider, word_small bytes first n x e)
+
+eight_times : (q s : ℕ) → q * (8 * s) ≡ 8 * (q * s)
+eight_times q s = omega arith
+
+-- whole chunks stand in the bytes that the bits need
+pub chunks_within : (w s n : ℕ) → w ≡ 8 * s → n / w * s ≤ (n + 7) / 8
+chunks_within w s n e =
+    let whole : n / w * w ≤ n = div-mul-le_self n w in
+    let bytes : n / w * w ≡ 8 * (n / w * s) = ap (λ m. n / w * m) e ∙ eight_times (n / w) s in
+    omega (arith, whole, bytes)

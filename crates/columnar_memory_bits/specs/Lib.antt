@@ -6,3 +6,4 @@ pub mod ZipValidity
 pub mod ZipValidityCases
 pub mod Chunks
 pub mod Text
+pub mod ChunksMut

@@ -1,4 +1,4 @@
-ghost use Rattle.std.specs.Prelude.{◌≡◌, ℕ, ◌^◌, ◌<◌, ◌≤◌};
+ghost use Rattle.std.specs.Prelude.{◌≡◌, ℕ, ◌%◌, ◌^◌, ◌<◌, ◌≤◌};
 ghost use Rattle.std.proofs.Common.{rules};
 ghost use Rattle.std.specs.Int as number;
 ghost use Rattle.std.specs.Int.{w8, w16, w32, w64};
@@ -39,6 +39,9 @@ pub trait BitChunk: Copy + Drop {
     ghost few: { width ≤ 64 };
 
     ghost some: { 0 < width };
+
+    // It is whole bytes.
+    ghost whole: { width % 8 ≡ 0 };
 }
 
 impl BitChunk for u8 {
@@ -53,6 +56,8 @@ impl BitChunk for u8 {
     ghost few = { Prim.search rules };
 
     ghost some = { Prim.search rules };
+
+    ghost whole = { Prim.search rules };
 
     fn bits() -> usize {
         8
@@ -88,6 +93,8 @@ impl BitChunk for u16 {
 
     ghost some = { Prim.search rules };
 
+    ghost whole = { Prim.search rules };
+
     fn bits() -> usize {
         16
     }
@@ -122,6 +129,8 @@ impl BitChunk for u32 {
 
     ghost some = { Prim.search rules };
 
+    ghost whole = { Prim.search rules };
+
     fn bits() -> usize {
         32
     }
@@ -155,6 +164,8 @@ impl BitChunk for u64 {
     ghost few = { Prim.search rules };
 
     ghost some = { Prim.search rules };
+
+    ghost whole = { Prim.search rules };
 
     fn bits() -> usize {
         64

@@ -1,5 +1,6 @@
-ghost use Rattle.std.specs.Prelude.{◌≡◌, ◌*◌, ◌^◌, ◌<◌, ◌≤◌, [], ◌↔◌, IsTrue, List, Bool, length};
-ghost use Rattle.std.specs.Iterator.{item_count};
+ghost use Rattle.std.specs.Prelude.{◌≡◌, ◌*◌, ◌^◌, ◌<◌, ◌≤◌, [], ◌↔◌, IsTrue, List, Bool, length, IfSome, Some};
+ghost use Rattle.std.specs.Iterator.{item_count, UpTo};
+ghost use Rattle.std.specs.Iterator.SizeHint.{IsWithinCount};
 ghost use Rattle.columnar_memory_bits.specs.Bits.{bits_of};
 ghost use Rattle.columnar_memory_bits.specs.Words.{word, word_bits, whole_words, rest_bits};
 ghost use Rattle.columnar_memory_bits.specs.Chunks.{YieldsWord};
@@ -108,7 +109,11 @@ impl<'a, T: BitChunk> Iterator for BitChunksExact<'a, T> {
         self.chunks.next()
     }
 
-    fn size_hint(&self) -> (usize, Option<usize>) {
+    fn size_hint(&self) -> (usize, Option<usize>)
+        ensures lower { IsWithinCount result.0 (item_count (λ s. s.0) self.now) }
+        ensures upper { IfSome result.1 (UpTo (item_count (λ s. s.0) self.now)) }
+        ensures exact { result ≡ (length self.now.0, Some (length self.now.0)) }
+    {
         let len = self.chunks.len();
         (len, Some(len))
     }

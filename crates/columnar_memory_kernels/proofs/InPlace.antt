@@ -1,42 +1,5 @@
 -- Words that are written in place, one after the other.
-use Rattle.std.proofs.Common.{
-  ◌≡◌,
-  ◌∙◌,
-  ℕ,
-  zero,
-  suc,
-  ◌+◌,
-  ◌-◌,
-  ◌*◌,
-  ◌/◌,
-  ◌%◌,
-  ◌≤◌,
-  ◌<◌,
-  Bool,
-  false,
-  List,
-  [],
-  ◌∷◌,
-  ◌++◌,
-  length,
-  take,
-  get_or,
-  slice_index,
-  refl,
-  ap,
-  ap₂,
-  sym,
-  ◌==◌,
-  ◌≢◌,
-  if◌then◌else◌,
-  subst,
-  arith,
-  ◌⊎◌,
-  inl,
-  inr,
-  length-append,
-  min,
-}
+use Rattle.std.proofs.Common.{◌≡◌, ◌∙◌, ℕ, ◌+◌, ◌-◌, ◌*◌, ◌/◌, ◌%◌, ◌≤◌, ◌<◌, Bool, false, List, [], ◌∷◌, ◌++◌, length, take, get_or, slice_index, refl, ap, ap₂, sym, ◌==◌, ◌≢◌, if◌then◌else◌, subst, arith, ◌⊎◌, inl, inr, length-append, min}
 use Rattle.std.proofs.Math.Nat.{mul-le-mul_left}
 use Rattle.std.proofs.lemmas.List.{get_or_append_left, get_or-append_right, get_or-take, take_all, length-take-le}
 use Rattle.std.proofs.lemmas.Nat.{div-mul-add}
@@ -44,12 +7,13 @@ use Rattle.std.proofs.lemmas.Grind.{div_ceil_times}
 use Rattle.std.proofs.lemmas.Bool.{cases_lt, cases_eq, eq-eqb, ne_eqb}
 use Rattle.columnar_memory_bits.specs.Windows.{window}
 use Rattle.columnar_memory_bits.specs.Bits.{bit, bit_at, bits_of}
-use Rattle.columnar_memory_bits.specs.Words.{word, word_at, word_bits, words_bits, words_for}
-use Rattle.columnar_memory_bits.proofs.Windows.{length_window, get_or_window, window_is, window_same, drop_window, take_window}
+use Rattle.columnar_memory_bits.specs.Words.{word, word_at, words_bits, words_for}
+use Rattle.columnar_memory_bits.proofs.Windows.{length_window, window_is, window_same, drop_window, take_window}
 use Rattle.columnar_memory_bits.proofs.Bits.{bit_same, bit_at_byte, digit_mod, digit_shr}
 use Rattle.std.specs.Int as number
 use Rattle.std.proofs.Common.{◌^◌, set, get_or-set_same, get_or-set_other}
 use Rattle.columnar_memory_kernels.specs.Kernels.{IsWordwise}
+use Rattle.columnar_memory_kernels.proofs.WordLists.{length_words, get_or_words, more_each}
 use Rattle.columnar_memory_kernels.specs.Writes.{WritesWord}
 
 -- ---- places of words
@@ -78,27 +42,6 @@ words_are w n some =
     let bounds = div_ceil_times n w some in
     let whole : words * w + (n + w - 1 - words * w) ≡ n + w - 1 = omega (arith, bounds.1) in
     sym (ap (λ m. m / w) (sym whole) ∙ div-mul-add words w (n + w - 1 - words * w) (omega (arith, bounds.0)))
-
--- ---- the booleans of words one after another
-
-length_words : (w : ℕ) (words : List ℕ) → length (words_bits w words) ≡ w * length words
-length_words w [] = omega arith
-length_words w (x ∷ words) =
-    omega (arith, length-append (word_bits w x) (words_bits w words), length_window (bit x) 0 w, length_words w words)
-
-get_or_words : (w : ℕ) (words : List ℕ) (j r : ℕ) → j < length words → r < w →
-    get_or (words_bits w words) (w * j + r) false ≡ bit (get_or words j 0) r
-get_or_words w [] j r h low = absurd (omega arith)
-get_or_words w (x ∷ words) zero r h low =
-    let size : length (word_bits w x) ≡ w = length_window (bit x) 0 w in
-    let place : w * zero + r ≡ r = omega arith in
-    ap (λ (i : ℕ). get_or (word_bits w x ++ words_bits w words) i false) place
-    ∙ get_or_append_left (word_bits w x) (words_bits w words) false r (omega (arith, size)) ∙ get_or_window (bit x) 0 w r false low
-    ∙ ap (bit x) (omega arith)
-get_or_words w (x ∷ words) (suc j) r h low =
-    let place : w * suc j + r - w ≡ w * j + r = omega arith in
-    get_or-append_right (word_bits w x) (words_bits w words) w (w * suc j + r) false (length_window (bit x) 0 w) (omega arith)
-    ∙ ap (λ (i : ℕ). get_or (words_bits w words) i false) place ∙ get_or_words w words j r (omega arith) low
 
 -- ---- bytes of which the first k words are written
 
@@ -131,12 +74,6 @@ module _ (w : ℕ) (answers : ℕ → ℕ → Type 0) (len k n y : ℕ) (old mid
       let none : j - k ≡ 0 = omega arith in
       get_or-append_right so_far.answered (y ∷ []) k j 0 so_far.counted (omega arith) ∙ ap (λ (i : ℕ). get_or (y ∷ []) i 0) none
 
-  each_more : (j : ℕ) → j < k + 1 → (j < k) ⊎ (k ≤ j) → answers j (slice_index (so_far.answered ++ y ∷ []) j)
-  each_more j h (inl before) = subst (answers j) (sym (before_is j before)) (so_far.each j before)
-  each_more j h (inr last) =
-      let place : j ≡ k = omega arith in
-      subst (λ m. answers j m) (sym (last_is j place)) (subst (λ m. answers m y) (sym place) here)
-
   in_last : (r : ℕ) → r < w → w * k + r < len → (n ≡ w) ⊎ (w * k + n ≡ len) → r < n
   in_last r low within (inl whole) = omega arith
   in_last r low within (inr rest) = omega arith
@@ -157,7 +94,7 @@ module _ (w : ℕ) (answers : ℕ → ℕ → Type 0) (len k n y : ℕ) (old mid
   next_written = record {
     answered = so_far.answered ++ y ∷ [];
     counted = length-append so_far.answered (y ∷ []) ∙ ap (λ m. m + 1) so_far.counted;
-    each = λ j h. each_more j h (cases_lt j k);
+    each = λ j h. more_each answers so_far.answered k y j so_far.counted so_far.each here h (cases_lt j k);
     written = λ j r h low within. written_more j r h low within (cases_lt j k);
     behind = λ i h. let next : w * (k + 1) ≡ w * k + w = omega arith in
         writes.behind i (omega (arith, next)) ∙ so_far.behind i (omega (arith, next));

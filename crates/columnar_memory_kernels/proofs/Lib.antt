@@ -1,3 +1,4 @@
+mod WordLists
 mod Wordwise
 mod InPlace
 mod Pairwise

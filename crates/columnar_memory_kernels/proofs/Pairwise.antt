@@ -1,40 +1,10 @@
 -- Word functions that act on each bit by one table.
-use Rattle.std.proofs.Common.{
-  ◌≡◌,
-  ◌∙◌,
-  ℕ,
-  suc,
-  ◌+◌,
-  ◌-◌,
-  ◌*◌,
-  ◌/◌,
-  ◌%◌,
-  ◌≤◌,
-  ◌<◌,
-  Bool,
-  false,
-  List,
-  [],
-  ◌∷◌,
-  ◌++◌,
-  length,
-  take,
-  drop,
-  get_or,
-  refl,
-  ap,
-  ap₂,
-  arith,
-  ◌⊎◌,
-  inl,
-  inr,
-}
-use Rattle.std.proofs.lemmas.List.{get_or_append_left, get_or-append_right, get_or-take, get_or-drop, length-take-le}
-use Rattle.std.proofs.lemmas.Bool.{cases_lt}
+use Rattle.std.proofs.Common.{◌≡◌, ◌∙◌, ℕ, ◌+◌, ◌*◌, ◌/◌, ◌%◌, ◌<◌, Bool, false, List, length, take, drop, get_or, refl, ap, ap₂, arith}
+use Rattle.std.proofs.lemmas.List.{get_or-take, get_or-drop, length-take-le}
 use Rattle.columnar_memory_bits.specs.Windows.{window}
 use Rattle.columnar_memory_bits.specs.Bits.{bit}
-use Rattle.columnar_memory_bits.specs.Words.{word_at, word_bits, words_bits}
-use Rattle.columnar_memory_bits.proofs.Windows.{length_window, get_or_window, window_of_list, window_is}
+use Rattle.columnar_memory_bits.specs.Words.{word_at, words_bits}
+use Rattle.columnar_memory_bits.proofs.Windows.{window_of_list, window_is}
 use Rattle.columnar_memory_bits.proofs.Words.{bit_of_list}
 use Rattle.std.specs.Prelude.{Result, Ok, Err}
 use Rattle.columnar_memory_types.specs.declared.error.Error.{Error}
@@ -42,40 +12,11 @@ use Rattle.columnar_memory_bitmap.specs.Results.{OrOutOfMemory}
 use Rattle.columnar_memory_bitmap.specs.Operators.{pairwise}
 use Rattle.columnar_memory_bitmap.proofs.Combining.{pairwise-window}
 use Rattle.columnar_memory_kernels.specs.Kernels.{IsWordwise}
-use Rattle.columnar_memory_kernels.proofs.Wordwise.{length_words}
+use Rattle.columnar_memory_kernels.proofs.WordLists.{length_words, get_or_place}
 
 -- a bit of a word of some booleans
 bit_of_word_at : (xs : List Bool) (k r : ℕ) → r < 64 → bit (word_at 64 xs k) r ≡ get_or xs (64 * k + r) false
 bit_of_word_at xs k r h = bit_of_list (take 64 (drop (64 * k) xs)) r ∙ get_or-take 64 (drop (64 * k) xs) r false h ∙ get_or-drop (64 * k) xs r false
-
--- a boolean of words one after another
-get_or_first : (x : ℕ) (words : List ℕ) (i : ℕ) → i < 64 →
-    get_or (word_bits 64 x ++ words_bits 64 words) i false ≡ bit (get_or (x ∷ words) (i / 64) 0) (i % 64)
-get_or_first x words i h =
-    let size : length (word_bits 64 x) ≡ 64 = length_window (bit x) 0 64 in
-    let byte : 0 ≡ i / 64 = omega arith in
-    let place : 0 + i ≡ i % 64 = omega arith in
-    get_or_append_left (word_bits 64 x) (words_bits 64 words) false i (omega (arith, size)) ∙ get_or_window (bit x) 0 64 i false h
-    ∙ ap₂ (λ (k : ℕ) (r : ℕ). bit (get_or (x ∷ words) k 0) r) byte place
-
-get_or_later : (x : ℕ) (words : List ℕ) (i : ℕ) → 64 ≤ i →
-    get_or (words_bits 64 words) (i - 64) false ≡ bit (get_or words ((i - 64) / 64) 0) ((i - 64) % 64) →
-    get_or (word_bits 64 x ++ words_bits 64 words) i false ≡ bit (get_or (x ∷ words) (i / 64) 0) (i % 64)
-get_or_later x words i h rest =
-    let byte : suc ((i - 64) / 64) ≡ i / 64 = omega arith in
-    let place : (i - 64) % 64 ≡ i % 64 = omega arith in
-    get_or-append_right (word_bits 64 x) (words_bits 64 words) 64 i false (length_window (bit x) 0 64) h ∙ rest
-    ∙ ap₂ (λ (k : ℕ) (r : ℕ). bit (get_or (x ∷ words) k 0) r) byte place
-
-get_or_either : (x : ℕ) (words : List ℕ) (i : ℕ) → (i < 64) ⊎ (64 ≤ i) →
-    (64 ≤ i → get_or (words_bits 64 words) (i - 64) false ≡ bit (get_or words ((i - 64) / 64) 0) ((i - 64) % 64)) →
-    get_or (word_bits 64 x ++ words_bits 64 words) i false ≡ bit (get_or (x ∷ words) (i / 64) 0) (i % 64)
-get_or_either x words i (inl h) rest = get_or_first x words i h
-get_or_either x words i (inr h) rest = get_or_later x words i h (rest h)
-
-get_or_words : (words : List ℕ) (i : ℕ) → i < 64 * length words → get_or (words_bits 64 words) i false ≡ bit (get_or words (i / 64) 0) (i % 64)
-get_or_words [] i h = absurd (omega arith)
-get_or_words (x ∷ words) i h = get_or_either x words i (cases_lt i 64) (λ more. get_or_words words (i - 64) (omega arith))
 
 -- a word function that acts on each bit by one table gives the booleans of that table
 pub wordwise_pairwise : (table : Bool → Bool → Bool) (f : ℕ → ℕ → ℕ) (answers : ℕ → ℕ → Type 0) (xs ys zs : List Bool) → length xs ≡ length ys →
@@ -85,13 +26,13 @@ wordwise_pairwise table f answers xs ys zs same acts known all =
     let n = length xs in
     let h : ℕ → Bool = λ i. table (get_or xs i false) (get_or ys i false) in
     let size : length zs ≡ n = ap length all.cut
-    ∙ length-take-le n (words_bits 64 all.answered) (omega (arith, length_words all.answered, all.counted)) in
+    ∙ length-take-le n (words_bits 64 all.answered) (omega (arith, length_words 64 all.answered, all.counted)) in
     let each : (i : ℕ) → i < length zs → get_or zs i false ≡ h (0 + i) = λ i less.
     let place : 64 * (i / 64) + i % 64 ≡ 0 + i = omega arith in
     let low : i % 64 < 64 = omega arith in
     ap (λ (bs : List Bool). get_or bs i false) all.cut
     ∙ get_or-take n (words_bits 64 all.answered) i false (omega (arith, size))
-    ∙ get_or_words all.answered i (omega (arith, size, all.counted))
+    ∙ get_or_place 64 all.answered i (omega arith) (omega (arith, size, all.counted))
     ∙ ap (λ w. bit w (i % 64)) (known (i / 64) (get_or all.answered (i / 64) 0) (all.each (i / 64) (omega (arith, size))))
     ∙ acts (word_at 64 xs (i / 64)) (word_at 64 ys (i / 64)) (i % 64)
     ∙ ap₂ table (bit_of_word_at xs (i / 64) (i % 64) low ∙ ap (λ (k : ℕ). get_or xs k false) place)

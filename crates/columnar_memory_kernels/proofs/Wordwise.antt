@@ -1,37 +1,6 @@
 -- Words that are answered one after the other.
-use Rattle.std.proofs.Common.{
-  ◌≡◌,
-  ◌∙◌,
-  ℕ,
-  zero,
-  suc,
-  ◌+◌,
-  ◌-◌,
-  ◌*◌,
-  ◌/◌,
-  ◌≤◌,
-  ◌<◌,
-  Bool,
-  List,
-  [],
-  ◌∷◌,
-  ◌++◌,
-  length,
-  take,
-  get_or,
-  slice_index,
-  refl,
-  ap,
-  ap₂,
-  sym,
-  subst,
-  arith,
-  ◌⊎◌,
-  inl,
-  inr,
-  length-append,
-}
-use Rattle.std.proofs.lemmas.List.{get_or_append_left, get_or-append_right, append-nil, take_all}
+use Rattle.std.proofs.Common.{◌≡◌, ◌∙◌, ℕ, zero, suc, ◌+◌, ◌-◌, ◌*◌, ◌/◌, ◌≤◌, ◌<◌, Bool, List, [], ◌∷◌, ◌++◌, length, take, slice_index, refl, ap, ap₂, sym, arith, length-append}
+use Rattle.std.proofs.lemmas.List.{append-nil, take_all}
 use Rattle.std.proofs.lemmas.Grind.{flat_map-append}
 use Rattle.std.proofs.lemmas.Bool.{cases_lt}
 use Rattle.columnar_memory_bits.specs.Bits.{bit, bit_at, bits_of, IsPacked}
@@ -39,6 +8,7 @@ use Rattle.columnar_memory_bits.specs.Words.{word, word_at, word_bits, words_bit
 use Rattle.columnar_memory_bits.proofs.Windows.{length_window, part_of_window, drop_window, take_window}
 use Rattle.columnar_memory_bits.proofs.Appends.{bit_at_beyond}
 use Rattle.columnar_memory_kernels.specs.Kernels.{IsWordwise}
+use Rattle.columnar_memory_kernels.proofs.WordLists.{length_words, more_each}
 
 -- the first k words are answered, and these are their booleans
 pub record IsAnswered (answers : ℕ → ℕ → Type 0) (k : ℕ) (bits : List Bool) : Type 0 where
@@ -49,19 +19,6 @@ pub record IsAnswered (answers : ℕ → ℕ → Type 0) (k : ℕ) (bits : List 
 
 pub none_answered : (answers : ℕ → ℕ → Type 0) → IsAnswered answers 0 []
 none_answered answers = record { answered = []; counted = refl; each = λ j h. absurd (omega arith); whole = refl }
-
--- one answer more behind others
-more_each : (answers : ℕ → ℕ → Type 0) (words : List ℕ) (k y j : ℕ) → length words ≡ k → ((i : ℕ) → i < k → answers i (slice_index words i)) →
-    answers k y →
-    j < k + 1 → (j < k) ⊎ (k ≤ j) → answers j (slice_index (words ++ y ∷ []) j)
-more_each answers words k y j count each here h (inl before) =
-    subst (answers j) (sym (get_or_append_left words (y ∷ []) 0 j (omega arith))) (each j before)
-more_each answers words k y j count each here h (inr last) =
-    let place : j ≡ k = omega arith in
-    let none : j - k ≡ 0 = omega arith in
-    let same : get_or (words ++ y ∷ []) j 0 ≡ y =
-    get_or-append_right words (y ∷ []) k j 0 count last ∙ ap (λ (i : ℕ). get_or (y ∷ []) i 0) none in
-    subst (λ n. answers j n) (sym same) (subst (λ n. answers n y) (sym place) here)
 
 more_bits : (words : List ℕ) (y : ℕ) → words_bits 64 (words ++ y ∷ []) ≡ words_bits 64 words ++ word_bits 64 y
 more_bits words y = flat_map-append (word_bits 64) words (y ∷ []) ∙ ap (λ (xs : List Bool). words_bits 64 words ++ xs) (append-nil (word_bits 64 y))
@@ -76,12 +33,6 @@ next_answered answers k y bits more so_far here e = record {
   whole = e ∙ ap (λ (xs : List Bool). xs ++ word_bits 64 y) so_far.whole ∙ sym (more_bits so_far.answered y);
 }
 
--- each word has 64 booleans
-pub length_words : (words : List ℕ) → length (words_bits 64 words) ≡ 64 * length words
-length_words [] = refl
-length_words (x ∷ words) =
-    omega (arith, length-append (word_bits 64 x) (words_bits 64 words), length_window (bit x) 0 64, length_words words)
-
 -- all words are whole
 pub all_answered : (answers : ℕ → ℕ → Type 0) (k n : ℕ) (bits : List Bool) → IsAnswered answers k bits → n ≡ 64 * k → IsWordwise 64 answers n bits
 all_answered answers k n bits so_far e =
@@ -90,7 +41,7 @@ all_answered answers k n bits so_far e =
       answered = so_far.answered;
       counted = so_far.counted ∙ count;
       each = λ j h. so_far.each j (omega arith);
-      cut = so_far.whole ∙ sym (take_all n (words_bits 64 so_far.answered) (omega (arith, length_words so_far.answered, so_far.counted)));
+      cut = so_far.whole ∙ sym (take_all n (words_bits 64 so_far.answered) (omega (arith, length_words 64 so_far.answered, so_far.counted)));
     }
 
 -- the first of two lists and some of the second
@@ -108,7 +59,7 @@ pub last_answered : (answers : ℕ → ℕ → Type 0) (k rest y n : ℕ) (bits 
 last_answered answers k rest y n bits more so_far here some few e last =
     let all = next_answered answers k y bits (bits ++ word_bits 64 y) so_far here refl in
     let count : k + 1 ≡ words_for 64 n = omega arith in
-    let size : length bits ≡ 64 * k = ap length so_far.whole ∙ length_words so_far.answered ∙ ap (λ m. 64 * m) so_far.counted in
+    let size : length bits ≡ 64 * k = ap length so_far.whole ∙ length_words 64 so_far.answered ∙ ap (λ m. 64 * m) so_far.counted in
     let within : rest ≤ 64 = omega arith in
     record {
       answered = all.answered;
