@@ -2,3 +2,10 @@ pub mod NumberedLists
 pub mod FittingLists
 pub mod BesideLists
 pub mod FloatLists
+pub mod Sizes
+pub mod KeptPairs
+pub mod TypeTables
+pub mod PairLists
+pub mod FieldTables
+pub mod Allowed
+pub mod SchemaMessages

@@ -30,10 +30,12 @@ numbered-more made new fields i next after field one whole lt is push here befor
     let others : List Numbering = drop (i + 1) (map field_numbering fields) in
     let rest : drop i (map field_numbering fields) ≡ field_numbering field ∷ others = rest_step field_numbering fields i field lt is in
     let views : map ids_view new ≡ map ids_view made ++ ids_view one ∷ [] = ap (map ids_view) push ∙ map-append ids_view made (one ∷ []) in
-    let step : before (map ids_view made ++ ids_view one ∷ []) (number_each others after) ≡ before (map ids_view made) (number_each (field_numbering field ∷ others) next) =
+    let step : before (map ids_view made ++ ids_view one ∷ []) (number_each others after) ≡ before (map ids_view made) (number_each
+    (field_numbering field ∷ others) next) =
     ap (λ found. (found, (number_each others after).1)) (before-one (map ids_view made) (ids_view one) (number_each others after).0)
     ∙ ap (λ (h : Ids × ℕ). before (map ids_view made) (ids_then h.0 (number_each others h.1).0, (number_each others h.1).1)) here in
-    ap (λ made. before made (number_each others after)) views ∙ step ∙ ap (λ rest. before (map ids_view made) (number_each rest next)) (sym rest) ∙ before_it
+    ap (λ made. before made (number_each others after)) views ∙ step ∙ ap (λ rest. before (map ids_view made) (number_each rest next)) (sym rest)
+    ∙ before_it
 
 pub numbered-all : (made : List IpcField) (fields : List Field) (i next : ℕ) (whole : IdsList × ℕ) → length fields ≤ i
     → numbered_from made fields i next ≡ whole → numbered_from made [] 0 next ≡ whole
@@ -49,9 +51,14 @@ field-agrees field = fold-roll-Field Numbering Numbering number_step (λ field. 
 lists-agree : (fields : List Field) (n : ℕ) → number_each (map field_numbering fields) n ≡ number_fields fields n
 lists-agree [] n = refl
 lists-agree (field ∷ fields) n =
-    ap (λ (here : Numbering). (ids_then (here n).0 (number_each (map field_numbering fields) (here n).1).0, (number_each (map field_numbering fields) (here n).1).1)) (field-agrees field)
+    ap (λ (here : Numbering). (
+      ids_then (here n).0 (number_each (map field_numbering fields) (here n).1).0,
+      (number_each (map field_numbering
+          fields) (here n).1).1,
+    )) (field-agrees field)
     ∙ ap (λ (rest : IdsList × ℕ). (ids_then (numbered field.data_type n).0 rest.0, rest.1)) (lists-agree fields (numbered field.data_type n).1)
 
-pub defaults : (fields : List Field) (found : List IpcField) (next : ℕ) → (ids_views found, next) ≡ number_each (map field_numbering fields) 0 → ids_views found ≡ default_ids fields
+pub defaults : (fields : List Field) (found : List IpcField) (next : ℕ) → (ids_views found, next) ≡ number_each (map field_numbering fields) 0
+    → ids_views found ≡ default_ids fields
 unfolding default_ids
 defaults fields found next same = ap (λ (numbered : IdsList × ℕ). numbered.0) (same ∙ lists-agree fields 0)

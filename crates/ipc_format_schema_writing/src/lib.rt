@@ -4,8 +4,13 @@
 #![tactic(auto)]
 
 mod beside;
+mod fields;
 mod fitting;
+mod kinds;
 mod numbering;
+mod pairs;
+mod schemas;
+mod tables;
 
-pub use fitting::{has_float, ids_fit};
 pub use numbering::default_ipc_fields;
+pub use schemas::schema_to_bytes;

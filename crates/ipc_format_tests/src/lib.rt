@@ -9,3 +9,5 @@ mod reading;
 mod samples;
 #[cfg(test)]
 mod schemas;
+#[cfg(test)]
+mod writing;

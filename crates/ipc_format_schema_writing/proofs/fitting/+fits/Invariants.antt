@@ -5,4 +5,5 @@ use Rattle.ipc_format_schema_writing.specs.Fitting.{field_fitting}
 use Rattle.ipc_format_schema_writing.proofs.fitting.+fits.Given as goal
 
 abbrev pub invariant-fields_fit-loop-field : goal.invariant-fields_fit-loop-field
-invariant-fields_fit-loop-field l = format.fit_each (drop l.field-index (map field_fitting l.fields)) (ids_views l.rest) ≡ format.fit_each (map field_fitting l.fields) (ids_views l.beside)
+invariant-fields_fit-loop-field l = format.fit_each (drop l.field-index (map field_fitting l.fields)) (ids_views l.rest)
+    ≡ format.fit_each (map field_fitting l.fields) (ids_views l.beside)

@@ -5,4 +5,5 @@ use Rattle.ipc_format_schema_writing.proofs.NumberedLists.{numbered_from}
 use Rattle.ipc_format_schema_writing.proofs.numbering.+numbers.Given as goal
 
 abbrev pub invariant-number_fields-loop-field : goal.invariant-number_fields-loop-field
-invariant-number_fields-loop-field l = numbered_from l.found.fields l.fields l.field-index l.found.next ≡ ids.number_each (map field_numbering l.fields) l.initial.next
+invariant-number_fields-loop-field l = numbered_from l.found.fields l.fields l.field-index l.found.next
+    ≡ ids.number_each (map field_numbering l.fields) l.initial.next
