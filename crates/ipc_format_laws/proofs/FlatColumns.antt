@@ -22,16 +22,16 @@ use Rattle.ipc_format_laws.specs.Fresh.{is_fresh, is_blank_at}
 
 -- ---- windows
 
-next_place : (a i : ℕ) → a + 1 + i ≡ a + suc i
+pub next_place : (a i : ℕ) → a + 1 + i ≡ a + suc i
 next_place a i = omega arith
 
-this_place : (a : ℕ) → a ≡ a + 0
+pub this_place : (a : ℕ) → a ≡ a + 0
 this_place a = omega arith
 
-later : (i n : ℕ) → i < n → suc i < suc n
+pub later : (i n : ℕ) → i < n → suc i < suc n
 later i n h = omega arith
 
-first_is : (n : ℕ) → 0 < suc n
+pub first_is : (n : ℕ) → 0 < suc n
 first_is n = omega arith
 
 pub flat_map_window : {A B V : Type 0} (f : A → List B) (g : ℕ → A) (h : V → List B) (values : List V) (d : V) (a : ℕ)

@@ -1,6 +1,6 @@
 -- The normal form of a schema.
 use Rattle.std.proofs.Common.{◌≡◌, ℕ, List, [], ◌∷◌, map, refl, sym, ap, ◌∙◌, subst, Bool, true}
-use Rattle.std.specs.Prelude.{◌&&◌, nat_le}
+use Rattle.std.specs.Prelude.{◌&&◌}
 use Rattle.std.specs.List.{list_all}
 use Rattle.std.proofs.lemmas.Bool.{and_parts, and_from}
 use Rattle.columnar_memory.specs.declared.DataType.{DataType, map-DataType}
@@ -8,22 +8,17 @@ use Rattle.columnar_memory.specs.declared.DataType.TheOpen as layer
 use Rattle.columnar_memory.specs.declared.DataType.TheFolds.{fold-Field, fold-roll-DataType, fold-roll-Field, ind-DataType}
 use Rattle.columnar_memory.specs.declared.DataType.TheViews.{roll-DataType, roll-Field}
 use Rattle.columnar_memory.specs.declared.Field.{Field, map-Field}
-use Rattle.ipc_format_grammar.specs.Writable.{Report, report_step, field_step, report_of, reports_of, over_all, plain, is_writable, normalised_step, normalised_type, normalised_pairs, normalised_field, normalised}
+use Rattle.ipc_format_grammar.specs.Writable.{normalised_step, normalised_type, normalised_pairs, normalised_field, normalised}
+use Rattle.ipc_format_grammar.proofs.NormalReports.{normal_field, writable_normal}
 use Rattle.ipc_format_laws.specs.NormalForm.{KeepsNormal, KeepsValid, KeepsWritable, valid_step, valid_field_step, is_valid_type, is_valid_field, are_sorted}
-use Rattle.ipc_format_laws.proofs.Layers.{two_maps, same_layers, valid_layers}
+use Rattle.ipc_format_laws.proofs.Layers.{ValidType, ValidField, two_maps, valid_layers}
 use Rattle.ipc_format_laws.proofs.NormalPairs.{pairs_normal, pairs_sorted}
 
 abbrev normal : DataType → DataType
 normal = normalised_type
 
-abbrev normal_field : Field → Field
-normal_field = fold-Field DataType Field roll-DataType normalised_step
-
 abbrev valid_field : Field → Bool
 valid_field = fold-Field Bool Bool valid_step valid_field_step
-
-abbrev report_field : Field → Report
-report_field = fold-Field Report Report report_step field_step
 
 abbrev Layer : Type 0
 Layer = layer.DataType-F DataType Field
@@ -45,12 +40,6 @@ valid_roll x = fold-roll-DataType Bool Bool valid_step valid_field_step x
 valid_roll_field : (x : FieldLayer) → valid_field (roll-Field x) ≡ (is_valid_type x.data_type && are_sorted x.metadata)
 valid_roll_field x = fold-roll-Field Bool Bool valid_step valid_field_step x
 
-report_roll : (x : Layer) → report_of (roll-DataType x) ≡ report_step (map-DataType DataType Field Report Report report_of report_field x)
-report_roll x = fold-roll-DataType Report Report report_step field_step x
-
-report_roll_field : (x : FieldLayer) → report_field (roll-Field x) ≡ report_of x.data_type
-report_roll_field x = fold-roll-Field Report Report report_step field_step x
-
 -- a field's normal form
 abbrev normal_layer : FieldLayer → FieldLayer
 normal_layer x = record x { data_type = normal x.data_type; metadata = normalised_pairs (normal x.data_type) x.metadata }
@@ -58,47 +47,8 @@ normal_layer x = record x { data_type = normal x.data_type; metadata = normalise
 normal_field_is : (x : FieldLayer) → normal_field (roll-Field x) ≡ roll-Field (normal_layer x)
 normal_field_is x = normal_roll_field x
 
--- ---- a type's report says nothing of metadata
-
-abbrev KeepsReport : DataType → Type 0
-KeepsReport t = report_of (normal t) ≡ report_of t
-
-abbrev KeepsFieldReport : Field → Type 0
-KeepsFieldReport u = report_field (normal_field u) ≡ report_field u
-
-report_layer : (x : Layer) (y : layer.DataType-F ((t : DataType) × KeepsReport t) ((u : Field) × KeepsFieldReport u))
-    → map-DataType ((t : DataType) × KeepsReport t) ((u : Field) × KeepsFieldReport u) DataType Field (λ e. e.0) (λ e. e.0) y ≡ x
-    → KeepsReport (roll-DataType x)
-report_layer x y is =
-    let below : map-DataType DataType Field Report Report (λ t. report_of (normal t)) (λ u. report_field (normal_field u)) x
-    ≡ map-DataType DataType Field Report Report report_of report_field x =
-    subst (λ (x : Layer). map-DataType DataType Field Report Report (λ t. report_of (normal t)) (λ u. report_field (normal_field u)) x
-    ≡ map-DataType DataType Field Report Report report_of report_field x) is
-    (same_layers (λ t. report_of (normal t)) report_of (λ u. report_field (normal_field u)) report_field y) in
-    ap report_of (normal_roll x) ∙ report_roll (map-DataType DataType Field DataType Field normal normal_field x)
-    ∙ ap report_step (two_maps normal normal_field report_of report_field x ∙ below)
-    ∙ sym (report_roll x)
-
-report_field_layer : (x : FieldLayer) (y : layer.Field-F ((t : DataType) × KeepsReport t) ((u : Field) × KeepsFieldReport u))
-    → map-Field ((t : DataType) × KeepsReport t) ((u : Field) × KeepsFieldReport u) DataType Field (λ e. e.0) (λ e. e.0) y ≡ x
-    → KeepsFieldReport (roll-Field x)
-report_field_layer x y is =
-    let below : report_of (normal x.data_type) ≡ report_of x.data_type =
-    subst (λ (t : DataType). report_of (normal t) ≡ report_of t) (ap (λ (x : FieldLayer). x.data_type) is) y.data_type.1 in
-    ap report_field (normal_field_is x) ∙ report_roll_field (normal_layer x) ∙ below ∙ sym (report_roll_field x)
-
-keeps_report : (t : DataType) → report_of (normal t) ≡ report_of t
-keeps_report = ind-DataType KeepsReport KeepsFieldReport (λ x y is. report_layer x y is) (λ x y is. report_field_layer x y is)
-
-keeps_reports : (fields : List Field) → reports_of (map normalised_field fields) ≡ reports_of fields
-keeps_reports [] = refl
-keeps_reports (field ∷ fields) = λ j. keeps_report field.data_type j ∷ keeps_reports fields j
-
 pub keeps_writable : KeepsWritable
-unfolding normalised is_writable
-keeps_writable schema =
-    ap (λ (reports : List Report). let all = over_all true plain reports in all.is_allowed && nat_le all.levels 64 && nat_le all.dictionaries 65536)
-    (keeps_reports schema.fields)
+keeps_writable schema = writable_normal schema
 
 -- ---- the normal form of what is valid is its own
 
@@ -107,6 +57,18 @@ field_with field t pairs = record { name = field.name; data_type = t; is_nullabl
 
 abbrev layer_with : FieldLayer → DataType → List (List ℕ × List ℕ) → FieldLayer
 layer_with x t pairs = record x { data_type = t; metadata = pairs }
+
+-- two functions agree on a valid layer where they agree on each valid type and field below it
+below_valid : {A B : Type 0} (f g : DataType → A) (f_field g_field : Field → B) (x : Layer)
+    (y : layer.DataType-F (ValidType is_valid_type valid_field f g f_field g_field) (ValidField is_valid_type valid_field f g f_field g_field))
+    → map-DataType (ValidType is_valid_type valid_field f g f_field g_field) (ValidField is_valid_type valid_field f g f_field g_field) DataType Field
+    (λ e. e.0) (λ e. e.0) y ≡ x
+    → valid_step (map-DataType DataType Field Bool Bool is_valid_type valid_field x) ≡ true
+    → map-DataType DataType Field A B f f_field x ≡ map-DataType DataType Field A B g g_field x
+below_valid {A} {B} f g f_field g_field x y is =
+    subst (λ (x : Layer). valid_step (map-DataType DataType Field Bool Bool is_valid_type valid_field x) ≡ true
+    → map-DataType DataType Field A B f f_field x ≡ map-DataType DataType Field A B g g_field x) is
+    (valid_layers is_valid_type valid_field f g f_field g_field y)
 
 abbrev IsNormal : DataType → Type 0
 IsNormal t = is_valid_type t ≡ true → normal (normal t) ≡ normal t
@@ -118,13 +80,7 @@ normal_layer_again : (x : Layer) (y : layer.DataType-F ((t : DataType) × IsNorm
     → map-DataType ((t : DataType) × IsNormal t) ((u : Field) × IsNormalField u) DataType Field (λ e. e.0) (λ e. e.0) y ≡ x
     → IsNormal (roll-DataType x)
 normal_layer_again x y is h =
-    let below : valid_step (map-DataType DataType Field Bool Bool is_valid_type valid_field x) ≡ true
-    → map-DataType DataType Field DataType Field (λ t. normal (normal t)) (λ u. normal_field (normal_field u)) x
-    ≡ map-DataType DataType Field DataType Field normal normal_field x =
-    subst (λ (x : Layer). valid_step (map-DataType DataType Field Bool Bool is_valid_type valid_field x) ≡ true
-    → map-DataType DataType Field DataType Field (λ t. normal (normal t)) (λ u. normal_field (normal_field u)) x
-    ≡ map-DataType DataType Field DataType Field normal normal_field x) is
-    (valid_layers is_valid_type valid_field (λ t. normal (normal t)) normal (λ u. normal_field (normal_field u)) normal_field y) in
+    let below = below_valid (λ t. normal (normal t)) normal (λ u. normal_field (normal_field u)) normal_field x y is in
     ap normal (normal_roll x) ∙ normal_roll (map-DataType DataType Field DataType Field normal normal_field x)
     ∙ ap roll-DataType (two_maps normal normal_field normal normal_field x ∙ below (sym (valid_roll x) ∙ h))
     ∙ sym (normal_roll x)
@@ -178,13 +134,7 @@ valid_layer : (x : Layer) (y : layer.DataType-F ((t : DataType) × StaysValid t)
     → map-DataType ((t : DataType) × StaysValid t) ((u : Field) × StaysValidField u) DataType Field (λ e. e.0) (λ e. e.0) y ≡ x
     → StaysValid (roll-DataType x)
 valid_layer x y is h =
-    let below : valid_step (map-DataType DataType Field Bool Bool is_valid_type valid_field x) ≡ true
-    → map-DataType DataType Field Bool Bool (λ t. is_valid_type (normal t)) (λ u. valid_field (normal_field u)) x
-    ≡ map-DataType DataType Field Bool Bool is_valid_type valid_field x =
-    subst (λ (x : Layer). valid_step (map-DataType DataType Field Bool Bool is_valid_type valid_field x) ≡ true
-    → map-DataType DataType Field Bool Bool (λ t. is_valid_type (normal t)) (λ u. valid_field (normal_field u)) x
-    ≡ map-DataType DataType Field Bool Bool is_valid_type valid_field x) is
-    (valid_layers is_valid_type valid_field (λ t. is_valid_type (normal t)) is_valid_type (λ u. valid_field (normal_field u)) valid_field y) in
+    let below = below_valid (λ t. is_valid_type (normal t)) is_valid_type (λ u. valid_field (normal_field u)) valid_field x y is in
     ap is_valid_type (normal_roll x) ∙ valid_roll (map-DataType DataType Field DataType Field normal normal_field x)
     ∙ ap valid_step (two_maps normal normal_field is_valid_type valid_field x ∙ below (sym (valid_roll x) ∙ h))
     ∙ sym (valid_roll x)

@@ -9,6 +9,7 @@ use Rattle.ipc_format_flatbuffers.specs.Objects.{Object}
 use Rattle.ipc_format_grammar.specs.Schemas.{Ids, IdsList}
 use Rattle.ipc_format_grammar.specs.SchemaObjects.{Told, told_of, told_step, told_field_step}
 use Rattle.ipc_format_grammar.specs.Writable.{Report, report_of, report_step, field_step, normalised_type, normalised_step}
+use Rattle.ipc_format_grammar.proofs.NormalReports.{normal_field, report_field}
 use Rattle.ipc_format_round_trip.specs.Schemas.{IdsTold, ids_step, ids_field_step, ids_of_field, texts_step, texts_field_step, has_texts}
 use Rattle.ipc_format_round_trip.proofs.SchemaSteps as leaves
 use Rattle.ipc_format_round_trip.proofs.SchemaSteps.{TypeClaim, FieldClaim, LayerClaim}
@@ -18,12 +19,6 @@ use Rattle.ipc_format_round_trip.proofs.FieldClaims.{field_claim}
 
 abbrev pub told_field : Field → Ids → Object
 told_field = fold-Field (IdsList → Told) (Ids → Object) told_step told_field_step
-
-abbrev pub normal_field : Field → Field
-normal_field = fold-Field DataType Field roll-DataType normalised_step
-
-abbrev pub report_field : Field → Report
-report_field = fold-Field Report Report report_step field_step
 
 abbrev ids_in_type : DataType → IdsTold
 ids_in_type = fold-DataType IdsTold (Ids → Ids) ids_step ids_field_step

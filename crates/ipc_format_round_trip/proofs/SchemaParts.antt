@@ -18,7 +18,7 @@ use Rattle.columnar_memory.specs.declared.IntegerType.TheVariants as integers
 use Rattle.columnar_memory.specs.declared.DataType.TheViews.{out-DataType}
 use Rattle.ipc_format_grammar.specs.Schemas.{Ids, IdsList}
 use Rattle.ipc_format_grammar.specs.SchemaObjects.{Told, truth, refers_if, pair_objects, metadata_object, id_number, encoding_object}
-use Rattle.ipc_format_grammar.specs.SchemaObjects.{integer_object}
+use Rattle.ipc_format_grammar.specs.SchemaObjects.{int_object, integer_object}
 use Rattle.ipc_format_grammar.specs.Writable.{Report, is_plain, is_dictionary, with_extension_of, with_extension_under}
 use Rattle.ipc_format_round_trip.specs.Schemas.{FitsId, is_text_or_none, are_texts}
 use Rattle.ipc_format_round_trip.proofs.FieldSteps.{TypeReads, FieldReads, encode, extend}
@@ -110,47 +110,22 @@ pub truth_small : (b : Bool) → truth b < 2 ^ 8
 truth_small true = omega arith
 truth_small false = omega arith
 
+pub int_fits : (bits : ℕ) (is_signed : Bool) → bits < 2 ^ 32 → Fits (int_object bits is_signed)
+int_fits bits is_signed small = record {
+  here = record { vtable_size = omega arith; table_size = omega arith };
+  rest = record
+      { here = small; rest = record { here = truth_small is_signed; rest = tt } };
+}
+
 key_fits : (key : IntegerType) → Fits (integer_object key)
-key_fits integers.Int8 = record {
-  here = record { vtable_size = omega arith; table_size = omega arith };
-  rest = record
-      { here = omega arith; rest = record { here = omega arith; rest = tt } };
-}
-key_fits integers.Int16 = record {
-  here = record { vtable_size = omega arith; table_size = omega arith };
-  rest = record
-      { here = omega arith; rest = record { here = omega arith; rest = tt } };
-}
-key_fits integers.Int32 = record {
-  here = record { vtable_size = omega arith; table_size = omega arith };
-  rest = record
-      { here = omega arith; rest = record { here = omega arith; rest = tt } };
-}
-key_fits integers.Int64 = record {
-  here = record { vtable_size = omega arith; table_size = omega arith };
-  rest = record
-      { here = omega arith; rest = record { here = omega arith; rest = tt } };
-}
-key_fits integers.UInt8 = record {
-  here = record { vtable_size = omega arith; table_size = omega arith };
-  rest = record
-      { here = omega arith; rest = record { here = omega arith; rest = tt } };
-}
-key_fits integers.UInt16 = record {
-  here = record { vtable_size = omega arith; table_size = omega arith };
-  rest = record
-      { here = omega arith; rest = record { here = omega arith; rest = tt } };
-}
-key_fits integers.UInt32 = record {
-  here = record { vtable_size = omega arith; table_size = omega arith };
-  rest = record
-      { here = omega arith; rest = record { here = omega arith; rest = tt } };
-}
-key_fits integers.UInt64 = record {
-  here = record { vtable_size = omega arith; table_size = omega arith };
-  rest = record
-      { here = omega arith; rest = record { here = omega arith; rest = tt } };
-}
+key_fits integers.Int8 = int_fits 8 true (omega arith)
+key_fits integers.Int16 = int_fits 16 true (omega arith)
+key_fits integers.Int32 = int_fits 32 true (omega arith)
+key_fits integers.Int64 = int_fits 64 true (omega arith)
+key_fits integers.UInt8 = int_fits 8 false (omega arith)
+key_fits integers.UInt16 = int_fits 16 false (omega arith)
+key_fits integers.UInt32 = int_fits 32 false (omega arith)
+key_fits integers.UInt64 = int_fits 64 false (omega arith)
 
 id_small : (id : Option ℤ) → FitsId id → id_number id < 2 ^ 64
 id_small None fit = omega arith

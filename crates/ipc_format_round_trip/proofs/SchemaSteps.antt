@@ -1,11 +1,10 @@
 -- Each layer of a type reads back where those below it do.
 use Rattle.std.proofs.Common.{◌≡◌, ℕ, ◌≤◌, ◌<◌, ◌^◌, pos, Bool, true, false, not, ◌&&◌, List, refl, ap, ◌∙◌, arith}
 use Rattle.std.specs.Prelude.{Option, Some, None, nat_le}
-use Rattle.std.specs.Int.{w8, w32}
 use Rattle.std.proofs.lemmas.Bool.{leb-true, ltb-true}
 use Rattle.columnar_memory.specs.declared.IntegerType.TheVariants as integers
 use denote.Hole.Carrier
-use Rattle.ipc_format_flatbuffers.specs.Objects.{Object, table, no_field, number_then}
+use Rattle.ipc_format_flatbuffers.specs.Objects.{Object, table}
 use Rattle.ipc_format_spelling.specs.Theorem.{Fits}
 use Rattle.columnar_memory.specs.declared.DataType.{DataType}
 use Rattle.columnar_memory.specs.declared.DataType.TheOpen as layer
@@ -23,7 +22,7 @@ use Rattle.ipc_format_grammar.specs.SchemaObjects.{interval_number}
 use Rattle.ipc_format_grammar.specs.Writable.{is_short, fits_i32, is_size, Report, leaf, report_step, with_extension_of, with_extension_under}
 use Rattle.ipc_format_round_trip.specs.Schemas.{is_text_or_none, IdsTold, ids_step, texts_step, FitIds, FitIdsList}
 use Rattle.ipc_format_round_trip.proofs.FieldSteps.{TypeReads}
-use Rattle.ipc_format_round_trip.proofs.SchemaParts.{TypeBack, FieldBack, both}
+use Rattle.ipc_format_round_trip.proofs.SchemaParts.{TypeBack, FieldBack, both, int_fits}
 use Rattle.ipc_format_round_trip.proofs.TypeTables.{timestamp_fields, time_fields, decimal_fields, unit_small}
 use Rattle.ipc_format_round_trip.proofs.TypeSteps as steps
 
@@ -68,13 +67,6 @@ leaf_back n type_table x b below small fits of_x under_x h = record {
 pub empty_fits : Fits empty_table
 empty_fits = record { here = record { vtable_size = omega arith; table_size = omega arith }; rest = tt }
 
-int_fits : (bits : ℕ) (b : ℕ) → bits < 2 ^ 32 → b < 2 ^ 8 → Fits (table (number_then w32 bits (number_then w8 b no_field)))
-int_fits bits b small short = record {
-  here = record { vtable_size = omega arith; table_size = omega arith };
-  rest = record
-      { here = small; rest = record { here = short; rest = tt } };
-}
-
 short_fits : (n : ℕ) → n < 2 ^ 16 → Fits (short_table n)
 short_fits n small = record { here = record { vtable_size = omega arith; table_size = omega arith }; rest = record { here = small; rest = tt } }
 
@@ -86,7 +78,7 @@ null_claim allowed texts below fit = leaf_back 1 empty_table layer.Null true bel
 
 pub int8_claim : LayerClaim layer.Int8 layer.Int8 layer.Int8 layer.Int8 layer.Int8
 unfolding roll-DataType denote.Hole.Carrier.roll
-int8_claim allowed texts below fit = leaf_back 2 (int_object 8 true) layer.Int8 true below (omega arith) (int_fits 8 1 (omega arith) (omega arith))
+int8_claim allowed texts below fit = leaf_back 2 (int_object 8 true) layer.Int8 true below (omega arith) (int_fits 8 true (omega arith))
     (λ ws. refl) (λ ws. refl)
     (steps.integer_reads 8 true integers.Int8 below (omega arith) refl)
 
@@ -118,43 +110,43 @@ large_utf8_claim allowed texts below fit =
 pub int16_claim : LayerClaim layer.Int16 layer.Int16 layer.Int16 layer.Int16 layer.Int16
 unfolding roll-DataType denote.Hole.Carrier.roll
 int16_claim allowed texts below fit =
-    leaf_back 2 (int_object 16 true) layer.Int16 true below (omega arith) (int_fits 16 1 (omega arith) (omega arith)) (λ ws. refl) (λ ws. refl)
+    leaf_back 2 (int_object 16 true) layer.Int16 true below (omega arith) (int_fits 16 true (omega arith)) (λ ws. refl) (λ ws. refl)
     (steps.integer_reads 16 true integers.Int16 below (omega arith) refl)
 
 pub int32_claim : LayerClaim layer.Int32 layer.Int32 layer.Int32 layer.Int32 layer.Int32
 unfolding roll-DataType denote.Hole.Carrier.roll
 int32_claim allowed texts below fit =
-    leaf_back 2 (int_object 32 true) layer.Int32 true below (omega arith) (int_fits 32 1 (omega arith) (omega arith)) (λ ws. refl) (λ ws. refl)
+    leaf_back 2 (int_object 32 true) layer.Int32 true below (omega arith) (int_fits 32 true (omega arith)) (λ ws. refl) (λ ws. refl)
     (steps.integer_reads 32 true integers.Int32 below (omega arith) refl)
 
 pub int64_claim : LayerClaim layer.Int64 layer.Int64 layer.Int64 layer.Int64 layer.Int64
 unfolding roll-DataType denote.Hole.Carrier.roll
 int64_claim allowed texts below fit =
-    leaf_back 2 (int_object 64 true) layer.Int64 true below (omega arith) (int_fits 64 1 (omega arith) (omega arith)) (λ ws. refl) (λ ws. refl)
+    leaf_back 2 (int_object 64 true) layer.Int64 true below (omega arith) (int_fits 64 true (omega arith)) (λ ws. refl) (λ ws. refl)
     (steps.integer_reads 64 true integers.Int64 below (omega arith) refl)
 
 pub uint8_claim : LayerClaim layer.UInt8 layer.UInt8 layer.UInt8 layer.UInt8 layer.UInt8
 unfolding roll-DataType denote.Hole.Carrier.roll
 uint8_claim allowed texts below fit =
-    leaf_back 2 (int_object 8 false) layer.UInt8 true below (omega arith) (int_fits 8 0 (omega arith) (omega arith)) (λ ws. refl) (λ ws. refl)
+    leaf_back 2 (int_object 8 false) layer.UInt8 true below (omega arith) (int_fits 8 false (omega arith)) (λ ws. refl) (λ ws. refl)
     (steps.integer_reads 8 false integers.UInt8 below (omega arith) refl)
 
 pub uint16_claim : LayerClaim layer.UInt16 layer.UInt16 layer.UInt16 layer.UInt16 layer.UInt16
 unfolding roll-DataType denote.Hole.Carrier.roll
 uint16_claim allowed texts below fit =
-    leaf_back 2 (int_object 16 false) layer.UInt16 true below (omega arith) (int_fits 16 0 (omega arith) (omega arith)) (λ ws. refl) (λ ws. refl)
+    leaf_back 2 (int_object 16 false) layer.UInt16 true below (omega arith) (int_fits 16 false (omega arith)) (λ ws. refl) (λ ws. refl)
     (steps.integer_reads 16 false integers.UInt16 below (omega arith) refl)
 
 pub uint32_claim : LayerClaim layer.UInt32 layer.UInt32 layer.UInt32 layer.UInt32 layer.UInt32
 unfolding roll-DataType denote.Hole.Carrier.roll
 uint32_claim allowed texts below fit =
-    leaf_back 2 (int_object 32 false) layer.UInt32 true below (omega arith) (int_fits 32 0 (omega arith) (omega arith)) (λ ws. refl) (λ ws. refl)
+    leaf_back 2 (int_object 32 false) layer.UInt32 true below (omega arith) (int_fits 32 false (omega arith)) (λ ws. refl) (λ ws. refl)
     (steps.integer_reads 32 false integers.UInt32 below (omega arith) refl)
 
 pub uint64_claim : LayerClaim layer.UInt64 layer.UInt64 layer.UInt64 layer.UInt64 layer.UInt64
 unfolding roll-DataType denote.Hole.Carrier.roll
 uint64_claim allowed texts below fit =
-    leaf_back 2 (int_object 64 false) layer.UInt64 true below (omega arith) (int_fits 64 0 (omega arith) (omega arith)) (λ ws. refl) (λ ws. refl)
+    leaf_back 2 (int_object 64 false) layer.UInt64 true below (omega arith) (int_fits 64 false (omega arith)) (λ ws. refl) (λ ws. refl)
     (steps.integer_reads 64 false integers.UInt64 below (omega arith) refl)
 
 pub date32_claim : LayerClaim layer.Date32 layer.Date32 layer.Date32 layer.Date32 layer.Date32
