@@ -70,27 +70,30 @@ below_valid {A} {B} f g f_field g_field x y is =
     → map-DataType DataType Field A B f f_field x ≡ map-DataType DataType Field A B g g_field x) is
     (valid_layers is_valid_type valid_field f g f_field g_field y)
 
-abbrev IsNormal : DataType → Type 0
-IsNormal t = is_valid_type t ≡ true → normal (normal t) ≡ normal t
+-- what a function says of the normal form of a valid type is what it says of the type; the same of a field
+abbrev Keeps : {A : Type 0} → (DataType → A) → DataType → Type 0
+Keeps f t = is_valid_type t ≡ true → f (normal t) ≡ f t
 
-abbrev IsNormalField : Field → Type 0
-IsNormalField u = valid_field u ≡ true → normal_field (normal_field u) ≡ normal_field u
+abbrev KeepsField : {B : Type 0} → (Field → B) → Field → Type 0
+KeepsField f u = valid_field u ≡ true → f (normal_field u) ≡ f u
 
-normal_layer_again : (x : Layer) (y : layer.DataType-F ((t : DataType) × IsNormal t) ((u : Field) × IsNormalField u))
-    → map-DataType ((t : DataType) × IsNormal t) ((u : Field) × IsNormalField u) DataType Field (λ e. e.0) (λ e. e.0) y ≡ x
-    → IsNormal (roll-DataType x)
-normal_layer_again x y is h =
-    let below = below_valid (λ t. normal (normal t)) normal (λ u. normal_field (normal_field u)) normal_field x y is in
-    ap normal (normal_roll x) ∙ normal_roll (map-DataType DataType Field DataType Field normal normal_field x)
-    ∙ ap roll-DataType (two_maps normal normal_field normal normal_field x ∙ below (sym (valid_roll x) ∙ h))
-    ∙ sym (normal_roll x)
+keeps_layer : {A B : Type 0} (step : layer.DataType-F A B → A) (f : DataType → A) (f_field : Field → B)
+    → ((x : Layer) → f (roll-DataType x) ≡ step (map-DataType DataType Field A B f f_field x))
+    → (x : Layer) (y : layer.DataType-F ((t : DataType) × Keeps f t) ((u : Field) × KeepsField f_field u))
+    → map-DataType ((t : DataType) × Keeps f t) ((u : Field) × KeepsField f_field u) DataType Field (λ e. e.0) (λ e. e.0) y ≡ x
+    → Keeps f (roll-DataType x)
+keeps_layer step f f_field f_roll x y is h =
+    let below = below_valid (λ t. f (normal t)) f (λ u. f_field (normal_field u)) f_field x y is in
+    ap f (normal_roll x) ∙ f_roll (map-DataType DataType Field DataType Field normal normal_field x)
+    ∙ ap step (two_maps normal normal_field f f_field x ∙ below (sym (valid_roll x) ∙ h))
+    ∙ sym (f_roll x)
 
-normal_field_again : (x : FieldLayer) (y : layer.Field-F ((t : DataType) × IsNormal t) ((u : Field) × IsNormalField u))
-    → map-Field ((t : DataType) × IsNormal t) ((u : Field) × IsNormalField u) DataType Field (λ e. e.0) (λ e. e.0) y ≡ x
-    → IsNormalField (roll-Field x)
+normal_field_again : (x : FieldLayer) (y : layer.Field-F ((t : DataType) × Keeps normal t) ((u : Field) × KeepsField normal_field u))
+    → map-Field ((t : DataType) × Keeps normal t) ((u : Field) × KeepsField normal_field u) DataType Field (λ e. e.0) (λ e. e.0) y ≡ x
+    → KeepsField normal_field (roll-Field x)
 normal_field_again x y is h =
     let parts = and_parts (is_valid_type x.data_type) (are_sorted x.metadata) (sym (valid_roll_field x) ∙ h) in
-    let below : IsNormal x.data_type = subst IsNormal (ap (λ (x : FieldLayer). x.data_type) is) y.data_type.1 in
+    let below : Keeps normal x.data_type = subst (Keeps normal) (ap (λ (x : FieldLayer). x.data_type) is) y.data_type.1 in
     let t = normal x.data_type in
     let pairs = normalised_pairs t x.metadata in
     ap normal_field (normal_field_is x) ∙ normal_field_is (normal_layer x)
@@ -98,8 +101,9 @@ normal_field_again x y is h =
     ∙ ap (λ (pairs : List (List ℕ × List ℕ)). roll-Field (layer_with x t pairs)) (pairs_normal t x.metadata parts.1)
     ∙ sym (normal_field_is x)
 
-type_again : (t : DataType) → IsNormal t
-type_again = ind-DataType IsNormal IsNormalField (λ x y is. normal_layer_again x y is) (λ x y is. normal_field_again x y is)
+type_again : (t : DataType) → Keeps normal t
+type_again = ind-DataType (Keeps normal) (KeepsField normal_field)
+    (λ x y is. keeps_layer roll-DataType normal normal_field normal_roll x y is) (λ x y is. normal_field_again x y is)
 
 field_again : (field : Field) → is_valid_field field ≡ true → normalised_field (normalised_field field) ≡ normalised_field field
 field_again field h =
@@ -124,34 +128,20 @@ keeps_normal schema h =
 
 -- ---- the normal form of what is valid is valid
 
-abbrev StaysValid : DataType → Type 0
-StaysValid t = is_valid_type t ≡ true → is_valid_type (normal t) ≡ is_valid_type t
-
-abbrev StaysValidField : Field → Type 0
-StaysValidField u = valid_field u ≡ true → valid_field (normal_field u) ≡ valid_field u
-
-valid_layer : (x : Layer) (y : layer.DataType-F ((t : DataType) × StaysValid t) ((u : Field) × StaysValidField u))
-    → map-DataType ((t : DataType) × StaysValid t) ((u : Field) × StaysValidField u) DataType Field (λ e. e.0) (λ e. e.0) y ≡ x
-    → StaysValid (roll-DataType x)
-valid_layer x y is h =
-    let below = below_valid (λ t. is_valid_type (normal t)) is_valid_type (λ u. valid_field (normal_field u)) valid_field x y is in
-    ap is_valid_type (normal_roll x) ∙ valid_roll (map-DataType DataType Field DataType Field normal normal_field x)
-    ∙ ap valid_step (two_maps normal normal_field is_valid_type valid_field x ∙ below (sym (valid_roll x) ∙ h))
-    ∙ sym (valid_roll x)
-
-valid_field_layer : (x : FieldLayer) (y : layer.Field-F ((t : DataType) × StaysValid t) ((u : Field) × StaysValidField u))
-    → map-Field ((t : DataType) × StaysValid t) ((u : Field) × StaysValidField u) DataType Field (λ e. e.0) (λ e. e.0) y ≡ x
-    → StaysValidField (roll-Field x)
+valid_field_layer : (x : FieldLayer) (y : layer.Field-F ((t : DataType) × Keeps is_valid_type t) ((u : Field) × KeepsField valid_field u))
+    → map-Field ((t : DataType) × Keeps is_valid_type t) ((u : Field) × KeepsField valid_field u) DataType Field (λ e. e.0) (λ e. e.0) y ≡ x
+    → KeepsField valid_field (roll-Field x)
 valid_field_layer x y is h =
     let parts = and_parts (is_valid_type x.data_type) (are_sorted x.metadata) (sym (valid_roll_field x) ∙ h) in
-    let below : StaysValid x.data_type = subst StaysValid (ap (λ (x : FieldLayer). x.data_type) is) y.data_type.1 in
+    let below : Keeps is_valid_type x.data_type = subst (Keeps is_valid_type) (ap (λ (x : FieldLayer). x.data_type) is) y.data_type.1 in
     let t = normal x.data_type in
     ap valid_field (normal_field_is x) ∙ valid_roll_field (normal_layer x)
     ∙ and_from (is_valid_type t) (are_sorted (normalised_pairs t x.metadata)) (below parts.0 ∙ parts.0) (pairs_sorted t x.metadata parts.1)
     ∙ sym h
 
-type_valid : (t : DataType) → StaysValid t
-type_valid = ind-DataType StaysValid StaysValidField (λ x y is. valid_layer x y is) (λ x y is. valid_field_layer x y is)
+type_valid : (t : DataType) → Keeps is_valid_type t
+type_valid = ind-DataType (Keeps is_valid_type) (KeepsField valid_field)
+    (λ x y is. keeps_layer valid_step is_valid_type valid_field valid_roll x y is) (λ x y is. valid_field_layer x y is)
 
 fields_valid : (fields : List Field) → list_all is_valid_field fields ≡ true → list_all is_valid_field (map normalised_field fields) ≡ true
 fields_valid [] h = refl

@@ -86,22 +86,14 @@ type_step layer.Null = at_roll layer.Null (leaves.empty_claim 1 kind.null layer.
     (λ bytes read field found total. refl))
 type_step layer.Boolean = at_roll layer.Boolean (leaves.empty_claim 6 kind.bool layer.Boolean (omega arith) refl (λ ws. refl, λ ws. refl)
     (λ bytes read field found total. refl))
-type_step layer.Int8 = at_roll layer.Int8
-    (leaves.integer_claim 8 true integers.Int8 layer.Int8 (omega arith) refl refl (λ ws. refl, λ ws. refl))
-type_step layer.Int16 = at_roll layer.Int16
-    (leaves.integer_claim 16 true integers.Int16 layer.Int16 (omega arith) refl refl (λ ws. refl, λ ws. refl))
-type_step layer.Int32 = at_roll layer.Int32
-    (leaves.integer_claim 32 true integers.Int32 layer.Int32 (omega arith) refl refl (λ ws. refl, λ ws. refl))
-type_step layer.Int64 = at_roll layer.Int64
-    (leaves.integer_claim 64 true integers.Int64 layer.Int64 (omega arith) refl refl (λ ws. refl, λ ws. refl))
-type_step layer.UInt8 = at_roll layer.UInt8
-    (leaves.integer_claim 8 false integers.UInt8 layer.UInt8 (omega arith) refl refl (λ ws. refl, λ ws. refl))
-type_step layer.UInt16 = at_roll layer.UInt16
-    (leaves.integer_claim 16 false integers.UInt16 layer.UInt16 (omega arith) refl refl (λ ws. refl, λ ws. refl))
-type_step layer.UInt32 = at_roll layer.UInt32
-    (leaves.integer_claim 32 false integers.UInt32 layer.UInt32 (omega arith) refl refl (λ ws. refl, λ ws. refl))
-type_step layer.UInt64 = at_roll layer.UInt64
-    (leaves.integer_claim 64 false integers.UInt64 layer.UInt64 (omega arith) refl refl (λ ws. refl, λ ws. refl))
+type_step layer.Int8 = at_roll layer.Int8 (leaves.integer_claim 8 true integers.Int8 layer.Int8 (omega arith) refl refl (λ ws. refl, λ ws. refl))
+type_step layer.Int16 = at_roll layer.Int16 (leaves.integer_claim 16 true integers.Int16 layer.Int16 (omega arith) refl refl (λ ws. refl, λ ws. refl))
+type_step layer.Int32 = at_roll layer.Int32 (leaves.integer_claim 32 true integers.Int32 layer.Int32 (omega arith) refl refl (λ ws. refl, λ ws. refl))
+type_step layer.Int64 = at_roll layer.Int64 (leaves.integer_claim 64 true integers.Int64 layer.Int64 (omega arith) refl refl (λ ws. refl, λ ws. refl))
+type_step layer.UInt8 = at_roll layer.UInt8 (leaves.integer_claim 8 false integers.UInt8 layer.UInt8 (omega arith) refl refl (λ ws. refl, λ ws. refl))
+type_step layer.UInt16 = at_roll layer.UInt16 (leaves.integer_claim 16 false integers.UInt16 layer.UInt16 (omega arith) refl refl (λ ws. refl, λ ws. refl))
+type_step layer.UInt32 = at_roll layer.UInt32 (leaves.integer_claim 32 false integers.UInt32 layer.UInt32 (omega arith) refl refl (λ ws. refl, λ ws. refl))
+type_step layer.UInt64 = at_roll layer.UInt64 (leaves.integer_claim 64 false integers.UInt64 layer.UInt64 (omega arith) refl refl (λ ws. refl, λ ws. refl))
 type_step layer.Float16 = at_roll layer.Float16 (leaves.unwritten_claim _ _ _ _)
 type_step layer.Float32 = at_roll layer.Float32 (leaves.unwritten_claim _ _ _ _)
 type_step layer.Float64 = at_roll layer.Float64 (leaves.unwritten_claim _ _ _ _)

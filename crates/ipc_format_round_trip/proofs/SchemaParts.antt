@@ -1,15 +1,16 @@
 -- What is shown of each type and field at once: that it reads back, fits, and takes few visits.
-use Rattle.std.proofs.Common.{◌≡◌, ℕ, ◌+◌, ◌*◌, ◌≤◌, ◌<◌, ◌^◌, ℤ, Bool, true, false, ◌&&◌, List, [], ◌∷◌, ◌++◌, length, refl, length-append, arith}
+use Rattle.std.proofs.Common.{◌≡◌, ℕ, ◌+◌, ◌*◌, ◌≤◌, ◌<◌, ◌^◌, ℤ, Bool, true, false, ◌&&◌, List, [], ◌∷◌, length, refl, length-append, arith}
 use Rattle.std.specs.Prelude.{Option, Some, None, is_some}
 use Rattle.std.specs.Int.{next_multiple_of}
 use Rattle.std.specs.Str.{is_utf8}
 use Rattle.std.specs.List.{flat_map}
 use Rattle.std.proofs.Math.Facts.{Fits-of_z, Fits-lt-pow}
-use Rattle.ipc_format_flatbuffers.specs.Laying.{Piece, Slot, child_bytes, vtable, table_bytes, table_piece, references_piece}
+use Rattle.ipc_format_flatbuffers.specs.Laying.{Piece, Slot, child_bytes, table_piece, references_piece}
 use Rattle.ipc_format_flatbuffers.proofs.Slots.{length-vtable}
 use Rattle.ipc_format_flatbuffers.proofs.References.{length-references_piece}
 use Rattle.ipc_format_flatbuffers.specs.Objects.{Object, Fields, Objects, table, references, elements, text, no_field, absent_then, number_then}
 use Rattle.ipc_format_flatbuffers.specs.Objects.{refers_then, no_object, object_then, piece_of, slots_of, pieces_of}
+use Rattle.ipc_format_spelling.proofs.Pieces.{length-table_piece}
 use Rattle.ipc_format_spelling.specs.Theorem.{Fits, FitsFields, FitsObjects}
 use Rattle.columnar_memory.specs.declared.DataType.{DataType}
 use Rattle.columnar_memory.specs.declared.Field.{Field}
@@ -47,14 +48,7 @@ abbrev mutual
   tables_among (object_then object objects) = tables_in object + tables_among objects
 
 table_longer : (slots : List Slot) → 1 + length (flat_map child_bytes slots) ≤ length (table_piece slots).bytes
-unfolding table_piece
-table_longer slots = omega (
-  arith,
-  length-append (vtable slots ++ table_bytes slots) (flat_map child_bytes slots),
-  length-append (vtable slots)
-      (table_bytes slots),
-  length-vtable slots (length slots) refl,
-)
+table_longer slots = omega (arith, length-table_piece slots, length-vtable slots (length slots) refl)
 
 references_longer : (pieces : List Piece) → length (flat_map (λ (piece : Piece). piece.bytes) pieces) ≤ length (references_piece pieces).bytes
 references_longer pieces =
