@@ -3,6 +3,7 @@ use Rattle.std.proofs.Common.{Bool, true, false, not, map, refl, subst, arith}
 use denote.Hole.Carrier
 use Rattle.columnar_memory.specs.declared.DataType.{DataType, map-DataType}
 use Rattle.columnar_memory.specs.declared.DataType.TheOpen as layer
+use Rattle.columnar_memory.specs.declared.DataType.TheVariants as types
 use Rattle.columnar_memory.specs.declared.DataType.TheViews.{roll-DataType, roll-Field}
 use Rattle.columnar_memory.specs.declared.DataType.TheFolds.{ind-Field, fold-DataType, fold-Field, fold-roll-DataType, fold-roll-Field}
 use Rattle.columnar_memory.specs.declared.Field.{Field, map-Field}
@@ -18,7 +19,7 @@ use Rattle.ipc_format_round_trip.proofs.TypeTables.{timestamp_fields}
 use Rattle.ipc_format_round_trip.proofs.TypeSteps.{timestamps_read, intervals_read, durations_read, fixed_binaries_read}
 use Rattle.ipc_format_round_trip.proofs.SchemaSteps as leaves
 use Rattle.ipc_format_round_trip.proofs.SchemaSteps.{TypeClaim, FieldClaim, LayerClaim}
-use Rattle.ipc_format_round_trip.proofs.NestedSteps.{list_claim, large_list_claim, fixed_list_claim, map_claim, struct_claim, union_claim}
+use Rattle.ipc_format_round_trip.proofs.NestedSteps.{items_claim, fixed_list_claim, map_claim, struct_claim, union_claim}
 use Rattle.ipc_format_round_trip.proofs.NestedSteps.{dictionary_claim, extension_claim}
 use Rattle.ipc_format_round_trip.proofs.FieldClaims.{field_claim}
 
@@ -128,10 +129,14 @@ type_step (layer.Decimal precision scale) = at_roll (layer.Decimal precision sca
     (leaves.decimal_claim precision scale 128 (layer.Decimal precision scale) (omega arith) refl (λ ws. refl, λ ws. refl))
 type_step (layer.Decimal256 precision scale) = at_roll (layer.Decimal256 precision scale)
     (leaves.decimal_claim precision scale 256 (layer.Decimal256 precision scale) (omega arith) refl (λ ws. refl, λ ws. refl))
-type_step (layer.List item) = at_roll (layer.List item.0) (list_claim (told_field item.0) (normal_field item.0) (report_field item.0)
-    (ids_of_field item.0) (has_texts item.0) item.1)
+type_step (layer.List item) = at_roll (layer.List item.0)
+    (items_claim 12 kind.list types.List (layer.List (normal_field item.0)) (told_field item.0) (normal_field item.0) (report_field item.0)
+    (ids_of_field item.0) (has_texts item.0) (omega arith) refl refl (λ ws. refl, λ ws. refl)
+    (λ bytes read field found total left result e. rw e refl) item.1)
 type_step (layer.LargeList item) = at_roll (layer.LargeList item.0)
-    (large_list_claim (told_field item.0) (normal_field item.0) (report_field item.0) (ids_of_field item.0) (has_texts item.0) item.1)
+    (items_claim 21 kind.large_list types.LargeList (layer.LargeList (normal_field item.0)) (told_field item.0) (normal_field item.0) (report_field item.0)
+    (ids_of_field item.0) (has_texts item.0) (omega arith) refl refl (λ ws. refl, λ ws. refl)
+    (λ bytes read field found total left result e. rw e refl) item.1)
 type_step (layer.FixedSizeList item size) = at_roll (layer.FixedSizeList item.0 size)
     (fixed_list_claim size (told_field item.0) (normal_field item.0) (report_field item.0) (ids_of_field item.0) (has_texts item.0) item.1)
 type_step (layer.Map entry is_sorted) = at_roll (layer.Map entry.0 is_sorted)

@@ -19,16 +19,16 @@ use Rattle.columnar_memory.specs.declared.Field.{Field}
 use Rattle.columnar_memory.specs.declared.IntegerType.{IntegerType}
 use Rattle.columnar_memory.specs.declared.UnionMode.{UnionMode}
 use Rattle.columnar_memory.specs.declared.UnionMode.TheVariants as modes
-use Rattle.ipc_format_grammar.specs.Types.{tag_of}
-use Rattle.ipc_format_grammar.specs.Schemas.{Ids, IdsList, ids, no_ids, ids_then, FieldIn, fields_of, ids_of}
+use Rattle.ipc_format_grammar.specs.Types.{Tag, tag_of}
+use Rattle.ipc_format_grammar.specs.Schemas.{Ids, IdsList, ids, no_ids, ids_then, FieldIn, Visits, type_in, child_in, with_child, fields_of, ids_of}
 use Rattle.ipc_format_grammar.specs.SchemaObjects.{Told, nested, objects_of, empty_table, long_table, truth, mode_number}
 use Rattle.ipc_format_grammar.specs.Writable.{is_union_id, are_union_ids, are_distinct, Report, Shape, over, over_all, deepest, is_size, is_plain}
 use Rattle.ipc_format_grammar.specs.Writable.{is_dictionary, is_struct_of_two, plain, dictionary, extension, struct_of_two, shape_of_struct}
-use Rattle.ipc_format_round_trip.specs.Schemas.{IdsTold, FitIds, FitIdsList, each_ids, are_true, is_text_or_none}
+use Rattle.ipc_format_round_trip.specs.Schemas.{IdsTold, FitIds, FitIdsList, over_ids, each_ids, are_true, is_text_or_none}
 use Rattle.ipc_format_round_trip.proofs.FieldSteps.{TypeReads, ListReads, no_fields, fields_then, encode, extend}
 use Rattle.ipc_format_round_trip.proofs.SchemaParts.{TypeBack, FieldBack, tables_among, both}
 use Rattle.ipc_format_round_trip.proofs.TypeTables.{union_fields, ids_length, FitIds as FitNumbers}
-use Rattle.ipc_format_round_trip.proofs.TypeSteps.{first_ids, one_object, lists_read, large_lists_read, fixed_lists_read, maps_read, structs_read}
+use Rattle.ipc_format_round_trip.proofs.TypeSteps.{first_ids, one_object, over_reads, fixed_lists_read, maps_read, structs_read}
 use Rattle.ipc_format_round_trip.proofs.TypeSteps.{unions_read}
 use Rattle.ipc_format_round_trip.proofs.SchemaSteps.{TypeClaim, FieldClaim, LayerClaim, IsBare, bare_back, empty_fits, long_fits, size_fits}
 
@@ -54,23 +54,22 @@ over_back n type_table x b told normal report its_ids below small fits is_bare h
     (subst (λ (l : IdsList). TypeReads (nested n type_table (told ∷ []) below) (roll-DataType x) l (report.levels + 1) h.visits)
     (sym (one_ids its_ids below)) read)
 
-pub list_claim : (told : Ids → Object) (normal : Field) (report : Report) (its_ids : Ids → Ids) (texts : Bool)
+-- a type over one field whose table has no slots
+pub items_claim : (n : ℕ) (tag : Tag) (make : Field → DataType) (x : layer.DataType-F DataType Field) (told : Ids → Object) (normal : Field)
+    (report : Report) (its_ids : Ids → Ids) (texts : Bool)
+    → n < 2 ^ 8 → tag_of n ≡ Some tag → make normal ≡ roll-DataType x → IsBare x
+    → ((bytes : List ℕ) (read : Table → Visits FieldIn) (field found : Table) (total left : ℕ) (result : FieldIn)
+    → child_in read bytes field total ≡ Some (result, left) → type_in None read bytes tag field found total ≡ Some (with_child make (result, left)))
     → FieldClaim told normal report its_ids texts
-    → LayerClaim (layer.List told) (layer.List normal) (layer.List report) (layer.List its_ids) (layer.List texts)
-unfolding roll-DataType denote.Hole.Carrier.roll
-list_claim told normal report its_ids texts claim allowed has_texts below fit =
+    → TypeClaim (nested n empty_table (told ∷ [])) (roll-DataType x) (over true report) (over_ids (its_ids ∷ [])) texts
+items_claim n tag make x told normal report its_ids texts small tag-is made is_bare read claim allowed has_texts below fit =
     let h = claim allowed has_texts (first_ids below) (first_fits below fit) in
-    over_back 12 empty_table (layer.List normal) true told normal report its_ids below (omega arith) empty_fits (λ ws. refl, λ ws. refl) h
-    (lists_read told below (record { field = normal; ids = its_ids (first_ids below) }) (report.levels + 1) h.visits h.reads)
-
-pub large_list_claim : (told : Ids → Object) (normal : Field) (report : Report) (its_ids : Ids → Ids) (texts : Bool)
-    → FieldClaim told normal report its_ids texts
-    → LayerClaim (layer.LargeList told) (layer.LargeList normal) (layer.LargeList report) (layer.LargeList its_ids) (layer.LargeList texts)
-unfolding roll-DataType denote.Hole.Carrier.roll
-large_list_claim told normal report its_ids texts claim allowed has_texts below fit =
-    let h = claim allowed has_texts (first_ids below) (first_fits below fit) in
-    over_back 21 empty_table (layer.LargeList normal) true told normal report its_ids below (omega arith) empty_fits (λ ws. refl, λ ws. refl) h
-    (large_lists_read told below (record { field = normal; ids = its_ids (first_ids below) }) (report.levels + 1) h.visits h.reads)
+    let result : FieldIn = record { field = normal; ids = its_ids (first_ids below) } in
+    over_back n empty_table x true told normal report its_ids below small empty_fits is_bare h
+    (subst (λ (t : DataType). TypeReads (nested n empty_table (told ∷ []) below) t (ids_then (its_ids (first_ids below)) no_ids)
+    (report.levels + 1) h.visits) made
+    (over_reads n tag no_field make told below result (report.levels + 1) h.visits tag-is h.reads
+    (λ bytes r field found total left s e. read bytes r field found total left result e)))
 
 pub fixed_list_claim : (size : ℕ) (told : Ids → Object) (normal : Field) (report : Report) (its_ids : Ids → Ids) (texts : Bool)
     → FieldClaim told normal report its_ids texts

@@ -159,7 +159,7 @@ children_read objects results deep visits h bytes levels field total left enough
     rw (read.vector, read.count_is) (h.reads bytes levels read.child 0 total left enough e read.each)
 
 -- a type that is made of its one field
-over_reads : (n : ℕ) (tag : Tag) (type_fields : Fields) (make : Field → DataType) (f : Ids → Object) (below : IdsList) (result : FieldIn)
+pub over_reads : (n : ℕ) (tag : Tag) (type_fields : Fields) (make : Field → DataType) (f : Ids → Object) (below : IdsList) (result : FieldIn)
     (deep visits : ℕ)
     → tag_of n ≡ Some tag → FieldReads (f (first_ids below)) result deep visits
     → ((bytes : List ℕ) (read : Table → Visits FieldIn) (field found : Table) (total left : ℕ) → SpellsFields bytes found 0 type_fields
@@ -176,19 +176,6 @@ over_reads n tag type_fields make f below result deep visits tag-is h read = rec
       (subst (λ (objects : Objects). SpellsReference bytes field 5 (λ (place : ℕ). Spells bytes place (references objects)))
       (one_object f below) children));
 }
-
-pub lists_read : (f : Ids → Object) (below : IdsList) (result : FieldIn) (deep visits : ℕ) → FieldReads (f (first_ids below)) result deep visits
-    → TypeReads (nested 12 (table no_field) (f ∷ []) below) (types.List result.field) (ids_then result.ids no_ids) deep visits
-unfolding type_in
-lists_read f below result deep visits h = over_reads 12 kind.list no_field types.List f below result deep visits refl h
-    (λ (bytes : List ℕ) (r : Table → Visits FieldIn) (field found : Table) (total left : ℕ) s e. rw e refl)
-
-pub large_lists_read : (f : Ids → Object) (below : IdsList) (result : FieldIn) (deep visits : ℕ)
-    → FieldReads (f (first_ids below)) result deep visits
-    → TypeReads (nested 21 (table no_field) (f ∷ []) below) (types.LargeList result.field) (ids_then result.ids no_ids) deep visits
-unfolding type_in
-large_lists_read f below result deep visits h = over_reads 21 kind.large_list no_field types.LargeList f below result deep visits refl h
-    (λ (bytes : List ℕ) (r : Table → Visits FieldIn) (field found : Table) (total left : ℕ) s e. rw e refl)
 
 pub fixed_lists_read : (size : ℕ) (f : Ids → Object) (below : IdsList) (result : FieldIn) (deep visits : ℕ) → 1 ≤ size → size < 2 ^ 31
     → FieldReads (f (first_ids below)) result deep visits
