@@ -14,10 +14,10 @@ use Rattle.columnar_memory.specs.declared.Schema.{Schema}
 use Rattle.nested_arrays.specs.Slots.{Slot}
 use Rattle.ipc_format_grammar.specs.Messages.{Version, V5, Header, schema, dictionary_batch, record_batch, RecordBatch, DictionaryBatch}
 use Rattle.ipc_format_grammar.specs.Messages.{record_batch_in, dictionary_batch_in, lengths_sum}
-use Rattle.ipc_format_grammar.specs.Schemas.{Ids, IdsList, ids}
+use Rattle.ipc_format_grammar.specs.Schemas.{Ids, IdsList}
 use Rattle.ipc_format_columns.specs.Layouts.{node_count, node_number, node_step, buffer_count, buffer_number, buffer_step}
 use Rattle.ipc_format_columns.specs.Columns.{Source, Dictionary, Reader, fixed_slots, validity_in, buffer_at, read_step, read_field_step, slots_in, first_ids, other_ids}
-use Rattle.ipc_format_columns.specs.Dictionaries.{Entry, Layout, Values, Finder, find_step, find_field_step, values_in, values_of, source_in, dictionary_in}
+use Rattle.ipc_format_columns.specs.Dictionaries.{Entry, Layout, Finder, find_step, find_field_step, values_in, values_of, source_in, dictionary_in}
 use Rattle.ipc_format_columns.specs.Framing.{Framed, Next, nothing_whole, at_end, message_then, next_at, by_next, dictionaries_after, later_messages}
 use Rattle.ipc_format_columns.specs.Tables.{columns_from, batch_in, batches_of, batches_behind, stream_entry, ids_at}
 use Rattle.ipc_format.specs.Reading.{◌>>=◌, guard}

@@ -1,5 +1,5 @@
 -- A stream of columns of signed 32-bit numbers is the stream that the general definitions give.
-use Rattle.std.proofs.Common.{◌≡◌, ◌∙◌, ℕ, suc, ◌+◌, List, [], ◌∷◌, ◌++◌, length, map, refl, sym, ap, ap₂, append_assoc, arith}
+use Rattle.std.proofs.Common.{◌≡◌, ◌∙◌, ℕ, List, [], ◌∷◌, ◌++◌, length, map, refl, ap, ap₂, arith}
 use Rattle.std.specs.Prelude.{None}
 use Rattle.std.specs.List.{All, flat_map}
 use Rattle.std.proofs.lemmas.List.Elements.{All-head, All-tail}
@@ -11,15 +11,15 @@ use Rattle.columnar_memory.specs.declared.DataType.TheVariants as types
 use Rattle.columnar_memory.specs.declared.Field.{Field}
 use Rattle.columnar_memory.specs.declared.Schema.{Schema}
 use Rattle.nested_arrays.specs.Slots.{Slot}
-use Rattle.ipc_format_grammar.specs.Schemas.{Ids, IdsList, ids, no_ids, ids_then}
-use Rattle.ipc_format_grammar.specs.SchemaObjects.{field_object, objects_of, schema_object, schema_message, message_object}
-use Rattle.ipc_format.specs.Objects.{Object, Objects, object_then, references, table, laid}
+use Rattle.ipc_format_grammar.specs.Schemas.{Ids, IdsList, ids, no_ids}
+use Rattle.ipc_format_grammar.specs.SchemaObjects.{field_object, objects_of, schema_object, schema_message}
+use Rattle.ipc_format.specs.Objects.{Objects, object_then}
 use Rattle.ipc_format_columns.specs.Columns.{first_ids, other_ids}
 use Rattle.ipc_format_written.specs.Encoding.{Encoded, Encoder, encode, encode_step, joined, node_of}
 use Rattle.ipc_format_written.specs.Ids.{Numbering, number_step, numbered, number_fields, default_ids}
-use Rattle.ipc_format_written.specs.GivenDictionaries.{Given, Giver, given_by, give_step, give_field_step}
-use Rattle.ipc_format_written.specs.WrittenMessages.{Written, framed, end_mark, message_bytes, message_of, batch_object, record_tag, record_message, schema_written, body_bytes}
-use Rattle.ipc_format_written.specs.WrittenStreams.{Batch, columns_of_slots, given_of_slots, rows_of_slots, batch_of_slots, messages_after, stream_messages, bytes_of_messages, stream_bytes}
+use Rattle.ipc_format_written.specs.GivenDictionaries.{Giver, given_by, give_step, give_field_step}
+use Rattle.ipc_format_written.specs.WrittenMessages.{message_bytes, message_of, batch_object, record_tag, record_message, schema_written}
+use Rattle.ipc_format_written.specs.WrittenStreams.{columns_of_slots, given_of_slots, rows_of_slots, batch_of_slots, messages_after, stream_messages, bytes_of_messages, stream_bytes}
 use Rattle.tables_metadata.specs.Int32Schemas.{IsInt32Schema, IsInt32Field}
 use Rattle.tables_stream.specs.Int32Written.{int32_buffers, nodes_of, int32_message, int32_stream}
 

@@ -7,6 +7,7 @@ use Rattle.std.proofs.lemmas.Bool.{ltb-false}
 use Rattle.std.proofs.Math.Seq.{drop-nil}
 use Rattle.columnar_memory.specs.declared.Schema.{Schema}
 use Rattle.nested_arrays.specs.Slots.{Slot, null, window}
+use Rattle.nested_arrays.proofs.Windows.{window_same}
 use Rattle.nested_arrays.specs.Tables.{Table, part, rows_of_batches, rows_of_columns, batch_rows, row_at}
 use Rattle.tables_stream.specs.Cells.{slot_of}
 use Rattle.tables_stream.specs.Batches.{window_cells, rows_of_cells}
@@ -16,15 +17,6 @@ use Rattle.tables_stream.specs.Tables.{Stored, as_table, batch_slots}
 -- the cells of a column
 abbrev Cells : Type 0
 Cells = List (Option ℤ)
-
--- two functions that have the same values at n places have the same window there
-window_same : {A : Type 0} (f g : ℕ → A) (first second n : ℕ) →
-    ((i : ℕ) → i < n → f (first + i) ≡ g (second + i)) → window f first n ≡ window g second n
-window_same f g first second zero same = refl
-window_same f g first second (suc n) same =
-    let here : f first ≡ g second = ap f (omega arith) ∙ same 0 (omega arith) ∙ ap g (omega arith) in
-    let next = λ (i : ℕ) (h : i < n). ap f (omega arith) ∙ same (suc i) (omega arith) ∙ ap g (omega arith) in
-    ap₂ (λ x xs. x ∷ xs) here (window_same f g (first + 1) (second + 1) n next)
 
 -- a window without its first places is the window from there on
 drop_window : {A : Type 0} (f : ℕ → A) (first skipped left n : ℕ) → n ≡ skipped + left →

@@ -1,6 +1,6 @@
 -- In each batch of a table stands a column a field.
-use Rattle.std.proofs.Common.{◌≡◌, ◌∙◌, ℕ, zero, suc, ◌+◌, ◌-◌, ◌*◌, ℤ, Bool, true, false, List, [], ◌∷◌, ◌++◌, length, map, min, refl, sym, ap, subst, arith}
-use Rattle.std.specs.Prelude.{Option, Some, None, Result, Ok, Err, OnOk, not, nat_le, nat_lt, if◌then◌else◌}
+use Rattle.std.proofs.Common.{◌≡◌, ◌∙◌, ℕ, zero, suc, ◌+◌, ◌-◌, ◌*◌, ℤ, Bool, true, false, List, [], ◌∷◌, ◌++◌, length, map, min, refl, sym, ap, subst}
+use Rattle.std.specs.Prelude.{Option, Some, None, Result, OnOk, not, nat_le, nat_lt, if◌then◌else◌}
 use Rattle.std.specs.List.{All}
 use Rattle.std.specs.Io.KnownBytes.{Appends}
 use Rattle.std.proofs.lemmas.List.{length-map}
@@ -13,18 +13,17 @@ use Rattle.ipc_format.specs.Messages.{V5, Header, schema, dictionary_batch, reco
 use Rattle.ipc_format_columns.specs.Columns.{Source}
 use Rattle.ipc_format_columns.specs.Tables.{agree_in_length}
 use Rattle.ipc_format_columns.specs.Framing.{Framed, Next, nothing_whole, at_end, message_then, next_at}
-use Rattle.tables_metadata.specs.Int32Schemas.{IsInt32Schema}
 use Rattle.tables_stream.specs.Batches.{window_cells, rows_of_cells}
 use Rattle.tables_stream.specs.Cells.{slot_of}
 use Rattle.tables_stream.specs.Cuts.{cut_of}
-use Rattle.tables_stream.specs.Int32.{int32_columns, int32_batch, agreeing, batch_by, Step, batch_then, step_of, step_at}
+use Rattle.tables_stream.specs.Int32.{int32_columns, int32_batch, batch_by, Step, batch_then, step_of, step_at}
 use Rattle.tables_stream.specs.Int32Values.{int32_slots}
 use Rattle.tables_stream.specs.Int32Written.{int32_stream}
 use Rattle.ipc_format.specs.Schemas.{no_ids}
 use Rattle.tables_stream.specs.Tables.{Stored, IsInt32Table, batch_slots, stored_cells, table_bytes}
 use Rattle.tables_stream.specs.declared.batches.Batch.{Batch}
 use Rattle.tables_stream.proofs.Appending.{on_ok}
-use Rattle.tables_stream.proofs.Int32Streams.{HaveWidth, int32_streams}
+use Rattle.tables_stream.proofs.Int32Streams.{int32_streams}
 
 -- a column a field
 abbrev pub HasWidth : ℕ → List (List (Option ℤ)) → Type 0

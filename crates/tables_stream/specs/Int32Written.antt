@@ -8,7 +8,7 @@ use Rattle.nested_arrays.specs.Slots.{Slot}
 use Rattle.columnar_memory.specs.declared.Schema.{Schema}
 use Rattle.ipc_format.specs.Schemas.{IdsList}
 use Rattle.ipc_format.specs.SchemaObjects.{schema_message}
-use Rattle.ipc_format_written.specs.Buffers.{bits_by, bitmap_by, is_valid, null_count, validity_bytes, number_bytes}
+use Rattle.ipc_format_written.specs.Buffers.{bits_by, bitmap_by, is_valid, validity_bytes, number_bytes}
 use Rattle.ipc_format_written.specs.Encoding.{node_of}
 use Rattle.ipc_format_written.specs.WrittenMessages.{framed, end_mark, body_bytes, buffer_places, record_tag}
 use Rattle.ipc_format_written.specs.WrittenStreams.{rows_of_slots}

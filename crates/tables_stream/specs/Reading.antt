@@ -1,8 +1,7 @@
 -- What is read of a stream, against the table that the format gives.
-use Rattle.std.specs.Prelude.{◌≡◌, ℕ, ◌≤◌, ◌<◌, ◌^◌, true, List, length, map, Option, Some, None, IfSome, Result, Ok, Err}
+use Rattle.std.specs.Prelude.{◌≡◌, ℕ, ◌≤◌, ◌<◌, ◌^◌, true, List, length, map, Some, None, IfSome, Result, Ok, Err}
 use Rattle.columnar_memory.specs.declared.Error.TheVariants as errors
 use Rattle.columnar_memory.specs.declared.Schema.{Schema}
-use Rattle.nested_arrays.specs.Slots.{Slot}
 use Rattle.nested_arrays.specs.Tables.{rows_of_batches}
 use Rattle.ipc_format.specs.Messages.{Version}
 use Rattle.ipc_format.specs.Framing.{truncated_from, EndsInLaterMessage}

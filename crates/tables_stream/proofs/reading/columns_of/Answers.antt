@@ -1,4 +1,4 @@
-use Rattle.std.proofs.Common.{rules, arith, ℕ, ◌*◌, None, ◌≡◌, true, false}
+use Rattle.std.proofs.Common.{rules, arith, ℕ, ◌*◌, ◌≡◌, true, false}
 use Rattle.std.specs.Prelude.{Err, Some, map}
 use Rattle.std.specs.declared.vec.Vec.{Vec}
 use Rattle.std.specs.declared.alloc.Global.{Global}

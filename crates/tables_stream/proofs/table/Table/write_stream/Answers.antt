@@ -1,10 +1,10 @@
 -- What was written is the table's stream.
-use Rattle.std.proofs.Common.{rules, ◌≡◌, List, map}
+use Rattle.std.proofs.Common.{rules, map}
 use Rattle.std.specs.Prelude.{OnOk}
 use Rattle.std.specs.Io.KnownBytes.{Appends}
 use Rattle.ipc_format.specs.Schemas.{no_ids}
 use Rattle.tables_stream.specs.Int32Written.{int32_stream}
-use Rattle.tables_stream.specs.Tables.{Stored, batch_slots, stored_cells, table_bytes}
+use Rattle.tables_stream.specs.Tables.{Stored, batch_slots, stored_cells}
 use Rattle.tables_stream.proofs.Widths.{table_appended}
 use Rattle.tables_stream.proofs.table.Table.write_stream.Goals as goal
 
