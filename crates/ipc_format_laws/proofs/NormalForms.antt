@@ -88,12 +88,17 @@ keeps_layer step f f_field f_roll x y is h =
     ∙ ap step (two_maps normal normal_field f f_field x ∙ below (sym (valid_roll x) ∙ h))
     ∙ sym (f_roll x)
 
-normal_field_again : (x : FieldLayer) (y : layer.Field-F ((t : DataType) × Keeps normal t) ((u : Field) × KeepsField normal_field u))
-    → map-Field ((t : DataType) × Keeps normal t) ((u : Field) × KeepsField normal_field u) DataType Field (λ e. e.0) (λ e. e.0) y ≡ x
-    → KeepsField normal_field (roll-Field x)
-normal_field_again x y is h =
+-- it is kept at each depth, where a field keeps it whose type does
+keeps : {A B : Type 0} (step : layer.DataType-F A B → A) (f : DataType → A) (f_field : Field → B)
+    → ((x : Layer) → f (roll-DataType x) ≡ step (map-DataType DataType Field A B f f_field x))
+    → ((x : FieldLayer) → Keeps f x.data_type → KeepsField f_field (roll-Field x)) → (t : DataType) → Keeps f t
+keeps step f f_field f_roll field =
+    ind-DataType (Keeps f) (KeepsField f_field) (λ x y is. keeps_layer step f f_field f_roll x y is)
+    (λ x y is. field x (subst (Keeps f) (ap (λ (x : FieldLayer). x.data_type) is) y.data_type.1))
+
+normal_field_again : (x : FieldLayer) → Keeps normal x.data_type → KeepsField normal_field (roll-Field x)
+normal_field_again x below h =
     let parts = and_parts (is_valid_type x.data_type) (are_sorted x.metadata) (sym (valid_roll_field x) ∙ h) in
-    let below : Keeps normal x.data_type = subst (Keeps normal) (ap (λ (x : FieldLayer). x.data_type) is) y.data_type.1 in
     let t = normal x.data_type in
     let pairs = normalised_pairs t x.metadata in
     ap normal_field (normal_field_is x) ∙ normal_field_is (normal_layer x)
@@ -102,8 +107,7 @@ normal_field_again x y is h =
     ∙ sym (normal_field_is x)
 
 type_again : (t : DataType) → Keeps normal t
-type_again = ind-DataType (Keeps normal) (KeepsField normal_field)
-    (λ x y is. keeps_layer roll-DataType normal normal_field normal_roll x y is) (λ x y is. normal_field_again x y is)
+type_again = keeps roll-DataType normal normal_field normal_roll normal_field_again
 
 field_again : (field : Field) → is_valid_field field ≡ true → normalised_field (normalised_field field) ≡ normalised_field field
 field_again field h =
@@ -128,20 +132,16 @@ keeps_normal schema h =
 
 -- ---- the normal form of what is valid is valid
 
-valid_field_layer : (x : FieldLayer) (y : layer.Field-F ((t : DataType) × Keeps is_valid_type t) ((u : Field) × KeepsField valid_field u))
-    → map-Field ((t : DataType) × Keeps is_valid_type t) ((u : Field) × KeepsField valid_field u) DataType Field (λ e. e.0) (λ e. e.0) y ≡ x
-    → KeepsField valid_field (roll-Field x)
-valid_field_layer x y is h =
+valid_field_layer : (x : FieldLayer) → Keeps is_valid_type x.data_type → KeepsField valid_field (roll-Field x)
+valid_field_layer x below h =
     let parts = and_parts (is_valid_type x.data_type) (are_sorted x.metadata) (sym (valid_roll_field x) ∙ h) in
-    let below : Keeps is_valid_type x.data_type = subst (Keeps is_valid_type) (ap (λ (x : FieldLayer). x.data_type) is) y.data_type.1 in
     let t = normal x.data_type in
     ap valid_field (normal_field_is x) ∙ valid_roll_field (normal_layer x)
     ∙ and_from (is_valid_type t) (are_sorted (normalised_pairs t x.metadata)) (below parts.0 ∙ parts.0) (pairs_sorted t x.metadata parts.1)
     ∙ sym h
 
 type_valid : (t : DataType) → Keeps is_valid_type t
-type_valid = ind-DataType (Keeps is_valid_type) (KeepsField valid_field)
-    (λ x y is. keeps_layer valid_step is_valid_type valid_field valid_roll x y is) (λ x y is. valid_field_layer x y is)
+type_valid = keeps valid_step is_valid_type valid_field valid_roll valid_field_layer
 
 fields_valid : (fields : List Field) → list_all is_valid_field fields ≡ true → list_all is_valid_field (map normalised_field fields) ≡ true
 fields_valid [] h = refl
