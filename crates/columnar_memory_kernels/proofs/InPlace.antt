@@ -1,5 +1,6 @@
 -- Words that are written in place, one after the other.
-use Rattle.std.proofs.Common.{◌≡◌, ◌∙◌, ℕ, ◌+◌, ◌-◌, ◌*◌, ◌/◌, ◌%◌, ◌≤◌, ◌<◌, Bool, false, List, [], ◌∷◌, ◌++◌, length, take, get_or, slice_index, refl, ap, ap₂, sym, ◌==◌, ◌≢◌, if◌then◌else◌, subst, arith, ◌⊎◌, inl, inr, length-append, min}
+use Rattle.std.proofs.Common.{◌≡◌, ◌∙◌, ℕ, ◌+◌, ◌-◌, ◌*◌, ◌/◌, ◌%◌, ◌≤◌, ◌<◌, Bool, false, List, [], ◌∷◌, ◌++◌, length, take, get_or}
+use Rattle.std.proofs.Common.{slice_index, refl, ap, ap₂, sym, ◌==◌, ◌≢◌, if◌then◌else◌, subst, arith, ◌⊎◌, inl, inr, length-append, min}
 use Rattle.std.proofs.Math.Nat.{mul-le-mul_left}
 use Rattle.std.proofs.lemmas.List.{get_or_append_left, get_or-append_right, get_or-take, take_all, length-take-le}
 use Rattle.std.proofs.lemmas.Nat.{div-mul-add}

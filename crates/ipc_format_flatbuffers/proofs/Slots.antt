@@ -3,7 +3,8 @@ use Rattle.std.proofs.Common.{◌≡◌, ℕ, ◌+◌, ◌-◌, ◌*◌, ◌≤�
 use Rattle.std.specs.List.{flat_map}
 use Rattle.std.specs.Int.{w16, w32, to_le_bytes, next_multiple_of}
 use Rattle.std.proofs.lemmas.List.{length-replicate}
-use Rattle.ipc_format_flatbuffers.specs.Laying.{Slot, absent, number, refers, Piece, after, entry_of, table_end, entries, field_start, field_bytes, child_bytes, fields, vtable, table_bytes, table_piece}
+use Rattle.ipc_format_flatbuffers.specs.Laying.{Slot, absent, number, refers, Piece, after, entry_of, table_end, entries, field_start}
+use Rattle.ipc_format_flatbuffers.specs.Laying.{field_bytes, child_bytes, fields, vtable, table_bytes, table_piece}
 use Rattle.ipc_format_flatbuffers.proofs.Numbers.{length-to_le_bytes, padded_is, length-padded}
 use Rattle.ipc_format_flatbuffers.proofs.Rest.{three_written, four_written}
 

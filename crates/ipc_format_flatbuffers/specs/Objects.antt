@@ -1,7 +1,8 @@
 -- The values of FlatBuffers as trees, and their laying.
 use Rattle.std.specs.Prelude.{ℕ, List, [], ◌∷◌}
 use Rattle.std.specs.Int.{Width}
-use Rattle.ipc_format_flatbuffers.specs.Laying.{Piece, Slot, absent, number, refers, table_piece, references_piece, elements_piece, text_piece, message_bytes}
+use Rattle.ipc_format_flatbuffers.specs.Laying.{Piece, Slot, absent, number, refers, table_piece, references_piece, elements_piece}
+use Rattle.ipc_format_flatbuffers.specs.Laying.{text_piece, message_bytes}
 
 mutual
   -- an object: a table, a vector of references, a vector of numbers or structs (how many, and their bytes), or a string

@@ -3,7 +3,8 @@
 use Rattle.std.specs.Prelude.{ℕ, zero, suc, ◌+◌, ◌*◌, ℤ, pos, negsuc, Bool, List, length, Option, Some, None, nat_lt, is_some, if◌then◌else◌}
 use Rattle.std.specs.Int.{w8, w16, w64}
 use Rattle.ipc_format_flatbuffers.specs.Reading.{◌>>=◌}
-use Rattle.ipc_format_flatbuffers.specs.FlatBuffers.{Table, Vector, number_field, signed_field, truth_field, signed_at, table_field, vector_field, root_of}
+use Rattle.ipc_format_flatbuffers.specs.FlatBuffers.{Table, Vector, number_field, signed_field, truth_field, signed_at, table_field}
+use Rattle.ipc_format_flatbuffers.specs.FlatBuffers.{vector_field, root_of}
 
 -- a version of Arrow's metadata
 pub data Version : Type 0 where

@@ -2,7 +2,8 @@
 use Rattle.std.specs.Prelude.{ℕ, ℤ, Bool, true, false, List, [], ◌∷◌, ◌++◌, length, map, Option, Some, None}
 use Rattle.std.specs.List.{flat_map}
 use Rattle.std.specs.Int.{w8, w16, w32, w64, to_le_bytes, cast_unsigned}
-use Rattle.ipc_format_flatbuffers.specs.Objects.{Object, Fields, Objects, table, references, elements, text, no_field, absent_then, number_then, refers_then, no_object, object_then}
+use Rattle.ipc_format_flatbuffers.specs.Objects.{Object, Fields, Objects, table, references, elements, text, no_field, absent_then}
+use Rattle.ipc_format_flatbuffers.specs.Objects.{number_then, refers_then, no_object, object_then}
 use Rattle.columnar_memory.specs.declared.DataType.{DataType}
 use Rattle.columnar_memory.specs.declared.DataType.TheOpen as layer
 use Rattle.columnar_memory.specs.declared.DataType.TheFolds.{fold-DataType}

@@ -3,14 +3,16 @@
 use Rattle.std.specs.Prelude.{ℕ, zero, suc, ◌+◌, ℤ, pos, Bool, true, false, List, [], ◌∷◌, length, map, codes, Option, Some, None, nat_le}
 use Rattle.std.specs.Int.{w8, w16, w32, w64}
 use Rattle.ipc_format_flatbuffers.specs.Reading.{◌>>=◌, guard}
-use Rattle.ipc_format_flatbuffers.specs.FlatBuffers.{Table, Vector, number_field, signed_field, truth_field, table_field, vector_field, string_field, element_at}
+use Rattle.ipc_format_flatbuffers.specs.FlatBuffers.{Table, Vector, number_field, signed_field, truth_field, table_field, vector_field}
+use Rattle.ipc_format_flatbuffers.specs.FlatBuffers.{string_field, element_at}
 use Rattle.columnar_memory.specs.declared.DataType.{DataType}
 use Rattle.columnar_memory.specs.declared.DataType.TheVariants as types
 use Rattle.columnar_memory.specs.declared.Field.{Field}
 use Rattle.columnar_memory.specs.declared.Schema.{Schema}
 use Rattle.columnar_memory.specs.Pairs.{value_at, with_pair}
 use Rattle.ipc_format_grammar.specs.Types as kind
-use Rattle.ipc_format_grammar.specs.Types.{Tag, tag_of, integer_in, type_of_integer, size_of, decimal_in, date_of, time_in, timestamp_in, interval_of, time_unit_of, union_in}
+use Rattle.ipc_format_grammar.specs.Types.{Tag, tag_of, integer_in, type_of_integer, size_of, decimal_in, date_of, time_in, timestamp_in}
+use Rattle.ipc_format_grammar.specs.Types.{interval_of, time_unit_of, union_in}
 
 mutual
   -- the dictionary ids beside a field: its own, if it has a dictionary, and those of the fields below it

@@ -1,5 +1,6 @@
 -- Slots of flat columns, place by place.
-use Rattle.std.proofs.Common.{◌≡◌, ℕ, zero, suc, ◌+◌, ◌-◌, ◌*◌, ◌<◌, ◌≤◌, List, [], ◌∷◌, ◌++◌, length, map, take, drop, get_or, refl, sym, ap, ◌∙◌, Bool, true, false, arith, append_assoc}
+use Rattle.std.proofs.Common.{◌≡◌, ℕ, zero, suc, ◌+◌, ◌-◌, ◌*◌, ◌<◌, ◌≤◌, List, [], ◌∷◌, ◌++◌, length, map, take, drop, get_or, refl, sym}
+use Rattle.std.proofs.Common.{ap, ◌∙◌, Bool, true, false, arith, append_assoc}
 use Rattle.std.specs.Prelude.{◌||◌, not, cond, nat_lt, count_by, Option, Some, None, if◌then◌else◌, slice_range}
 use Rattle.std.specs.List.{flat_map}
 use Rattle.std.proofs.lemmas.Bool.{cases_Bool, or_cases, both_ways}
@@ -12,7 +13,8 @@ use mathlib.Core.Logic.{inl, inr}
 use Rattle.nested_arrays.specs.Cells.{is_null}
 use Rattle.nested_arrays.specs.Slots.{Slot, null, window}
 use Rattle.nested_arrays.specs.SoundColumns.{mask_fits}
-use Rattle.nested_arrays.specs.StoredColumns.{Stored, bits, numbers, pairs, triples, texts, byte_strings, fixed_bytes, is_valid_at, unless_null, stored_at, stored_len, cut_list, cut_mask}
+use Rattle.nested_arrays.specs.StoredColumns.{Stored, bits, numbers, pairs, triples, texts, byte_strings, fixed_bytes, is_valid_at}
+use Rattle.nested_arrays.specs.StoredColumns.{unless_null, stored_at, stored_len, cut_list, cut_mask}
 use Rattle.nested_arrays.proofs.Conditions.{holds_at}
 use Rattle.nested_arrays.proofs.Windows.{length-window}
 use Rattle.ipc_format_written.specs.Buffers.{bits_by, bitmap_by, bitmap_of, bitmap_bytes, is_valid, null_count, validity_bytes}
@@ -22,16 +24,16 @@ use Rattle.ipc_format_laws.specs.Fresh.{is_fresh, is_blank_at}
 
 -- ---- windows
 
-next_place : (a i : ℕ) → a + 1 + i ≡ a + suc i
+pub next_place : (a i : ℕ) → a + 1 + i ≡ a + suc i
 next_place a i = omega arith
 
-this_place : (a : ℕ) → a ≡ a + 0
+pub this_place : (a : ℕ) → a ≡ a + 0
 this_place a = omega arith
 
-later : (i n : ℕ) → i < n → suc i < suc n
+pub later : (i n : ℕ) → i < n → suc i < suc n
 later i n h = omega arith
 
-first_is : (n : ℕ) → 0 < suc n
+pub first_is : (n : ℕ) → 0 < suc n
 first_is n = omega arith
 
 pub flat_map_window : {A B V : Type 0} (f : A → List B) (g : ℕ → A) (h : V → List B) (values : List V) (d : V) (a : ℕ)

@@ -1,5 +1,6 @@
 -- Fresh columns are written the same from their slots and as they are stored.
-use Rattle.std.proofs.Common.{◌≡◌, ℕ, zero, suc, ◌+◌, ◌-◌, ◌*◌, ◌/◌, List, [], ◌∷◌, ◌++◌, length, map, drop, get_or, replicate, refl, sym, ap, ◌∙◌, subst, Bool, true, false, arith}
+use Rattle.std.proofs.Common.{◌≡◌, ℕ, ◌+◌, ◌-◌, ◌*◌, ◌/◌, List, [], ◌∷◌, ◌++◌, length, map, drop, get_or, replicate, refl, sym, ap, ◌∙◌}
+use Rattle.std.proofs.Common.{subst, Bool, true, false, arith}
 use Rattle.std.specs.Prelude.{ℤ, pos, ◌&&◌, ◌==◌, nat_le, Option, Some, unwrap_or, slice_range}
 use Rattle.std.specs.List.{flat_map, list_all}
 use Rattle.std.specs.Int.{Width, w32, w64}
@@ -18,59 +19,26 @@ use Rattle.columnar_memory.specs.declared.PhysicalType.TheVariants as physical
 use Rattle.columnar_memory.specs.declared.PrimitiveType.{PrimitiveType}
 use Rattle.columnar_memory.specs.declared.PrimitiveType.TheVariants as kinds
 use Rattle.columnar_memory.specs.Layouts.{stored_step, physical_step, physical_type}
-use Rattle.nested_arrays.specs.Kinds.{kind_number, same_kind, numbers_of_kind, in_kind}
+use Rattle.nested_arrays.specs.Kinds.{same_kind, numbers_of_kind, in_kind}
 use Rattle.nested_arrays.specs.Slots.{null, number, pair, triple}
-use Rattle.nested_arrays.specs.SoundColumns.{mask_fits, holds_below, are_strings, is_text_at, is_stored_as, has_size, are_pieces, are_pairs, are_triples, is_byte}
-use Rattle.nested_arrays.specs.StoredColumns.{string_at, Stored, bits, numbers, pairs, triples, texts, byte_strings, fixed_bytes, stored_len, pair_slot, triple_slot, type_layer, cut_mask, cut_list, cut_stored}
+use Rattle.nested_arrays.specs.SoundColumns.{mask_fits, holds_below, are_strings, is_text_at, is_stored_as, has_size, are_pieces, are_pairs}
+use Rattle.nested_arrays.specs.SoundColumns.{are_triples, is_byte}
+use Rattle.nested_arrays.specs.StoredColumns.{string_at, Stored, bits, numbers, pairs, triples, texts, byte_strings, fixed_bytes}
+use Rattle.nested_arrays.specs.StoredColumns.{stored_len, pair_slot, triple_slot, type_layer, cut_mask, cut_list, cut_stored}
+use Rattle.nested_arrays.proofs.SameSlotsDecide.{same_kind-implies}
 use Rattle.ipc_format_written.specs.Buffers.{content_of, bitmap_of, bitmap_bytes, is_true, kind_bytes, fixed_content_of}
-use Rattle.ipc_format_written.specs.Encoding.{Encoded, Encoder, encode, encode_step, column_over, flat_column, values_column, number_column, bytes_column}
+use Rattle.ipc_format_written.specs.Encoding.{Encoded, Encoder, encode, encode_step, column_over, flat_column, values_column, number_column}
+use Rattle.ipc_format_written.specs.Encoding.{bytes_column}
 use Rattle.ipc_format_written.specs.StoredEncoding.{stored_buffers, offset_width, node_over, mask_bytes}
 use Rattle.ipc_format_laws.specs.Fresh.{is_fresh, is_zero, is_zero_pair, is_zero_triple, FreshAgrees}
 use Rattle.ipc_format_laws.proofs.FreshStrings.{string_buffers, no_bytes}
-use Rattle.ipc_format_laws.proofs.FlatColumns.{flat_slot, flat_slots, flat_map_window, map_window, map_itself, bitmap_answers, whole_cut, same_columns, unless, pieces}
+use Rattle.ipc_format_laws.proofs.FlatColumns.{flat_slot, flat_slots, flat_map_window, map_window, map_itself, bitmap_answers, whole_cut}
+use Rattle.ipc_format_laws.proofs.FlatColumns.{same_columns, unless, pieces}
 
 abbrev Mask : Type 0
 Mask = Option (List Bool)
 
 -- ---- kinds
-
-kind_at : ℕ → PrimitiveType
-kind_at zero = kinds.Int8
-kind_at (suc zero) = kinds.Int16
-kind_at (suc (suc zero)) = kinds.Int32
-kind_at (suc (suc (suc zero))) = kinds.Int64
-kind_at (suc (suc (suc (suc zero)))) = kinds.Int128
-kind_at (suc (suc (suc (suc (suc zero))))) = kinds.Int256
-kind_at (suc (suc (suc (suc (suc (suc zero)))))) = kinds.UInt8
-kind_at (suc (suc (suc (suc (suc (suc (suc zero))))))) = kinds.UInt16
-kind_at (suc (suc (suc (suc (suc (suc (suc (suc zero)))))))) = kinds.UInt32
-kind_at (suc (suc (suc (suc (suc (suc (suc (suc (suc zero))))))))) = kinds.UInt64
-kind_at (suc (suc (suc (suc (suc (suc (suc (suc (suc (suc zero)))))))))) = kinds.Float16
-kind_at (suc (suc (suc (suc (suc (suc (suc (suc (suc (suc (suc zero))))))))))) = kinds.Float32
-kind_at (suc (suc (suc (suc (suc (suc (suc (suc (suc (suc (suc (suc zero)))))))))))) = kinds.Float64
-kind_at (suc (suc (suc (suc (suc (suc (suc (suc (suc (suc (suc (suc (suc zero))))))))))))) = kinds.DaysMs
-kind_at (suc (suc (suc (suc (suc (suc (suc (suc (suc (suc (suc (suc (suc (suc n)))))))))))))) = kinds.MonthDayNano
-
-kind_at-number : (kind : PrimitiveType) → kind_at (kind_number kind) ≡ kind
-unfolding kind_at
-kind_at-number kinds.Int8 = refl
-kind_at-number kinds.Int16 = refl
-kind_at-number kinds.Int32 = refl
-kind_at-number kinds.Int64 = refl
-kind_at-number kinds.Int128 = refl
-kind_at-number kinds.Int256 = refl
-kind_at-number kinds.UInt8 = refl
-kind_at-number kinds.UInt16 = refl
-kind_at-number kinds.UInt32 = refl
-kind_at-number kinds.UInt64 = refl
-kind_at-number kinds.Float16 = refl
-kind_at-number kinds.Float32 = refl
-kind_at-number kinds.Float64 = refl
-kind_at-number kinds.DaysMs = refl
-kind_at-number kinds.MonthDayNano = refl
-
-kind_is : (a b : PrimitiveType) → same_kind a b ≡ true → a ≡ b
-kind_is a b h = sym (kind_at-number a) ∙ ap kind_at ((unsigned_Decides (kind_number a) (kind_number b)).0 h) ∙ kind_at-number b
 
 -- null and zero are written the same
 zero_number : (kind : PrimitiveType) → kind_bytes kind null ≡ kind_bytes kind (number kind (pos 0))
@@ -237,15 +205,15 @@ numbers_agree : (kind : PrimitiveType) (w : Width) (mask : Mask) (stored : Store
     ≡ stored_column w mask stored
 numbers_agree kind w mask (numbers stored values) sound fits fresh =
     let first = and_parts (same_kind kind stored && (numbers_of_kind stored == 1)) (list_all (in_kind stored) values) sound in
-    let is = kind_is kind stored (and_parts (same_kind kind stored) (numbers_of_kind stored == 1) first.0).0 in
+    let is = same_kind-implies kind stored (and_parts (same_kind kind stored) (numbers_of_kind stored == 1) first.0).0 in
     same_columns mask (numbers stored values) _ _ fits (ap (λ b. b ∷ []) (numbers_same mask kind stored values is fresh))
 numbers_agree kind w mask (pairs stored values) sound fits fresh =
     let first = and_parts (same_kind kind stored && (numbers_of_kind stored == 2)) (are_pairs values) sound in
-    let is = kind_is kind stored (and_parts (same_kind kind stored) (numbers_of_kind stored == 2) first.0).0 in
+    let is = same_kind-implies kind stored (and_parts (same_kind kind stored) (numbers_of_kind stored == 2) first.0).0 in
     same_columns mask (pairs stored values) _ _ fits (ap (λ b. b ∷ []) (pairs_same mask kind stored values is fresh))
 numbers_agree kind w mask (triples stored values) sound fits fresh =
     let first = and_parts (same_kind kind stored && (numbers_of_kind stored == 3)) (are_triples values) sound in
-    let is = kind_is kind stored (and_parts (same_kind kind stored) (numbers_of_kind stored == 3) first.0).0 in
+    let is = same_kind-implies kind stored (and_parts (same_kind kind stored) (numbers_of_kind stored == 3) first.0).0 in
     same_columns mask (triples stored values) _ _ fits (ap (λ b. b ∷ []) (triples_same mask kind stored values is fresh))
 numbers_agree kind w mask (bits values) sound fits fresh = absurd (both_ways false refl sound)
 numbers_agree kind w mask (texts offsets content) sound fits fresh = absurd (both_ways false refl sound)

@@ -1,5 +1,6 @@
 -- Fresh texts and byte strings are written the same from their slots and as they are stored.
-use Rattle.std.proofs.Common.{◌≡◌, ℕ, zero, suc, ◌+◌, ◌-◌, ◌<◌, ◌≤◌, List, [], ◌∷◌, ◌++◌, length, map, drop, get_or, refl, sym, ap, ◌∙◌, Bool, true, false, arith, append_assoc}
+use Rattle.std.proofs.Common.{◌≡◌, ℕ, zero, suc, ◌+◌, ◌-◌, ◌<◌, ◌≤◌, List, [], ◌∷◌, ◌++◌, length, map, drop, get_or, refl, sym, ap, ◌∙◌}
+use Rattle.std.proofs.Common.{Bool, true, false, arith, append_assoc}
 use Rattle.std.specs.Prelude.{◌&&◌, ◌==◌, min, nat_le, slice_range}
 use Rattle.std.specs.List.{flat_map, list_all}
 use Rattle.std.specs.Int.{Width, to_le_bytes}
@@ -16,21 +17,9 @@ use Rattle.nested_arrays.proofs.Conditions.{holds_at}
 use Rattle.nested_arrays.proofs.Windows.{length-cut_list}
 use Rattle.ipc_format_written.specs.Buffers.{content_of, sums_from, offset_bytes}
 use Rattle.ipc_format_written.specs.StoredEncoding.{moved_offsets, moved_bytes, between_offsets}
-use Rattle.ipc_format_laws.proofs.FlatColumns.{whole_cut}
+use Rattle.ipc_format_laws.proofs.FlatColumns.{next_place, this_place, later, first_is, whole_cut}
 
 -- ---- numbers
-
-next_place : (a i : ℕ) → a + 1 + i ≡ a + suc i
-next_place a i = omega arith
-
-this_place : (a : ℕ) → a ≡ a + 0
-this_place a = omega arith
-
-later : (i n : ℕ) → i < n → suc i < suc n
-later i n h = omega arith
-
-first_is : (n : ℕ) → 0 < suc n
-first_is n = omega arith
 
 one_after : (n : ℕ) → n + 1 ≡ suc n
 one_after n = omega arith

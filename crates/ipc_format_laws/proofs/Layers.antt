@@ -18,30 +18,6 @@ two_maps f f_field g g_field (layer.Struct children) = ap layer.Struct (map-map 
 two_maps f f_field g g_field (layer.Union children ids mode) = ap (λ more. layer.Union more ids mode) (map-map g_field f_field children)
 two_maps f f_field g g_field _ = refl
 
-module _ {A B : Type 0} (f g : DataType → A) (f_field g_field : Field → B) where
-  abbrev pub SameType : Type 0
-  SameType = (t : DataType) × (f t ≡ g t)
-
-  abbrev pub SameField : Type 0
-  SameField = (u : Field) × (f_field u ≡ g_field u)
-
-  same_lists : (ys : List SameField) → map f_field (map (λ e. e.0) ys) ≡ map g_field (map (λ e. e.0) ys)
-  same_lists [] = refl
-  same_lists (y ∷ ys) = λ j. y.1 j ∷ same_lists ys j
-
-  pub same_layers : (y : layer.DataType-F SameType SameField)
-      → map-DataType DataType Field A B f f_field (map-DataType SameType SameField DataType Field (λ e. e.0) (λ e. e.0) y)
-      ≡ map-DataType DataType Field A B g g_field (map-DataType SameType SameField DataType Field (λ e. e.0) (λ e. e.0) y)
-  same_layers (layer.List item) = ap layer.List item.1
-  same_layers (layer.LargeList item) = ap layer.LargeList item.1
-  same_layers (layer.FixedSizeList item size) = ap (λ item. layer.FixedSizeList item size) item.1
-  same_layers (layer.Map entry is_sorted) = ap (λ entry. layer.Map entry is_sorted) entry.1
-  same_layers (layer.Struct children) = ap layer.Struct (same_lists children)
-  same_layers (layer.Union children ids mode) = ap (λ children. layer.Union children ids mode) (same_lists children)
-  same_layers (layer.Dictionary key value is_ordered) = ap (λ value. layer.Dictionary key value is_ordered) value.1
-  same_layers (layer.Extension name inner metadata) = ap (λ inner. layer.Extension name inner metadata) inner.1
-  same_layers _ = refl
-
 -- the same where they agree on what is valid
 module _ {A B : Type 0} (v : DataType → Bool) (v_field : Field → Bool) (f g : DataType → A) (f_field g_field : Field → B) where
   abbrev pub ValidType : Type 0

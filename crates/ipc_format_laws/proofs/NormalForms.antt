@@ -1,6 +1,6 @@
 -- The normal form of a schema.
 use Rattle.std.proofs.Common.{◌≡◌, ℕ, List, [], ◌∷◌, map, refl, sym, ap, ◌∙◌, subst, Bool, true}
-use Rattle.std.specs.Prelude.{◌&&◌, nat_le}
+use Rattle.std.specs.Prelude.{◌&&◌}
 use Rattle.std.specs.List.{list_all}
 use Rattle.std.proofs.lemmas.Bool.{and_parts, and_from}
 use Rattle.columnar_memory.specs.declared.DataType.{DataType, map-DataType}
@@ -8,22 +8,18 @@ use Rattle.columnar_memory.specs.declared.DataType.TheOpen as layer
 use Rattle.columnar_memory.specs.declared.DataType.TheFolds.{fold-Field, fold-roll-DataType, fold-roll-Field, ind-DataType}
 use Rattle.columnar_memory.specs.declared.DataType.TheViews.{roll-DataType, roll-Field}
 use Rattle.columnar_memory.specs.declared.Field.{Field, map-Field}
-use Rattle.ipc_format_grammar.specs.Writable.{Report, report_step, field_step, report_of, reports_of, over_all, plain, is_writable, normalised_step, normalised_type, normalised_pairs, normalised_field, normalised}
-use Rattle.ipc_format_laws.specs.NormalForm.{KeepsNormal, KeepsValid, KeepsWritable, valid_step, valid_field_step, is_valid_type, is_valid_field, are_sorted}
-use Rattle.ipc_format_laws.proofs.Layers.{two_maps, same_layers, valid_layers}
+use Rattle.ipc_format_grammar.specs.Writable.{normalised_step, normalised_type, normalised_pairs, normalised_field, normalised}
+use Rattle.ipc_format_grammar.proofs.NormalReports.{normal_field, writable_normal}
+use Rattle.ipc_format_laws.specs.NormalForm.{KeepsNormal, KeepsValid, KeepsWritable, valid_step, valid_field_step, is_valid_type}
+use Rattle.ipc_format_laws.specs.NormalForm.{is_valid_field, are_sorted}
+use Rattle.ipc_format_laws.proofs.Layers.{ValidType, ValidField, two_maps, valid_layers}
 use Rattle.ipc_format_laws.proofs.NormalPairs.{pairs_normal, pairs_sorted}
 
 abbrev normal : DataType → DataType
 normal = normalised_type
 
-abbrev normal_field : Field → Field
-normal_field = fold-Field DataType Field roll-DataType normalised_step
-
 abbrev valid_field : Field → Bool
 valid_field = fold-Field Bool Bool valid_step valid_field_step
-
-abbrev report_field : Field → Report
-report_field = fold-Field Report Report report_step field_step
 
 abbrev Layer : Type 0
 Layer = layer.DataType-F DataType Field
@@ -45,12 +41,6 @@ valid_roll x = fold-roll-DataType Bool Bool valid_step valid_field_step x
 valid_roll_field : (x : FieldLayer) → valid_field (roll-Field x) ≡ (is_valid_type x.data_type && are_sorted x.metadata)
 valid_roll_field x = fold-roll-Field Bool Bool valid_step valid_field_step x
 
-report_roll : (x : Layer) → report_of (roll-DataType x) ≡ report_step (map-DataType DataType Field Report Report report_of report_field x)
-report_roll x = fold-roll-DataType Report Report report_step field_step x
-
-report_roll_field : (x : FieldLayer) → report_field (roll-Field x) ≡ report_of x.data_type
-report_roll_field x = fold-roll-Field Report Report report_step field_step x
-
 -- a field's normal form
 abbrev normal_layer : FieldLayer → FieldLayer
 normal_layer x = record x { data_type = normal x.data_type; metadata = normalised_pairs (normal x.data_type) x.metadata }
@@ -58,47 +48,8 @@ normal_layer x = record x { data_type = normal x.data_type; metadata = normalise
 normal_field_is : (x : FieldLayer) → normal_field (roll-Field x) ≡ roll-Field (normal_layer x)
 normal_field_is x = normal_roll_field x
 
--- ---- a type's report says nothing of metadata
-
-abbrev KeepsReport : DataType → Type 0
-KeepsReport t = report_of (normal t) ≡ report_of t
-
-abbrev KeepsFieldReport : Field → Type 0
-KeepsFieldReport u = report_field (normal_field u) ≡ report_field u
-
-report_layer : (x : Layer) (y : layer.DataType-F ((t : DataType) × KeepsReport t) ((u : Field) × KeepsFieldReport u))
-    → map-DataType ((t : DataType) × KeepsReport t) ((u : Field) × KeepsFieldReport u) DataType Field (λ e. e.0) (λ e. e.0) y ≡ x
-    → KeepsReport (roll-DataType x)
-report_layer x y is =
-    let below : map-DataType DataType Field Report Report (λ t. report_of (normal t)) (λ u. report_field (normal_field u)) x
-    ≡ map-DataType DataType Field Report Report report_of report_field x =
-    subst (λ (x : Layer). map-DataType DataType Field Report Report (λ t. report_of (normal t)) (λ u. report_field (normal_field u)) x
-    ≡ map-DataType DataType Field Report Report report_of report_field x) is
-    (same_layers (λ t. report_of (normal t)) report_of (λ u. report_field (normal_field u)) report_field y) in
-    ap report_of (normal_roll x) ∙ report_roll (map-DataType DataType Field DataType Field normal normal_field x)
-    ∙ ap report_step (two_maps normal normal_field report_of report_field x ∙ below)
-    ∙ sym (report_roll x)
-
-report_field_layer : (x : FieldLayer) (y : layer.Field-F ((t : DataType) × KeepsReport t) ((u : Field) × KeepsFieldReport u))
-    → map-Field ((t : DataType) × KeepsReport t) ((u : Field) × KeepsFieldReport u) DataType Field (λ e. e.0) (λ e. e.0) y ≡ x
-    → KeepsFieldReport (roll-Field x)
-report_field_layer x y is =
-    let below : report_of (normal x.data_type) ≡ report_of x.data_type =
-    subst (λ (t : DataType). report_of (normal t) ≡ report_of t) (ap (λ (x : FieldLayer). x.data_type) is) y.data_type.1 in
-    ap report_field (normal_field_is x) ∙ report_roll_field (normal_layer x) ∙ below ∙ sym (report_roll_field x)
-
-keeps_report : (t : DataType) → report_of (normal t) ≡ report_of t
-keeps_report = ind-DataType KeepsReport KeepsFieldReport (λ x y is. report_layer x y is) (λ x y is. report_field_layer x y is)
-
-keeps_reports : (fields : List Field) → reports_of (map normalised_field fields) ≡ reports_of fields
-keeps_reports [] = refl
-keeps_reports (field ∷ fields) = λ j. keeps_report field.data_type j ∷ keeps_reports fields j
-
 pub keeps_writable : KeepsWritable
-unfolding normalised is_writable
-keeps_writable schema =
-    ap (λ (reports : List Report). let all = over_all true plain reports in all.is_allowed && nat_le all.levels 64 && nat_le all.dictionaries 65536)
-    (keeps_reports schema.fields)
+keeps_writable schema = writable_normal schema
 
 -- ---- the normal form of what is valid is its own
 
@@ -108,33 +59,47 @@ field_with field t pairs = record { name = field.name; data_type = t; is_nullabl
 abbrev layer_with : FieldLayer → DataType → List (List ℕ × List ℕ) → FieldLayer
 layer_with x t pairs = record x { data_type = t; metadata = pairs }
 
-abbrev IsNormal : DataType → Type 0
-IsNormal t = is_valid_type t ≡ true → normal (normal t) ≡ normal t
-
-abbrev IsNormalField : Field → Type 0
-IsNormalField u = valid_field u ≡ true → normal_field (normal_field u) ≡ normal_field u
-
-normal_layer_again : (x : Layer) (y : layer.DataType-F ((t : DataType) × IsNormal t) ((u : Field) × IsNormalField u))
-    → map-DataType ((t : DataType) × IsNormal t) ((u : Field) × IsNormalField u) DataType Field (λ e. e.0) (λ e. e.0) y ≡ x
-    → IsNormal (roll-DataType x)
-normal_layer_again x y is h =
-    let below : valid_step (map-DataType DataType Field Bool Bool is_valid_type valid_field x) ≡ true
-    → map-DataType DataType Field DataType Field (λ t. normal (normal t)) (λ u. normal_field (normal_field u)) x
-    ≡ map-DataType DataType Field DataType Field normal normal_field x =
+-- two functions agree on a valid layer where they agree on each valid type and field below it
+below_valid : {A B : Type 0} (f g : DataType → A) (f_field g_field : Field → B) (x : Layer)
+    (y : layer.DataType-F (ValidType is_valid_type valid_field f g f_field g_field) (ValidField is_valid_type valid_field f g f_field g_field))
+    → map-DataType (ValidType is_valid_type valid_field f g f_field g_field) (ValidField is_valid_type valid_field f g f_field g_field) DataType Field
+    (λ e. e.0) (λ e. e.0) y ≡ x
+    → valid_step (map-DataType DataType Field Bool Bool is_valid_type valid_field x) ≡ true
+    → map-DataType DataType Field A B f f_field x ≡ map-DataType DataType Field A B g g_field x
+below_valid {A} {B} f g f_field g_field x y is =
     subst (λ (x : Layer). valid_step (map-DataType DataType Field Bool Bool is_valid_type valid_field x) ≡ true
-    → map-DataType DataType Field DataType Field (λ t. normal (normal t)) (λ u. normal_field (normal_field u)) x
-    ≡ map-DataType DataType Field DataType Field normal normal_field x) is
-    (valid_layers is_valid_type valid_field (λ t. normal (normal t)) normal (λ u. normal_field (normal_field u)) normal_field y) in
-    ap normal (normal_roll x) ∙ normal_roll (map-DataType DataType Field DataType Field normal normal_field x)
-    ∙ ap roll-DataType (two_maps normal normal_field normal normal_field x ∙ below (sym (valid_roll x) ∙ h))
-    ∙ sym (normal_roll x)
+    → map-DataType DataType Field A B f f_field x ≡ map-DataType DataType Field A B g g_field x) is
+    (valid_layers is_valid_type valid_field f g f_field g_field y)
 
-normal_field_again : (x : FieldLayer) (y : layer.Field-F ((t : DataType) × IsNormal t) ((u : Field) × IsNormalField u))
-    → map-Field ((t : DataType) × IsNormal t) ((u : Field) × IsNormalField u) DataType Field (λ e. e.0) (λ e. e.0) y ≡ x
-    → IsNormalField (roll-Field x)
-normal_field_again x y is h =
+-- what a function says of the normal form of a valid type is what it says of the type; the same of a field
+abbrev Keeps : {A : Type 0} → (DataType → A) → DataType → Type 0
+Keeps f t = is_valid_type t ≡ true → f (normal t) ≡ f t
+
+abbrev KeepsField : {B : Type 0} → (Field → B) → Field → Type 0
+KeepsField f u = valid_field u ≡ true → f (normal_field u) ≡ f u
+
+keeps_layer : {A B : Type 0} (step : layer.DataType-F A B → A) (f : DataType → A) (f_field : Field → B)
+    → ((x : Layer) → f (roll-DataType x) ≡ step (map-DataType DataType Field A B f f_field x))
+    → (x : Layer) (y : layer.DataType-F ((t : DataType) × Keeps f t) ((u : Field) × KeepsField f_field u))
+    → map-DataType ((t : DataType) × Keeps f t) ((u : Field) × KeepsField f_field u) DataType Field (λ e. e.0) (λ e. e.0) y ≡ x
+    → Keeps f (roll-DataType x)
+keeps_layer step f f_field f_roll x y is h =
+    let below = below_valid (λ t. f (normal t)) f (λ u. f_field (normal_field u)) f_field x y is in
+    ap f (normal_roll x) ∙ f_roll (map-DataType DataType Field DataType Field normal normal_field x)
+    ∙ ap step (two_maps normal normal_field f f_field x ∙ below (sym (valid_roll x) ∙ h))
+    ∙ sym (f_roll x)
+
+-- it is kept at each depth, where a field keeps it whose type does
+keeps : {A B : Type 0} (step : layer.DataType-F A B → A) (f : DataType → A) (f_field : Field → B)
+    → ((x : Layer) → f (roll-DataType x) ≡ step (map-DataType DataType Field A B f f_field x))
+    → ((x : FieldLayer) → Keeps f x.data_type → KeepsField f_field (roll-Field x)) → (t : DataType) → Keeps f t
+keeps step f f_field f_roll field =
+    ind-DataType (Keeps f) (KeepsField f_field) (λ x y is. keeps_layer step f f_field f_roll x y is)
+    (λ x y is. field x (subst (Keeps f) (ap (λ (x : FieldLayer). x.data_type) is) y.data_type.1))
+
+normal_field_again : (x : FieldLayer) → Keeps normal x.data_type → KeepsField normal_field (roll-Field x)
+normal_field_again x below h =
     let parts = and_parts (is_valid_type x.data_type) (are_sorted x.metadata) (sym (valid_roll_field x) ∙ h) in
-    let below : IsNormal x.data_type = subst IsNormal (ap (λ (x : FieldLayer). x.data_type) is) y.data_type.1 in
     let t = normal x.data_type in
     let pairs = normalised_pairs t x.metadata in
     ap normal_field (normal_field_is x) ∙ normal_field_is (normal_layer x)
@@ -142,8 +107,8 @@ normal_field_again x y is h =
     ∙ ap (λ (pairs : List (List ℕ × List ℕ)). roll-Field (layer_with x t pairs)) (pairs_normal t x.metadata parts.1)
     ∙ sym (normal_field_is x)
 
-type_again : (t : DataType) → IsNormal t
-type_again = ind-DataType IsNormal IsNormalField (λ x y is. normal_layer_again x y is) (λ x y is. normal_field_again x y is)
+type_again : (t : DataType) → Keeps normal t
+type_again = keeps roll-DataType normal normal_field normal_roll normal_field_again
 
 field_again : (field : Field) → is_valid_field field ≡ true → normalised_field (normalised_field field) ≡ normalised_field field
 field_again field h =
@@ -168,40 +133,16 @@ keeps_normal schema h =
 
 -- ---- the normal form of what is valid is valid
 
-abbrev StaysValid : DataType → Type 0
-StaysValid t = is_valid_type t ≡ true → is_valid_type (normal t) ≡ is_valid_type t
-
-abbrev StaysValidField : Field → Type 0
-StaysValidField u = valid_field u ≡ true → valid_field (normal_field u) ≡ valid_field u
-
-valid_layer : (x : Layer) (y : layer.DataType-F ((t : DataType) × StaysValid t) ((u : Field) × StaysValidField u))
-    → map-DataType ((t : DataType) × StaysValid t) ((u : Field) × StaysValidField u) DataType Field (λ e. e.0) (λ e. e.0) y ≡ x
-    → StaysValid (roll-DataType x)
-valid_layer x y is h =
-    let below : valid_step (map-DataType DataType Field Bool Bool is_valid_type valid_field x) ≡ true
-    → map-DataType DataType Field Bool Bool (λ t. is_valid_type (normal t)) (λ u. valid_field (normal_field u)) x
-    ≡ map-DataType DataType Field Bool Bool is_valid_type valid_field x =
-    subst (λ (x : Layer). valid_step (map-DataType DataType Field Bool Bool is_valid_type valid_field x) ≡ true
-    → map-DataType DataType Field Bool Bool (λ t. is_valid_type (normal t)) (λ u. valid_field (normal_field u)) x
-    ≡ map-DataType DataType Field Bool Bool is_valid_type valid_field x) is
-    (valid_layers is_valid_type valid_field (λ t. is_valid_type (normal t)) is_valid_type (λ u. valid_field (normal_field u)) valid_field y) in
-    ap is_valid_type (normal_roll x) ∙ valid_roll (map-DataType DataType Field DataType Field normal normal_field x)
-    ∙ ap valid_step (two_maps normal normal_field is_valid_type valid_field x ∙ below (sym (valid_roll x) ∙ h))
-    ∙ sym (valid_roll x)
-
-valid_field_layer : (x : FieldLayer) (y : layer.Field-F ((t : DataType) × StaysValid t) ((u : Field) × StaysValidField u))
-    → map-Field ((t : DataType) × StaysValid t) ((u : Field) × StaysValidField u) DataType Field (λ e. e.0) (λ e. e.0) y ≡ x
-    → StaysValidField (roll-Field x)
-valid_field_layer x y is h =
+valid_field_layer : (x : FieldLayer) → Keeps is_valid_type x.data_type → KeepsField valid_field (roll-Field x)
+valid_field_layer x below h =
     let parts = and_parts (is_valid_type x.data_type) (are_sorted x.metadata) (sym (valid_roll_field x) ∙ h) in
-    let below : StaysValid x.data_type = subst StaysValid (ap (λ (x : FieldLayer). x.data_type) is) y.data_type.1 in
     let t = normal x.data_type in
     ap valid_field (normal_field_is x) ∙ valid_roll_field (normal_layer x)
     ∙ and_from (is_valid_type t) (are_sorted (normalised_pairs t x.metadata)) (below parts.0 ∙ parts.0) (pairs_sorted t x.metadata parts.1)
     ∙ sym h
 
-type_valid : (t : DataType) → StaysValid t
-type_valid = ind-DataType StaysValid StaysValidField (λ x y is. valid_layer x y is) (λ x y is. valid_field_layer x y is)
+type_valid : (t : DataType) → Keeps is_valid_type t
+type_valid = keeps valid_step is_valid_type valid_field valid_roll valid_field_layer
 
 fields_valid : (fields : List Field) → list_all is_valid_field fields ≡ true → list_all is_valid_field (map normalised_field fields) ≡ true
 fields_valid [] h = refl

@@ -9,7 +9,8 @@ use Rattle.columnar_memory.specs.Pairs.{with_pair}
 use Rattle.ipc_format_grammar.specs.Schemas.{extension_name_key, extension_metadata_key}
 use Rattle.ipc_format_grammar.specs.Writable.{without_key, with_extension, with_extension_of, with_extension_under, normalised_pairs}
 use Rattle.ipc_format_laws.specs.NormalForm.{are_sorted}
-use Rattle.ipc_format_laws.proofs.Pairs.{Pair, same_key, is_absent, without_absent, without_either, absent_with, without_with, absent_without, still_absent, sorted_without, sorted_with}
+use Rattle.ipc_format_laws.proofs.Pairs.{Pair, same_key, is_absent, without_absent, without_either, absent_with, without_with}
+use Rattle.ipc_format_laws.proofs.Pairs.{absent_without, still_absent, sorted_without, sorted_with}
 
 -- ---- of any two keys that differ
 

@@ -1,9 +1,11 @@
 -- Stored columns as they are made of slots: nothing but zeros stands under a null, or no bytes at all.
-use Rattle.std.specs.Prelude.{◌≡◌, ℕ, ◌+◌, ◌*◌, ℤ, pos, Bool, true, false, not, ◌&&◌, ◌||◌, ◌==◌, List, length, replicate, nat_eq, Option, slice_index_or, slice_range}
+use Rattle.std.specs.Prelude.{◌≡◌, ℕ, ◌+◌, ◌*◌, ℤ, pos, Bool, true, false, not, ◌&&◌, ◌||◌, ◌==◌, List, length, replicate, nat_eq, Option}
+use Rattle.std.specs.Prelude.{slice_index_or, slice_range}
 use Rattle.std.specs.Ordering.{int_eq}
 use Rattle.std.specs.Cmp.Lexicographic.{pointwise}
 use Rattle.columnar_memory.specs.declared.DataType.{DataType}
-use Rattle.nested_arrays.specs.StoredColumns.{Stored, bits, numbers, pairs, triples, texts, byte_strings, fixed_bytes, flat, is_valid_at, string_at, stored_len, slots}
+use Rattle.nested_arrays.specs.StoredColumns.{Stored, bits, numbers, pairs, triples, texts, byte_strings, fixed_bytes, flat, is_valid_at}
+use Rattle.nested_arrays.specs.StoredColumns.{string_at, stored_len, slots}
 use Rattle.nested_arrays.specs.SoundColumns.{is_sound, holds_below}
 use Rattle.ipc_format_written.specs.Encoding.{encode}
 use Rattle.ipc_format_written.specs.StoredEncoding.{encode_stored}

@@ -162,27 +162,26 @@ message_reads bytes tag header body_length small s =
       body_is = length-is ∙ ap Some (to_z_pos w64 body_length small);
     }
 
--- a message whose header is a record batch or a dictionary batch
+-- a message whose header is of a kind
+as_message : (bytes : List ℕ) (tag : ℕ) (kind : Table → grammar.Header) (header : Fields) (body_length : ℕ) (IsHeader : Table → Type 0)
+    (m : MessageAnswers bytes tag header body_length)
+    → message_in bytes ≡ Some (record { header = kind m.header_at; body_length = pos body_length })
+    → IsHeader m.header_at → IsMessage bytes kind body_length IsHeader
+as_message bytes tag kind header body_length IsHeader m message h =
+    record { header_at = m.header_at; version = m.version; message = message; header = h }
+
 record_message : (bytes : List ℕ) (header : Fields) (body_length : ℕ) (IsHeader : Table → Type 0) (m : MessageAnswers bytes 3 header body_length)
     → IsHeader m.header_at → IsMessage bytes grammar.record_batch body_length IsHeader
 unfolding message_in
-record_message bytes header body_length IsHeader m h = record {
-  header_at = m.header_at;
-  version = m.version;
-  message = rw (m.root_is, m.tag_is, m.header_is, m.body_is) refl;
-  header = h;
-}
+record_message bytes header body_length IsHeader m =
+    as_message bytes 3 grammar.record_batch header body_length IsHeader m (rw (m.root_is, m.tag_is, m.header_is, m.body_is) refl)
 
 dictionary_message : (bytes : List ℕ) (header : Fields) (body_length : ℕ) (IsHeader : Table → Type 0)
     (m : MessageAnswers bytes 2 header body_length)
     → IsHeader m.header_at → IsMessage bytes grammar.dictionary_batch body_length IsHeader
 unfolding message_in
-dictionary_message bytes header body_length IsHeader m h = record {
-  header_at = m.header_at;
-  version = m.version;
-  message = rw (m.root_is, m.tag_is, m.header_is, m.body_is) refl;
-  header = h;
-}
+dictionary_message bytes header body_length IsHeader m =
+    as_message bytes 2 grammar.dictionary_batch header body_length IsHeader m (rw (m.root_is, m.tag_is, m.header_is, m.body_is) refl)
 
 -- ---- what is laid
 

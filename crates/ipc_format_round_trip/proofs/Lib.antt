@@ -10,4 +10,3 @@ pub mod Ordered
 pub mod FieldClaims
 pub mod Inductions
 pub mod SchemaMessages
-pub mod NormalReports

@@ -14,24 +14,23 @@ use Rattle.ipc_format_spelling.specs.Theorem.{Fits, FitsObjects}
 use Rattle.columnar_memory.specs.declared.DataType.{DataType}
 use Rattle.columnar_memory.specs.declared.DataType.TheOpen as layer
 use Rattle.columnar_memory.specs.declared.DataType.TheVariants as types
-use Rattle.columnar_memory.specs.declared.DataType.TheViews.{roll-DataType, out-roll-DataType}
+use Rattle.columnar_memory.specs.declared.DataType.TheViews.{roll-DataType}
 use Rattle.columnar_memory.specs.declared.Field.{Field}
 use Rattle.columnar_memory.specs.declared.IntegerType.{IntegerType}
 use Rattle.columnar_memory.specs.declared.UnionMode.{UnionMode}
 use Rattle.columnar_memory.specs.declared.UnionMode.TheVariants as modes
-use Rattle.ipc_format_grammar.specs.Types.{tag_of}
-use Rattle.ipc_format_grammar.specs.Schemas.{Ids, IdsList, ids, no_ids, ids_then, FieldIn, fields_of, ids_of}
+use Rattle.ipc_format_grammar.specs.Types.{Tag, tag_of}
+use Rattle.ipc_format_grammar.specs.Schemas.{Ids, IdsList, ids, no_ids, ids_then, FieldIn, Visits, type_in, child_in, with_child, fields_of, ids_of}
 use Rattle.ipc_format_grammar.specs.SchemaObjects.{Told, nested, objects_of, empty_table, long_table, truth, mode_number}
 use Rattle.ipc_format_grammar.specs.Writable.{is_union_id, are_union_ids, are_distinct, Report, Shape, over, over_all, deepest, is_size, is_plain}
 use Rattle.ipc_format_grammar.specs.Writable.{is_dictionary, is_struct_of_two, plain, dictionary, extension, struct_of_two, shape_of_struct}
-use Rattle.ipc_format_grammar.specs.Writable.{with_extension_of, with_extension_under}
-use Rattle.ipc_format_round_trip.specs.Schemas.{IdsTold, FitIds, FitIdsList, each_ids, are_true, is_text_or_none}
+use Rattle.ipc_format_round_trip.specs.Schemas.{IdsTold, FitIds, FitIdsList, over_ids, each_ids, are_true, is_text_or_none}
 use Rattle.ipc_format_round_trip.proofs.FieldSteps.{TypeReads, ListReads, no_fields, fields_then, encode, extend}
 use Rattle.ipc_format_round_trip.proofs.SchemaParts.{TypeBack, FieldBack, tables_among, both}
 use Rattle.ipc_format_round_trip.proofs.TypeTables.{union_fields, ids_length, FitIds as FitNumbers}
-use Rattle.ipc_format_round_trip.proofs.TypeSteps.{first_ids, one_object, lists_read, large_lists_read, fixed_lists_read, maps_read, structs_read}
+use Rattle.ipc_format_round_trip.proofs.TypeSteps.{first_ids, one_object, over_reads, fixed_lists_read, maps_read, structs_read}
 use Rattle.ipc_format_round_trip.proofs.TypeSteps.{unions_read}
-use Rattle.ipc_format_round_trip.proofs.SchemaSteps.{TypeClaim, FieldClaim, LayerClaim, empty_fits, long_fits, size_fits}
+use Rattle.ipc_format_round_trip.proofs.SchemaSteps.{TypeClaim, FieldClaim, LayerClaim, IsBare, bare_back, empty_fits, long_fits, size_fits}
 
 -- ---- over one field
 
@@ -45,46 +44,32 @@ first_fits (ids_then first others) fit = fit.0
 
 over_back : (n : ℕ) (type_table : Object) (x : layer.DataType-F DataType Field) (b : Bool) (told : Ids → Object) (normal : Field) (report : Report)
     (its_ids : Ids → Ids) (below : IdsList)
-    → n < 2 ^ 8 → Fits type_table → ((ws : List (List ℕ × List ℕ)) → with_extension_of ws x ≡ ws)
-    → ((ws : List (List ℕ × List ℕ)) → with_extension_under ws x ≡ ws)
-    → (h : FieldBack (told (first_ids below)) normal report (its_ids (first_ids below)))
+    → n < 2 ^ 8 → Fits type_table → IsBare x → (h : FieldBack (told (first_ids below)) normal report (its_ids (first_ids below)))
     → TypeReads (nested n type_table (told ∷ []) below) (roll-DataType x) (ids_then (its_ids (first_ids below)) no_ids) (report.levels + 1) h.visits
     → TypeBack (nested n type_table (told ∷ []) below) (roll-DataType x) (over b report) false (each_ids (its_ids ∷ []) below)
-over_back n type_table x b told normal report its_ids below small fits of_x under_x h read = record {
-  stripped = roll-DataType x;
-  visits = h.visits;
-  reads = subst (λ (l : IdsList). TypeReads (nested n type_table (told ∷ []) below) (roll-DataType x) l (report.levels + 1) h.visits)
-      (sym (one_ids its_ids below)) read;
-  whole = refl;
-  plain_of = λ (ws : List (List ℕ × List ℕ)). ap (with_extension_of ws) (out-roll-DataType x) ∙ of_x ws;
-  plain_under = λ (ws : List (List ℕ × List ℕ)). ap (with_extension_under ws) (out-roll-DataType x) ∙ under_x ws;
-  encoded_is = refl;
-  tag_fits = small;
-  table_fits = fits;
-  children_fit = subst (λ (objects : Objects). FitsObjects objects) (sym (one_object told below)) (record { here = h.fits; rest = tt });
-  few = subst (λ (objects : Objects). h.visits ≤ tables_among objects) (sym (one_object told below)) (omega (arith, h.few));
-  extension_fits = tt;
-  no_dictionary = λ e. refl;
-  no_extension = λ e. refl;
-}
+over_back n type_table x b told normal report its_ids below small fits is_bare h read =
+    bare_back n type_table (objects_of (told ∷ []) below) x (over b report) (each_ids (its_ids ∷ []) below) h.visits small fits
+    (subst (λ (objects : Objects). FitsObjects objects) (sym (one_object told below)) (record { here = h.fits; rest = tt }))
+    (subst (λ (objects : Objects). h.visits ≤ tables_among objects) (sym (one_object told below)) (omega (arith, h.few))) is_bare
+    (subst (λ (l : IdsList). TypeReads (nested n type_table (told ∷ []) below) (roll-DataType x) l (report.levels + 1) h.visits)
+    (sym (one_ids its_ids below)) read)
 
-pub list_claim : (told : Ids → Object) (normal : Field) (report : Report) (its_ids : Ids → Ids) (texts : Bool)
+-- a type over one field whose table has no slots
+pub items_claim : (n : ℕ) (tag : Tag) (make : Field → DataType) (x : layer.DataType-F DataType Field) (told : Ids → Object) (normal : Field)
+    (report : Report) (its_ids : Ids → Ids) (texts : Bool)
+    → n < 2 ^ 8 → tag_of n ≡ Some tag → make normal ≡ roll-DataType x → IsBare x
+    → ((bytes : List ℕ) (read : Table → Visits FieldIn) (field found : Table) (total left : ℕ) (result : FieldIn)
+    → child_in read bytes field total ≡ Some (result, left) → type_in None read bytes tag field found total ≡ Some (with_child make (result, left)))
     → FieldClaim told normal report its_ids texts
-    → LayerClaim (layer.List told) (layer.List normal) (layer.List report) (layer.List its_ids) (layer.List texts)
-unfolding roll-DataType denote.Hole.Carrier.roll
-list_claim told normal report its_ids texts claim allowed has_texts below fit =
+    → TypeClaim (nested n empty_table (told ∷ [])) (roll-DataType x) (over true report) (over_ids (its_ids ∷ [])) texts
+items_claim n tag make x told normal report its_ids texts small tag-is made is_bare read claim allowed has_texts below fit =
     let h = claim allowed has_texts (first_ids below) (first_fits below fit) in
-    over_back 12 empty_table (layer.List normal) true told normal report its_ids below (omega arith) empty_fits (λ ws. refl) (λ ws. refl) h
-    (lists_read told below (record { field = normal; ids = its_ids (first_ids below) }) (report.levels + 1) h.visits h.reads)
-
-pub large_list_claim : (told : Ids → Object) (normal : Field) (report : Report) (its_ids : Ids → Ids) (texts : Bool)
-    → FieldClaim told normal report its_ids texts
-    → LayerClaim (layer.LargeList told) (layer.LargeList normal) (layer.LargeList report) (layer.LargeList its_ids) (layer.LargeList texts)
-unfolding roll-DataType denote.Hole.Carrier.roll
-large_list_claim told normal report its_ids texts claim allowed has_texts below fit =
-    let h = claim allowed has_texts (first_ids below) (first_fits below fit) in
-    over_back 21 empty_table (layer.LargeList normal) true told normal report its_ids below (omega arith) empty_fits (λ ws. refl) (λ ws. refl) h
-    (large_lists_read told below (record { field = normal; ids = its_ids (first_ids below) }) (report.levels + 1) h.visits h.reads)
+    let result : FieldIn = record { field = normal; ids = its_ids (first_ids below) } in
+    over_back n empty_table x true told normal report its_ids below small empty_fits is_bare h
+    (subst (λ (t : DataType). TypeReads (nested n empty_table (told ∷ []) below) t (ids_then (its_ids (first_ids below)) no_ids)
+    (report.levels + 1) h.visits) made
+    (over_reads n tag no_field make told below result (report.levels + 1) h.visits tag-is h.reads
+    (λ bytes r field found total left s e. read bytes r field found total left result e)))
 
 pub fixed_list_claim : (size : ℕ) (told : Ids → Object) (normal : Field) (report : Report) (its_ids : Ids → Ids) (texts : Bool)
     → FieldClaim told normal report its_ids texts
@@ -96,7 +81,7 @@ fixed_list_claim size told normal report its_ids texts claim allowed has_texts b
     let small = size_fits size parts.0 in
     let h = claim parts.1 has_texts (first_ids below) (first_fits below fit) in
     over_back 16 (long_table size) (layer.FixedSizeList normal size) (is_size size) told normal report its_ids below (omega arith)
-    (long_fits size small.1) (λ ws. refl) (λ ws. refl) h
+    (long_fits size small.1) (λ ws. refl, λ ws. refl) h
     (fixed_lists_read size told below (record { field = normal; ids = its_ids (first_ids below) })
     (report.levels + 1) h.visits small.0 small.1 h.reads)
 
@@ -113,7 +98,7 @@ map_claim is_sorted told normal report its_ids texts claim allowed has_texts bel
     let parts = both (is_struct_of_two report.shape) report.is_allowed allowed in
     let h = claim parts.1 has_texts (first_ids below) (first_fits below fit) in
     over_back 17 (table (number_then w8 (truth is_sorted) no_field)) (layer.Map normal is_sorted)
-    (is_struct_of_two report.shape) told normal report its_ids below (omega arith) (truth_fits is_sorted) (λ ws. refl) (λ ws. refl) h
+    (is_struct_of_two report.shape) told normal report its_ids below (omega arith) (truth_fits is_sorted) (λ ws. refl, λ ws. refl) h
     (maps_read is_sorted told below (record { field = normal; ids = its_ids (first_ids below) }) (report.levels + 1) h.visits h.reads)
 
 -- ---- over all fields
@@ -175,27 +160,11 @@ module _ {X : Type 0} (field_at : X → Field) (told : Field → Ids → Object)
 -- what is shown of a type over fields, from its reading
 all_back : (n : ℕ) (type_table : Object) (x : layer.DataType-F DataType Field) (b : Bool) (shape : Shape) (told : List (Ids → Object))
     (normals : List Field) (reports : List Report) (its_ids : List (Ids → Ids)) (below : IdsList)
-    → n < 2 ^ 8 → Fits type_table → ((ws : List (List ℕ × List ℕ)) → with_extension_of ws x ≡ ws)
-    → ((ws : List (List ℕ × List ℕ)) → with_extension_under ws x ≡ ws)
-    → (h : ChildrenBack (objects_of told below) normals reports (each_ids its_ids below))
+    → n < 2 ^ 8 → Fits type_table → IsBare x → (h : ChildrenBack (objects_of told below) normals reports (each_ids its_ids below))
     → TypeReads (nested n type_table told below) (roll-DataType x) (each_ids its_ids below) (deepest reports) h.visits
     → TypeBack (nested n type_table told below) (roll-DataType x) (over_all b shape reports) false (each_ids its_ids below)
-all_back n type_table x b shape told normals reports its_ids below small fits of_x under_x h read = record {
-  stripped = roll-DataType x;
-  visits = h.visits;
-  reads = read;
-  whole = refl;
-  plain_of = λ (ws : List (List ℕ × List ℕ)). ap (with_extension_of ws) (out-roll-DataType x) ∙ of_x ws;
-  plain_under = λ (ws : List (List ℕ × List ℕ)). ap (with_extension_under ws) (out-roll-DataType x) ∙ under_x ws;
-  encoded_is = refl;
-  tag_fits = small;
-  table_fits = fits;
-  children_fit = h.fit;
-  few = h.few;
-  extension_fits = tt;
-  no_dictionary = λ e. refl;
-  no_extension = λ e. refl;
-}
+all_back n type_table x b shape told normals reports its_ids below small fits is_bare h read =
+    bare_back n type_table (objects_of told below) x (over_all b shape reports) (each_ids its_ids below) h.visits small fits h.fit h.few is_bare read
 
 ids_fit : (zs : List ℤ) → list_all is_union_id zs ≡ true → (k : ℕ) (d : ℤ) → k < length zs → FitsSigned w32 (get_or zs k d)
 ids_fit [] e k d inside = absurd (omega arith)
@@ -243,7 +212,7 @@ module _ {X : Type 0} (field_at : X → Field) (told : Field → Ids → Object)
       (each_ids (map its_ids children) below) (deepest (map report children)) h.visits) h.fields_are with_ids in
       all_back 13 empty_table (layer.Struct (map normal children)) (nat_le 1 (length (map report children))) (shape_of_struct (map report children))
       (map told children) (map normal children) (map report children) (map its_ids children) below
-      (omega arith) empty_fits (λ ws. refl) (λ ws. refl) h with_fields
+      (omega arith) empty_fits (λ ws. refl, λ ws. refl) h with_fields
 
   pub union_claim : (numbers : Option (List ℤ)) (mode : UnionMode)
       → LayerClaim (layer.Union (map told (map field_at items)) numbers mode) (layer.Union (map normal (map field_at items)) numbers mode)
@@ -264,7 +233,7 @@ module _ {X : Type 0} (field_at : X → Field) (told : Field → Ids → Object)
       (types.Union fs numbers mode) (each_ids (map its_ids children) below) (deepest (map report children)) h.visits) h.fields_are with_ids in
       all_back 14 (table (union_fields mode numbers)) (layer.Union (map normal children) numbers mode) b plain (map told children)
       (map normal children) (map report children) (map its_ids children) below
-      (omega arith) (union_fits mode numbers) (λ ws. refl) (λ ws. refl) h with_fields
+      (omega arith) (union_fits mode numbers) (λ ws. refl, λ ws. refl) h with_fields
 
 -- ---- dictionaries and extensions
 

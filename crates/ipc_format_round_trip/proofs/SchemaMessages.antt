@@ -35,8 +35,8 @@ use Rattle.ipc_format_round_trip.proofs.MetadataPairs.{metadata_reads}
 use Rattle.ipc_format_round_trip.proofs.Ordered.{joined_in_order}
 use Rattle.ipc_format_round_trip.proofs.SchemaParts.{tables_among, few_tables, refers_fit, metadata_fits, both}
 use Rattle.ipc_format_round_trip.proofs.NestedSteps.{ChildrenBack, children_back}
-use Rattle.ipc_format_round_trip.proofs.NormalReports.{writable_normal}
-use Rattle.ipc_format_round_trip.proofs.Inductions.{told_field, normal_field, report_field, field_holds}
+use Rattle.ipc_format_grammar.proofs.NormalReports.{normal_field, report_field, writable_normal}
+use Rattle.ipc_format_round_trip.proofs.Inductions.{told_field, field_holds}
 use Rattle.ipc_format_round_trip.proofs.Batches.{MessageAnswers, message_reads, message_fits}
 
 -- ---- what is told of a field is its object, and so on

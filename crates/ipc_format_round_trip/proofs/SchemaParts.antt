@@ -1,15 +1,16 @@
 -- What is shown of each type and field at once: that it reads back, fits, and takes few visits.
-use Rattle.std.proofs.Common.{◌≡◌, ℕ, ◌+◌, ◌*◌, ◌≤◌, ◌<◌, ◌^◌, ℤ, Bool, true, false, ◌&&◌, List, [], ◌∷◌, ◌++◌, length, refl, length-append, arith}
+use Rattle.std.proofs.Common.{◌≡◌, ℕ, ◌+◌, ◌*◌, ◌≤◌, ◌<◌, ◌^◌, ℤ, Bool, true, false, ◌&&◌, List, [], ◌∷◌, length, refl, length-append, arith}
 use Rattle.std.specs.Prelude.{Option, Some, None, is_some}
 use Rattle.std.specs.Int.{next_multiple_of}
 use Rattle.std.specs.Str.{is_utf8}
 use Rattle.std.specs.List.{flat_map}
 use Rattle.std.proofs.Math.Facts.{Fits-of_z, Fits-lt-pow}
-use Rattle.ipc_format_flatbuffers.specs.Laying.{Piece, Slot, child_bytes, vtable, table_bytes, table_piece, references_piece}
+use Rattle.ipc_format_flatbuffers.specs.Laying.{Piece, Slot, child_bytes, table_piece, references_piece}
 use Rattle.ipc_format_flatbuffers.proofs.Slots.{length-vtable}
 use Rattle.ipc_format_flatbuffers.proofs.References.{length-references_piece}
 use Rattle.ipc_format_flatbuffers.specs.Objects.{Object, Fields, Objects, table, references, elements, text, no_field, absent_then, number_then}
 use Rattle.ipc_format_flatbuffers.specs.Objects.{refers_then, no_object, object_then, piece_of, slots_of, pieces_of}
+use Rattle.ipc_format_spelling.proofs.Pieces.{length-table_piece}
 use Rattle.ipc_format_spelling.specs.Theorem.{Fits, FitsFields, FitsObjects}
 use Rattle.columnar_memory.specs.declared.DataType.{DataType}
 use Rattle.columnar_memory.specs.declared.Field.{Field}
@@ -18,7 +19,7 @@ use Rattle.columnar_memory.specs.declared.IntegerType.TheVariants as integers
 use Rattle.columnar_memory.specs.declared.DataType.TheViews.{out-DataType}
 use Rattle.ipc_format_grammar.specs.Schemas.{Ids, IdsList}
 use Rattle.ipc_format_grammar.specs.SchemaObjects.{Told, truth, refers_if, pair_objects, metadata_object, id_number, encoding_object}
-use Rattle.ipc_format_grammar.specs.SchemaObjects.{integer_object}
+use Rattle.ipc_format_grammar.specs.SchemaObjects.{int_object, integer_object}
 use Rattle.ipc_format_grammar.specs.Writable.{Report, is_plain, is_dictionary, with_extension_of, with_extension_under}
 use Rattle.ipc_format_round_trip.specs.Schemas.{FitsId, is_text_or_none, are_texts}
 use Rattle.ipc_format_round_trip.proofs.FieldSteps.{TypeReads, FieldReads, encode, extend}
@@ -47,14 +48,7 @@ abbrev mutual
   tables_among (object_then object objects) = tables_in object + tables_among objects
 
 table_longer : (slots : List Slot) → 1 + length (flat_map child_bytes slots) ≤ length (table_piece slots).bytes
-unfolding table_piece
-table_longer slots = omega (
-  arith,
-  length-append (vtable slots ++ table_bytes slots) (flat_map child_bytes slots),
-  length-append (vtable slots)
-      (table_bytes slots),
-  length-vtable slots (length slots) refl,
-)
+table_longer slots = omega (arith, length-table_piece slots, length-vtable slots (length slots) refl)
 
 references_longer : (pieces : List Piece) → length (flat_map (λ (piece : Piece). piece.bytes) pieces) ≤ length (references_piece pieces).bytes
 references_longer pieces =
@@ -110,47 +104,22 @@ pub truth_small : (b : Bool) → truth b < 2 ^ 8
 truth_small true = omega arith
 truth_small false = omega arith
 
+pub int_fits : (bits : ℕ) (is_signed : Bool) → bits < 2 ^ 32 → Fits (int_object bits is_signed)
+int_fits bits is_signed small = record {
+  here = record { vtable_size = omega arith; table_size = omega arith };
+  rest = record
+      { here = small; rest = record { here = truth_small is_signed; rest = tt } };
+}
+
 key_fits : (key : IntegerType) → Fits (integer_object key)
-key_fits integers.Int8 = record {
-  here = record { vtable_size = omega arith; table_size = omega arith };
-  rest = record
-      { here = omega arith; rest = record { here = omega arith; rest = tt } };
-}
-key_fits integers.Int16 = record {
-  here = record { vtable_size = omega arith; table_size = omega arith };
-  rest = record
-      { here = omega arith; rest = record { here = omega arith; rest = tt } };
-}
-key_fits integers.Int32 = record {
-  here = record { vtable_size = omega arith; table_size = omega arith };
-  rest = record
-      { here = omega arith; rest = record { here = omega arith; rest = tt } };
-}
-key_fits integers.Int64 = record {
-  here = record { vtable_size = omega arith; table_size = omega arith };
-  rest = record
-      { here = omega arith; rest = record { here = omega arith; rest = tt } };
-}
-key_fits integers.UInt8 = record {
-  here = record { vtable_size = omega arith; table_size = omega arith };
-  rest = record
-      { here = omega arith; rest = record { here = omega arith; rest = tt } };
-}
-key_fits integers.UInt16 = record {
-  here = record { vtable_size = omega arith; table_size = omega arith };
-  rest = record
-      { here = omega arith; rest = record { here = omega arith; rest = tt } };
-}
-key_fits integers.UInt32 = record {
-  here = record { vtable_size = omega arith; table_size = omega arith };
-  rest = record
-      { here = omega arith; rest = record { here = omega arith; rest = tt } };
-}
-key_fits integers.UInt64 = record {
-  here = record { vtable_size = omega arith; table_size = omega arith };
-  rest = record
-      { here = omega arith; rest = record { here = omega arith; rest = tt } };
-}
+key_fits integers.Int8 = int_fits 8 true (omega arith)
+key_fits integers.Int16 = int_fits 16 true (omega arith)
+key_fits integers.Int32 = int_fits 32 true (omega arith)
+key_fits integers.Int64 = int_fits 64 true (omega arith)
+key_fits integers.UInt8 = int_fits 8 false (omega arith)
+key_fits integers.UInt16 = int_fits 16 false (omega arith)
+key_fits integers.UInt32 = int_fits 32 false (omega arith)
+key_fits integers.UInt64 = int_fits 64 false (omega arith)
 
 id_small : (id : Option ℤ) → FitsId id → id_number id < 2 ^ 64
 id_small None fit = omega arith

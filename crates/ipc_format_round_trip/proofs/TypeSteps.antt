@@ -49,36 +49,6 @@ pub plain_reads : (n : ℕ) (tag : Tag) (data_type : DataType) (below : IdsList)
 plain_reads n tag data_type below tag-is read = leaf_reads n tag no_field data_type below tag-is
     (λ (bytes : List ℕ) (r : Table → Visits FieldIn) (field found : Table) (total : ℕ) s. read bytes r field found total)
 
-pub null_reads : (below : IdsList) → TypeReads (flat 1 (table no_field) below) types.Null no_ids 0 0
-unfolding type_in
-null_reads below = plain_reads 1 kind.null types.Null below refl (λ (bytes : List ℕ) (r : Table → Visits FieldIn) (field found : Table)
-    (total : ℕ). refl)
-
-pub binary_reads : (below : IdsList) → TypeReads (flat 4 (table no_field) below) types.Binary no_ids 0 0
-unfolding type_in
-binary_reads below = plain_reads 4 kind.binary types.Binary below refl
-    (λ (bytes : List ℕ) (r : Table → Visits FieldIn) (field found : Table) (total : ℕ). refl)
-
-pub utf8_reads : (below : IdsList) → TypeReads (flat 5 (table no_field) below) types.Utf8 no_ids 0 0
-unfolding type_in
-utf8_reads below = plain_reads 5 kind.utf8 types.Utf8 below refl (λ (bytes : List ℕ) (r : Table → Visits FieldIn) (field found : Table)
-    (total : ℕ). refl)
-
-pub boolean_reads : (below : IdsList) → TypeReads (flat 6 (table no_field) below) types.Boolean no_ids 0 0
-unfolding type_in
-boolean_reads below = plain_reads 6 kind.bool types.Boolean below refl
-    (λ (bytes : List ℕ) (r : Table → Visits FieldIn) (field found : Table) (total : ℕ). refl)
-
-pub large_binary_reads : (below : IdsList) → TypeReads (flat 19 (table no_field) below) types.LargeBinary no_ids 0 0
-unfolding type_in
-large_binary_reads below = plain_reads 19 kind.large_binary types.LargeBinary below refl
-    (λ (bytes : List ℕ) (r : Table → Visits FieldIn) (field found : Table) (total : ℕ). refl)
-
-pub large_utf8_reads : (below : IdsList) → TypeReads (flat 20 (table no_field) below) types.LargeUtf8 no_ids 0 0
-unfolding type_in
-large_utf8_reads below = plain_reads 20 kind.large_utf8 types.LargeUtf8 below refl
-    (λ (bytes : List ℕ) (r : Table → Visits FieldIn) (field found : Table) (total : ℕ). refl)
-
 pub integer_reads : (bits : ℕ) (is_signed : Bool) (integer : IntegerType) (below : IdsList) → bits < 2 ^ 31
     → integer_of (pos bits) is_signed ≡ Some integer
     → TypeReads (flat 2 (table (int_fields bits is_signed)) below) (type_of_integer integer) no_ids 0 0
@@ -189,7 +159,7 @@ children_read objects results deep visits h bytes levels field total left enough
     rw (read.vector, read.count_is) (h.reads bytes levels read.child 0 total left enough e read.each)
 
 -- a type that is made of its one field
-over_reads : (n : ℕ) (tag : Tag) (type_fields : Fields) (make : Field → DataType) (f : Ids → Object) (below : IdsList) (result : FieldIn)
+pub over_reads : (n : ℕ) (tag : Tag) (type_fields : Fields) (make : Field → DataType) (f : Ids → Object) (below : IdsList) (result : FieldIn)
     (deep visits : ℕ)
     → tag_of n ≡ Some tag → FieldReads (f (first_ids below)) result deep visits
     → ((bytes : List ℕ) (read : Table → Visits FieldIn) (field found : Table) (total left : ℕ) → SpellsFields bytes found 0 type_fields
@@ -206,19 +176,6 @@ over_reads n tag type_fields make f below result deep visits tag-is h read = rec
       (subst (λ (objects : Objects). SpellsReference bytes field 5 (λ (place : ℕ). Spells bytes place (references objects)))
       (one_object f below) children));
 }
-
-pub lists_read : (f : Ids → Object) (below : IdsList) (result : FieldIn) (deep visits : ℕ) → FieldReads (f (first_ids below)) result deep visits
-    → TypeReads (nested 12 (table no_field) (f ∷ []) below) (types.List result.field) (ids_then result.ids no_ids) deep visits
-unfolding type_in
-lists_read f below result deep visits h = over_reads 12 kind.list no_field types.List f below result deep visits refl h
-    (λ (bytes : List ℕ) (r : Table → Visits FieldIn) (field found : Table) (total left : ℕ) s e. rw e refl)
-
-pub large_lists_read : (f : Ids → Object) (below : IdsList) (result : FieldIn) (deep visits : ℕ)
-    → FieldReads (f (first_ids below)) result deep visits
-    → TypeReads (nested 21 (table no_field) (f ∷ []) below) (types.LargeList result.field) (ids_then result.ids no_ids) deep visits
-unfolding type_in
-large_lists_read f below result deep visits h = over_reads 21 kind.large_list no_field types.LargeList f below result deep visits refl h
-    (λ (bytes : List ℕ) (r : Table → Visits FieldIn) (field found : Table) (total left : ℕ) s e. rw e refl)
 
 pub fixed_lists_read : (size : ℕ) (f : Ids → Object) (below : IdsList) (result : FieldIn) (deep visits : ℕ) → 1 ≤ size → size < 2 ^ 31
     → FieldReads (f (first_ids below)) result deep visits

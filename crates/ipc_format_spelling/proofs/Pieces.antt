@@ -32,6 +32,17 @@ table_from start slots = record {
       table_end 4 slots;
 }
 
+-- its vtable and its own bytes, without its children, stand where it does
+module _ {bytes : List ℕ} {start : ℕ} (slots : List Slot) (s : Stands bytes start (table_piece slots).bytes) where
+  pub vtable_part : Stands bytes start (vtable slots)
+  unfolding table_piece
+  vtable_part = front (vtable slots) (table_bytes slots) refl (front (vtable slots ++ table_bytes slots) (flat_map child_bytes slots) refl s)
+
+  pub own_part : Stands bytes (start + length (vtable slots)) (table_bytes slots)
+  unfolding table_piece
+  own_part = back (vtable slots) (table_bytes slots) (start + length (vtable slots)) refl refl
+      (front (vtable slots ++ table_bytes slots) (flat_map child_bytes slots) refl s)
+
 -- it is found where its references point
 pub table_found : {bytes : List ℕ} {start : ℕ} (slots : List Slot) → 4 + 2 * length slots < 2 ^ 16 → table_end 4 slots < 2 ^ 16
     → Stands bytes start (table_piece slots).bytes → table_at bytes (start + (table_piece slots).entry) ≡ Some (table_from start slots)
@@ -40,10 +51,8 @@ table_found {bytes} {start} slots small small-end s =
     let sizes : List ℕ = to_le_bytes w16 (4 + 2 * length slots) ++ to_le_bytes w16 (table_end 4 slots) in
     let distance = to_le_bytes w32 (length (vtable slots)) in
     let first = next_multiple_of (table_end 4 slots) 8 in
-    let head = front (vtable slots ++ table_bytes slots) (flat_map child_bytes slots) refl s in
-    let its-vtable = front (vtable slots) (table_bytes slots) refl head in
-    let its-own : Stands bytes (start + length (vtable slots)) (table_bytes slots) = back (vtable slots) (table_bytes slots)
-    (start + length (vtable slots)) refl refl head in
+    let its-vtable = vtable_part slots s in
+    let its-own = own_part slots s in
     let its-parts = unpadded (sizes ++ entries 4 slots) its-vtable in
     let its-sizes = front sizes (entries 4 slots) refl its-parts in
     let size-is = number_stands w16 (4 + 2 * length slots) small (front (to_le_bytes w16 (4 + 2 * length slots))
@@ -69,14 +78,10 @@ table_slots {bytes} {start} slots small-end s =
     let sizes : List ℕ = to_le_bytes w16 (4 + 2 * length slots) ++ to_le_bytes w16 (table_end 4 slots) in
     let distance = to_le_bytes w32 (length (vtable slots)) in
     let first = next_multiple_of (table_end 4 slots) 8 in
-    let head = front (vtable slots ++ table_bytes slots) (flat_map child_bytes slots) refl s in
-    let its-vtable = front (vtable slots) (table_bytes slots) refl head in
-    let its-own : Stands bytes (start + length (vtable slots)) (table_bytes slots) = back (vtable slots) (table_bytes slots)
-    (start + length (vtable slots)) refl refl head in
     record {
-      vtable = back sizes (entries 4 slots) (start + 4 + 2 * 0) refl (omega arith) (unpadded (sizes ++ entries 4 slots) its-vtable);
+      vtable = back sizes (entries 4 slots) (start + 4 + 2 * 0) refl (omega arith) (unpadded (sizes ++ entries 4 slots) (vtable_part slots s));
       own = back distance (fields 4 first slots) (start + length (vtable slots) + 4) refl refl
-          (unpadded (distance ++ fields 4 first slots) its-own);
+          (unpadded (distance ++ fields 4 first slots) (own_part slots s));
       children = back (vtable slots ++ table_bytes slots) (flat_map child_bytes slots) (start + length (vtable slots) + first) refl
           (omega (arith, length-append (vtable slots) (table_bytes slots), length-table_bytes slots)) s;
       vtable_size = omega arith;
@@ -201,15 +206,20 @@ element_stands {bytes} {start} {found} {k} {at} {child} piece {pieces} Target en
       target = target;
     }
 
--- references to a piece point into it
-pub table_entry : (slots : List Slot) → (table_piece slots).entry ≤ length (table_piece slots).bytes
+pub length-table_piece : (slots : List Slot)
+    → length (table_piece slots).bytes ≡ length (vtable slots) + length (table_bytes slots) + length (flat_map child_bytes slots)
 unfolding table_piece
-table_entry slots = omega (
+length-table_piece slots = omega (
   arith,
   length-append (vtable slots ++ table_bytes slots) (flat_map child_bytes slots),
   length-append (vtable slots)
       (table_bytes slots),
 )
+
+-- references to a piece point into it
+pub table_entry : (slots : List Slot) → (table_piece slots).entry ≤ length (table_piece slots).bytes
+unfolding table_piece
+table_entry slots = omega (arith, length-table_piece slots)
 
 pub references_entry : (pieces : List Piece) → (references_piece pieces).entry ≤ length (references_piece pieces).bytes
 unfolding references_piece

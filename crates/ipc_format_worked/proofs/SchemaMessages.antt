@@ -8,7 +8,8 @@ use Rattle.columnar_memory.specs.declared.DataType.TheFolds.{fold-roll-DataType}
 use Rattle.columnar_memory.specs.declared.DataType.TheVariants as types
 use Rattle.columnar_memory.specs.declared.IntegerType.TheVariants as integers
 use Rattle.std.specs.Int.{w8, w16, w64}
-use Rattle.ipc_format_flatbuffers.specs.Objects.{Object, laid, table, references, text, no_field, absent_then, number_then, refers_then, no_object, object_then}
+use Rattle.ipc_format_flatbuffers.specs.Objects.{Object, laid, table, references, text, no_field, absent_then, number_then, refers_then}
+use Rattle.ipc_format_flatbuffers.specs.Objects.{no_object, object_then}
 use Rattle.ipc_format_flatbuffers.specs.Laying.{table_piece, references_piece, elements_piece, text_piece, message_bytes}
 use Rattle.ipc_format_grammar.specs.Schemas.{Ids, IdsList, ids, no_ids, ids_then, extension_name_key, extension_metadata_key}
 use Rattle.ipc_format_grammar.specs.SchemaObjects.{Told, told_of, told_step, told_field_step, flat, int_object, empty_table, pair_object}

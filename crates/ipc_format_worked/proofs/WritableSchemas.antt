@@ -13,7 +13,8 @@ use Rattle.columnar_memory.specs.declared.Field.{Field}
 use Rattle.columnar_memory.specs.declared.Schema.{Schema}
 use Rattle.ipc_format_grammar.specs.Schemas.{extension_name_key, extension_metadata_key}
 use Rattle.ipc_format_grammar.specs.SchemaObjects.{written_pairs}
-use Rattle.ipc_format_grammar.specs.Writable.{Report, plain, report_of, report_step, field_step, leaf, is_writable, normalised, normalised_type, normalised_step}
+use Rattle.ipc_format_grammar.specs.Writable.{Report, plain, report_of, report_step, field_step, leaf, is_writable, normalised}
+use Rattle.ipc_format_grammar.specs.Writable.{normalised_type, normalised_step}
 use Rattle.ipc_format_worked.specs.Examples.{x_int32, field_x, schema_x, number_x, union_of, in_list, in_lists}
 
 -- an extension's pairs stand before the others: its metadata, its name, and then a = 1

@@ -12,7 +12,8 @@ use Rattle.nested_arrays.specs.Slots.{Slot, null}
 use Rattle.nested_arrays.specs.SameSlots.{place_among}
 use Rattle.nested_arrays.specs.Children.{items_of, joined_items, joined_fixed_items, field_slots, dictionary_values}
 use Rattle.ipc_format_columns.specs.Layouts.{kind_of}
-use Rattle.ipc_format_written.specs.Buffers.{validity_bytes, bitmap_of, null_count, is_true, kind_bytes, key_width, content_of, fixed_content_of, offset_bytes}
+use Rattle.ipc_format_written.specs.Buffers.{validity_bytes, bitmap_of, null_count, is_true, kind_bytes, key_width, content_of}
+use Rattle.ipc_format_written.specs.Buffers.{fixed_content_of, offset_bytes}
 
 -- a column as it is written: its nodes, each a number of slots and of nulls, and its buffers, both in pre-order
 pub record Encoded : Type 0 where

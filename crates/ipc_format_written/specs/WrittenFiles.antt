@@ -11,7 +11,8 @@ use Rattle.ipc_format_grammar.specs.Writable.{is_writable}
 use Rattle.ipc_format_columns.specs.Files.{file_mark}
 use Rattle.ipc_format_written.specs.Ids.{ids_fit_fields}
 use Rattle.ipc_format_written.specs.GivenDictionaries.{Given, stands_for, last_under, to_write, written_after, agree}
-use Rattle.ipc_format_written.specs.WrittenMessages.{Written, prefix_size, message_bytes, fits_limit, end_mark, schema_written, record_message, dictionary_message}
+use Rattle.ipc_format_written.specs.WrittenMessages.{Written, prefix_size, message_bytes, fits_limit, end_mark, schema_written}
+use Rattle.ipc_format_written.specs.WrittenMessages.{record_message, dictionary_message}
 use Rattle.ipc_format_written.specs.WrittenStreams.{Batch, stream_messages, stream_bytes}
 
 -- where a message stands in a file: its place, how many bytes stand before its body, and how many its body has

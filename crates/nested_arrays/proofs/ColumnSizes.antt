@@ -2,7 +2,8 @@
 use Rattle.std.proofs.Common.{◌≡◌, ℕ, ◌+◌, ◌*◌, refl, ap, arith}
 use Rattle.std.specs.Prelude.{Some, None}
 use Rattle.nested_arrays.specs.ColumnLaws.{SlotsLengths, CutsSizes, SizesCount}
-use Rattle.nested_arrays.specs.StoredColumns.{Column, Columns, nulls, flat, lists, fixed_lists, records, unions, dictionary, no_column, column_then, column_len, column_size, columns_size, slot_at, cut, cut_each}
+use Rattle.nested_arrays.specs.StoredColumns.{Column, Columns, nulls, flat, lists, fixed_lists, records, unions, dictionary, no_column}
+use Rattle.nested_arrays.specs.StoredColumns.{column_then, column_len, column_size, columns_size, slot_at, cut, cut_each}
 use Rattle.nested_arrays.proofs.Windows.{length-window}
 
 pub slots_lengths : SlotsLengths

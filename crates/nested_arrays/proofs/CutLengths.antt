@@ -8,8 +8,11 @@ use Rattle.columnar_memory.specs.declared.PhysicalType.{PhysicalType}
 use Rattle.columnar_memory.specs.declared.PhysicalType.TheVariants as physical
 use Rattle.columnar_memory.specs.Layouts.{physical_type}
 use Rattle.nested_arrays.specs.Kinds.{most_offset}
-use Rattle.nested_arrays.specs.StoredColumns.{Stored, bits, numbers, pairs, triples, texts, byte_strings, fixed_bytes, Column, nulls, flat, lists, fixed_lists, records, unions, dictionary, cut_list, cut_stored, stored_len, column_type, column_len, type_layer, cut}
-use Rattle.nested_arrays.specs.SoundColumns.{holds_below, is_byte, is_text_at, mask_fits, are_offsets, are_strings, are_pieces, is_stored_as, has_size, has_item_type, has_fixed_item_type, is_sound}
+use Rattle.nested_arrays.specs.StoredColumns.{Stored, bits, numbers, pairs, triples, texts, byte_strings, fixed_bytes, Column, nulls, flat}
+use Rattle.nested_arrays.specs.StoredColumns.{lists, fixed_lists, records, unions, dictionary, cut_list, cut_stored, stored_len}
+use Rattle.nested_arrays.specs.StoredColumns.{column_type, column_len, type_layer, cut}
+use Rattle.nested_arrays.specs.SoundColumns.{holds_below, is_byte, is_text_at, mask_fits, are_offsets, are_strings, are_pieces}
+use Rattle.nested_arrays.specs.SoundColumns.{is_stored_as, has_size, has_item_type, has_fixed_item_type, is_sound}
 use Rattle.nested_arrays.proofs.Windows.{length-cut_list}
 use Rattle.nested_arrays.proofs.Conditions.{parts_of_3, parts_of_4}
 use Rattle.nested_arrays.proofs.CutStored.{first_offset, length-cut_offsets, pieces_within}

@@ -11,8 +11,10 @@ use Rattle.columnar_memory.specs.declared.Field.{Field}
 use Rattle.columnar_memory.specs.declared.PhysicalType.{PhysicalType}
 use Rattle.columnar_memory.specs.declared.PhysicalType.TheVariants as physical
 use Rattle.nested_arrays.specs.Kinds.{is_signed, in_kind, numbers_of_kind, same_kind, most_offset}
-use Rattle.nested_arrays.specs.StoredColumns.{Stored, bits, numbers, pairs, triples, texts, byte_strings, fixed_bytes, cut_list, cut_mask, cut_stored, stored_len}
-use Rattle.nested_arrays.specs.SoundColumns.{holds_below, is_byte, mask_fits, rises_at, are_offsets, are_strings, is_text_at, are_pairs, are_triples, are_pieces, is_stored_as, has_size}
+use Rattle.nested_arrays.specs.StoredColumns.{Stored, bits, numbers, pairs, triples, texts, byte_strings, fixed_bytes, cut_list, cut_mask}
+use Rattle.nested_arrays.specs.StoredColumns.{cut_stored, stored_len}
+use Rattle.nested_arrays.specs.SoundColumns.{holds_below, is_byte, mask_fits, rises_at, are_offsets, are_strings, is_text_at, are_pairs}
+use Rattle.nested_arrays.specs.SoundColumns.{are_triples, are_pieces, is_stored_as, has_size}
 use Rattle.nested_arrays.proofs.Windows.{length-cut_list}
 use Rattle.nested_arrays.proofs.Conditions.{parts_of_3, holds_at, holds_from, list_all-cut_list}
 use Rattle.nested_arrays.proofs.Cuts.{offset_of_cut, next_offset_of_cut, string_at-cut}

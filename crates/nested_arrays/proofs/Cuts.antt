@@ -2,7 +2,11 @@
 use Rattle.std.proofs.Common.{◌≡◌, ℕ, zero, suc, ◌+◌, ◌-◌, ◌*◌, ◌≤◌, ◌<◌, List, get_or, refl, sym, ap, ◌∙◌, arith}
 use Rattle.std.specs.Prelude.{pos, Bool, false, Option, Some, None, slice_range, if◌then◌else◌}
 use Rattle.nested_arrays.specs.Slots.{Slot, null, truth, number, text, bytes, items, fields, pick, slot_then, window, in_slots}
-use Rattle.nested_arrays.specs.StoredColumns.{Stored, bits, numbers, pairs, triples, texts, byte_strings, fixed_bytes, Column, Columns, nulls, flat, lists, fixed_lists, records, unions, dictionary, no_column, column_then, is_valid_at, unless_null, string_at, pair_slot, triple_slot, stored_at, cut_list, cut_mask, cut_stored, column_type, place_of, child_number, type_layer, slot_at, slots_at, picked_at, cut, cut_each}
+use Rattle.nested_arrays.specs.StoredColumns.{Stored, bits, numbers, pairs, triples, texts, byte_strings, fixed_bytes, Column, Columns}
+use Rattle.nested_arrays.specs.StoredColumns.{nulls, flat, lists, fixed_lists, records, unions, dictionary, no_column, column_then}
+use Rattle.nested_arrays.specs.StoredColumns.{is_valid_at, unless_null, string_at, pair_slot, triple_slot, stored_at, cut_list, cut_mask}
+use Rattle.nested_arrays.specs.StoredColumns.{cut_stored, column_type, place_of, child_number, type_layer, slot_at, slots_at, picked_at}
+use Rattle.nested_arrays.specs.StoredColumns.{cut, cut_each}
 use Rattle.std.proofs.Math.Nat.{mul-add, mul-le-mul_left}
 use Rattle.nested_arrays.proofs.Windows.{get_or-cut_list, cut_list-cut_list, window_same}
 

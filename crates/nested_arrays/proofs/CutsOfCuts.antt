@@ -3,7 +3,9 @@ use Rattle.std.proofs.Common.{◌≡◌, ℕ, ◌+◌, ◌*◌, ◌≤◌, List,
 use Rattle.std.specs.Prelude.{Bool, Option, Some, None, slice_range}
 use Rattle.std.proofs.Math.Nat.{mul-add, mul-le-mul_left}
 use Rattle.nested_arrays.specs.Slots.{window}
-use Rattle.nested_arrays.specs.StoredColumns.{Stored, bits, numbers, pairs, triples, texts, byte_strings, fixed_bytes, Column, Columns, nulls, flat, lists, fixed_lists, records, unions, dictionary, no_column, column_then, cut_list, cut_mask, cut_stored, column_len, slot_at, slots, cut, cut_each}
+use Rattle.nested_arrays.specs.StoredColumns.{Stored, bits, numbers, pairs, triples, texts, byte_strings, fixed_bytes, Column, Columns}
+use Rattle.nested_arrays.specs.StoredColumns.{nulls, flat, lists, fixed_lists, records, unions, dictionary, no_column, column_then}
+use Rattle.nested_arrays.specs.StoredColumns.{cut_list, cut_mask, cut_stored, column_len, slot_at, slots, cut, cut_each}
 use Rattle.nested_arrays.specs.SoundColumns.{is_sound}
 use Rattle.nested_arrays.proofs.Windows.{cut_list-cut_list, window_same, cut_list-window}
 use Rattle.nested_arrays.proofs.Cuts.{slot_at-cut}

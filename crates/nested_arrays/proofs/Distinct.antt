@@ -2,7 +2,8 @@
 use Rattle.std.proofs.Common.{◌≡◌, suc, List, [], ◌∷◌, refl, sym, ap, ◌∙◌, true, false}
 use Rattle.std.specs.Prelude.{◌||◌, not, cond, Some, slice_get, if◌then◌else◌}
 use Rattle.std.specs.List.{filter}
-use Rattle.std.proofs.lemmas.Bool.{and_from, and_parts, or_parts, not-true, or_cases, or_left, or_right, not_from_false, false≢true, cases_Bool, both_ways}
+use Rattle.std.proofs.lemmas.Bool.{and_from, and_parts, or_parts, not-true, or_cases, or_left, or_right, not_from_false, false≢true}
+use Rattle.std.proofs.lemmas.Bool.{cases_Bool, both_ways}
 use mathlib.Core.Logic.{inl, inr}
 use Rattle.nested_arrays.specs.Slots.{Slot}
 use Rattle.nested_arrays.specs.SameSlots.{same_slot, distinct, is_among, place_among, are_distinct}

@@ -15,7 +15,8 @@ use Rattle.columnar_memory.specs.declared.IntervalUnit.TheVariants as intervals
 use Rattle.nested_arrays.specs.Cells.{is_null, fits_step, fits_cell}
 use Rattle.nested_arrays.specs.Children.{items_of, fixed_items_of, field_of, joined_items, joined_fixed_items, field_slots, dictionary_values}
 use Rattle.nested_arrays.specs.Kinds.{most_slots, most_values}
-use Rattle.nested_arrays.specs.OpenBatch.{byte_count, most_short, most_long, is_length, bytes_within, items_within, fields_within, values_within, within_step, is_within, fits}
+use Rattle.nested_arrays.specs.OpenBatch.{byte_count, most_short, most_long, is_length, bytes_within, items_within, fields_within}
+use Rattle.nested_arrays.specs.OpenBatch.{values_within, within_step, is_within, fits}
 use Rattle.nested_arrays.specs.SameSlots.{same_slot, distinct}
 use Rattle.nested_arrays.specs.Slots.{Slot, null}
 use Rattle.nested_arrays.proofs.Conditions.{parts_of_3}

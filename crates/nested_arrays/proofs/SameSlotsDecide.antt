@@ -60,7 +60,8 @@ kind_of-kind_number kinds.Float64 = refl
 kind_of-kind_number kinds.DaysMs = refl
 kind_of-kind_number kinds.MonthDayNano = refl
 
-same_kind-implies : (a b : PrimitiveType) → same_kind a b ≡ true → a ≡ b
+-- the same kinds are equal
+pub same_kind-implies : (a b : PrimitiveType) → same_kind a b ≡ true → a ≡ b
 same_kind-implies a b h = sym (kind_of-kind_number a) ∙ ap kind_of ((unsigned_Decides (kind_number a) (kind_number b)).0 h) ∙ kind_of-kind_number b
 
 same_kind-itself : (a : PrimitiveType) → same_kind a a ≡ true

@@ -10,12 +10,18 @@ use Rattle.columnar_memory.specs.declared.UnionMode.TheVariants as modes
 use Rattle.columnar_memory.specs.Equality.{same_type}
 use Rattle.columnar_memory.specs.Layouts.{physical_type}
 use Rattle.nested_arrays.specs.Kinds.{is_signed, is_key, most_offset}
-use Rattle.nested_arrays.specs.StoredColumns.{Column, Columns, nulls, flat, lists, fixed_lists, records, unions, dictionary, no_column, column_then, cut_list, cut_mask, cut_stored, stored_len, column_type, column_len, type_layer, place_of, child_number, cut, cut_each}
-use Rattle.nested_arrays.specs.SoundColumns.{holds_below, mask_fits, are_offsets, are_pieces, is_stored_as, has_size, has_item_type, has_fixed_item_type, has_value_type, have_types, has_field_types, has_an_id_each, has_child_types, column_lens, have_len, has_value_at, has_child_at, is_offset, has_places, is_sound, are_sound}
+use Rattle.nested_arrays.specs.StoredColumns.{Column, Columns, nulls, flat, lists, fixed_lists, records, unions, dictionary, no_column}
+use Rattle.nested_arrays.specs.StoredColumns.{column_then, cut_list, cut_mask, cut_stored, stored_len, column_type, column_len, type_layer}
+use Rattle.nested_arrays.specs.StoredColumns.{place_of, child_number, cut, cut_each}
+use Rattle.nested_arrays.specs.SoundColumns.{holds_below, mask_fits, are_offsets, are_pieces, is_stored_as, has_size, has_item_type}
+use Rattle.nested_arrays.specs.SoundColumns.{has_fixed_item_type, has_value_type, have_types, has_field_types, has_an_id_each}
+use Rattle.nested_arrays.specs.SoundColumns.{has_child_types, column_lens, have_len, has_value_at, has_child_at, is_offset, has_places}
+use Rattle.nested_arrays.specs.SoundColumns.{is_sound, are_sound}
 use Rattle.nested_arrays.proofs.Windows.{get_or-cut_list, length-cut_list}
 use Rattle.nested_arrays.proofs.Conditions.{parts_of_3, parts_of_4, parts_of_5, holds_at, holds_from, list_all-cut_list}
 use Rattle.nested_arrays.proofs.Cuts.{is_valid_at-cut_mask, column_type-cut}
-use Rattle.nested_arrays.proofs.CutStored.{mask_fits-cut, are_offsets-cut, first_offset, length-cut_offsets, pieces_within, are_pieces-cut, is_stored_as-cut, has_size-cut}
+use Rattle.nested_arrays.proofs.CutStored.{mask_fits-cut, are_offsets-cut, first_offset, length-cut_offsets, pieces_within, are_pieces-cut}
+use Rattle.nested_arrays.proofs.CutStored.{is_stored_as-cut, has_size-cut}
 use Rattle.nested_arrays.proofs.CutLengths.{column_len-cut, stored_len-cut_stored}
 
 from_3 : (a b c : Bool) → a ≡ true → b ≡ true → c ≡ true → (a && b && c) ≡ true

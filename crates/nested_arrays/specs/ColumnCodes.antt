@@ -8,7 +8,8 @@ use Rattle.columnar_memory.specs.contracts.DataType as data_type
 use Rattle.columnar_memory.specs.declared.PrimitiveType.{PrimitiveType}
 use Rattle.columnar_memory.specs.declared.PrimitiveType.TheVariants as kinds
 use Rattle.columnar_memory.specs.contracts.PrimitiveType as primitive_type
-use Rattle.nested_arrays.specs.StoredColumns.{Stored, bits, numbers, pairs, triples, texts, byte_strings, fixed_bytes, Column, Columns, nulls, flat, lists, fixed_lists, records, unions, dictionary, no_column, column_then}
+use Rattle.nested_arrays.specs.StoredColumns.{Stored, bits, numbers, pairs, triples, texts, byte_strings, fixed_bytes, Column, Columns}
+use Rattle.nested_arrays.specs.StoredColumns.{nulls, flat, lists, fixed_lists, records, unions, dictionary, no_column, column_then}
 
 -- ---- stored values
 

@@ -1,5 +1,5 @@
 -- The values of columns, whatever their layout in memory (Arrow columnar format, "Physical memory layout").
-use Rattle.std.specs.Prelude.{ℕ, zero, suc, ◌+◌, ℤ, Bool, List, [], ◌∷◌}
+use Rattle.std.specs.Prelude.{ℕ, ℤ, Bool, List, [], ◌∷◌}
 use Rattle.columnar_memory.specs.declared.DataType.{DataType}
 use Rattle.columnar_memory.specs.declared.PrimitiveType.{PrimitiveType}
 pub use Rattle.columnar_memory.specs.Windows.{window}

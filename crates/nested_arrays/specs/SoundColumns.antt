@@ -1,5 +1,6 @@
 -- Which columns are sound: the parts that an array of a type may have (Arrow columnar format, "Physical Memory Layout").
-use Rattle.std.specs.Prelude.{ℕ, zero, suc, ◌+◌, ◌-◌, ◌*◌, ◌/◌, min, ℤ, pos, Bool, true, false, not, ◌&&◌, ◌||◌, ◌==◌, List, [], ◌∷◌, length, Option, Some, None, nat_le, nat_lt, slice_index, slice_index_or}
+use Rattle.std.specs.Prelude.{ℕ, zero, suc, ◌+◌, ◌-◌, ◌*◌, ◌/◌, min, ℤ, pos, Bool, true, false, not, ◌&&◌, ◌||◌, ◌==◌, List, [], ◌∷◌}
+use Rattle.std.specs.Prelude.{length, Option, Some, None, nat_le, nat_lt, slice_index, slice_index_or}
 use Rattle.std.specs.Prelude.{int_le}
 use Rattle.std.specs.List.{list_all}
 use Rattle.std.specs.Str.{is_utf8}
@@ -13,7 +14,10 @@ use Rattle.columnar_memory.specs.declared.UnionMode.TheVariants as modes
 use Rattle.columnar_memory.specs.Equality.{same_type}
 use Rattle.columnar_memory.specs.Layouts.{physical_type}
 use Rattle.nested_arrays.specs.Kinds.{is_signed, in_kind, numbers_of_kind, same_kind, is_key, most_offset}
-use Rattle.nested_arrays.specs.StoredColumns.{Stored, bits, numbers, pairs, triples, texts, byte_strings, fixed_bytes, Column, Columns, nulls, flat, lists, fixed_lists, records, unions, dictionary, no_column, column_then, is_valid_at, string_at, stored_len, column_type, column_len, type_layer, place_of, child_number, union_place}
+use Rattle.nested_arrays.specs.StoredColumns.{Stored, bits, numbers, pairs, triples, texts, byte_strings, fixed_bytes, Column, Columns}
+use Rattle.nested_arrays.specs.StoredColumns.{nulls, flat, lists, fixed_lists, records, unions, dictionary, no_column, column_then}
+use Rattle.nested_arrays.specs.StoredColumns.{is_valid_at, string_at, stored_len, column_type, column_len, type_layer, place_of}
+use Rattle.nested_arrays.specs.StoredColumns.{child_number, union_place}
 
 -- whether a test holds at each place below n
 abbrev pub holds_below : ℕ → (ℕ → Bool) → Bool

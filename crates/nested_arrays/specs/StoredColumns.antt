@@ -1,6 +1,7 @@
 -- What an array stores, apart from where it stands in memory (Arrow columnar format, "Physical Memory Layout"): its type, its mask, its
 -- values, offsets or keys, and the columns below it.
-use Rattle.std.specs.Prelude.{ℕ, zero, suc, ◌+◌, ◌-◌, ◌*◌, ◌/◌, ℤ, pos, negsuc, Bool, true, false, List, [], ◌∷◌, length, Option, Some, None, if◌then◌else◌, slice_index, slice_index_or, slice_range}
+use Rattle.std.specs.Prelude.{ℕ, zero, suc, ◌+◌, ◌-◌, ◌*◌, ◌/◌, ℤ, pos, negsuc, Bool, true, false, List, [], ◌∷◌, length, Option, Some}
+use Rattle.std.specs.Prelude.{None, if◌then◌else◌, slice_index, slice_index_or, slice_range}
 use Rattle.std.specs.Ordering.{int_eq}
 use Rattle.columnar_memory.specs.declared.DataType.{DataType}
 use Rattle.columnar_memory.specs.declared.DataType.TheOpen as layer
@@ -8,7 +9,8 @@ use Rattle.columnar_memory.specs.declared.DataType.TheViews.{out-DataType}
 use Rattle.columnar_memory.specs.declared.Field.{Field}
 use Rattle.columnar_memory.specs.declared.PrimitiveType.{PrimitiveType}
 use Rattle.columnar_memory.specs.Layouts.{logical_type}
-use Rattle.nested_arrays.specs.Slots.{Slot, Slots, null, truth, number, pair, triple, text, bytes, items, fields, pick, no_slot, slot_then, window, in_slots}
+use Rattle.nested_arrays.specs.Slots.{Slot, Slots, null, truth, number, pair, triple, text, bytes, items, fields, pick, no_slot, slot_then}
+use Rattle.nested_arrays.specs.Slots.{window, in_slots}
 
 -- the values of a type without children
 pub data Stored : Type 0 where

@@ -8,7 +8,8 @@ use Rattle.columnar_memory.specs.declared.Error.{Error}
 use Rattle.columnar_memory.specs.declared.Error.TheVariants.{Overflow, OutOfMemory}
 use Rattle.ipc_format.specs.declared.flatbuffers.LayError.{LayError}
 use Rattle.ipc_format.specs.declared.flatbuffers.LayError.TheVariants.{Memory, TooLong}
-use Rattle.ipc_format.specs.Laying.{Piece, Slot, refers, padded, vtable, table_bytes, child_bytes, reference_bytes, table_piece, references_piece, elements_piece, message_bytes}
+use Rattle.ipc_format.specs.Laying.{Piece, Slot, refers, padded, vtable, table_bytes, child_bytes, reference_bytes, table_piece}
+use Rattle.ipc_format.specs.Laying.{references_piece, elements_piece, message_bytes}
 use Rattle.ipc_format.specs.Objects.{Object, piece_of, laid}
 use Rattle.ipc_format.specs.Types.{at_place}
 use Rattle.ipc_format.specs.Views.{Lays}

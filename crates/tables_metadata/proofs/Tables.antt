@@ -13,7 +13,8 @@ use Rattle.columnar_memory.specs.declared.Schema.{Schema}
 use Rattle.ipc_format.specs.Objects.{Object, piece_of, pieces_of, references}
 use Rattle.ipc_format.specs.Laying.{Piece, Slot, absent, number, refers, table_piece, references_piece, text_piece}
 use Rattle.ipc_format.specs.Schemas.{Ids, IdsList, ids, no_ids}
-use Rattle.ipc_format.specs.SchemaObjects.{Told, told_of, told_step, told_field_step, flat, int_object, field_table, field_object, objects_of, schema_object, schema_message, truth}
+use Rattle.ipc_format.specs.SchemaObjects.{Told, told_of, told_step, told_field_step, flat, int_object, field_table, field_object}
+use Rattle.ipc_format.specs.SchemaObjects.{objects_of, schema_object, schema_message, truth}
 use Rattle.ipc_format.specs.Types.{at_place}
 use Rattle.ipc_format.specs.Views.{Lays}
 use Rattle.ipc_format.specs.declared.flatbuffers.Laid.{Laid}

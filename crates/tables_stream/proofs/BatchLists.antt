@@ -10,7 +10,8 @@ use Rattle.columnar_memory.specs.declared.Error.{Error}
 use Rattle.columnar_memory.specs.declared.Error.TheVariants.{NotYetImplemented, External, Io, InvalidArgumentError, ExternalFormat}
 use Rattle.columnar_memory.specs.declared.Error.TheVariants.{Overflow, OutOfSpec, OutOfMemory}
 use Rattle.columnar_memory.specs.declared.Schema.{Schema}
-use Rattle.nested_arrays.specs.Slots.{Slot, window}
+use Rattle.nested_arrays.proofs.Windows.{length-window}
+use Rattle.nested_arrays.specs.Slots.{Slot}
 use Rattle.nested_arrays.specs.Tables.{row_at, batch_rows, rows_of_columns, rows_of_batches}
 use Rattle.ipc_format_columns.specs.Framing.{Framed, Next, nothing_whole, at_end, message_then, next_at, by_next, dictionaries_after, truncated_from}
 use Rattle.ipc_format.specs.Reading.{◌>>=◌}
@@ -201,16 +202,12 @@ batches_cut schema bytes first batches place int32 read e =
 
 -- ---- how many rows there are
 
-length_window : {A : Type 0} (f : ℕ → A) (first n : ℕ) → length (window f first n) ≡ n
-length_window f first zero = refl
-length_window f first (suc n) = ap suc (length_window f (first + 1) n)
-
 rows_of_slots : (columns : List Cells) → rows_of_columns (batch_slots columns) ≡ rows_of_cells columns
 rows_of_slots [] = refl
 rows_of_slots (column ∷ columns) = length-map column slot_of
 
 rows_of_batch : (columns : List Cells) → length (batch_rows (batch_slots columns)) ≡ rows_of_cells columns
-rows_of_batch columns = length_window (row_at (batch_slots columns)) 0 (rows_of_columns (batch_slots columns)) ∙ rows_of_slots columns
+rows_of_batch columns = length-window (row_at (batch_slots columns)) 0 (rows_of_columns (batch_slots columns)) ∙ rows_of_slots columns
 
 pub rows_counted : (batches : List (List Cells)) → length (rows_of_batches (map batch_slots batches)) ≡ sum_by rows_of_cells batches
 rows_counted [] = refl

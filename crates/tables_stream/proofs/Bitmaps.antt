@@ -4,6 +4,7 @@ use Rattle.std.proofs.Common.{◌++◌, length, take, drop, set, map, refl, ap, 
 use Rattle.std.specs.Prelude.{Some, None, slice_range}
 use Rattle.std.proofs.lemmas.List.{take_more_set, append-nil, length-drop, length-take, take-map, drop-map}
 use Rattle.std.proofs.lemmas.Bool.{lt-ltb, cases_lt}
+use Rattle.nested_arrays.proofs.Windows.{window_same}
 use Rattle.nested_arrays.specs.Slots.{window}
 use Rattle.ipc_format_columns.specs.Columns.{Validity, all_valid, is_valid_at}
 use Rattle.ipc_format_written.specs.Buffers.{is_valid as written_valid}
@@ -150,17 +151,12 @@ bitmap_of_part validity values first n inside =
 all_valid_same : (first other n : ℕ) → bits_number all_valid first n ≡ bits_number all_valid other n
 all_valid_same first other n = bits_all_valid first n ∙ sym (bits_all_valid other n)
 
--- windows of two functions that agree
-window_same : {A : Type 0} (f h : ℕ → A) → ((k : ℕ) → f k ≡ h k) → (i n : ℕ) → window f i n ≡ window h i n
-window_same f h same i zero = refl
-window_same f h same i (suc n) = ap₂ (λ x xs. x ∷ xs) (same i) (window_same f h same (i + 1) n)
-
 -- where all are valid it is the same from any slot on
 pub bitmap_all_valid : (first n : ℕ) → validity_bits all_valid first n ≡ validity_bits all_valid 0 n
 bitmap_all_valid first n =
     ap₂ (λ xs x. xs ++ (if nat_lt 0 (n % 8) then x ∷ [] else []))
-    (window_same (λ k. bits_number all_valid (first + 8 * k) 8) (λ k. bits_number all_valid (0 + 8 * k) 8)
-    (λ k. all_valid_same (first + 8 * k) (0 + 8 * k) 8) 0 (n / 8))
+    (window_same (λ k. bits_number all_valid (first + 8 * k) 8) (λ k. bits_number all_valid (0 + 8 * k) 8) 0 0 (n / 8)
+    (λ k inside. all_valid_same (first + 8 * (0 + k)) (0 + 8 * (0 + k)) 8))
     (all_valid_same (first + 8 * (n / 8)) (0 + 8 * (n / 8)) (n % 8))
 
 -- what a block of validity bits needs

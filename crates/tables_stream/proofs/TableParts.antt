@@ -8,6 +8,7 @@ use Rattle.std.proofs.lemmas.Bool.{ltb-false}
 use Rattle.std.proofs.Math.Seq.{drop-nil}
 use Rattle.columnar_memory.specs.declared.Schema.{Schema}
 use Rattle.nested_arrays.specs.Slots.{Slot, null, window}
+use Rattle.nested_arrays.proofs.Windows.{window_same, length-window, cut_list-window}
 use Rattle.nested_arrays.specs.Tables.{Table, part, rows_of_batches, rows_of_columns, batch_rows, row_at}
 use Rattle.tables_stream.specs.Cells.{slot_of}
 use Rattle.tables_stream.specs.Batches.{window_cells, rows_of_cells}
@@ -18,41 +19,12 @@ use Rattle.tables_stream.specs.Tables.{Stored, as_table, batch_slots}
 abbrev Cells : Type 0
 Cells = List (Option ℤ)
 
--- two functions that have the same values at n places have the same window there
-window_same : {A : Type 0} (f g : ℕ → A) (first second n : ℕ) →
-    ((i : ℕ) → i < n → f (first + i) ≡ g (second + i)) → window f first n ≡ window g second n
-window_same f g first second zero same = refl
-window_same f g first second (suc n) same =
-    let here : f first ≡ g second = ap f (omega arith) ∙ same 0 (omega arith) ∙ ap g (omega arith) in
-    let next = λ (i : ℕ) (h : i < n). ap f (omega arith) ∙ same (suc i) (omega arith) ∙ ap g (omega arith) in
-    ap₂ (λ x xs. x ∷ xs) here (window_same f g (first + 1) (second + 1) n next)
-
--- a window without its first places is the window from there on
-drop_window : {A : Type 0} (f : ℕ → A) (first skipped left n : ℕ) → n ≡ skipped + left →
-    drop skipped (window f first n) ≡ window f (first + skipped) left
-drop_window f first zero left n e = ap₂ (window f) (omega arith) (omega arith)
-drop_window f first (suc skipped) left zero e = absurd (omega arith)
-drop_window f first (suc skipped) left (suc n) e =
-    drop_window f (first + 1) skipped left n (omega arith) ∙ ap (λ place. window f place left) (omega arith)
-
--- the first places of a window are the window of so many
-take_window : {A : Type 0} (f : ℕ → A) (first taken n : ℕ) → taken ≤ n → take taken (window f first n) ≡ window f first taken
-take_window f first zero n h = refl
-take_window f first (suc taken) zero h = absurd (omega arith)
-take_window f first (suc taken) (suc n) h = ap (λ rest. f first ∷ rest) (take_window f (first + 1) taken n (omega arith))
-
 -- a part of a window is a window
 part_of_window : {A : Type 0} (f : ℕ → A) (begin count n : ℕ) → begin + count ≤ n →
     take count (drop begin (window f 0 n)) ≡ window f begin count
 part_of_window f begin count n h =
-    ap (take count) (drop_window f 0 begin (n - begin) n (omega arith))
-    ∙ take_window f (0 + begin) count (n - begin) (omega arith)
-    ∙ ap (λ place. window f place count) (omega arith)
-
--- a window has as many values as it says
-length_window : {A : Type 0} (f : ℕ → A) (first n : ℕ) → length (window f first n) ≡ n
-length_window f first zero = refl
-length_window f first (suc n) = ap suc (length_window f (first + 1) n)
+    let size : count ≡ begin + count - begin = omega arith in
+    ap (λ k. take k (drop begin (window f 0 n))) size ∙ cut_list-window f n begin count h
 
 -- what a window of a column has at a place
 slot_of_window : (column : Cells) (begin count i : ℕ) → i < count →
@@ -144,7 +116,7 @@ rows_of_next o n begin count batch batches cut b c rest =
     let rows : List (List Slot) = batch_rows (batch_slots batch) in
     let behind : List (List Slot) = rows_of_batches (map batch_slots batches) in
     let slots : List (List Slot) = batch_slots batch in
-    let counted : length rows ≡ rows_of_cells batch = length_window (row_at slots) 0 (rows_of_columns slots) ∙ rows_of_slots batch in
+    let counted : length rows ≡ rows_of_cells batch = length-window (row_at slots) 0 (rows_of_columns slots) ∙ rows_of_slots batch in
     let here = rows_of_one (nat_lt 0 count) some (no_rows batch begin count within) ∙ rows_of_window batch begin count within in
     ap rows_of_batches (map-append batch_slots first cut)
     ∙ flat_map-append batch_rows (map batch_slots first) (map batch_slots cut)

@@ -3,6 +3,7 @@ use Rattle.std.proofs.Common.{◌≡◌, ◌∙◌, ℕ, zero, suc, ◌+◌, ℤ
 use Rattle.std.proofs.Common.{add-zero, add-one, zero-add, if◌then◌else◌}
 use Rattle.std.specs.Prelude.{Some, None}
 use Rattle.columnar_memory.specs.declared.PrimitiveType.TheVariants as kinds
+use Rattle.nested_arrays.proofs.Windows.{length-window}
 use Rattle.nested_arrays.specs.Slots.{Slot, null, number, window}
 use Rattle.ipc_format_columns.specs.Columns.{Validity, is_valid_at}
 use Rattle.tables_stream.specs.Int32Values.{int32_at, int32_slot}
@@ -19,13 +20,8 @@ window_more f first (suc n) =
 pub window_next : {A : Type 0} (f : ℕ → A) (i : ℕ) → window f 0 (i + 1) ≡ window f 0 i ++ f i ∷ []
 window_next f i = rw add-one (window_more f 0 i ∙ ap (λ k. window f 0 i ++ f k ∷ []) (zero-add i))
 
--- a window has as many values as it says
-length_window : (f : ℕ → ℤ) (first n : ℕ) → length (window f first n) ≡ n
-length_window f first zero = refl
-length_window f first (suc n) = ap suc (length_window f (first + 1) n)
-
 pub length_of_window : (f : ℕ → ℤ) (n : ℕ) (values : List ℤ) → values ≡ window f 0 n → length values ≡ n
-length_of_window f n values read = ap length read ∙ length_window f 0 n
+length_of_window f n values read = ap length read ∙ length-window f 0 n
 
 -- as many cells as values
 length_from : (validity : Validity) (i : ℕ) (values : List ℤ) → length (cells_from validity i values) ≡ length values

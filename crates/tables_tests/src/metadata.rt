@@ -72,18 +72,11 @@ fn batch_table() -> Result<Table, Fail> {
 }
 
 #[test]
-fn reads_a_node(rt: HostRuntime) -> Result<(), Fail> {
+fn reads_a_batch(rt: HostRuntime) -> Result<(), Fail> {
     let bytes = batch_bytes();
     let batch = record_batch_in(bytes, &batch_table()?).ok_or("no batch")?;
     let node = node_at(bytes, &batch.nodes, 0).ok_or("no node")?;
     assert!(rt; (node.length, node.null_count) == (2, 1));
-    Ok(())
-}
-
-#[test]
-fn reads_buffers(rt: HostRuntime) -> Result<(), Fail> {
-    let bytes = batch_bytes();
-    let batch = record_batch_in(bytes, &batch_table()?).ok_or("no batch")?;
     let buffer = buffer_at(bytes, &batch.buffers, 1).ok_or("no buffer")?;
     assert!(rt; (buffer.offset, buffer.length) == (64, 8));
     assert_eq!(rt; lengths_sum(bytes, &batch.buffers), Some(9));

@@ -1,6 +1,7 @@
 use Rattle.ipc_format_spelling.proofs.spelled_reads.Goals as goal
 use Rattle.ipc_format_spelling.proofs.Contents.{contents_read}
-use Rattle.ipc_format_spelling.proofs.Readers.{absent_reads, numbers_read, truths_read, tables_read, references_read, elements_read, texts_read, each_read, roots_read}
+use Rattle.ipc_format_spelling.proofs.Readers.{absent_reads, numbers_read, truths_read, tables_read, references_read, elements_read}
+use Rattle.ipc_format_spelling.proofs.Readers.{texts_read, each_read, roots_read}
 
 pub returns : goal.returns
 returns c = record {

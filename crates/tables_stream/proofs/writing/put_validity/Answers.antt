@@ -24,16 +24,14 @@ loop-done-preserved g c =
 
 pub returns-clause-written : goal.returns-clause-written
 returns-clause-written g c =
-    let cells = c.args.column.now in
-    let start = c.args.start in
     let rows = c.args.rows in
-    let slots = slots_between cells start (start + rows) in
+    let slots = slots_between c.args.column.now c.args.start (c.args.start + rows) in
     let all : c.loop-done.done ≡ rows = omega arith in
-    let count : length slots ≡ rows = slots_size cells start rows (omega arith) in
+    let count : length slots ≡ rows = slots_size c.args.column.now c.args.start rows (omega arith) in
     let size : length (bitmap_bytes rows slots) ≡ div_ceil (length slots) 8 = bitmap_size rows slots (omega arith) in
     let same : length (bitmap_bytes rows slots) % 64 ≡ c.div_ceil-2.result % 64 = omega arith in
     on_ok c.put_padding.result
     (appends_padded _ _ _ (bitmap_bytes rows slots) c.div_ceil-2.result same
     (subst (λ (k : ℕ). Appends (g.W.Write.contents c.args.writer.now) (g.W.Write.contents c.loop-done.writer)
-    (bitmap_bytes k (slots_between cells start (start + k)))) all c.loop-done.invariant.2))
+    (bitmap_bytes k (slots_between c.args.column.now c.args.start (c.args.start + k)))) all c.loop-done.invariant.2))
     c.put_padding.ensures.written

@@ -21,17 +21,16 @@ loop-done-preserved g c =
 
 pub returns-clause-written : goal.returns-clause-written
 returns-clause-written g c =
-    let cells = c.args.column.now in
     let start = c.args.start in
     let rows = c.args.rows in
-    let slots = slots_between cells start (start + rows) in
+    let part = slice_range c.args.column.now start (start + rows) in
+    let slots = slots_between c.args.column.now start (start + rows) in
     let all : c.loop-done.done ≡ rows = omega arith in
-    let count : length (slice_range cells start (start + rows)) ≡ rows = part_size cells start rows (omega arith) in
-    let size : length (flat_map value_bytes slots) ≡ 4 * length (slice_range cells start (start + rows)) =
-    values_size (slice_range cells start (start + rows)) in
+    let count : length part ≡ rows = part_size c.args.column.now start rows (omega arith) in
+    let size : length (flat_map value_bytes slots) ≡ 4 * length part = values_size part in
     let same : length (flat_map value_bytes slots) % 64 ≡ (4 * (rows % 64)) % 64 = omega arith in
     on_ok c.put_padding.result
     (appends_padded _ _ _ (flat_map value_bytes slots) (4 * (rows % 64)) same
     (subst (λ (k : ℕ). Appends (g.W.Write.contents c.args.writer.now) (g.W.Write.contents c.loop-done.writer)
-    (flat_map value_bytes (slots_between cells start (start + k)))) all c.loop-done.invariant.1))
+    (flat_map value_bytes (slots_between c.args.column.now start (start + k)))) all c.loop-done.invariant.1))
     c.put_padding.ensures.written

@@ -4,12 +4,17 @@ use Rattle.std.specs.Prelude.{nat_le, true}
 use Rattle.columnar_memory.specs.declared.DataType.{DataType, map-DataType}
 use Rattle.columnar_memory.specs.declared.DataType.TheOpen as layer
 use Rattle.columnar_memory.specs.declared.DataType.TheViews.{roll-DataType, roll-Field}
-use Rattle.columnar_memory.specs.declared.DataType.TheFolds.{ind-DataType, fold-roll-DataType, fold-roll-Field}
+use Rattle.columnar_memory.specs.declared.DataType.TheFolds.{fold-Field, ind-DataType, fold-roll-DataType, fold-roll-Field}
 use Rattle.columnar_memory.specs.declared.Field.{Field}
 use Rattle.columnar_memory.specs.declared.Schema.{Schema}
 use Rattle.ipc_format_grammar.specs.Writable.{Report, plain, over_all, report_of, report_step, field_step, reports_of, is_writable}
 use Rattle.ipc_format_grammar.specs.Writable.{normalised, normalised_type, normalised_step, normalised_pairs, normalised_field}
-use Rattle.ipc_format_round_trip.proofs.Inductions.{normal_field, report_field}
+
+abbrev pub normal_field : Field → Field
+normal_field = fold-Field DataType Field roll-DataType normalised_step
+
+abbrev pub report_field : Field → Report
+report_field = fold-Field Report Report report_step field_step
 
 -- a type, and a field, of whose one form the same is asked
 abbrev SameType : DataType → Type 0
