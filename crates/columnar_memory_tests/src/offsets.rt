@@ -1,4 +1,4 @@
-use columnar_memory_buffer::Offsets;
+use columnar_memory_buffer::{Offsets, OffsetsBuffer};
 use columnar_memory_types::Error;
 use std::alloc::Global;
 use std::test::Fail;
@@ -12,6 +12,10 @@ fn texts(alloc: Global) -> Result<Offsets<i32>, Error> {
     Offsets::try_from(vec![in alloc; 1i32, 2, 4, 4, 9]?)
 }
 
+fn are(offsets: &Offsets<i32>, expected: &[i32]) -> bool {
+    offsets.as_slice() == expected
+}
+
 fn one_span(alloc: Global, length: usize) -> Result<Offsets<i32>, Error> {
     let mut offsets = Offsets::new(alloc)?;
     offsets.try_push(length)?;
@@ -22,7 +26,7 @@ fn one_span(alloc: Global, length: usize) -> Result<Offsets<i32>, Error> {
 fn pushes_stop_at_the_greatest(rt: HostRuntime) -> Result<(), Fail> {
     let mut offsets = one_span(rt.alloc(), 2_147_483_647)?;
     assert!(rt; overflows(&offsets.try_push(1)));
-    assert_eq!(rt; offsets.as_slice(), [0, 2_147_483_647].as_slice());
+    assert!(rt; are(&offsets, &[0, 2_147_483_647]));
     Ok(())
 }
 
@@ -33,12 +37,20 @@ fn the_last_offset_is_taken_off(rt: HostRuntime) -> Result<(), Fail> {
     Ok(())
 }
 
+fn two_spans(alloc: Global) -> Result<Offsets<i32>, Error> {
+    Offsets::try_from_iter(alloc, [3usize, 0].into_iter())
+}
+
+// Three spans more, of which the second is too long.
+fn grow(offsets: &mut Offsets<i32>) -> Result<(), Error> {
+    offsets.try_extend_from_lengths([4usize, 2_147_483_647, 5].into_iter())
+}
+
 #[test]
 fn lengths_before_a_refused_one_stay(rt: HostRuntime) -> Result<(), Fail> {
-    let mut offsets = Offsets::<i32>::try_from_iter(rt.alloc(), [3usize, 0].into_iter())?;
-    let outcome = offsets.try_extend_from_lengths([4usize, 2_147_483_647, 5].into_iter());
-    assert!(rt; overflows(&outcome));
-    assert_eq!(rt; offsets.as_slice(), [0, 3, 3, 7].as_slice());
+    let mut offsets = two_spans(rt.alloc())?;
+    assert!(rt; overflows(&grow(&mut offsets)));
+    assert!(rt; are(&offsets, &[0, 3, 3, 7]));
     Ok(())
 }
 
@@ -46,41 +58,63 @@ fn lengths_before_a_refused_one_stay(rt: HostRuntime) -> Result<(), Fail> {
 fn all_of_other_offsets_goes_behind(rt: HostRuntime) -> Result<(), Fail> {
     let mut offsets = one_span(rt.alloc(), 2)?;
     offsets.try_extend_from_self(&texts(rt.alloc())?)?;
-    assert_eq!(rt; offsets.as_slice(), [0, 2, 3, 5, 5, 10].as_slice());
+    assert!(rt; are(&offsets, &[0, 2, 3, 5, 5, 10]));
     Ok(())
+}
+
+fn shared(alloc: Global) -> Result<OffsetsBuffer<i32>, Error> {
+    texts(alloc)?.freeze()
+}
+
+// The second and the third of four spans behind the others.
+fn append_two(offsets: &mut Offsets<i32>, other: &OffsetsBuffer<i32>) -> Result<(), Error> {
+    if other.len_proxy() == 4 {
+        offsets.try_extend_from_slice(other, 1, 2)?;
+    }
+    Ok(())
+}
+
+fn three_spans(alloc: Global) -> Result<Offsets<i32>, Error> {
+    let mut offsets = one_span(alloc, 2)?;
+    append_two(&mut offsets, &shared(alloc)?)?;
+    Ok(offsets)
 }
 
 #[test]
 fn a_part_of_shared_offsets_goes_behind(rt: HostRuntime) -> Result<(), Fail> {
-    let shared = texts(rt.alloc())?.freeze()?;
-    assert_eq!(rt; shared.len_proxy(), 4);
-    let mut offsets = one_span(rt.alloc(), 2)?;
-    offsets.try_extend_from_slice(&shared, 1, 2)?;
-    assert_eq!(rt; offsets.into_inner().as_slice(), [0, 2, 4, 4].as_slice());
+    assert!(rt; are(&three_spans(rt.alloc())?, &[0, 2, 4, 4]));
     Ok(())
+}
+
+fn one_empty_span(alloc: Global) -> Result<Offsets<i32>, Error> {
+    let mut offsets = Offsets::with_capacity(alloc, 1)?;
+    offsets.reserve(2)?;
+    offsets.extend_constant(1)?;
+    Ok(offsets)
 }
 
 #[test]
 fn spans_of_no_length_go_behind(rt: HostRuntime) -> Result<(), Fail> {
-    let mut offsets = Offsets::<i32>::with_capacity(rt.alloc(), 1)?;
-    offsets.reserve(2)?;
-    offsets.extend_constant(1)?;
+    let mut offsets = one_empty_span(rt.alloc())?;
     offsets.shrink_to_fit();
-    assert_eq!(rt; offsets.len_proxy(), 1);
+    assert!(rt; are(&offsets, &[0, 0]));
     Ok(())
+}
+
+fn is_cloned(offsets: &Offsets<i32>) -> Result<bool, Error> {
+    Ok(offsets.clone()? == *offsets)
 }
 
 #[test]
 fn offsets_are_cloned(rt: HostRuntime) -> Result<(), Fail> {
-    let offsets = texts(rt.alloc())?;
-    assert!(rt; offsets.clone()? == offsets);
+    assert!(rt; is_cloned(&texts(rt.alloc())?)?);
     Ok(())
 }
 
 #[test]
 fn offsets_of_zeros_are_wide(rt: HostRuntime) -> Result<(), Fail> {
     let offsets = Offsets::<i64>::new_zeroed(rt.alloc(), 1)?;
-    assert_eq!(rt; offsets.as_slice(), [0i64, 0].as_slice());
+    assert!(rt; offsets.as_slice() == [0i64, 0].as_slice());
     Ok(())
 }
 
