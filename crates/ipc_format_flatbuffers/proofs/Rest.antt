@@ -5,7 +5,8 @@ use Rattle.std.proofs.Math.Seq.{drop-cons}
 use Rattle.std.proofs.Math.ListN.{drop_of_length-le}
 
 -- what is left of a list under a function, with the element that is taken next
-pub rest_step : {A B : Type 0} (f : A → B) (xs : List A) (i : ℕ) (x : A) → i < length xs → x ≡ get_or xs i x → drop i (map f xs) ≡ f x ∷ drop (i + 1) (map f xs)
+pub rest_step : {A B : Type 0} (f : A → B) (xs : List A) (i : ℕ) (x : A) → i < length xs → x ≡ get_or xs i x
+    → drop i (map f xs) ≡ f x ∷ drop (i + 1) (map f xs)
 rest_step f xs i x lt is =
     let one : drop i xs ≡ get_or xs i x ∷ drop (i + 1) xs = rw add-one (drop-cons xs i x lt) in
     let two : drop i xs ≡ x ∷ drop (i + 1) xs = one ∙ ap (λ y. y ∷ drop (i + 1) xs) (sym is) in

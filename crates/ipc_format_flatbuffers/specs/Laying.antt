@@ -82,7 +82,8 @@ reference_bytes at child (piece ∷ pieces) = to_le_bytes w32 (child + piece.ent
 -- a vector of references: four zeros, the count, the references, and what they refer to
 unfoldable pub references_piece : List Piece → Piece
 references_piece pieces = record {
-  bytes = padded (replicate 4 0 ++ to_le_bytes w32 (length pieces) ++ reference_bytes 8 (next_multiple_of (8 + 4 * length pieces) 8) pieces) ++ flat_map (λ (piece : Piece). piece.bytes) pieces;
+  bytes = padded (replicate 4 0 ++ to_le_bytes w32 (length pieces) ++ reference_bytes 8 (next_multiple_of (8 + 4 * length pieces) 8) pieces)
+      ++ flat_map (λ (piece : Piece). piece.bytes) pieces;
   entry = 4;
 }
 

@@ -5,4 +5,5 @@ use Rattle.ipc_format_flatbuffers.specs.Views.{slot_view}
 use Rattle.ipc_format_flatbuffers.proofs.laying.put_children.Given as goal
 
 abbrev pub invariant-loop-slot : goal.invariant-loop-slot
-invariant-loop-slot l = l.out.items ++ flat_map child_bytes (drop l.slot-index (map slot_view l.slots)) ≡ l.fn.out.items ++ flat_map child_bytes (map slot_view l.slots)
+invariant-loop-slot l =
+    l.out.items ++ flat_map child_bytes (drop l.slot-index (map slot_view l.slots)) ≡ l.fn.out.items ++ flat_map child_bytes (map slot_view l.slots)

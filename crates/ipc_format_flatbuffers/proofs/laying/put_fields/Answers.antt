@@ -18,7 +18,8 @@ put_field-requires-clause-in_reach c =
     let i = c.loop-slot.slot-index in
     let next = rest_step slot_view c.args.slots.now i c.slot-item.result c.loop-slot-test.true c.slot-item.is in
     let child_is = rw next at c.loop-slot.invariant.child_is in
-    omega (arith, child_is, length-append (child_bytes (slot_view c.slot-item.result)) (flat_map child_bytes (drop (i + 1) (map slot_view c.args.slots.now))))
+    omega (arith, child_is, length-append (child_bytes (slot_view c.slot-item.result))
+        (flat_map child_bytes (drop (i + 1) (map slot_view c.args.slots.now))))
 
 pub loop-slot-preserved : goal.loop-slot-preserved
 loop-slot-preserved c =
@@ -35,5 +36,8 @@ loop-slot-preserved c =
       behind = omega arith;
       end_is = rw c.after-at.ensures.value end_is;
       child_is = omega (arith, child_is, length-append (child_bytes slot) (flat_map child_bytes rest));
-      out_is = rw (c.after-at.ensures.value, c.child_len-child.ensures.value) (append_step c.loop-slot.out.items c.put_field.new.out.items (field_bytes c.loop-slot.at c.loop-slot.child slot) (fields (after c.loop-slot.at slot) (c.loop-slot.child + length (child_bytes slot)) rest) (c.args.out.now.items ++ fields 4 c.args.first_child slots) c.in_ok-put_field.ensures out_is);
+      out_is = rw (c.after-at.ensures.value, c.child_len-child.ensures.value)
+          (append_step c.loop-slot.out.items c.put_field.new.out.items (field_bytes c.loop-slot.at c.loop-slot.child slot)
+          (fields (after c.loop-slot.at slot) (c.loop-slot.child + length (child_bytes slot)) rest)
+          (c.args.out.now.items ++ fields 4 c.args.first_child slots) c.in_ok-put_field.ensures out_is);
     }

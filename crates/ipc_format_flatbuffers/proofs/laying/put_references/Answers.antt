@@ -22,5 +22,7 @@ loop-piece-preserved c =
       at_is = omega arith;
       behind = omega arith;
       child_is = omega (arith, child_is, length-append piece.bytes.items (flat_map (λ (piece : Piece). piece.bytes) rest));
-      out_is = rw child_len (append_step c.loop-piece.out.items c.extend_from_slice.new.self.items (to_le_bytes w32 distance) (reference_bytes (c.loop-piece.at + 4) (c.loop-piece.child + length piece.bytes.items) rest) (c.args.out.now.items ++ reference_bytes 8 c.args.first_child pieces) part out_is);
+      out_is = rw child_len (append_step c.loop-piece.out.items c.extend_from_slice.new.self.items (to_le_bytes w32 distance)
+          (reference_bytes (c.loop-piece.at + 4) (c.loop-piece.child + length piece.bytes.items) rest)
+          (c.args.out.now.items ++ reference_bytes 8 c.args.first_child pieces) part out_is);
     }

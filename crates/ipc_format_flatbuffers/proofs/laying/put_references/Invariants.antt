@@ -8,6 +8,8 @@ abbrev pub invariant-loop-piece : goal.invariant-loop-piece
 invariant-loop-piece l = record {
   at_is : l.at ≡ 8 + 4 * l.piece-index;
   behind : l.first_child ≤ l.child;
-  child_is : l.child + length (flat_map (λ (piece : Piece). piece.bytes) (drop l.piece-index (map piece_view l.pieces))) ≡ l.first_child + length (flat_map (λ (piece : Piece). piece.bytes) (map piece_view l.pieces));
-  out_is : l.out.items ++ reference_bytes l.at l.child (drop l.piece-index (map piece_view l.pieces)) ≡ l.fn.out.items ++ reference_bytes 8 l.first_child (map piece_view l.pieces);
+  child_is : l.child + length (flat_map (λ (piece : Piece). piece.bytes) (drop l.piece-index (map piece_view l.pieces)))
+      ≡ l.first_child + length (flat_map (λ (piece : Piece). piece.bytes) (map piece_view l.pieces));
+  out_is : l.out.items ++ reference_bytes l.at l.child (drop l.piece-index (map piece_view l.pieces))
+      ≡ l.fn.out.items ++ reference_bytes 8 l.first_child (map piece_view l.pieces);
 }
