@@ -7,4 +7,6 @@ pub new-requires : goal.new-requires
 new-requires g c = omega (arith, c.remainder_len.ensures.fewer)
 
 pub returns : goal.returns
-returns g c = c.new.ensures ∙ ap₂ word_bits c.remainder_len.ensures.len c.remainder.ensures ∙ word_bits_of_word (g.Self.BitChunkIterExact.rest c.args.self.now)
+returns g c =
+    c.new.ensures ∙ ap₂ word_bits c.remainder_len.ensures.len c.remainder.ensures
+    ∙ word_bits_of_word (g.Self.BitChunkIterExact.rest c.args.self.now)
