@@ -20,11 +20,15 @@ pub trait BitChunkIterExact<B: BitChunk>: Iterator<Item = B> {
 
     /// How many bits stand behind the last chunk.
     fn remainder_len(&self) -> usize
-        ensures { result ≡ length (rest self.now) };
+        ensures len { result ≡ length (rest self.now) }
+        ensures fewer { result < B.width };
 
     /// The bits behind the last chunk.
     fn remainder_iter(&self) -> BitChunkIter<B>
-        ensures { result ≡ rest self.now };
+        ensures { result ≡ rest self.now }
+    {
+        BitChunkIter::new(self.remainder(), self.remainder_len())
+    }
 }
 
 impl<'a, T: BitChunk> BitChunkIterExact<T> for BitChunks<'a, T> {
@@ -36,10 +40,6 @@ impl<'a, T: BitChunk> BitChunkIterExact<T> for BitChunks<'a, T> {
 
     fn remainder_len(&self) -> usize {
         BitChunks::remainder_len(self)
-    }
-
-    fn remainder_iter(&self) -> BitChunkIter<T> {
-        BitChunkIter::new(BitChunks::remainder(self), BitChunks::remainder_len(self))
     }
 }
 
@@ -128,12 +128,5 @@ impl<'a, T: BitChunk> BitChunkIterExact<T> for BitChunksExact<'a, T> {
 
     fn remainder_len(&self) -> usize {
         BitChunksExact::remainder_len(self)
-    }
-
-    fn remainder_iter(&self) -> BitChunkIter<T> {
-        BitChunkIter::new(
-            BitChunksExact::remainder(self),
-            BitChunksExact::remainder_len(self),
-        )
     }
 }

@@ -56,7 +56,8 @@ impl<'a, T: BitChunk> BitChunksExactMut<'a, T> {
 
     /// The bytes behind the last chunk.
     pub fn remainder(&mut self) -> &mut [u8]
-        ensures* written { sem 𝓛 (Lends (the_row (record { mir = named 0; lft = [] }) T.row T.Bytes.row T.BitChunk) (Array u8 0) self.entry result (with_rest self.old)) }
+        ensures* written { sem 𝓛 (Lends (the_row (record { mir = named 0; lft = [] }) T.row T.Bytes.row T.BitChunk) (Array u8 0)
+            self.entry result (with_rest self.old)) }
         ensures shown { result.now ≡ self.old.rest }
     {
         &mut *self.rest
