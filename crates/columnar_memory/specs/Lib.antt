@@ -14,6 +14,8 @@ pub use Rattle.columnar_memory_bits.specs.Bits
 pub use Rattle.columnar_memory_bits.specs.Words
 pub use Rattle.columnar_memory_bits.specs.Appends
 pub use Rattle.columnar_memory_bits.specs.Chunks
+pub use Rattle.columnar_memory_bits.specs.ChunksMut
+pub use Rattle.columnar_memory_bits.specs.Text
 pub use Rattle.columnar_memory_bits.specs.ZipValidity
 pub use Rattle.columnar_memory_bits.specs.ZipValidityCases
 pub use Rattle.columnar_memory_bitmap.specs.Edits

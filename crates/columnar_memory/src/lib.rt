@@ -6,8 +6,9 @@ pub use columnar_memory_bitmap::{
     Bitmap, IntoIter as BitmapIntoIter, MutableBitmap, SlicesIterator,
 };
 pub use columnar_memory_bits::{
-    BitChunk, BitChunkIter, BitChunkIterExact, BitChunkOnes, BitChunks, BitChunksExact, BitmapIter,
-    ZipValidity, ZipValidityIter, bytes_for, count_zeros, get_bit, is_set, set, set_bit,
+    BitChunk, BitChunkIter, BitChunkIterExact, BitChunkOnes, BitChunks, BitChunksExact,
+    BitChunksExactMut, BitmapIter, Validity, ZipValidity, ZipValidityIter, bytes_for, count_zeros,
+    fmt, get_bit, is_set, set, set_bit,
 };
 pub use columnar_memory_buffer::{
     Buffer, Bytes, IntoIter as BufferIntoIter, Offsets, OffsetsBuffer, OffsetsLengths,
