@@ -9,3 +9,4 @@ pub mod PairLists
 pub mod FieldTables
 pub mod Allowed
 pub mod SchemaMessages
+pub mod NormalLists

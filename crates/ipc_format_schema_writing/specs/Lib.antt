@@ -4,3 +4,4 @@ pub mod Floats
 pub mod Kinds
 pub mod Pieces
 pub mod Writing
+pub mod Normal

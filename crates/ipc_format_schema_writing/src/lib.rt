@@ -7,10 +7,12 @@ mod beside;
 mod fields;
 mod fitting;
 mod kinds;
+mod normal;
 mod numbering;
 mod pairs;
 mod schemas;
 mod tables;
 
+pub use normal::normalised;
 pub use numbering::default_ipc_fields;
 pub use schemas::schema_to_bytes;

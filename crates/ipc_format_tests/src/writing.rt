@@ -2,11 +2,11 @@
 use crate::samples::{DICTIONARY, EXTENSION, NO_FIELDS, X};
 use crate::schemas::{extension, schema_of};
 use columnar_memory::{
-    Boxed, DataType, Error, Field, IntegerType, IntervalUnit, Items, Metadata, Schema, Text,
-    TimeUnit, UnionMode,
+    Boxed, DataType, EXTENSION_METADATA, Error, Field, IntegerType, IntervalUnit, Items, Metadata,
+    Schema, Text, TimeUnit, UnionMode,
 };
 use ipc_format_metadata::{IpcField, deserialize_schema};
-use ipc_format_schema_writing::{default_ipc_fields, schema_to_bytes};
+use ipc_format_schema_writing::{default_ipc_fields, normalised, schema_to_bytes};
 use std::alloc::Global;
 use std::test::*;
 
@@ -80,15 +80,40 @@ fn an_extension_is_written(rt: HostRuntime) -> Result<(), Fail> {
     Ok(())
 }
 
+#[test]
+fn keys_of_an_extension_are_dropped(rt: HostRuntime) -> Result<(), Fail> {
+    let key = Text::from_str(rt.alloc(), EXTENSION_METADATA)?;
+    let mut pairs = Metadata::new(rt.alloc());
+    pairs.insert(key, Text::from_str(rt.alloc(), "m")?)?;
+    let x = field(rt.alloc(), "x", DataType::Int32)?.with_metadata(pairs);
+    let schema = Schema::from_fields(single(rt.alloc(), x)?);
+    let normal = normalised(rt.alloc(), &schema).ok().ok_or("no memory")?;
+    assert!(rt; normal == schema_of(rt.alloc(), "x", DataType::Int32, true)?);
+    Ok(())
+}
+
+/// A list of one field.
+fn single(alloc: Global, field: Field) -> Result<Items<Field>, Fail> {
+    let mut fields = Items::new(alloc);
+    fields.push(field)?;
+    Ok(fields)
+}
+
+/// A struct of a dictionary b by signed keys of 8 bits.
+fn inner(alloc: Global) -> Result<DataType, Fail> {
+    let value = Boxed::new(alloc, DataType::Utf8)?;
+    let b = field(
+        alloc,
+        "b",
+        DataType::Dictionary(IntegerType::Int8, value, false),
+    )?;
+    Ok(DataType::Struct(single(alloc, b)?))
+}
+
 /// a: a dictionary of structs of a dictionary b; c: a dictionary.
 fn nested_dictionaries(alloc: Global) -> Result<Items<Field>, Fail> {
-    let value = Boxed::new(alloc, DataType::Utf8)?;
-    let inner = DataType::Dictionary(IntegerType::Int8, value, false);
-    let mut below = Items::new(alloc);
-    below.push(field(alloc, "b", inner)?)?;
-    let outer = dictionary(alloc, DataType::Struct(below))?;
-    let mut fields = Items::new(alloc);
-    fields.push(field(alloc, "a", outer)?)?;
+    let a = field(alloc, "a", dictionary(alloc, inner(alloc)?)?)?;
+    let mut fields = single(alloc, a)?;
     fields.push(field(alloc, "c", dictionary(alloc, DataType::Utf8)?)?)?;
     Ok(fields)
 }
@@ -123,21 +148,31 @@ fn outcome(alloc: Global, data_type: DataType, ids: &[IpcField]) -> Result<&'sta
     })
 }
 
+/// The ids of one field without dictionary.
+fn no_id(alloc: Global) -> Result<Vec<IpcField>, Fail> {
+    let fields = single(alloc, field(alloc, "x", DataType::Null)?)?;
+    Ok(
+        default_ipc_fields(alloc, fields.as_slice())
+            .ok()
+            .ok_or("no ids")?,
+    )
+}
+
+#[test]
+fn floats_are_not_implemented(rt: HostRuntime) -> Result<(), Fail> {
+    let ids = no_id(rt.alloc())?;
+    assert_eq!(rt;
+        outcome(rt.alloc(), DataType::Float32, &ids)?,
+        "not implemented"
+    );
+    Ok(())
+}
+
 #[test]
 fn schemas_are_refused(rt: HostRuntime) -> Result<(), Fail> {
-    let no_struct = DataType::Struct(Items::new(rt.alloc()));
-    let one = default_ipc_fields(rt.alloc(), &[field(rt.alloc(), "x", DataType::Null)?])
-        .ok()
-        .ok_or("no ids")?;
-    let cases = [
-        (DataType::Int32, "written"),
-        (DataType::Float32, "not implemented"),
-        (no_struct, "invalid argument"),
-        (DataType::Time32(TimeUnit::Nanosecond), "invalid argument"),
-    ];
-    for (data_type, want) in cases {
-        assert_eq!(rt; outcome(rt.alloc(), data_type, &one)?, want);
-    }
+    let ids = no_id(rt.alloc())?;
+    let time = DataType::Time32(TimeUnit::Nanosecond);
+    assert_eq!(rt; outcome(rt.alloc(), time, &ids)?, "invalid argument");
     assert_eq!(rt;
         outcome(rt.alloc(), DataType::Int32, &[])?,
         "invalid argument"
@@ -145,70 +180,19 @@ fn schemas_are_refused(rt: HostRuntime) -> Result<(), Fail> {
     Ok(())
 }
 
-/// Types without fields below them.
-fn flat_types(alloc: Global) -> Result<Vec<DataType>, Fail> {
-    let zone = Text::from_str(alloc, "UTC")?;
-    Ok(Vec::from_array(
-        alloc,
-        [
-            DataType::Null,
-            DataType::Boolean,
-            DataType::Int8,
-            DataType::Int16,
-            DataType::Int64,
-            DataType::UInt8,
-            DataType::UInt16,
-            DataType::UInt32,
-            DataType::UInt64,
-            DataType::Timestamp(TimeUnit::Microsecond, Some(zone)),
-            DataType::Timestamp(TimeUnit::Nanosecond, None),
-            DataType::Date32,
-            DataType::Date64,
-            DataType::Time32(TimeUnit::Millisecond),
-            DataType::Time64(TimeUnit::Nanosecond),
-            DataType::Duration(TimeUnit::Second),
-            DataType::Interval(IntervalUnit::MonthDayNano),
-            DataType::Binary,
-            DataType::FixedSizeBinary(3),
-            DataType::LargeBinary,
-            DataType::LargeUtf8,
-            DataType::Decimal(38, 2),
-            DataType::Decimal256(76, 3),
-        ],
-    )?)
-}
-
 /// A struct of a key and a value.
 fn entry(alloc: Global) -> Result<Boxed<Field>, Fail> {
-    let mut fields = Items::new(alloc);
-    fields.push(field(alloc, "key", DataType::Utf8)?)?;
+    let mut fields = single(alloc, field(alloc, "key", DataType::Utf8)?)?;
     fields.push(field(alloc, "value", DataType::Int8)?)?;
     Ok(Boxed::new(alloc, field(alloc, "entry", DataType::Struct(fields))?)?)
 }
 
 /// A dense union of numbers and texts, by the ids 5 and 7.
 fn union(alloc: Global) -> Result<DataType, Fail> {
-    let mut fields = Items::new(alloc);
-    fields.push(field(alloc, "n", DataType::Int8)?)?;
-    fields.push(field(alloc, "t", DataType::Utf8)?)?;
     let ids = Items::from_vec(Vec::from_array(alloc, [5, 7])?);
+    let mut fields = single(alloc, field(alloc, "n", DataType::Int8)?)?;
+    fields.push(field(alloc, "t", DataType::Utf8)?)?;
     Ok(DataType::Union(fields, Some(ids), UnionMode::Dense))
-}
-
-/// Types with fields below them.
-fn nested_types(alloc: Global) -> Result<Vec<DataType>, Fail> {
-    let dictionaries = DataType::Struct(nested_dictionaries(alloc)?);
-    Ok(Vec::from_array(
-        alloc,
-        [
-            DataType::List(entry(alloc)?),
-            DataType::LargeList(entry(alloc)?),
-            DataType::FixedSizeList(entry(alloc)?, 4),
-            DataType::Map(entry(alloc)?, true),
-            union(alloc)?,
-            dictionaries,
-        ],
-    )?)
 }
 
 /// Whether a schema of one field reads back as it is written.
@@ -220,17 +204,70 @@ fn reads_back(alloc: Global, data_type: DataType) -> Result<bool, Fail> {
 }
 
 #[test]
-fn flat_types_read_back(rt: HostRuntime) -> Result<(), Fail> {
-    for data_type in flat_types(rt.alloc())? {
+fn numbers_and_texts_read_back(rt: HostRuntime) -> Result<(), Fail> {
+    for data_type in [
+        DataType::Null,
+        DataType::Boolean,
+        DataType::Int8,
+        DataType::Int16,
+        DataType::Int64,
+        DataType::UInt8,
+        DataType::UInt16,
+        DataType::UInt32,
+        DataType::UInt64,
+        DataType::Binary,
+        DataType::FixedSizeBinary(3),
+        DataType::LargeBinary,
+        DataType::LargeUtf8,
+        DataType::Decimal(38, 2),
+        DataType::Decimal256(76, 3),
+    ] {
         assert!(rt; reads_back(rt.alloc(), data_type)?);
     }
     Ok(())
 }
 
 #[test]
-fn nested_types_read_back(rt: HostRuntime) -> Result<(), Fail> {
-    for data_type in nested_types(rt.alloc())? {
+fn times_read_back(rt: HostRuntime) -> Result<(), Fail> {
+    for data_type in [
+        DataType::Timestamp(TimeUnit::Nanosecond, None),
+        DataType::Date32,
+        DataType::Date64,
+        DataType::Time32(TimeUnit::Millisecond),
+        DataType::Time64(TimeUnit::Nanosecond),
+        DataType::Duration(TimeUnit::Second),
+        DataType::Interval(IntervalUnit::MonthDayNano),
+    ] {
         assert!(rt; reads_back(rt.alloc(), data_type)?);
     }
+    Ok(())
+}
+
+#[test]
+fn a_time_zone_reads_back(rt: HostRuntime) -> Result<(), Fail> {
+    let zone = Text::from_str(rt.alloc(), "UTC")?;
+    let data_type = DataType::Timestamp(TimeUnit::Microsecond, Some(zone));
+    assert!(rt; reads_back(rt.alloc(), data_type)?);
+    Ok(())
+}
+
+#[test]
+fn lists_read_back(rt: HostRuntime) -> Result<(), Fail> {
+    assert!(rt; reads_back(rt.alloc(), DataType::List(entry(rt.alloc())?))?);
+    assert!(rt; reads_back(rt.alloc(), DataType::LargeList(entry(rt.alloc())?))?);
+    assert!(rt; reads_back(rt.alloc(), DataType::FixedSizeList(entry(rt.alloc())?, 4))?);
+    Ok(())
+}
+
+#[test]
+fn fields_together_read_back(rt: HostRuntime) -> Result<(), Fail> {
+    assert!(rt; reads_back(rt.alloc(), DataType::Map(entry(rt.alloc())?, true))?);
+    assert!(rt; reads_back(rt.alloc(), union(rt.alloc())?)?);
+    assert!(rt;
+        reads_back(
+            rt.alloc(),
+            DataType::Struct(nested_dictionaries(rt.alloc())?)
+        )?
+    );
     Ok(())
 }
