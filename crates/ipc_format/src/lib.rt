@@ -5,3 +5,4 @@ pub use ipc_format_flatbuffers as flatbuffers;
 pub use ipc_format_metadata::{
     IpcField, IpcSchema, OutOfSpecKind, can_write, deserialize_schema, schema_in,
 };
+pub use ipc_format_schema_writing::{default_ipc_fields, normalised, schema_to_bytes};
