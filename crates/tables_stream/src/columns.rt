@@ -20,7 +20,7 @@ use tables_metadata::{FieldNode, buffer_at, node_at};
 ///
 /// - `OutOfSpec`: a node or buffer is missing, a length or offset is negative, or a buffer passes the body.
 /// - `OutOfMemory`: there was no memory for the cells.
-#[tactic(auto, using(crate::proofs::Buffers::too_long), unfolding(ipc_format_columns::specs::Columns::fixed_slots, ipc_format_grammar::specs::Messages::struct_at))]
+#[tactic(auto, unfolding(ipc_format_columns::specs::Columns::fixed_slots, ipc_format_grammar::specs::Messages::struct_at))]
 pub fn int32_cells(alloc: Global, bytes: &BatchBytes<'_>, k: usize) -> Result<Column>
     ensures { Reads (map slot_of) result (int32.int32_slots (batch_of bytes.now) k (2 * k)) }
 {
