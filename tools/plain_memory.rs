@@ -92,10 +92,14 @@ fn count_zeros(bytes: &[u8], offset: usize, len: usize) -> usize {
     len - (words + behind - before.count_ones() as usize - after.count_ones() as usize)
 }
 
+fn lay(words: impl Iterator<Item = u64>, out: &mut [u8]) {
+    out.chunks_exact_mut(8).zip(words).for_each(|(place, word)| place.copy_from_slice(&word.to_le_bytes()));
+}
+
 /// A bitmap of the first bits of words.
 fn collected(words: impl Iterator<Item = u64>, len: usize) -> Bitmap {
-    let mut bytes = Vec::with_capacity(len.div_ceil(64) * 8);
-    words.for_each(|word| bytes.extend_from_slice(&word.to_le_bytes()));
+    let mut bytes = vec![0; len.div_ceil(64) * 8];
+    lay(words, &mut bytes);
     bytes.truncate(len.div_ceil(8));
     bitmap(bytes, 0, len)
 }
@@ -118,12 +122,11 @@ fn and(left: &Bitmap, right: &Bitmap) -> Bitmap {
 
 /// Five set bits, and `len` bits from bit 3 on behind them.
 fn extended(bytes: &[u8], len: usize) -> Vec<u8> {
-    let total = 5 + len;
-    let mut out = Vec::with_capacity(total.div_ceil(8) + 8);
     let head = len.min(3);
-    out.push(31 | (part_at(bytes, 3, head) << 5) as u8);
-    words(bytes, 3 + head, len - head).for_each(|word| out.extend_from_slice(&word.to_le_bytes()));
-    out.truncate(total.div_ceil(8));
+    let mut out = vec![0; 1 + (len - head).div_ceil(64) * 8];
+    out[0] = 31 | (part_at(bytes, 3, head) << 5) as u8;
+    lay(words(bytes, 3 + head, len - head), &mut out[1..]);
+    out.truncate((5 + len).div_ceil(8));
     out
 }
 
