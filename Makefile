@@ -1,13 +1,15 @@
 # make demo    builds the proved program as bin/tables and cuts the samples with it
 # make test    the whole gate: every proof from nothing, each test, each program, the must-fail edits
-# make bench   measures bin/tables against cp and plain Rust on a stream of about 250 MB, and on a tenth of it
+# make bench   measures bin/tables against cp and plain Rust on a stream of about 250 MB, and on a tenth of it, after `make bench-memory`
+# make bench-memory   measures jobs of the memory layer against plain Rust
 # make definitions   runs the definitions of specs/ on worked values, and on laid and damaged inputs against an independent reader
 
 RT ?= rt
 PYTHON ?= python3 -B
 PROGRAM = crates/tables_program
+MEMORY = crates/columnar_memory_bench
 
-.PHONY: demo test bench definitions program clean
+.PHONY: demo test bench bench-memory definitions program memory-program clean
 
 # How many inputs `make definitions` compares, and from which seed.
 COUNT ?= 20000
@@ -47,8 +49,18 @@ definitions:
 	$(PYTHON) tools/worked.py
 	$(PYTHON) tools/compare.py --count $(COUNT) --seed $(SEED)
 
-bench: program
-	$(PYTHON) tools/bench.py bin/tables bin
+bench: program bench-memory
+	$(PYTHON) tools/bench.py cut bin/tables bin
+
+bench-memory: memory-program
+	$(PYTHON) tools/bench.py memory bin/columnar_memory_bench bin
+
+memory-program:
+	@mkdir -p bin
+	@rm -f bin/columnar_memory_bench $(MEMORY)/out/columnar_memory_bench
+	@echo "proving and building $(MEMORY); bin/memory.log says how far it is"
+	@cd $(MEMORY) && $(RT) run > ../../bin/memory.log 2>&1 || { tail -n 20 ../../bin/memory.log; exit 1; }
+	cp $(MEMORY)/out/columnar_memory_bench bin/columnar_memory_bench
 
 clean:
 	rm -rf bin

@@ -1,9 +1,11 @@
 #!/usr/bin/env python3
-"""Measures `tables cut` on nearly all of a large stream, against `cp` of the same file and plain Rust of the same job.
+"""Measures proved programs against plain Rust of the same jobs, which is built by `rustc -O` from the files beside this one.
 
-    bench.py PROGRAM FOLDER     the streams are made in FOLDER and taken away at the end
+    bench.py cut PROGRAM FOLDER        `tables cut` on nearly all of a large stream, against plain_cut.rs and `cp` of the same file
+    bench.py memory PROGRAM FOLDER     the jobs of `columnar_memory_bench`, against plain_memory.rs, as a table
 
-Times are the best of five rounds. The plain Rust is plain_cut.rs beside this file, built by `rustc -O`; its output has to be the same.
+What is made stands in FOLDER; streams are taken away at the end. Times of a cut are the best of five rounds, those of the memory layer's
+jobs the best of 21. Outputs and checksums of both programs have to be the same.
 """
 
 import filecmp
@@ -14,6 +16,25 @@ import time
 
 TOOLS = os.path.dirname(os.path.abspath(__file__))
 ROUNDS = 5
+
+# What `rt run` builds for.
+CPU = "x86-64-v2"
+
+# How often the memory layer's programs run in turn; each run is the best of seven rounds.
+TURNS = 3
+
+# The jobs of the memory layer: name, what is done, and the binary logarithm of the size.
+JOBS = [
+    ("and_aligned", "`and` of two bitmaps", 28),
+    ("and_offsets", "`and` of bitmaps at offsets 1 and 3", 28),
+    ("count_zeros", "`count_zeros` at offset 3", 28),
+    ("extend_from_slice", "`extend_from_slice` at offset 3, behind 5 bits", 28),
+    ("slices_runs", "`SlicesIterator` over runs of 1 to 256 bits", 28),
+    ("slices_noise", "`SlicesIterator` over noise", 28),
+    ("from_iter", "`Bitmap::from_iter` of booleans", 26),
+    ("offsets", "`Offsets::<i32>::try_from_iter` of lengths", 24),
+    ("zip_validity", "sum of 32-bit values by `ZipValidity`", 26),
+]
 
 
 def measured(command, output):
@@ -37,10 +58,10 @@ def best(command, output):
     return min(seconds for seconds, _ in rounds), max(peak for _, peak in rounds)
 
 
-def built(folder):
-    """The plain Rust program, built anew."""
-    plain = os.path.join(folder, "plain_cut")
-    command = ["rustc", "--edition", "2021", "-O", "-o", plain, os.path.join(TOOLS, "plain_cut.rs")]
+def built(folder, name):
+    """A plain Rust program, built anew."""
+    plain = os.path.join(folder, name)
+    command = ["rustc", "--edition", "2021", "-O", "-C", "target-cpu=" + CPU, "-o", plain, os.path.join(TOOLS, name + ".rs")]
     subprocess.run(command, check=True)
     return plain
 
@@ -67,14 +88,39 @@ def measure(program, plain, folder, batches):
     return cutting
 
 
-def main(program, folder):
-    plain = built(folder)
+def measure_cut(program, folder):
+    plain = built(folder, "plain_cut")
     tenth = measure(program, plain, folder, 46)
     whole = measure(program, plain, folder, 460)
     print("ten times the input takes %.1f times as long" % (whole / tenth))
 
 
+def timed(program, job, size):
+    """Nanoseconds and checksum of a job."""
+    answer = subprocess.run([program, job, str(size)], check=True, stdout=subprocess.PIPE, text=True).stdout.split()
+    return int(answer[1]), answer[2]
+
+
+def measure_job(program, plain, job, size):
+    """Nanoseconds of the program and of plain Rust, which run in turn."""
+    turns = [(timed(program, job, size), timed(plain, job, size)) for _ in range(TURNS)]
+    for ours, plainly in turns:
+        if ours[1] != plainly[1]:
+            sys.exit("%s: plain Rust makes another result" % job)
+    return min(ours for (ours, _), _ in turns), min(plainly for _, (plainly, _) in turns)
+
+
+def measure_memory(program, folder):
+    plain = built(folder, "plain_memory")
+    print("| job | size | ours, ms | plain Rust, ms | ratio |")
+    print("|---|---|---|---|---|")
+    for job, what, power in JOBS:
+        ours, plainly = measure_job(program, plain, job, 1 << power)
+        print("| %s | 2^%d | %.1f | %.1f | %.2f |" % (what, power, ours / 1e6, plainly / 1e6, ours / plainly), flush=True)
+
+
 if __name__ == "__main__":
-    if len(sys.argv) != 3:
+    measures = {"cut": measure_cut, "memory": measure_memory}
+    if len(sys.argv) != 4 or sys.argv[1] not in measures:
         sys.exit(__doc__)
-    main(sys.argv[1], sys.argv[2])
+    measures[sys.argv[1]](sys.argv[2], sys.argv[3])
