@@ -45,9 +45,10 @@ module _ {A : Type 0} (c : Coded A) where
 
   pub same-Decides : (x y : A) → Decides (same x y) (x ≡ y)
   unfolding same
-  same-Decides x y =
-      (λ h. c.inj x y (same_code-implies (c.code x) (c.code y) h),
-      λ e. (λ i. same_code (c.code x) (c.code (sym e i))) ∙ same_code-itself (c.code x))
+  same-Decides x y = (
+    λ h. c.inj x y (same_code-implies (c.code x) (c.code y) h),
+    λ e. (λ i. same_code (c.code x) (c.code (sym e i))) ∙ same_code-itself (c.code x),
+  )
 
 -- a test that decides `≡` is an equivalence
 pub equivalence_from_Decides : {A : Type 0} (E : A → A → Bool) → ((x y : A) → Decides (E x y) (x ≡ y)) → IsEquivalence E

@@ -22,5 +22,8 @@ padded_is bytes n e = ap (λ (k : ℕ). bytes ++ replicate (next_multiple_of k 8
 
 -- filled up with zeros, bytes end at a multiple of 8
 pub length-padded : (bytes : List ℕ) → length (padded bytes) ≡ next_multiple_of (length bytes) 8
-length-padded bytes = omega (arith, length-append bytes (replicate {A = ℕ} (next_multiple_of (length bytes) 8 - length bytes) 0),
-    length-replicate {A = ℕ} (next_multiple_of (length bytes) 8 - length bytes) 0)
+length-padded bytes = omega (
+  arith,
+  length-append bytes (replicate {A = ℕ} (next_multiple_of (length bytes) 8 - length bytes) 0),
+  length-replicate {A = ℕ} (next_multiple_of (length bytes) 8 - length bytes) 0,
+)

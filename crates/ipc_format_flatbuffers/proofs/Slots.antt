@@ -32,8 +32,12 @@ length-field_bytes at child (refers piece) =
 pub length-fields : (at child : ℕ) (slots : List Slot) → at + length (fields at child slots) ≡ table_end at slots
 length-fields at child [] = omega arith
 length-fields at child (slot ∷ slots) =
-    omega (arith, length-append (field_bytes at child slot) (fields (after at slot) (child + length (child_bytes slot)) slots),
-    length-field_bytes at child slot, length-fields (after at slot) (child + length (child_bytes slot)) slots)
+    omega (
+      arith,
+      length-append (field_bytes at child slot) (fields (after at slot) (child + length (child_bytes slot)) slots),
+      length-field_bytes at child slot,
+      length-fields (after at slot) (child + length (child_bytes slot)) slots,
+    )
 
 -- the fields end no earlier than they begin
 pub table_end_after : (at : ℕ) (slots : List Slot) → at ≤ table_end at slots
@@ -42,13 +46,13 @@ table_end_after at slots = omega (arith, length-fields at 0 slots)
 -- a vtable that was written part by part
 pub vtable_written : (slots : List Slot) (n count : ℕ) (out o1 o2 o3 o4 : List ℕ) → n ≡ 4 + 2 * length slots → count ≡ next_multiple_of n 8 - n
     → o1 ≡ out ++ to_le_bytes w16 n → o2 ≡ o1 ++ to_le_bytes w16 (table_end 4 slots) → o3 ≡ o2 ++ entries 4 slots → o4 ≡ o3 ++ replicate count 0
-        → o4 ≡ out ++ vtable slots
+    → o4 ≡ out ++ vtable slots
 vtable_written slots n count out o1 o2 o3 o4 n-is count-is e1 e2 e3 e4 =
     let zeros = replicate {A = ℕ} (next_multiple_of n 8 - n) 0 in
     let parts : List ℕ = to_le_bytes w16 (4 + 2 * length slots) ++ to_le_bytes w16 (table_end 4 slots) ++ entries 4 slots in
     let size : length parts ≡ n = omega (arith, length-entries 4 slots) in
     let whole = four_written out (to_le_bytes w16 (4 + 2 * length slots)) (to_le_bytes w16 (table_end 4 slots)) (entries 4 slots) zeros o1 o2 o3 o4
-        (e1 ∙ ap (λ (k : ℕ). out ++ to_le_bytes w16 k) n-is) e2 e3 (e4 ∙ ap (λ (k : ℕ). o3 ++ replicate k 0) count-is) in
+    (e1 ∙ ap (λ (k : ℕ). out ++ to_le_bytes w16 k) n-is) e2 e3 (e4 ∙ ap (λ (k : ℕ). o3 ++ replicate k 0) count-is) in
     whole ∙ ap (λ (bytes : List ℕ). out ++ bytes) (padded_is parts n size)
 
 -- a table that was written part by part behind its vtable
@@ -61,11 +65,11 @@ table_written slots vtable_len end table_len count out o1 o2 o3 vtable_len-is en
     let back = to_le_bytes w32 (length (vtable slots)) in
     let parts : List ℕ = back ++ fields 4 first slots in
     let size : length parts ≡ table_end 4 slots =
-        omega (arith, length-append back (fields 4 first slots), length-to_le_bytes w32 (length (vtable slots)), length-fields 4 first slots) in
+    omega (arith, length-append back (fields 4 first slots), length-to_le_bytes w32 (length (vtable slots)), length-fields 4 first slots) in
     let first-is : table_len ≡ first = table_len-is ∙ ap (λ (k : ℕ). next_multiple_of k 8) end-is in
     let count-first : count ≡ first - table_end 4 slots = rw (← first-is, ← end-is) count-is in
     let whole = three_written out back (fields 4 first slots) zeros o1 o2 o3 (e1 ∙ ap (λ (k : ℕ). out ++ to_le_bytes w32 k) vtable_len-is)
-        (e2 ∙ ap (λ (k : ℕ). o1 ++ fields 4 k slots) first-is) (e3 ∙ ap (λ (k : ℕ). o2 ++ replicate k 0) count-first) in
+    (e2 ∙ ap (λ (k : ℕ). o1 ++ fields 4 k slots) first-is) (e3 ∙ ap (λ (k : ℕ). o2 ++ replicate k 0) count-first) in
     whole ∙ ap (λ (bytes : List ℕ). out ++ bytes) (padded_is parts (table_end 4 slots) size)
 
 -- a vtable's bytes
@@ -82,7 +86,7 @@ length-table_bytes slots =
     let back = to_le_bytes w32 (length (vtable slots)) in
     let parts : List ℕ = back ++ fields 4 first slots in
     let size : length parts ≡ table_end 4 slots =
-        omega (arith, length-append back (fields 4 first slots), length-to_le_bytes w32 (length (vtable slots)), length-fields 4 first slots) in
+    omega (arith, length-append back (fields 4 first slots), length-to_le_bytes w32 (length (vtable slots)), length-fields 4 first slots) in
     length-padded parts ∙ ap (λ (k : ℕ). next_multiple_of k 8) size
 
 -- the bytes of a table with everything that it refers to
@@ -92,9 +96,13 @@ pub length-table_piece : (slots : List Slot) (vtable_len end table_len children 
 unfolding table_piece
 length-table_piece slots vtable_len end table_len children vtable_len-is end-is table_len-is children-is =
     let own : length (table_bytes slots) ≡ table_len =
-        length-table_bytes slots ∙ ap (λ (k : ℕ). next_multiple_of k 8) (sym end-is) ∙ sym table_len-is in
-    omega (arith, own, length-append (vtable slots ++ table_bytes slots) (flat_map child_bytes slots),
-        length-append (vtable slots) (table_bytes slots))
+    length-table_bytes slots ∙ ap (λ (k : ℕ). next_multiple_of k 8) (sym end-is) ∙ sym table_len-is in
+    omega (
+      arith,
+      own,
+      length-append (vtable slots ++ table_bytes slots) (flat_map child_bytes slots),
+      length-append (vtable slots) (table_bytes slots),
+    )
 
 -- a table whose three parts were written
 pub table_laid : (slots : List Slot) (entry : ℕ) (o0 o1 o2 o3 : List ℕ) → entry ≡ length (vtable slots) → o0 ≡ [] → o1 ≡ o0 ++ vtable slots

@@ -12,15 +12,22 @@ returns-then-pieces c =
     let pieces = map piece_view c.args.pieces.now in
     let count = length-map c.args.pieces.now piece_view in
     let own_len = 8 + 4 * length pieces in
-    omega (arith, count, length-references_piece pieces own_len (next_multiple_of own_len 8)
-        (length (flat_map (λ (piece : Piece). piece.bytes) pieces)) refl refl refl)
+    omega (
+      arith,
+      count,
+      length-references_piece pieces own_len (next_multiple_of own_len 8)
+          (length (flat_map (λ (piece : Piece). piece.bytes) pieces)) refl refl refl,
+    )
 
 pub returns-then-len-gt-MOST_BYTES : goal.returns-then-len-gt-MOST_BYTES
 returns-then-len-gt-MOST_BYTES c =
     let own_is = ap (λ n. 8 + 4 * n) (sym (length-map c.args.pieces.now piece_view)) in
-    omega (arith, length-references_piece (map piece_view c.args.pieces.now)
-        (8 + 4 * length c.args.pieces.now) c.next_multiple_of-first_child.result c.pieces_len.result own_is
-        c.next_multiple_of-first_child.ensures.value c.pieces_len.ensures.value)
+    omega (
+      arith,
+      length-references_piece (map piece_view c.args.pieces.now)
+          (8 + 4 * length c.args.pieces.now) c.next_multiple_of-first_child.result c.pieces_len.result own_is
+          c.next_multiple_of-first_child.ensures.value c.pieces_len.ensures.value,
+    )
 
 pub invariant_of-result : goal.invariant_of-result
 invariant_of-result c =
@@ -30,13 +37,13 @@ invariant_of-result c =
     let own_is = ap (λ n. 8 + 4 * n) (sym (length-map c.args.pieces.now piece_view)) in
     let count = c.in_ok-extend_from_slice.ensures.items ∙ ap (λ bytes. c.put_zeros.new.out.items ++ bytes) c.to_le_bytes.ensures in
     let made = references_laid pieces (length c.args.pieces.now) own_len first_child
-        (first_child - own_len) c.in_ok-bytes.bytes.items c.put_zeros.new.out.items c.extend_from_slice.new.self.items c.put_references.new.out.items
-        c.put_zeros-2.new.out.items c.put_pieces.new.out.items
+    (first_child - own_len) c.in_ok-bytes.bytes.items c.put_zeros.new.out.items c.extend_from_slice.new.self.items c.put_references.new.out.items
+    c.put_zeros-2.new.out.items c.put_pieces.new.out.items
     (sym (length-map c.args.pieces.now piece_view)) own_is c.next_multiple_of-first_child.ensures.value refl c.in_ok-bytes.ensures.items
-        c.in_ok-put_zeros.ensures count c.in_ok-put_references.ensures c.in_ok-put_zeros-2.ensures c.in_ok-put_pieces.ensures in
+    c.in_ok-put_zeros.ensures count c.in_ok-put_references.ensures c.in_ok-put_zeros-2.ensures c.in_ok-put_pieces.ensures in
     let size = ap (λ (piece : Piece). length piece.bytes) made
-        ∙ length-references_piece pieces own_len first_child c.pieces_len.result own_is c.next_multiple_of-first_child.ensures.value
-        c.pieces_len.ensures.value in
+    ∙ length-references_piece pieces own_len first_child c.pieces_len.result own_is c.next_multiple_of-first_child.ensures.value
+    c.pieces_len.ensures.value in
     record { bytes_in_reach = omega (arith, size); entry_in_bytes = omega (arith, size) }
 
 pub returns : goal.returns
@@ -46,7 +53,7 @@ returns c =
     let own_is = ap (λ n. 8 + 4 * n) (sym (length-map c.args.pieces.now piece_view)) in
     let count = c.in_ok-extend_from_slice.ensures.items ∙ ap (λ bytes. c.put_zeros.new.out.items ++ bytes) c.to_le_bytes.ensures in
     references_laid (map piece_view c.args.pieces.now) (length c.args.pieces.now) own_len first_child
-        (first_child - own_len) c.in_ok-bytes.bytes.items c.put_zeros.new.out.items c.extend_from_slice.new.self.items c.put_references.new.out.items
-        c.put_zeros-2.new.out.items c.put_pieces.new.out.items
+    (first_child - own_len) c.in_ok-bytes.bytes.items c.put_zeros.new.out.items c.extend_from_slice.new.self.items c.put_references.new.out.items
+    c.put_zeros-2.new.out.items c.put_pieces.new.out.items
     (sym (length-map c.args.pieces.now piece_view)) own_is c.next_multiple_of-first_child.ensures.value refl c.in_ok-bytes.ensures.items
-        c.in_ok-put_zeros.ensures count c.in_ok-put_references.ensures c.in_ok-put_zeros-2.ensures c.in_ok-put_pieces.ensures
+    c.in_ok-put_zeros.ensures count c.in_ok-put_references.ensures c.in_ok-put_zeros-2.ensures c.in_ok-put_pieces.ensures

@@ -11,4 +11,4 @@ loop-slot-preserved c =
     let next = rest_step slot_view c.args.slots.now i c.slot-item.result c.loop-slot-test.true c.slot-item.is in
     let rest = drop (i + 1) (map slot_view c.args.slots.now) in
     append_step c.loop-slot.out.items c.put_child.new.out.items (child_bytes (slot_view c.slot-item.result)) (flat_map child_bytes rest)
-        (c.args.out.now.items ++ flat_map child_bytes (map slot_view c.args.slots.now)) c.in_ok-put_child.ensures (rw next at c.loop-slot.invariant)
+    (c.args.out.now.items ++ flat_map child_bytes (map slot_view c.args.slots.now)) c.in_ok-put_child.ensures (rw next at c.loop-slot.invariant)

@@ -12,7 +12,7 @@ loop-slot-preserved c =
     let next = rest_step slot_view c.args.slots.now i c.slot-item.result c.loop-slot-test.true c.slot-item.is in
     let rest = drop (i + 1) (map slot_view c.args.slots.now) in
     let part = c.in_ok-extend_from_slice.ensures.items ∙ ap (λ bytes. c.loop-slot.out.items ++ bytes)
-        (c.to_le_bytes.ensures ∙ ap (to_le_bytes w16) c.entry_of.ensures) in
+    (c.to_le_bytes.ensures ∙ ap (to_le_bytes w16) c.entry_of.ensures) in
     record {
       near = omega arith;
       out_is = rw c.after-at.ensures.value

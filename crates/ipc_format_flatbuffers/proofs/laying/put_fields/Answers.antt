@@ -18,8 +18,12 @@ put_field-requires-clause-in_reach c =
     let i = c.loop-slot.slot-index in
     let next = rest_step slot_view c.args.slots.now i c.slot-item.result c.loop-slot-test.true c.slot-item.is in
     let child_is = rw next at c.loop-slot.invariant.child_is in
-    omega (arith, child_is, length-append (child_bytes (slot_view c.slot-item.result))
-        (flat_map child_bytes (drop (i + 1) (map slot_view c.args.slots.now))))
+    omega (
+      arith,
+      child_is,
+      length-append (child_bytes (slot_view c.slot-item.result))
+          (flat_map child_bytes (drop (i + 1) (map slot_view c.args.slots.now))),
+    )
 
 pub loop-slot-preserved : goal.loop-slot-preserved
 loop-slot-preserved c =

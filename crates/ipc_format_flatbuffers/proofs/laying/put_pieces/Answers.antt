@@ -12,6 +12,6 @@ loop-piece-preserved c =
     let rest = drop (i + 1) (map piece_view c.args.pieces.now) in
     let part = c.in_ok-extend_from_slice.ensures.items ∙ ap (λ bytes. c.loop-piece.out.items ++ bytes) c.deref.ensures.value in
     append_step c.loop-piece.out.items c.extend_from_slice.new.self.items c.piece-item.result.bytes.items
-        (flat_map (λ (piece : Piece). piece.bytes) rest)
-        (c.args.out.now.items ++ flat_map (λ (piece : Piece). piece.bytes) (map piece_view c.args.pieces.now)) part
-        (rw next at c.loop-piece.invariant)
+    (flat_map (λ (piece : Piece). piece.bytes) rest)
+    (c.args.out.now.items ++ flat_map (λ (piece : Piece). piece.bytes) (map piece_view c.args.pieces.now)) part
+    (rw next at c.loop-piece.invariant)
