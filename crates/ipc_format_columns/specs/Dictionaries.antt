@@ -10,7 +10,7 @@ use Rattle.columnar_memory.specs.declared.DataType.TheFolds.{para-DataType}
 use Rattle.columnar_memory.specs.declared.Field.{Field}
 use Rattle.ipc_format_grammar.specs.Messages as message
 use Rattle.ipc_format_grammar.specs.Messages.{Version, record_batch_in, dictionary_batch_in, lengths_sum}
-use Rattle.ipc_format_grammar.specs.Schemas.{Ids, IdsList, ids, no_ids}
+use Rattle.ipc_format_grammar.specs.Schemas.{Ids, IdsList, ids}
 use Rattle.ipc_format_columns.specs.Columns.{Source, Dictionary, slots_in, first_ids, other_ids, ids_below}
 
 -- ---- the type of an id's values

@@ -1,6 +1,6 @@
 -- How each type lies in a batch: its own buffers in order, its nodes, and the types below it (Arrow columnar format, "Buffer Listing for
 -- Each Layout"; Arrow IPC, "RecordBatch message"). Counting, reading, passing over and writing go by this one table.
-use Rattle.std.specs.Prelude.{ℕ, ◌+◌, List, [], ◌∷◌, ◌++◌, length, map, take, sum_by, Option, Some, None}
+use Rattle.std.specs.Prelude.{ℕ, ◌+◌, List, [], ◌∷◌, ◌++◌, length, take, sum_by, Option, Some, None}
 use Rattle.std.specs.Int.{Width, w32, w64}
 use Rattle.columnar_memory.specs.declared.DataType.{DataType}
 use Rattle.columnar_memory.specs.declared.DataType.TheOpen as layer

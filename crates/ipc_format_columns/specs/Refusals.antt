@@ -1,5 +1,5 @@
 -- Why bytes are refused: what stands in them, whatever else is broken.
-use Rattle.std.specs.Prelude.{◌≡◌, ◌≤◌, ℕ, zero, suc, ◌+◌, ◌^◌, Bool, true, false, List, [], ◌∷◌, length, map, take}
+use Rattle.std.specs.Prelude.{◌≡◌, ◌≤◌, ℕ, zero, suc, ◌^◌, Bool, true, false, List, [], ◌∷◌, length, map, take}
 use Rattle.std.specs.Prelude.{codes, Option, Some, None, IsSome, IsSomeAnd, nat_lt}
 use Rattle.std.specs.Int.{w8}
 use Rattle.ipc_format_flatbuffers.specs.Reading.{◌>>=◌, guard}
@@ -12,7 +12,6 @@ use Rattle.nested_arrays.specs.Slots.{Slot}
 use Rattle.nested_arrays.specs.Tables.{rows_of_batches}
 use Rattle.ipc_format_columns.specs.Framing.{Framed, Next, nothing_whole, by_next, next_at, first_of}
 use Rattle.ipc_format_columns.specs.Files.{Footer, Block, footer_in, footer_schema, file_entries, stands_at, metadata_of, header_in}
-use Rattle.ipc_format_columns.specs.Files as files
 use Rattle.ipc_format_columns.specs.Framing.{frame_at}
 use Rattle.ipc_format_columns.specs.Tables.{Form, stream, file, Contents, schema_of, stream_entry, layout_of, batches_of}
 

@@ -1,6 +1,6 @@
 -- The numbers of nodes and buffers of types, by computing.
-use Rattle.std.proofs.Common.{◌≡◌, ◌∙◌, ℕ, [], ◌∷◌, refl, true}
-use Rattle.std.specs.Prelude.{None, codes}
+use Rattle.std.proofs.Common.{◌≡◌, ◌∙◌, ℕ, [], ◌∷◌, refl}
+use Rattle.std.specs.Prelude.{None}
 use denote.Hole.Carrier
 use Rattle.columnar_memory.specs.declared.DataType.TheOpen as layer
 use Rattle.columnar_memory.specs.declared.DataType.TheViews.{roll-DataType}

@@ -1,6 +1,6 @@
 -- The schema messages of a number, of a dictionary and of an extension, by computing.
 use Rattle.std.proofs.Common.{◌≡◌, ◌∙◌, [], ◌∷◌, refl, ap, true, false}
-use Rattle.std.specs.Prelude.{Some, pos, codes}
+use Rattle.std.specs.Prelude.{Some, codes}
 use denote.Hole.Carrier
 use Rattle.columnar_memory.specs.declared.DataType.TheOpen as layer
 use Rattle.columnar_memory.specs.declared.DataType.TheViews.{roll-DataType}
@@ -11,7 +11,7 @@ use Rattle.std.specs.Int.{w8, w16, w64}
 use Rattle.ipc_format_flatbuffers.specs.Objects.{Object, laid, table, references, text, no_field, absent_then, number_then, refers_then}
 use Rattle.ipc_format_flatbuffers.specs.Objects.{no_object, object_then}
 use Rattle.ipc_format_flatbuffers.specs.Laying.{table_piece, references_piece, elements_piece, text_piece, message_bytes}
-use Rattle.ipc_format_grammar.specs.Schemas.{Ids, IdsList, ids, no_ids, ids_then, extension_name_key, extension_metadata_key}
+use Rattle.ipc_format_grammar.specs.Schemas.{Ids, IdsList, no_ids, extension_name_key, extension_metadata_key}
 use Rattle.ipc_format_grammar.specs.SchemaObjects.{Told, told_of, told_step, told_field_step, flat, int_object, empty_table, pair_object}
 use Rattle.ipc_format_grammar.specs.SchemaObjects.{schema_object, message_object, schema_message}
 use Rattle.ipc_format_worked.specs.Examples.{x_int32, d_dictionary, id_0, x_extension, x_metadata, d_metadata, x_extension_metadata}

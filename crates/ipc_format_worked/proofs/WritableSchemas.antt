@@ -10,7 +10,6 @@ use Rattle.columnar_memory.specs.declared.DataType.TheVariants as types
 use Rattle.columnar_memory.specs.declared.UnionMode.TheVariants as modes
 use Rattle.columnar_memory.specs.declared.DataType.{DataType}
 use Rattle.columnar_memory.specs.declared.Field.{Field}
-use Rattle.columnar_memory.specs.declared.Schema.{Schema}
 use Rattle.ipc_format_grammar.specs.Schemas.{extension_name_key, extension_metadata_key}
 use Rattle.ipc_format_grammar.specs.SchemaObjects.{written_pairs}
 use Rattle.ipc_format_grammar.specs.Writable.{Report, plain, report_of, report_step, field_step, leaf, is_writable, normalised}

@@ -1,14 +1,14 @@
 -- The bytes of buffers, little-endian (Arrow columnar format, "Validity bitmaps", "Fixed-size Primitive Layout", "Variable-size Binary
 -- Layout").
-use Rattle.std.specs.Prelude.{ℕ, zero, suc, ◌+◌, ◌*◌, ◌/◌, ◌%◌, ◌-◌, ◌^◌, ℤ, pos, negsuc, Bool, true, false, not, List, [], ◌∷◌, ◌++◌}
-use Rattle.std.specs.Prelude.{length, map, take, drop, count_by, replicate, nat_lt, Option, Some, None, if◌then◌else◌}
+use Rattle.std.specs.Prelude.{ℕ, zero, suc, ◌+◌, ◌*◌, ◌/◌, ◌%◌, ◌-◌, ◌^◌, ℤ, pos, negsuc, Bool, false, not, List, [], ◌∷◌, ◌++◌}
+use Rattle.std.specs.Prelude.{length, take, drop, count_by, replicate, nat_lt, if◌then◌else◌}
 use Rattle.std.specs.List.{flat_map}
 use Rattle.std.specs.Int.{Width, w8, w16, w32, w64, w128, byte_len, to_le_bytes, cast_unsigned}
 use Rattle.columnar_memory.specs.declared.IntegerType.{IntegerType}
 use Rattle.columnar_memory.specs.declared.IntegerType.TheVariants as integers
 use Rattle.columnar_memory.specs.declared.PrimitiveType.{PrimitiveType}
 use Rattle.columnar_memory.specs.declared.PrimitiveType.TheVariants as kinds
-use Rattle.nested_arrays.specs.Slots.{Slot, null, truth, number, pair, triple, text, bytes}
+use Rattle.nested_arrays.specs.Slots.{Slot, truth, number, pair, triple, text, bytes}
 use Rattle.nested_arrays.specs.Cells.{is_null}
 use Rattle.ipc_format_columns.specs.Values.{kind_size}
 

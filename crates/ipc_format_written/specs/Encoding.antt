@@ -1,8 +1,8 @@
 -- The nodes and buffers of a column as they are written from its slots: zeros under nulls, offsets from 0, and the values of a dictionary in
 -- the order of first use (Arrow columnar format, "Physical Memory Layout"; Arrow IPC, "RecordBatch message").
-use Rattle.std.specs.Prelude.{ℕ, zero, suc, ◌+◌, Bool, List, [], ◌∷◌, ◌++◌, length, map, Option, Some, None, if◌then◌else◌}
+use Rattle.std.specs.Prelude.{ℕ, suc, List, [], ◌∷◌, ◌++◌, length, map, Option, Some, None}
 use Rattle.std.specs.List.{flat_map}
-use Rattle.std.specs.Int.{Width, w32, w64, byte_len, to_le_bytes}
+use Rattle.std.specs.Int.{Width, w32, w64, to_le_bytes}
 use Rattle.columnar_memory.specs.declared.DataType.{DataType}
 use Rattle.columnar_memory.specs.declared.DataType.TheOpen as layer
 use Rattle.columnar_memory.specs.declared.DataType.TheFolds.{fold-DataType}

@@ -1,8 +1,8 @@
 -- Which dictionaries a batch brings, in the order in which they are written: those within a dictionary's values before it (Arrow IPC,
 -- "Dictionary Messages").
-use Rattle.std.specs.Prelude.{ℕ, zero, suc, ℤ, pos, Bool, true, false, not, ◌&&◌, ◌||◌, List, [], ◌∷◌, ◌++◌, length, Option, Some, None}
+use Rattle.std.specs.Prelude.{ℕ, suc, ℤ, pos, Bool, true, false, not, ◌&&◌, ◌||◌, List, [], ◌∷◌, ◌++◌, Option, Some, None}
 use Rattle.std.specs.Prelude.{if◌then◌else◌}
-use Rattle.std.specs.List.{list_all, flat_map}
+use Rattle.std.specs.List.{list_all}
 use Rattle.std.specs.Ordering.{int_eq}
 use Rattle.std.specs.Cmp.Lexicographic.{pointwise}
 use Rattle.columnar_memory_schema.specs.Equality.{same_type}
@@ -15,7 +15,7 @@ use Rattle.nested_arrays.specs.SameSlots.{same_slot}
 use Rattle.nested_arrays.specs.Children.{joined_items, joined_fixed_items, field_slots, dictionary_values}
 use Rattle.nested_arrays.specs.StoredColumns.{Column, Columns, nulls, flat, lists, fixed_lists, records, unions, dictionary, no_column}
 use Rattle.nested_arrays.specs.StoredColumns.{column_then, column_type, slots}
-use Rattle.ipc_format_grammar.specs.Schemas.{Ids, IdsList, ids, no_ids}
+use Rattle.ipc_format_grammar.specs.Schemas.{Ids, IdsList, ids}
 use Rattle.ipc_format_columns.specs.Columns.{first_ids, other_ids, ids_below, own_id}
 use Rattle.ipc_format_written.specs.Encoding.{Encoded, encode}
 use Rattle.ipc_format_written.specs.StoredEncoding.{encode_stored}

@@ -1,14 +1,12 @@
 -- The nodes and buffers of a column as they are written from what an array stores: values as they stand, offsets less the first one, and of
 -- the child of lists what stands between the first and the last of them.
-use Rattle.std.specs.Prelude.{ℕ, zero, suc, ◌+◌, ◌-◌, ◌*◌, ℤ, pos, Bool, true, false, not, List, [], ◌∷◌, ◌++◌, length, map, count_by}
-use Rattle.std.specs.Prelude.{replicate, nat_lt, Option, Some, None, if◌then◌else◌, slice_index, slice_range}
+use Rattle.std.specs.Prelude.{ℕ, ◌+◌, ◌-◌, ◌*◌, ℤ, Bool, not, List, [], ◌∷◌, length, map, count_by}
+use Rattle.std.specs.Prelude.{nat_lt, Option, Some, None, if◌then◌else◌, slice_index, slice_range}
 use Rattle.std.specs.List.{flat_map}
 use Rattle.std.specs.Int.{Width, w8, w32, w64, to_le_bytes, cast_unsigned}
 use Rattle.columnar_memory.specs.declared.DataType.{DataType}
 use Rattle.columnar_memory.specs.declared.DataType.TheOpen as layer
 use Rattle.columnar_memory.specs.declared.Field.{Field}
-use Rattle.columnar_memory.specs.declared.PrimitiveType.{PrimitiveType}
-use Rattle.columnar_memory.specs.declared.PrimitiveType.TheVariants as kinds
 use Rattle.nested_arrays.specs.Slots.{number, pair, triple}
 use Rattle.nested_arrays.specs.StoredColumns.{Stored, bits, numbers, pairs, triples, texts, byte_strings, fixed_bytes, Column, Columns}
 use Rattle.nested_arrays.specs.StoredColumns.{nulls, flat, lists, fixed_lists, records, unions, dictionary, no_column, column_then}

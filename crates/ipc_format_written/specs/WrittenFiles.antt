@@ -1,5 +1,5 @@
 -- Written files (Arrow IPC, "IPC File Format"; File.fbs).
-use Rattle.std.specs.Prelude.{ℕ, ◌+◌, ◌^◌, Bool, true, ◌&&◌, List, [], ◌∷◌, ◌++◌, length, replicate, nat_lt, is_none, ◌||◌, Option, Some, None}
+use Rattle.std.specs.Prelude.{ℕ, ◌+◌, ◌^◌, Bool, true, ◌&&◌, List, [], ◌∷◌, ◌++◌, length, replicate, nat_lt, is_none, ◌||◌, Option, Some}
 use Rattle.std.specs.List.{flat_map, list_all}
 use Rattle.std.specs.Int.{w16, w32, w64, to_le_bytes}
 use Rattle.ipc_format_flatbuffers.specs.Reading.{◌>>=◌, guard}
@@ -10,8 +10,8 @@ use Rattle.ipc_format_grammar.specs.SchemaObjects.{schema_object}
 use Rattle.ipc_format_grammar.specs.Writable.{is_writable}
 use Rattle.ipc_format_columns.specs.Files.{file_mark}
 use Rattle.ipc_format_written.specs.Ids.{ids_fit_fields}
-use Rattle.ipc_format_written.specs.GivenDictionaries.{Given, stands_for, last_under, to_write, written_after, agree}
-use Rattle.ipc_format_written.specs.WrittenMessages.{Written, prefix_size, message_bytes, fits_limit, end_mark, schema_written}
+use Rattle.ipc_format_written.specs.GivenDictionaries.{Given, stands_for, last_under, to_write, written_after}
+use Rattle.ipc_format_written.specs.WrittenMessages.{Written, prefix_size, message_bytes, fits_limit, schema_written}
 use Rattle.ipc_format_written.specs.WrittenMessages.{record_message, dictionary_message}
 use Rattle.ipc_format_written.specs.WrittenStreams.{Batch, stream_messages, stream_bytes}
 

@@ -1,5 +1,5 @@
 -- Written messages (Arrow IPC, "Encapsulated message format", "RecordBatch message", "Dictionary Messages").
-use Rattle.std.specs.Prelude.{ℕ, ◌+◌, ◌-◌, Bool, List, [], ◌∷◌, ◌++◌, length, replicate, nat_le, Option, Some, None}
+use Rattle.std.specs.Prelude.{ℕ, ◌+◌, ◌-◌, Bool, List, [], ◌∷◌, ◌++◌, length, replicate, nat_le}
 use Rattle.std.specs.List.{flat_map}
 use Rattle.std.specs.Int.{w32, to_le_bytes, next_multiple_of}
 use Rattle.ipc_format_flatbuffers.specs.Objects.{Object, laid}

@@ -1,5 +1,5 @@
 -- Written streams (Arrow IPC, "IPC Streaming Format").
-use Rattle.std.specs.Prelude.{ℕ, Bool, true, ◌&&◌, List, [], ◌∷◌, ◌++◌, length, map, Option, Some, None}
+use Rattle.std.specs.Prelude.{ℕ, ◌&&◌, List, [], ◌∷◌, ◌++◌, length, map, Option, Some}
 use Rattle.std.specs.List.{flat_map, list_all}
 use Rattle.ipc_format_flatbuffers.specs.Reading.{◌>>=◌, guard}
 use Rattle.columnar_memory.specs.declared.Field.{Field}
