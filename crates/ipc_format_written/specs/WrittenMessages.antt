@@ -1,5 +1,5 @@
 -- Written messages (Arrow IPC, "Encapsulated message format", "RecordBatch message", "Dictionary Messages").
-use Rattle.std.specs.Prelude.{ℕ, ◌+◌, ◌-◌, Bool, List, [], ◌∷◌, ◌++◌, length, replicate, nat_le}
+use Rattle.std.specs.Prelude.{ℕ, ◌+◌, ◌-◌, ◌^◌, Bool, ◌&&◌, List, [], ◌∷◌, ◌++◌, length, replicate, nat_le, nat_lt}
 use Rattle.std.specs.List.{flat_map}
 use Rattle.std.specs.Int.{w32, to_le_bytes, next_multiple_of}
 use Rattle.ipc_format_flatbuffers.specs.Objects.{Object, laid}
@@ -32,8 +32,12 @@ message_bytes message = framed message.metadata message.body
 abbrev pub most_metadata : ℕ
 most_metadata = 2147483640
 
+-- a body is shorter than this, since its length is written as a signed number of eight bytes
+abbrev pub body_limit : ℕ
+body_limit = 2 ^ 63
+
 abbrev pub fits_limit : Written → Bool
-fits_limit message = nat_le (prefix_size + length message.metadata) most_metadata
+fits_limit message = nat_lt (length message.body) body_limit && nat_le (prefix_size + length message.metadata) most_metadata
 
 -- what ends a stream
 abbrev pub end_mark : List ℕ
