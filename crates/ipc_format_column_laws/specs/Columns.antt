@@ -11,8 +11,8 @@ use Rattle.nested_arrays.specs.Cells.{fits_cell}
 use Rattle.ipc_format_grammar.specs.Schemas.{Ids}
 use Rattle.ipc_format_round_trip.specs.Batches.{HasPairs}
 use Rattle.ipc_format_columns.specs.Layouts.{kind_of}
-use Rattle.ipc_format_columns.specs.Columns.{Source, Dictionary, slots_in, taken_of}
-use Rattle.ipc_format_written.specs.Encoding.{Encoded, encode}
+use Rattle.ipc_format_columns.specs.Columns.{Source, Dictionary, Reader, slots_in, taken_of}
+use Rattle.ipc_format_written.specs.Encoding.{Encoded, Encoder, encode}
 use Rattle.ipc_format_written.specs.WrittenMessages.{buffer_places, body_bytes}
 
 -- some things stand among others, from a place on
@@ -34,11 +34,15 @@ pub record HoldsColumns (source : Source) (columns : Encoded) : Type 0 where
   pub body : window_at source.room source.origin (length (body_bytes columns.buffers)) ≡ Some (body_bytes columns.buffers)
   pub order : source.is_little_endian ≡ true
 
--- A column of a type, whose slots fit it, reads back wherever it stands among written columns, where no limit cuts it.
-abbrev pub ColumnReadsBack : DataType → Type 0
-ColumnReadsBack t = (slots : List Slot) (source : Source) (all : Encoded) (standing : List Dictionary) (limit : Option ℕ) (n b : ℕ) (here : Ids)
-    → list_all (fits_cell t) slots ≡ true → HoldsColumns source all → StandsAmong all (encode t slots) n b
-    → taken_of limit (length slots) ≡ length slots → slots_in t source standing limit n b here ≡ Some slots
+-- What an encoder writes of slots that fit, a reader gives back, wherever the column stands among written columns, where no limit cuts it.
+abbrev pub ReadsBack : Encoder → (Slot → Bool) → Reader → Type 0
+ReadsBack encoder fits reader = (slots : List Slot) (source : Source) (all : Encoded) (standing : List Dictionary) (limit : Option ℕ) (n b : ℕ)
+    (here : Ids) → list_all fits slots ≡ true → HoldsColumns source all → StandsAmong all (encoder slots) n b
+    → taken_of limit (length slots) ≡ length slots → reader source standing limit n b here ≡ Some slots
+
+-- the columns of a type read back, where their slots fit it
+abbrev pub ColumnsReadBack : DataType → Type 0
+ColumnsReadBack t = ReadsBack (encode t) (fits_cell t) (slots_in t)
 
 -- one layer of a type, where each type below stands as whether its slots take one size each
 abbrev pub is_flat_step : layer.DataType-F Bool Bool → Bool
@@ -54,4 +58,4 @@ is_flat = fold-DataType Bool Bool is_flat_step (λ field. field.data_type)
 
 -- columns of such types read back
 abbrev pub FlatColumnsReadBack : Type 0
-FlatColumnsReadBack = (t : DataType) → is_flat t ≡ true → ColumnReadsBack t
+FlatColumnsReadBack = (t : DataType) → is_flat t ≡ true → ColumnsReadBack t
