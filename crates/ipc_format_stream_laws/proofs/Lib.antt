@@ -4,3 +4,6 @@ pub mod StreamMessages
 pub mod RecordMessages
 pub mod BatchMessages
 pub mod StreamContents
+pub mod NoDictionaries
+pub mod Int32Schemas
+pub mod StreamTables

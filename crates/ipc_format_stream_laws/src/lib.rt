@@ -5,6 +5,7 @@
 
 ghost use Rattle.ipc_format_stream_laws.specs.Contents.{StreamsReadBack};
 ghost use Rattle.ipc_format_stream_laws.specs.Messages.{MessagesReadBack};
+ghost use Rattle.ipc_format_stream_laws.specs.Tables.{NoDictionariesGiven, FlatTablesReadBack, Int32TablesReadBack};
 
 /// The messages of a stream that is written are its messages, whatever stands behind the end mark (Arrow IPC, "IPC Streaming Format").
 pub fn messages_read_back()
@@ -16,4 +17,17 @@ pub fn messages_read_back()
 /// ascend, ids are signed numbers of eight bytes, and the batches' counts have room.
 pub fn streams_read_back()
     ensures { StreamsReadBack }
+{}
+
+/// Under a schema whose types have no dictionaries, no batch brings one, whatever its columns.
+pub fn no_dictionaries_given()
+    ensures { NoDictionariesGiven }
+{}
+
+/// The table of a stream that is written is the table that it was written from, batch by batch, where each field's slots take one size each,
+/// as numbers, truth values and bytes of one size do. Of 32-bit integers, with the ids of dictionaries numbered from 0 on, it is so
+/// wherever each message is within its limit.
+pub fn tables_read_back()
+    ensures flat { FlatTablesReadBack }
+    ensures int32 { Int32TablesReadBack }
 {}
