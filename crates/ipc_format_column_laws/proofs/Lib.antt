@@ -5,3 +5,6 @@ pub mod Buffers
 pub mod FixedColumns
 pub mod FlatTypes
 pub mod Batches
+pub mod Given
+pub mod MetadataTexts
+pub mod Texts

@@ -6,6 +6,7 @@
 
 ghost use Rattle.ipc_format_column_laws.specs.Batches.{FlatBatchesReadBack, Int32BatchesReadBack};
 ghost use Rattle.ipc_format_column_laws.specs.Columns.{FlatColumnsReadBack};
+ghost use Rattle.ipc_format_column_laws.specs.Texts.{SchemasReadHaveTexts};
 
 /// A written column reads back as the slots that it was written from, with its nulls, wherever it stands in a batch: where its type has
 /// no columns below it and its slots take one size each, as numbers, truth values and bytes of one size do (Arrow columnar format,
@@ -19,4 +20,9 @@ pub fn flat_columns_read_back()
 pub fn flat_batches_read_back()
     ensures all { FlatBatchesReadBack }
     ensures int32 { Int32BatchesReadBack }
+{}
+
+/// The names, keys and values of a schema that was read are UTF-8, and the keys of its metadata ascend (Schema.fbs).
+pub fn schemas_that_are_read_have_texts()
+    ensures { SchemasReadHaveTexts }
 {}
