@@ -1,0 +1,157 @@
+-- The nodes and buffers of written columns, read in a batch that has them.
+use Rattle.std.proofs.Common.{inl, inr, ◌≡◌, ◌∙◌, ℕ, zero, suc, ◌+◌, ◌-◌, ◌/◌, ◌≤◌, ◌<◌, pos, Bool, true, false, cond, not, List, [], ◌∷◌, ◌++◌}
+use Rattle.std.proofs.Common.{length, get_or, replicate, refl, sym, ap, ap₂, subst, arith, add-zero, zero-add, le_refl, length-append, append-nil}
+use Rattle.std.proofs.Common.{nat_lt, nat_le}
+use Rattle.std.specs.Prelude.{Option, Some, None, if◌then◌else◌}
+use Rattle.std.specs.Int.{next_multiple_of}
+use Rattle.std.specs.List.{flat_map}
+use Rattle.std.proofs.Math.Seq.{get_or-append_seam}
+use Rattle.std.proofs.lemmas.Bool.{cases_lt, lt-ltb, le-ltb, le-leb}
+use Rattle.std.proofs.lemmas.Grind.{flat_map-append}
+use Rattle.std.proofs.lemmas.List.Sums.{sum_by-cons}
+use Rattle.ipc_format_flatbuffers.specs.Reading.{window_at}
+use Rattle.ipc_format_flatbuffers.specs.FlatBuffers.{Vector}
+use Rattle.ipc_format_spelling.proofs.Places.{Stands, front, back, window_stands}
+use Rattle.ipc_format_spelling.proofs.Contents.{stands_window}
+use Rattle.nested_arrays.specs.Slots.{Slot, null}
+use Rattle.nested_arrays.specs.Cells.{is_null}
+use Rattle.ipc_format_grammar.specs.Messages.{Pair, struct_at}
+use Rattle.ipc_format_round_trip.specs.Batches.{HasPairs}
+use Rattle.ipc_format_columns.specs.Columns.{Source, Validity, all_valid, bitmap, is_valid_at, buffer_at, validity_in}
+use Rattle.ipc_format_written.specs.Buffers.{bitmap_of, is_valid, null_count, validity_bytes}
+use Rattle.ipc_format_written.specs.Encoding.{Encoded, node_of}
+use Rattle.ipc_format_written.specs.WrittenMessages.{padded_buffer, buffer_places, body_bytes}
+use Rattle.ipc_format_column_laws.specs.Columns.{StandsAt, HoldsColumns}
+use Rattle.ipc_format_column_laws.proofs.Bitmaps.{bitmap_size, bit_back}
+
+-- ---- pairs of numbers
+
+abbrev pub pair_of : ℕ × ℕ → Pair
+pair_of pair = record { first = pos pair.0; second = pos pair.1 }
+
+-- a pair, where it stands among those of a vector
+pub pair_reads : (bytes : List ℕ) (vector : Vector) (pairs : List (ℕ × ℕ)) (k : ℕ) (pair : ℕ × ℕ) (rest : List (ℕ × ℕ))
+    → HasPairs bytes vector pairs → StandsAt pairs k (pair ∷ rest) → struct_at bytes vector k ≡ Some (pair_of pair)
+pair_reads bytes vector pairs k pair rest has s =
+    let inside : k < length pairs =
+    omega (arith, s.at, ap length s.whole, length-append s.before (pair ∷ (rest ++ s.after))) in
+    let found : get_or pairs k pair ≡ pair =
+    ap₂ (λ (xs : List (ℕ × ℕ)) j. get_or xs j pair) s.whole (sym s.at) ∙ get_or-append_seam s.before pair (rest ++ s.after) pair in
+    has.each k pair inside ∙ ap (λ (p : ℕ × ℕ). Some (pair_of p)) found
+
+-- ---- places of buffers
+
+sum_before : (offset a b : ℕ) → offset + a + b ≡ offset + (a + b)
+sum_before offset a b = omega arith
+
+-- the places of buffers behind others begin where the others' bytes end
+pub places_append : (offset : ℕ) (first second : List (List ℕ)) →
+    buffer_places offset (first ++ second) ≡ buffer_places offset first ++ buffer_places (offset + length (body_bytes first)) second
+places_append offset [] second = ap (λ k. buffer_places k second) (sym (add-zero offset))
+places_append offset (bytes ∷ first) second =
+    let place : offset + length (padded_buffer bytes) + length (body_bytes first) ≡ offset + length (body_bytes (bytes ∷ first)) =
+    sum_before offset (length (padded_buffer bytes)) (length (body_bytes first))
+    ∙ ap (λ k. offset + k) (sym (length-append (padded_buffer bytes) (body_bytes first))) in
+    ap (λ (rest : List (ℕ × ℕ)). (offset, length bytes) ∷ rest)
+    (places_append (offset + length (padded_buffer bytes)) first second
+    ∙ ap (λ k. buffer_places (offset + length (padded_buffer bytes)) first ++ buffer_places k second) place)
+
+places_count : (offset : ℕ) (buffers : List (List ℕ)) → length (buffer_places offset buffers) ≡ length buffers
+places_count offset [] = refl
+places_count offset (bytes ∷ buffers) = ap suc (places_count (offset + length (padded_buffer bytes)) buffers)
+
+place_stands : (buffers : List (List ℕ)) (k : ℕ) (bytes : List ℕ) (rest : List (List ℕ)) (s : StandsAt buffers k (bytes ∷ rest))
+    → StandsAt (buffer_places 0 buffers) k
+    ((0 + length (body_bytes s.before), length bytes)
+    ∷ buffer_places (0 + length (body_bytes s.before) + length (padded_buffer bytes)) (rest ++ s.after))
+place_stands buffers k bytes rest s = record {
+  before = buffer_places 0 s.before;
+  after = [];
+  whole = ap (λ (b : List (List ℕ)). buffer_places 0 b) s.whole ∙ places_append 0 s.before (bytes ∷ (rest ++ s.after))
+      ∙ ap (λ (more : List (ℕ × ℕ)). buffer_places 0 s.before ++ more) (sym (append-nil (buffer_places
+      (0 + length (body_bytes s.before)) (bytes ∷ (rest ++ s.after)))));
+  at = places_count 0 s.before ∙ s.at;
+}
+
+-- ---- a buffer's bytes
+
+body_parts : (buffers : List (List ℕ)) (k : ℕ) (bytes : List ℕ) (rest : List (List ℕ)) (s : StandsAt buffers k (bytes ∷ rest))
+    → body_bytes buffers ≡ body_bytes s.before ++ (padded_buffer bytes ++ body_bytes (rest ++ s.after))
+body_parts buffers k bytes rest s = ap body_bytes s.whole ∙ flat_map-append padded_buffer s.before (bytes ∷ (rest ++ s.after))
+
+-- the bytes of a buffer, where it stands among written ones
+pub buffer_reads : (source : Source) (all : Encoded) (k needed : ℕ) (bytes : List ℕ) (rest : List (List ℕ)) → HoldsColumns source all
+    → StandsAt all.buffers k (bytes ∷ rest) → needed ≡ length bytes → buffer_at source k needed ≡ Some bytes
+unfolding buffer_at
+buffer_reads source all k needed bytes rest holds s enough =
+    let place : ℕ = 0 + length (body_bytes s.before) in
+    let pair : struct_at source.metadata source.vectors.buffers k ≡ Some (pair_of (place, length bytes)) =
+    pair_reads source.metadata source.vectors.buffers (buffer_places 0 all.buffers) k (place, length bytes)
+    (buffer_places (place + length (padded_buffer bytes)) (rest ++ s.after)) holds.buffers (place_stands all.buffers k bytes rest s) in
+    let stated : nat_le needed (length bytes) ≡ true = le-leb needed (length bytes) (omega arith) in
+    let whole : Stands source.room source.origin (body_bytes all.buffers) =
+    stands_window (length (body_bytes all.buffers)) (body_bytes all.buffers) holds.body in
+    let behind : Stands source.room (source.origin + place) (padded_buffer bytes ++ body_bytes (rest ++ s.after)) =
+    back (body_bytes s.before) (padded_buffer bytes ++ body_bytes (rest ++ s.after)) (source.origin + place)
+    (body_parts all.buffers k bytes rest s) (ap (λ j. source.origin + j) (zero-add (length (body_bytes s.before)))) whole in
+    let padded : Stands source.room (source.origin + place) (padded_buffer bytes) =
+    front (padded_buffer bytes) (body_bytes (rest ++ s.after)) refl behind in
+    let here : Stands source.room (source.origin + place) bytes =
+    front bytes (replicate (next_multiple_of (length bytes) 64 - length bytes) 0) refl padded in
+    let seen : window_at source.room (source.origin + place) needed ≡ Some bytes = window_stands needed enough here in
+    rw (pair, stated, seen) refl
+
+-- ---- validity
+
+-- the validity that is written with some slots
+abbrev pub written_validity : List Slot → Validity
+written_validity slots = if nat_lt 0 (null_count slots) then bitmap (bitmap_of is_valid slots) else all_valid
+
+count_next : (slot : Slot) (slots : List Slot) → null_count (slot ∷ slots) ≡ cond (is_null slot) 1 0 + null_count slots
+count_next slot slots = sum_by-cons (λ (x : Slot). cond (is_null x) 1 0) slot slots
+
+first_valid : (b : Bool) (n : ℕ) → cond b 1 0 + n ≡ 0 → not b ≡ true
+first_valid true n none = absurd (omega arith)
+first_valid false n none = refl
+
+others_none : (b : Bool) (n : ℕ) → cond b 1 0 + n ≡ 0 → n ≡ 0
+others_none true n none = absurd (omega arith)
+others_none false n none = omega arith
+
+-- without a null each slot is valid
+none_null : (slots : List Slot) (i : ℕ) → null_count slots ≡ 0 → i < length slots → is_valid (get_or slots i null) ≡ true
+none_null [] i none inside = absurd (omega arith)
+none_null (slot ∷ slots) zero none inside = first_valid (is_null slot) (null_count slots) (sym (count_next slot slots) ∙ none)
+none_null (slot ∷ slots) (suc i) none inside =
+    none_null slots i (others_none (is_null slot) (null_count slots) (sym (count_next slot slots) ∙ none)) (omega arith)
+
+pub valid_at : (slots : List Slot) (i : ℕ) → i < length slots → is_valid_at (written_validity slots) i ≡ is_valid (get_or slots i null)
+valid_at slots i inside = elim (cases_lt 0 (null_count slots)) [
+  | inl some ↦
+      let test : nat_lt 0 (null_count slots) ≡ true = lt-ltb 0 (null_count slots) some in
+      ap (λ b. is_valid_at (if b then bitmap (bitmap_of is_valid slots) else all_valid) i) test
+      ∙ bit_back is_valid (length slots) slots i null (le_refl (length slots)) inside
+  | inr none ↦
+      let test : nat_lt 0 (null_count slots) ≡ false = le-ltb 0 (null_count slots) none in
+      ap (λ b. is_valid_at (if b then bitmap (bitmap_of is_valid slots) else all_valid) i) test
+      ∙ sym (none_null slots i (omega arith) inside)
+]
+
+-- the validity of written slots, where its bitmap stands
+pub validity_reads : (source : Source) (all : Encoded) (slots : List Slot) (rest : List (List ℕ)) (b : ℕ) → HoldsColumns source all
+    → StandsAt all.buffers b (validity_bytes slots ∷ rest)
+    → validity_in source (pair_of (node_of slots)) b (length slots) ≡ Some (written_validity slots)
+unfolding validity_in
+validity_reads source all slots rest b holds s = elim (cases_lt 0 (null_count slots)) [
+  | inl some ↦
+      let test : nat_lt 0 (null_count slots) ≡ true = lt-ltb 0 (null_count slots) some in
+      let bytes : validity_bytes slots ≡ bitmap_of is_valid slots = ap (λ b. if b then bitmap_of is_valid slots else []) test in
+      let bits : buffer_at source b ((length slots + 7) / 8) ≡ Some (bitmap_of is_valid slots) =
+      buffer_reads source all b ((length slots + 7) / 8) (bitmap_of is_valid slots) rest holds
+      (subst (λ (first : List ℕ). StandsAt all.buffers b (first ∷ rest)) bytes s)
+      (bitmap_size is_valid (length slots) slots (le_refl (length slots))) in
+      rw (test, bits) refl
+  | inr none ↦
+      let test : nat_lt 0 (null_count slots) ≡ false = le-ltb 0 (null_count slots) none in
+      rw (test) refl
+]

@@ -1,0 +1,10 @@
+pub mod Elements
+pub mod Bitmaps
+pub mod Values
+pub mod Buffers
+pub mod FixedColumns
+pub mod FlatTypes
+pub mod Batches
+pub mod Given
+pub mod MetadataTexts
+pub mod Texts

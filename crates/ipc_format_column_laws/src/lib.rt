@@ -1,0 +1,28 @@
+//! What is written of columns is what the general readers read of them, and what is read of a schema is text.
+//!
+//! Each function here does nothing: its contract is the law, which a caller has by calling it. The statements are in `specs/`. They rest
+//! on `ipc_format_round_trip`: the metadata of a message reads back.
+#![tactic(auto)]
+
+ghost use Rattle.ipc_format_column_laws.specs.Batches.{FlatBatchesReadBack, Int32BatchesReadBack};
+ghost use Rattle.ipc_format_column_laws.specs.Columns.{FlatColumnsReadBack};
+ghost use Rattle.ipc_format_column_laws.specs.Texts.{SchemasReadHaveTexts};
+
+/// A written column reads back as the slots that it was written from, with its nulls, wherever it stands in a batch: where its type has
+/// no columns below it and its slots take one size each, as numbers, truth values and bytes of one size do (Arrow columnar format,
+/// "Fixed-size Primitive Layout").
+pub fn flat_columns_read_back()
+    ensures { FlatColumnsReadBack }
+{}
+
+/// The message that is written for columns of such types gives back these very columns in a stream (Arrow IPC, "RecordBatch message").
+/// For columns of 32-bit integers the limit of a message bounds their length.
+pub fn flat_batches_read_back()
+    ensures all { FlatBatchesReadBack }
+    ensures int32 { Int32BatchesReadBack }
+{}
+
+/// The names, keys and values of a schema that was read are UTF-8, and the keys of its metadata ascend (Schema.fbs).
+pub fn schemas_that_are_read_have_texts()
+    ensures { SchemasReadHaveTexts }
+{}

@@ -1,0 +1,9 @@
+pub mod Readers
+pub mod Frames
+pub mod StreamMessages
+pub mod RecordMessages
+pub mod BatchMessages
+pub mod StreamContents
+pub mod NoDictionaries
+pub mod Int32Schemas
+pub mod StreamTables
