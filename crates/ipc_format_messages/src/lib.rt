@@ -1,0 +1,30 @@
+//! Messages, record batches, dictionary batches and footers in their metadata (Message.fbs, File.fbs, Schema.fbs): read by address in
+//! views that borrow the bytes and take no memory, and written.
+//!
+//! A view has one call a slot, which looks at that slot alone. Where the bytes break a rule of the format there, the call answers
+//! `Error`.
+#![tactic(auto)]
+
+mod batches;
+mod error;
+mod footer;
+mod messages;
+mod reading;
+mod schemas;
+mod slots;
+mod structs;
+mod tables;
+mod values;
+mod vectors;
+mod writing;
+
+pub use batches::{BodyCompressionRef, DictionaryBatchRef, RecordBatchRef};
+pub use error::Error;
+pub use footer::FooterRef;
+pub use messages::{MessageHeaderRef, MessageRef};
+pub use reading::{MessageParts, RecordBatchParts, message_in, record_batch_in, version_in};
+pub use schemas::SchemaRef;
+pub use tables::TableRef;
+pub use values::{Block, Buffer, FieldNode, MetadataVersion};
+pub use vectors::{BlocksRef, BuffersRef, FieldNodesRef};
+pub use writing::{dictionary_batch_to_bytes, record_batch_to_bytes};

@@ -1,0 +1,28 @@
+//! Where vectors of structs stand in a message.
+ghost use Rattle.std.specs.Prelude.{◌+◌, ◌*◌, ◌≤◌, length};
+
+use ipc_format_flatbuffers::Vector;
+
+/// The nodes of a record batch, in pre-order of its columns.
+#[derive(Clone, Copy, Debug)]
+pub struct FieldNodesRef<'a> {
+    pub bytes: &'a [u8],
+    pub vector: Vector,
+    pub ghost inside: { vector.place + vector.count * 16 ≤ length bytes.now },
+}
+
+/// The buffers of a record batch, in pre-order of its columns.
+#[derive(Clone, Copy, Debug)]
+pub struct BuffersRef<'a> {
+    pub bytes: &'a [u8],
+    pub vector: Vector,
+    pub ghost inside: { vector.place + vector.count * 16 ≤ length bytes.now },
+}
+
+/// The blocks of a footer.
+#[derive(Clone, Copy, Debug)]
+pub struct BlocksRef<'a> {
+    pub bytes: &'a [u8],
+    pub vector: Vector,
+    pub ghost inside: { vector.place + vector.count * 24 ≤ length bytes.now },
+}

@@ -1,0 +1,10 @@
+//! Arrow's streams: messages one after another (Arrow IPC, "Encapsulated message format" and "IPC Streaming Format").
+#![tactic(auto)]
+
+mod faults;
+mod frames;
+mod framing;
+
+pub use faults::{Counting, Faults};
+pub use frames::{Frame, Framed, NextMessage};
+pub use framing::next_at;
