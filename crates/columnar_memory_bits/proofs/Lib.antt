@@ -1,3 +1,4 @@
+pub mod WholeWords
 pub mod Windows
 pub mod Bits
 pub mod Words
