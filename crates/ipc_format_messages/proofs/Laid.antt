@@ -19,7 +19,7 @@ use Rattle.ipc_format_flatbuffers.specs.Views.{Lays, piece_view}
 use Rattle.ipc_format_grammar.specs.SchemaObjects.{structs_object}
 use Rattle.ipc_format_grammar.specs.Types.{at_place}
 use Rattle.ipc_format_schema_writing.proofs.Sizes.{table_over, lays_over}
-use Rattle.ipc_format_messages.specs.Writing.{WritesMessage, Finishes, fits, pair_bytes}
+use Rattle.ipc_format_messages.specs.MessageWriting.{WritesMessage, Finishes, fits, pair_bytes}
 
 -- ---- structs
 

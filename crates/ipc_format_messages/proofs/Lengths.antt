@@ -5,7 +5,7 @@ use Rattle.std.specs.Option.{option_map}
 use Rattle.ipc_format_flatbuffers.specs.Reading.{◌>>=◌}
 use Rattle.ipc_format_flatbuffers.specs.FlatBuffers.{Vector}
 use Rattle.ipc_format_grammar.specs.Messages.{Pair, pair_at, struct_at, natural, lengths_from, lengths_sum}
-use Rattle.ipc_format_messages.specs.Lengths.{length_at, IsNoneOrLong}
+use Rattle.ipc_format_messages.specs.BufferLengths.{length_at, IsNoneOrLong}
 
 -- what m buffers state together, from buffer k on
 unfoldable pub lengths_left : List ℕ → Vector → ℕ → ℕ → Option ℕ

@@ -1,5 +1,7 @@
-pub mod Slots
-pub mod Views
-pub mod Parts
-pub mod Lengths
-pub mod Writing
+pub mod MessageSlots
+pub mod MessageViews
+pub mod SchemaSlots
+pub mod SchemaRefs
+pub mod WholeMessages
+pub mod BufferLengths
+pub mod MessageWriting

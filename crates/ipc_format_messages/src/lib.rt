@@ -7,6 +7,7 @@
 
 mod batches;
 mod error;
+mod fields;
 mod footer;
 mod messages;
 mod reading;
@@ -20,11 +21,15 @@ mod writing;
 
 pub use batches::{BodyCompressionRef, DictionaryBatchRef, RecordBatchRef};
 pub use error::Error;
+pub use fields::{DictionaryEncodingRef, FieldRef, IntRef, KeyValueRef};
 pub use footer::FooterRef;
 pub use messages::{MessageHeaderRef, MessageRef};
-pub use reading::{MessageParts, RecordBatchParts, message_in, record_batch_in, version_in};
-pub use schemas::SchemaRef;
+pub use reading::{
+    DictionaryBatchParts, MessageParts, RecordBatchParts, dictionary_batch_in, message_in,
+    record_batch_in, version_in,
+};
+pub use schemas::{Endianness, FieldsRef, KeyValuesRef, SchemaRef};
 pub use tables::TableRef;
 pub use values::{Block, Buffer, FieldNode, MetadataVersion};
-pub use vectors::{BlocksRef, BuffersRef, FieldNodesRef};
+pub use vectors::{BlocksRef, BuffersRef, FieldNodesRef, TablesRef};
 pub use writing::{dictionary_batch_to_bytes, record_batch_to_bytes};

@@ -2,8 +2,8 @@
 ghost use Rattle.std.specs.Prelude.{◌≡◌};
 ghost use Rattle.std.specs.Option.{option_map};
 ghost use Rattle.std.specs.Result.{result_ok};
-ghost use Rattle.ipc_format_messages.specs.Slots as slots;
-ghost use Rattle.ipc_format_messages.specs.Views.{table_view, message_view, header_view, version_view};
+ghost use Rattle.ipc_format_messages.specs.MessageSlots as slots;
+ghost use Rattle.ipc_format_messages.specs.MessageViews.{table_view, message_view, header_view, version_view};
 
 use crate::batches::{DictionaryBatchRef, RecordBatchRef};
 use crate::error::Error;

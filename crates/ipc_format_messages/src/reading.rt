@@ -5,19 +5,22 @@ ghost use Rattle.std.specs.Prelude.{◌≡◌, IfSome};
 ghost use Rattle.std.specs.Option.{option_map};
 ghost use Rattle.ipc_format_flatbuffers.specs.Views.{table_of};
 ghost use Rattle.ipc_format_grammar.specs.Messages as format;
-ghost use Rattle.ipc_format_messages.specs.Parts.{message_parts_view, batch_parts_view, StandsIn};
-ghost use Rattle.ipc_format_messages.specs.Views.{version_view};
+ghost use Rattle.ipc_format_messages.specs.WholeMessages.{message_parts_view, batch_parts_view, dictionary_parts_view, StandsIn};
+ghost use Rattle.ipc_format_messages.specs.MessageViews.{version_view};
 
-use crate::batches::RecordBatchRef;
+use crate::batches::{DictionaryBatchRef, RecordBatchRef};
 use crate::messages::{MessageHeaderRef, header_of};
 use crate::slots::{
-    MESSAGE_BODY_LENGTH, MESSAGE_HEADER, MESSAGE_HEADER_TYPE, MESSAGE_VERSION, PAIR_SIZE,
-    RECORD_BATCH_BUFFERS, RECORD_BATCH_COMPRESSION, RECORD_BATCH_NODES,
+    DICTIONARY_BATCH_DATA, DICTIONARY_BATCH_ID, DICTIONARY_BATCH_IS_DELTA, MESSAGE_BODY_LENGTH,
+    MESSAGE_HEADER, MESSAGE_HEADER_TYPE, MESSAGE_VERSION, PAIR_SIZE, RECORD_BATCH_BUFFERS,
+    RECORD_BATCH_COMPRESSION, RECORD_BATCH_NODES,
 };
 use crate::tables::TableRef;
 use crate::values::{MetadataVersion, version_of};
 use crate::vectors::{BuffersRef, FieldNodesRef};
-use ipc_format_flatbuffers::{i16_field, i64_field, root_of, table_field, u8_field, vector_field};
+use ipc_format_flatbuffers::{
+    i16_field, i64_field, root_of, table_field, truth_field, u8_field, vector_field,
+};
 
 /// What a message carries, and how many bytes its body has.
 #[derive(Clone, Copy, Debug)]
@@ -33,6 +36,14 @@ pub struct RecordBatchParts<'a> {
     pub nodes: FieldNodesRef<'a>,
     pub buffers: BuffersRef<'a>,
     pub is_compressed: bool,
+}
+
+/// A dictionary's id, its values as a record batch, and whether they are added to those before.
+#[derive(Clone, Copy, Debug)]
+pub struct DictionaryBatchParts<'a> {
+    pub id: i64,
+    pub values: RecordBatchRef<'a>,
+    pub is_delta: bool,
 }
 
 /// The message of some metadata. A header of another kind than a schema or a batch is refused. A schema has no body, and what its message
@@ -89,5 +100,26 @@ pub fn record_batch_in<'a>(batch: &RecordBatchRef<'a>) -> Option<RecordBatchPart
             vector: buffers,
         },
         is_compressed,
+    })
+}
+
+/// The parts of a dictionary batch. Its values must be there.
+#[tactic(auto, unfolding(ipc_format_grammar::specs::Messages::dictionary_batch_in))]
+pub fn dictionary_batch_in<'a>(batch: &DictionaryBatchRef<'a>) -> Option<DictionaryBatchParts<'a>>
+    ensures value { option_map dictionary_parts_view result
+        ≡ format.dictionary_batch_in batch.now.table.bytes.now (table_of batch.now.table.place) }
+    ensures values { IfSome result (λ parts. parts.values.table.bytes.now ≡ batch.now.table.bytes.now) }
+{
+    let bytes = batch.table.bytes;
+    let id = i64_field(bytes, &batch.table.place, DICTIONARY_BATCH_ID, 0)?;
+    let place = table_field(bytes, &batch.table.place, DICTIONARY_BATCH_DATA)??;
+    let is_delta = truth_field(bytes, &batch.table.place, DICTIONARY_BATCH_IS_DELTA)?;
+    let values = RecordBatchRef {
+        table: TableRef { bytes, place },
+    };
+    Some(DictionaryBatchParts {
+        id,
+        values,
+        is_delta,
     })
 }

@@ -1,11 +1,11 @@
 //! The structs of vectors: nodes and buffers of a record batch, blocks of a footer (Message.fbs, File.fbs).
-ghost use Rattle.std.specs.Prelude.{◌≡◌, MatchOption, Some};
+ghost use Rattle.std.specs.Prelude.{◌≡◌, ◌↔◌, IsTrue, MatchOption, Some};
 ghost use Rattle.std.specs.Option.{option_map};
 ghost use Rattle.ipc_format_flatbuffers.specs.Views.{vector_of};
 ghost use Rattle.ipc_format_grammar.specs.Messages as format;
-ghost use Rattle.ipc_format_messages.specs.Lengths.{length_at, IsNoneOrLong};
-ghost use Rattle.ipc_format_messages.specs.Slots as slots;
-ghost use Rattle.ipc_format_messages.specs.Views.{node_view, buffer_view, block_view};
+ghost use Rattle.ipc_format_messages.specs.BufferLengths.{length_at, IsNoneOrLong};
+ghost use Rattle.ipc_format_messages.specs.MessageSlots as slots;
+ghost use Rattle.ipc_format_messages.specs.MessageViews.{node_view, buffer_view, block_view};
 
 use crate::values::{Block, Buffer, FieldNode};
 use crate::vectors::{BlocksRef, BuffersRef, FieldNodesRef};
@@ -17,6 +17,13 @@ impl<'a> FieldNodesRef<'a> {
         ensures { result ≡ self.now.vector.count }
     {
         self.vector.count
+    }
+
+    /// Whether there are no nodes.
+    pub fn is_empty(&self) -> bool
+        ensures { IsTrue result ↔ (self.now.vector.count ≡ 0) }
+    {
+        self.vector.count == 0
     }
 
     /// Node `k`, where there are so many.
@@ -42,6 +49,13 @@ impl<'a> BuffersRef<'a> {
         self.vector.count
     }
 
+    /// Whether there are no buffers.
+    pub fn is_empty(&self) -> bool
+        ensures { IsTrue result ↔ (self.now.vector.count ≡ 0) }
+    {
+        self.vector.count == 0
+    }
+
     /// Buffer `k`, where there are so many.
     #[tactic(auto, unfolding(ipc_format_grammar::specs::Messages::struct_at, ipc_format_grammar::specs::Messages::pair_at))]
     pub fn get(&self, k: usize) -> Option<Buffer>
@@ -57,7 +71,7 @@ impl<'a> BuffersRef<'a> {
     }
 
     /// How many bytes buffer `k` states; none where it is negative.
-    #[tactic(auto, unfolding(crate::specs::Lengths::length_at))]
+    #[tactic(auto, unfolding(crate::specs::BufferLengths::length_at))]
     fn stated(&self, k: usize) -> Option<u64>
         ensures { result ≡ length_at self.now.bytes.now (vector_of self.now.vector) k }
     {
@@ -86,8 +100,15 @@ impl<'a> BlocksRef<'a> {
         self.vector.count
     }
 
+    /// Whether there are no blocks.
+    pub fn is_empty(&self) -> bool
+        ensures { IsTrue result ↔ (self.now.vector.count ≡ 0) }
+    {
+        self.vector.count == 0
+    }
+
     /// Block `k`, where there are so many.
-    #[tactic(auto, unfolding(crate::specs::Slots::block_at))]
+    #[tactic(auto, unfolding(crate::specs::MessageSlots::block_at))]
     pub fn get(&self, k: usize) -> Option<Block>
         ensures { option_map block_view result ≡ slots.block_at self.now.bytes.now (vector_of self.now.vector) k }
     {

@@ -2,7 +2,7 @@
 ghost use Rattle.std.specs.Prelude.{◌≡◌};
 ghost use Rattle.std.specs.Option.{option_map};
 ghost use Rattle.ipc_format_grammar.specs.Messages as format;
-ghost use Rattle.ipc_format_messages.specs.Views.{version_view};
+ghost use Rattle.ipc_format_messages.specs.MessageViews.{version_view};
 
 /// A version of Arrow's metadata (Schema.fbs, `MetadataVersion`).
 #[derive(Clone, Copy, Debug, PartialEq, Eq)]

@@ -1,4 +1,4 @@
-//! Where vectors of structs stand in a message.
+//! Where vectors of structs and of tables stand in a message.
 ghost use Rattle.std.specs.Prelude.{◌+◌, ◌*◌, ◌≤◌, length};
 
 use ipc_format_flatbuffers::Vector;
@@ -25,4 +25,12 @@ pub struct BlocksRef<'a> {
     pub bytes: &'a [u8],
     pub vector: Vector,
     pub ghost inside: { vector.place + vector.count * 24 ≤ length bytes.now },
+}
+
+/// A vector of tables, by references to them.
+#[derive(Clone, Copy, Debug)]
+pub struct TablesRef<'a> {
+    pub bytes: &'a [u8],
+    pub vector: Vector,
+    pub ghost inside: { vector.place + vector.count * 4 ≤ length bytes.now },
 }

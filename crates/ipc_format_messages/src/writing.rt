@@ -6,8 +6,8 @@ ghost use Rattle.ipc_format_flatbuffers.specs.Laying as layout;
 ghost use Rattle.ipc_format_flatbuffers.specs.Objects.{piece_of};
 ghost use Rattle.ipc_format_flatbuffers.specs.Views.{Lays, piece_view};
 ghost use Rattle.ipc_format_grammar.specs.SchemaObjects as objects;
-ghost use Rattle.ipc_format_messages.specs.Writing as written;
-ghost use Rattle.ipc_format_messages.specs.Writing.{WritesMessage, Finishes, node_pair, buffer_pair, pair_bytes};
+ghost use Rattle.ipc_format_messages.specs.MessageWriting as written;
+ghost use Rattle.ipc_format_messages.specs.MessageWriting.{WritesMessage, Finishes, node_pair, buffer_pair, pair_bytes};
 
 use crate::slots::{DICTIONARY_BATCH_HEADER, RECORD_BATCH_HEADER, V5};
 use crate::values::{Buffer, FieldNode};
@@ -22,7 +22,7 @@ const MOST_BYTES: usize = 2_147_483_624;
 const MOST_BODY: u64 = 0x7fff_ffff_ffff_ffff;
 
 /// Writes two numbers of eight bytes.
-#[tactic(auto, unfolding(crate::specs::Writing::pair_bytes))]
+#[tactic(auto, unfolding(crate::specs::MessageWriting::pair_bytes))]
 fn put_pair(out: &mut Vec<u8>, first: u64, second: u64) -> Result<(), AllocError>
     ensures { OnOk result (out.new.items ≡ out.old.items ++ pair_bytes (first, second)) }
 {

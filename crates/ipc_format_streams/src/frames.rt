@@ -1,6 +1,6 @@
 //! What stands at a place of a stream.
 ghost use Rattle.std.specs.Prelude.{◌≡◌};
-ghost use Rattle.ipc_format_messages.specs.Views.{header_view};
+ghost use Rattle.ipc_format_messages.specs.MessageViews.{header_view};
 
 use ipc_format_messages::MessageHeaderRef;
 

@@ -1,6 +1,6 @@
 use Rattle.std.proofs.Common.{◌≡◌, take}
 use Rattle.std.specs.List.{flat_map}
-use Rattle.ipc_format_messages.specs.Writing.{node_bytes}
+use Rattle.ipc_format_messages.specs.MessageWriting.{node_bytes}
 use Rattle.ipc_format_messages.proofs.writing.bytes_of_nodes.Given as goal
 
 abbrev pub invariant-loop-node : goal.invariant-loop-node

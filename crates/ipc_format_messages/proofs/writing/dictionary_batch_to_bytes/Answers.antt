@@ -1,7 +1,7 @@
 use Rattle.std.proofs.Common.{arith, rules}
 use Rattle.ipc_format_flatbuffers.specs.Objects.{piece_of}
 use Rattle.ipc_format_flatbuffers.specs.Views.{Lays}
-use Rattle.ipc_format_messages.specs.Writing.{dictionary_message}
+use Rattle.ipc_format_messages.specs.MessageWriting.{dictionary_message}
 use Rattle.ipc_format_messages.proofs.Laid.{answered}
 use Rattle.ipc_format_messages.proofs.writing.dictionary_batch_to_bytes.Goals as goal
 

@@ -5,7 +5,7 @@ use Rattle.ipc_format_flatbuffers.specs.Laying.{Piece, Slot, absent, number, ref
 use Rattle.ipc_format_flatbuffers.specs.Objects.{piece_of}
 use Rattle.ipc_format_flatbuffers.specs.Views.{Lays}
 use Rattle.ipc_format_grammar.specs.SchemaObjects.{structs_object}
-use Rattle.ipc_format_messages.specs.Writing.{node_pair, buffer_pair}
+use Rattle.ipc_format_messages.specs.MessageWriting.{node_pair, buffer_pair}
 use Rattle.ipc_format_messages.proofs.Laid.{part-refused}
 use Rattle.ipc_format_messages.proofs.writing.lay_batch.Goals as goal
 

@@ -4,7 +4,7 @@ use Rattle.std.specs.Int.{w8, w64, cast_unsigned}
 use Rattle.ipc_format_flatbuffers.specs.Laying.{Piece, Slot, number, refers, table_piece}
 use Rattle.ipc_format_flatbuffers.specs.Objects.{piece_of}
 use Rattle.ipc_format_flatbuffers.specs.Views.{Lays}
-use Rattle.ipc_format_messages.specs.Writing.{batch_object, message_slots}
+use Rattle.ipc_format_messages.specs.MessageWriting.{batch_object, message_slots}
 use Rattle.ipc_format_messages.proofs.Laid.{part-refused}
 use Rattle.ipc_format_messages.proofs.writing.lay_dictionary_message.Goals as goal
 

@@ -1,5 +1,5 @@
 use Rattle.std.proofs.Common.{arith, ap, length, ◌∙◌, rules}
-use Rattle.ipc_format_messages.specs.Writing.{node_pair}
+use Rattle.ipc_format_messages.specs.MessageWriting.{node_pair}
 use Rattle.ipc_format_messages.proofs.Laid.{pairs-length, structs-made}
 use Rattle.ipc_format_messages.proofs.writing.lay_nodes.Goals as goal
 

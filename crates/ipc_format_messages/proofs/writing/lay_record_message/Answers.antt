@@ -3,7 +3,7 @@ use Rattle.std.specs.Prelude.{Err}
 use Rattle.ipc_format_flatbuffers.specs.Laying.{Piece}
 use Rattle.ipc_format_flatbuffers.specs.Objects.{piece_of}
 use Rattle.ipc_format_flatbuffers.specs.Views.{Lays}
-use Rattle.ipc_format_messages.specs.Writing.{batch_object, message_slots}
+use Rattle.ipc_format_messages.specs.MessageWriting.{batch_object, message_slots}
 use Rattle.ipc_format_messages.proofs.Laid.{part-refused}
 use Rattle.ipc_format_messages.proofs.writing.lay_record_message.Goals as goal
 

@@ -1,5 +1,5 @@
 use Rattle.std.proofs.Common.{arith}
-use Rattle.ipc_format_messages.specs.Writing.{record_message}
+use Rattle.ipc_format_messages.specs.MessageWriting.{record_message}
 use Rattle.ipc_format_messages.proofs.Laid.{answered}
 use Rattle.ipc_format_messages.proofs.writing.record_batch_to_bytes.Goals as goal
 

@@ -1,0 +1,79 @@
+-- What the slots of schemas, fields and what stands beside them give, each by itself (Schema.fbs).
+use Rattle.std.specs.Prelude.{ℕ, ℤ, pos, Bool, List, Option, Some, None, nat_lt, if◌then◌else◌}
+use Rattle.std.specs.Int.{w16, w32}
+use Rattle.ipc_format_flatbuffers.specs.Reading.{◌>>=◌}
+use Rattle.ipc_format_flatbuffers.specs.FlatBuffers.{signed_field, truth_field, string_field, element_at}
+use Rattle.ipc_format_grammar.specs.Schemas.{is_little_of}
+use Rattle.ipc_format_messages.specs.MessageSlots.{TableIn, VectorIn, table_in, vector_in, long_in}
+
+-- a text, if it is there
+abbrev pub text_in : TableIn → ℕ → Option (Option (List ℕ))
+text_in from slot = string_field from.bytes from.table slot
+
+abbrev pub truth_in : TableIn → ℕ → Option Bool
+truth_in from slot = truth_field from.bytes from.table slot
+
+-- the table of reference k of a vector, where there are so many
+unfoldable pub element_in : VectorIn → ℕ → Option (Option TableIn)
+element_in from k =
+    if nat_lt k from.vector.count then (do
+      table ← element_at from.bytes from.vector k
+      Some (Some (record { bytes = from.bytes; table = table })))
+    else Some None
+
+-- ---- Schema: 0 endianness (whether it is little), 1 fields, 2 custom metadata
+
+abbrev pub schema_is_little : TableIn → Option Bool
+schema_is_little schema = do
+  number ← signed_field w16 schema.bytes schema.table 0 (pos 0)
+  is_little_of number
+
+abbrev pub schema_fields : TableIn → Option (Option VectorIn)
+schema_fields schema = vector_in schema 1 4
+
+abbrev pub schema_metadata : TableIn → Option (Option VectorIn)
+schema_metadata schema = vector_in schema 2 4
+
+-- ---- Field: 0 name, 1 whether it may be null, 2 and 3 type, 4 dictionary, 5 children, 6 custom metadata
+
+abbrev pub field_name : TableIn → Option (Option (List ℕ))
+field_name field = text_in field 0
+
+abbrev pub field_is_nullable : TableIn → Option Bool
+field_is_nullable field = truth_in field 1
+
+abbrev pub field_dictionary : TableIn → Option (Option TableIn)
+field_dictionary field = table_in field 4
+
+abbrev pub field_children : TableIn → Option (Option VectorIn)
+field_children field = vector_in field 5 4
+
+abbrev pub field_metadata : TableIn → Option (Option VectorIn)
+field_metadata field = vector_in field 6 4
+
+-- ---- DictionaryEncoding: 0 id, 1 the type of the keys, 2 whether the values are ordered
+
+abbrev pub encoding_id : TableIn → Option ℤ
+encoding_id encoding = long_in encoding 0
+
+abbrev pub encoding_index_type : TableIn → Option (Option TableIn)
+encoding_index_type encoding = table_in encoding 1
+
+abbrev pub encoding_is_ordered : TableIn → Option Bool
+encoding_is_ordered encoding = truth_in encoding 2
+
+-- ---- Int: 0 how many bits, 1 whether signed
+
+abbrev pub int_bit_width : TableIn → Option ℤ
+int_bit_width int = signed_field w32 int.bytes int.table 0 (pos 0)
+
+abbrev pub int_is_signed : TableIn → Option Bool
+int_is_signed int = truth_in int 1
+
+-- ---- KeyValue: 0 key, 1 value
+
+abbrev pub pair_key : TableIn → Option (Option (List ℕ))
+pair_key pair = text_in pair 0
+
+abbrev pub pair_value : TableIn → Option (Option (List ℕ))
+pair_value pair = text_in pair 1
