@@ -1,0 +1,4 @@
+pub mod Cuts
+pub mod Layouts
+pub mod Marks
+pub mod SameSlots

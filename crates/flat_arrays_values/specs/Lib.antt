@@ -1,0 +1,5 @@
+pub mod Flat
+pub mod FlatEqual
+pub mod FlatLaws
+pub mod Iteration
+pub mod Results
