@@ -18,11 +18,13 @@ marker_reads rest s = signed_stands w32 4294967295 (omega arith) (front (to_le_b
 
 -- what stands behind the marker and a length
 behind_marker : {bytes : List ℕ} {place : ℕ} (size : ℕ) (rest : List ℕ) → size < 2 ^ 31
-    → Stands bytes place (continuation_marker ++ (to_le_bytes w32 size ++ rest)) → frame_at bytes place ≡ reading.frame_of bytes (pos size) (place + 8)
+    → Stands bytes place (continuation_marker ++ (to_le_bytes w32 size ++ rest))
+    → frame_at bytes place ≡ reading.frame_of bytes (pos size) (place + 8)
 unfolding frame_at
 behind_marker {bytes} {place} size rest small s =
     let marker = marker_reads (to_le_bytes w32 size ++ rest) s in
-    let others : Stands bytes (place + 4) (to_le_bytes w32 size ++ rest) = back continuation_marker (to_le_bytes w32 size ++ rest) (place + 4) refl refl s in
+    let others : Stands bytes (place + 4) (to_le_bytes w32 size ++ rest) =
+    back continuation_marker (to_le_bytes w32 size ++ rest) (place + 4) refl refl s in
     let stated : signed_at w32 bytes (place + 4) ≡ Some (pos size) =
     signed_stands w32 size (omega arith) (front (to_le_bytes w32 size) rest refl others) ∙ ap Some (to_z_pos w32 size small) in
     let inside : place + 4 ≤ length bytes = omega (arith, ends_within others) in

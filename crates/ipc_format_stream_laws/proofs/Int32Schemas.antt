@@ -29,7 +29,8 @@ AreInt32 fields = All IsInt32 fields
 
 numbered_int32 : (n : ℕ) → numbered types.Int32 n ≡ (ids None no_ids, n)
 unfolding roll-DataType denote.Hole.Carrier.roll
-numbered_int32 n = ap (λ (numbering : Numbering). numbering n) (fold-roll-DataType Numbering Numbering number_step (λ field. field.data_type) layer.Int32)
+numbered_int32 n = ap (λ (numbering : Numbering). numbering n)
+    (fold-roll-DataType Numbering Numbering number_step (λ field. field.data_type) layer.Int32)
 
 fits_int32 : (here : Ids) → ids_fit types.Int32 here ≡ fit_step layer.Int32 here
 unfolding roll-DataType denote.Hole.Carrier.roll

@@ -1,8 +1,8 @@
 pub mod Readers
 pub mod Frames
 pub mod StreamMessages
-pub mod RecordMessages
-pub mod BatchMessages
+pub mod LaterMessages
+pub mod SentMessages
 pub mod StreamContents
 pub mod NoDictionaries
 pub mod Int32Schemas

@@ -1,4 +1,4 @@
--- What a stream holds that was written of a schema and of batches without dictionaries.
+-- What a stream holds that was written of a schema and of batches.
 use Rattle.std.proofs.Common.{◌≡◌, ℕ, ◌<◌, ◌^◌, true, ◌&&◌, List, [], ◌∷◌, ◌++◌, length, map, refl, ap, subst, ◌∙◌, arith}
 use Rattle.std.specs.Prelude.{Some}
 use Rattle.std.specs.List.{list_all}
@@ -20,11 +20,11 @@ use Rattle.ipc_format_round_trip.specs.Schemas.{HasTexts, FitIdsList, IsSchema, 
 use Rattle.ipc_format_round_trip.proofs.SchemaParts.{both}
 use Rattle.ipc_format_round_trip.proofs.SchemaMessages.{schemas_read_back}
 use Rattle.ipc_format_stream_laws.specs.Messages.{as_written, all_written}
-use Rattle.ipc_format_stream_laws.specs.Contents.{schema_read, HoldsStream, AreThoseOf, IsOfBatch, StreamsReadBack}
+use Rattle.ipc_format_stream_laws.specs.Contents.{schema_read, HoldsStream, AreThoseOf, IsOfSent, sent_after, StreamsReadBack}
 use Rattle.ipc_format_stream_laws.proofs.Readers.{passed}
 use Rattle.ipc_format_stream_laws.proofs.StreamMessages.{messages_read_back}
-use Rattle.ipc_format_stream_laws.proofs.RecordMessages.{has_room, ReadLater}
-use Rattle.ipc_format_stream_laws.proofs.BatchMessages.{batches_read}
+use Rattle.ipc_format_stream_laws.proofs.LaterMessages.{has_room, ReadLater}
+use Rattle.ipc_format_stream_laws.proofs.SentMessages.{sent_read}
 
 -- what is known of a stream that is written
 record IsWritten (schema : Schema) (below : IdsList) (batches : List Batch) (stream : List ℕ) : Type 0 where
@@ -83,7 +83,7 @@ contents_are bytes schema below first later read = rw (read, first.version, firs
 -- a stream that is written is read, where the messages behind its schema's are
 pub stream_holds : (schema : Schema) (below : IdsList) (batches : List Batch) (AreLater : List Framed → Type 0) (bytes behind : List ℕ)
     → written_stream schema below batches ≡ Some bytes → HasTexts schema → FitIdsList below
-    → (list_all fits_limit (messages_after [] batches) ≡ true → ReadLater (messages_after [] batches) AreLater)
+    → (list_all fits_limit (messages_after [] batches) ≡ true → ReadLater 0 (messages_after [] batches) AreLater)
     → HoldsStream (bytes ++ behind) schema below batches AreLater
 stream_holds schema below batches AreLater bytes behind e texts fit read_later =
     let written = is_written schema below batches bytes e in
@@ -110,5 +110,5 @@ stream_holds schema below batches AreLater bytes behind e texts fit read_later =
     }
 
 pub streams_read_back : StreamsReadBack
-streams_read_back schema below batches bytes behind e texts fit plain =
-    stream_holds schema below batches (AreThoseOf IsOfBatch batches) bytes behind e texts fit (batches_read batches plain)
+streams_read_back schema below batches bytes behind e texts fit room =
+    stream_holds schema below batches (AreThoseOf IsOfSent (sent_after [] batches)) bytes behind e texts fit (sent_read [] batches room)

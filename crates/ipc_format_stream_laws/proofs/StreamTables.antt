@@ -8,7 +8,7 @@ use Rattle.nested_arrays.specs.Slots.{Slot}
 use Rattle.nested_arrays.specs.Tables.{rows_of_batches}
 use Rattle.ipc_format_flatbuffers.specs.FlatBuffers.{Table}
 use Rattle.ipc_format_grammar.specs.Messages as grammar
-use Rattle.ipc_format_grammar.specs.Messages.{Header, V5}
+use Rattle.ipc_format_grammar.specs.Messages.{V5}
 use Rattle.ipc_format_grammar.specs.Schemas.{SchemaIn, IdsList}
 use Rattle.ipc_format_grammar.specs.Writable.{normalised}
 use Rattle.ipc_format_columns.specs.Dictionaries.{Layout, Entry}
@@ -21,10 +21,10 @@ use Rattle.ipc_format_written.specs.WrittenStreams.{Batch, batch_of_slots, rows_
 use Rattle.ipc_format_round_trip.specs.Schemas.{HasTexts, FitIdsList, ids_read}
 use Rattle.ipc_format_column_laws.specs.Batches.{fit_fields, batch_written, GivesColumns, BatchReadsBack}
 use Rattle.ipc_format_column_laws.proofs.Batches.{flat_batches_read_back, int32_batches_read_back}
-use Rattle.ipc_format_stream_laws.specs.Contents.{IsRecord, AreThoseOf, HoldsStream}
+use Rattle.ipc_format_stream_laws.specs.Contents.{IsMessageOf, AreThoseOf, HoldsStream}
 use Rattle.ipc_format_stream_laws.specs.Tables.{AreBatches, ReadsAs, written_batches, NoDictionariesGiven, FlatTablesReadBack}
 use Rattle.ipc_format_stream_laws.specs.Tables.{table_messages, table_stream, Int32TablesReadBack}
-use Rattle.ipc_format_stream_laws.proofs.RecordMessages.{ReadLater, records_read, one_message_each}
+use Rattle.ipc_format_stream_laws.proofs.LaterMessages.{read_of, ReadLater, batches_more, one_message_each}
 use Rattle.ipc_format_stream_laws.proofs.StreamContents.{stream_holds}
 use Rattle.ipc_format_stream_laws.proofs.NoDictionaries.{none_given, flat_fields_have_none}
 use Rattle.ipc_format_stream_laws.proofs.Int32Schemas.{AreInt32, default_ids_fit, default_ids_fit_fields, reports_int32, writable_int32}
@@ -33,10 +33,8 @@ use Rattle.ipc_format_stream_laws.proofs.Int32Schemas.{AreInt32, default_ids_fit
 
 -- a message is that of a batch of columns, and gives them
 abbrev GivesBatch : Layout → List (List Slot) → Framed → Type 0
-GivesBatch layout columns = IsRecord (batch_written layout.fields columns) (GivesColumns layout (batch_written layout.fields columns) columns)
-
-abbrev read_of : Written → Header → Framed
-read_of message header = record { metadata = message.metadata; header = header; body = message.body }
+GivesBatch layout columns = IsMessageOf (batch_written layout.fields columns) grammar.record_batch
+    (GivesColumns layout (batch_written layout.fields columns) columns)
 
 -- the batches of such messages
 batches_given : (layout : Layout) (batches : List (List (List Slot))) (messages : List Framed) → AreThoseOf (GivesBatch layout) batches messages
@@ -98,8 +96,8 @@ tables_read schema below batches bytes behind IsGood e texts fit normal small no
     let one_each : messages_after [] written ≡ map message batches =
     one_message_each (batch_of_slots schema.fields below) IsGood none batches good in
     let later = λ (limits : list_all fits_limit (messages_after [] written) ≡ true).
-    subst (λ (messages : List Written). ReadLater messages AreLater) (sym one_each)
-    (records_read message (λ (columns : List (List Slot)) (table : Table). GivesColumns layout (message columns) columns table) IsGood back
+    subst (λ (messages : List Written). ReadLater 0 messages AreLater) (sym one_each)
+    (batches_more message (λ (columns : List (List Slot)) (table : Table). GivesColumns layout (message columns) columns table) IsGood back
     batches good (subst (λ (messages : List Written). list_all fits_limit messages ≡ true) one_each limits)) in
     reads_as (bytes ++ behind) schema below written batches normal small
     (stream_holds schema below written AreLater bytes behind e texts fit later)

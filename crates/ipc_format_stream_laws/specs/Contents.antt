@@ -1,26 +1,28 @@
--- What a stream holds that was written of a schema and of batches without dictionaries (Arrow IPC, "IPC Streaming Format").
-use Rattle.std.specs.Prelude.{◌≡◌, ℕ, ◌<◌, ◌^◌, List, [], ◌∷◌, ◌++◌, map, true, Some}
+-- What a stream holds that was written of a schema and of batches (Arrow IPC, "IPC Streaming Format", "Dictionary Messages").
+use Rattle.std.specs.Prelude.{◌≡◌, ℕ, ◌<◌, ◌≤◌, ◌^◌, List, [], ◌∷◌, ◌++◌, length, map, true, Some, FitsSigned}
 use Rattle.std.specs.List.{All}
+use Rattle.std.specs.Int.{w64}
 use Rattle.ipc_format_flatbuffers.specs.FlatBuffers.{Table}
 use Rattle.columnar_memory.specs.declared.Schema.{Schema}
 use Rattle.ipc_format_grammar.specs.Messages as grammar
-use Rattle.ipc_format_grammar.specs.Messages.{V5}
+use Rattle.ipc_format_grammar.specs.Messages.{Header, V5}
 use Rattle.ipc_format_grammar.specs.Schemas.{SchemaIn, IdsList}
 use Rattle.ipc_format_grammar.specs.Writable.{normalised}
-use Rattle.ipc_format_columns.specs.Framing.{Framed, Stream, messages_of}
+use Rattle.ipc_format_columns.specs.Framing.{Framed, Stream, most_dictionaries, messages_of}
 use Rattle.ipc_format_columns.specs.Tables.{stream, stream_entry, contents_of}
 use Rattle.ipc_format_written.specs.Encoding.{joined}
-use Rattle.ipc_format_written.specs.WrittenMessages.{Written, buffer_places, record_message}
+use Rattle.ipc_format_written.specs.GivenDictionaries.{Given, to_write, written_after}
+use Rattle.ipc_format_written.specs.WrittenMessages.{Written, buffer_places, record_message, dictionary_message}
 use Rattle.ipc_format_written.specs.WrittenStreams.{Batch, stream_messages, written_stream}
-use Rattle.ipc_format_round_trip.specs.Batches.{AreSigned, IsRecordBatch}
+use Rattle.ipc_format_round_trip.specs.Batches.{AreSigned, IsRecordBatch, IsDictionaryBatch}
 use Rattle.ipc_format_round_trip.specs.Schemas.{HasTexts, FitIdsList, ids_read}
 use Rattle.ipc_format_stream_laws.specs.Messages.{as_written, all_written}
 
--- a message that is read is the one that was written, and its header is a record batch with such a table
-pub record IsRecord (message : Written) (HasTable : Table → Type 0) (read : Framed) : Type 0 where
+-- a message that is read is the one that was written, with a header of a kind, whose table has something
+pub record IsMessageOf (message : Written) (kind : Table → Header) (HasTable : Table → Type 0) (read : Framed) : Type 0 where
   pub written : as_written read ≡ message
   pub table : Table
-  pub header : read.header ≡ grammar.record_batch table
+  pub header : read.header ≡ kind table
   pub has_table : HasTable table
 
 -- messages are those of some things, one for one
@@ -43,14 +45,7 @@ pub record HoldsStream (bytes : List ℕ) (schema : Schema) (below : IdsList) (b
   pub contents : contents_of stream bytes
       ≡ Some (record { schema = schema_read schema below; entries = map (stream_entry V5) messages.later })
 
--- ---- batches without dictionaries, of columns of any type
-
--- A batch brings no dictionary, and its counts have room: the number of its rows in eight bytes, those of its nodes in signed numbers of
--- eight bytes.
-pub record IsPlain (batch : Batch) : Type 0 where
-  pub given : batch.given ≡ []
-  pub rows : batch.rows < 2 ^ 64
-  pub nodes : AreSigned (joined batch.columns).nodes
+-- ---- batches of columns of any type, and the dictionaries that they bring
 
 -- the message of a batch
 abbrev pub batch_message : Batch → Written
@@ -61,11 +56,43 @@ abbrev pub HasColumns : Batch → Table → Type 0
 HasColumns batch table = IsRecordBatch (batch_message batch).metadata table (joined batch.columns).nodes
     (buffer_places 0 (joined batch.columns).buffers)
 
-abbrev pub IsOfBatch : Batch → Framed → Type 0
-IsOfBatch batch = IsRecord (batch_message batch) (HasColumns batch)
+-- a table in a dictionary's message has its id, the nodes of its values, and tells where their buffers stand in the body
+abbrev pub HasValues : Given → Table → Type 0
+HasValues given table =
+    IsDictionaryBatch (dictionary_message given).metadata table given.id given.column.nodes (buffer_places 0 given.column.buffers)
 
--- a stream that is written of a schema and of batches without dictionaries holds them, one message a batch, whatever stands behind it
+-- what is sent behind a schema: a dictionary, or a batch
+pub data Sent : Type 0 where
+  dictionary : Given → Sent
+  batch : Batch → Sent
+
+abbrev pub IsOfSent : Sent → Framed → Type 0
+IsOfSent (dictionary given) = IsMessageOf (dictionary_message given) grammar.dictionary_batch (HasValues given)
+IsOfSent (batch its_batch) = IsMessageOf (batch_message its_batch) grammar.record_batch (HasColumns its_batch)
+
+-- what is sent of batches, in order, where some dictionaries are written already, the latest first
+abbrev pub sent_after : List Given → List Batch → List Sent
+sent_after written [] = []
+sent_after written (next ∷ batches) =
+    map dictionary (to_write written next.given) ++ (batch next ∷ sent_after (written_after written next.given) batches)
+
+-- a dictionary's id is a signed number of eight bytes, and its counts have room
+pub record HasRoomForValues (given : Given) : Type 0 where
+  pub id : FitsSigned w64 given.id
+  pub rows : length given.slots < 2 ^ 64
+  pub nodes : AreSigned given.column.nodes
+
+-- A batch's counts have room: the number of its rows in eight bytes, those of its nodes in signed numbers of eight bytes. The dictionaries
+-- that it brings have room too, and are no more than may stand in a row.
+pub record HasRoomForColumns (batch : Batch) : Type 0 where
+  pub rows : batch.rows < 2 ^ 64
+  pub nodes : AreSigned (joined batch.columns).nodes
+  pub given : All HasRoomForValues batch.given
+  pub few : length batch.given ≤ most_dictionaries
+
+-- a stream that is written of a schema and of batches holds them, a message for each dictionary that is written and for each batch, whatever
+-- stands behind it
 abbrev pub StreamsReadBack : Type 0
 StreamsReadBack = (schema : Schema) (below : IdsList) (batches : List Batch) (bytes behind : List ℕ)
-    → written_stream schema below batches ≡ Some bytes → HasTexts schema → FitIdsList below → All IsPlain batches
-    → HoldsStream (bytes ++ behind) schema below batches (AreThoseOf IsOfBatch batches)
+    → written_stream schema below batches ≡ Some bytes → HasTexts schema → FitIdsList below → All HasRoomForColumns batches
+    → HoldsStream (bytes ++ behind) schema below batches (AreThoseOf IsOfSent (sent_after [] batches))
