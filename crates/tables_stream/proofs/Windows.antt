@@ -1,10 +1,11 @@
 -- The cells of numbers that stand in some bytes.
-use Rattle.std.proofs.Common.{◌≡◌, ◌∙◌, ℕ, zero, suc, ◌+◌, ℤ, Bool, true, false, List, ◌∷◌, length, map, refl, ap, ap₂, sym, if◌then◌else◌}
-use Rattle.std.specs.Prelude.{Some, None}
+use Rattle.std.proofs.Common.{◌≡◌, ◌∙◌, ℕ, zero, suc, ◌+◌, ◌≤◌, ℤ, Bool, true, false, List, ◌∷◌, length, map, refl, ap, ap₂, sym, if◌then◌else◌}
+use Rattle.std.specs.Prelude.{Some, None, slice_range}
 use Rattle.std.specs.List.{zip}
 use Rattle.columnar_memory.specs.Bits.{bit_at, bits_of}
 use Rattle.columnar_memory.specs.declared.PrimitiveType.TheVariants as kinds
 use Rattle.columnar_memory_bits.proofs.Windows.{length_window}
+use Rattle.columnar_memory_bitmap.proofs.Lists.{slice_range-window}
 use Rattle.nested_arrays.specs.Slots.{Slot, null, number, window}
 use Rattle.ipc_format_columns.specs.Columns.{all_valid, bitmap}
 use Rattle.tables_stream.specs.Int32Values.{int32_at, int32_slot}
@@ -42,6 +43,13 @@ pub as_many_bits : (bits bytes : List ℕ) (validity : List Bool) (values : List
     validity ≡ bits_of bits 0 n → length validity ≡ length values
 as_many_bits bits bytes validity values n numbers set =
     ap length set ∙ length_window (bit_at bits) 0 n ∙ sym (ap length numbers ∙ length_window (int32_at bytes) 0 n)
+
+-- a part of the bits of some bytes
+pub part_of_bits : (bits : List Bool) (bytes : List ℕ) (first len start count : ℕ) → bits_of bytes first len ≡ bits → start + count ≤ len →
+    slice_range bits start (start + count) ≡ bits_of bytes (first + start) count
+part_of_bits bits bytes first len start count same within =
+    ap (λ (bs : List Bool). slice_range bs start (start + count)) (sym same)
+    ∙ slice_range-window (bit_at bytes) first len start count within
 
 -- what a column of some bytes needs
 pub ruleset slots_of_cells = (slots_of_both, slots_of_values, as_many_bits)

@@ -20,4 +20,5 @@ returns c =
     let all : length values ≡ c.loop-done.done = omega arith in
     ap (λ k. take (4 * k) c.loop-done.block) all ∙ c.loop-done.invariant.written
     ∙ ap (λ k. bytes_of_both (slice_range c.args.bits.now c.args.start (c.args.start + k)) (take k values)) (sym all)
-    ∙ ap (λ xs. bytes_of_both (slice_range c.args.bits.now c.args.start (c.args.start + length values)) xs) (take_all (length values) values (omega arith))
+    ∙ ap (λ xs. bytes_of_both (slice_range c.args.bits.now c.args.start (c.args.start + length values)) xs)
+    (take_all (length values) values (omega arith))
