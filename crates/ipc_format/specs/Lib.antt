@@ -26,3 +26,12 @@ pub use Rattle.ipc_format_written.specs.WrittenMessages
 pub use Rattle.ipc_format_written.specs.WrittenStreams
 pub use Rattle.ipc_format_written.specs.WrittenFiles
 pub use Rattle.ipc_format_written.specs.Seals
+pub use Rattle.ipc_format_messages.specs.MessageSlots
+pub use Rattle.ipc_format_messages.specs.MessageViews
+pub use Rattle.ipc_format_messages.specs.SchemaSlots
+pub use Rattle.ipc_format_messages.specs.SchemaRefs
+pub use Rattle.ipc_format_messages.specs.WholeMessages
+pub use Rattle.ipc_format_messages.specs.BufferLengths
+pub use Rattle.ipc_format_messages.specs.MessageWriting
+pub use Rattle.ipc_format_streams.specs.Frames
+pub use Rattle.ipc_format_streams.specs.Failures

@@ -1,8 +1,11 @@
-//! Arrow's IPC format: FlatBuffers as Arrow's metadata uses them, schemas in metadata, and the definitions of the format.
+//! Arrow's IPC format: FlatBuffers as Arrow's metadata uses them, messages and schemas in metadata, streams of messages, and the
+//! definitions of the format.
 #![tactic(auto)]
 
 pub use ipc_format_flatbuffers as flatbuffers;
+pub use ipc_format_messages as format;
 pub use ipc_format_metadata::{
     IpcField, IpcSchema, OutOfSpecKind, can_write, deserialize_schema, schema_in,
 };
 pub use ipc_format_schema_writing::{default_ipc_fields, normalised, schema_to_bytes};
+pub use ipc_format_streams::{Counting, Faults, Frame, Framed, NextMessage, next_at};

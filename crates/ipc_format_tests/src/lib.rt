@@ -4,10 +4,16 @@
 #[cfg(test)]
 mod laying;
 #[cfg(test)]
+mod messages;
+#[cfg(test)]
 mod reading;
 #[cfg(test)]
 mod samples;
 #[cfg(test)]
+mod schema_views;
+#[cfg(test)]
 mod schemas;
+#[cfg(test)]
+mod streams;
 #[cfg(test)]
 mod writing;

@@ -6,4 +6,5 @@ use Rattle.ipc_format_messages.proofs.writing.record_batch_to_bytes.Goals as goa
 pub returns : goal.returns
 returns c =
     let message = record_message c.args.rows c.args.nodes.now c.args.buffers.now c.args.body_length in
-    answered c.finish.result c.lay_record_message-laid.result message c.args.body_length (omega arith) c.lay_record_message-laid.ensures c.finish.ensures
+    answered c.finish.result c.lay_record_message-laid.result message c.args.body_length (omega arith) c.lay_record_message-laid.ensures
+    c.finish.ensures
