@@ -1,2 +1,3 @@
 mod ContentsLemmas
+mod Lines
 mod NumberLemmas

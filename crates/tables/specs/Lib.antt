@@ -3,5 +3,5 @@ pub mod Command
 pub mod Contents
 pub mod Failure
 pub mod Number
-pub mod Status
+pub mod Outcome
 pub use Rattle.tables_stream.specs.Texts

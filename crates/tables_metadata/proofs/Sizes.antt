@@ -1,6 +1,8 @@
 -- What is laid is at least as long as each of its parts.
-use Rattle.std.proofs.Common.{◌≡◌, ◌∙◌, ℕ, zero, suc, ◌+◌, ◌-◌, ◌*◌, ◌≤◌, List, [], ◌∷◌, ◌++◌, length, replicate, ap, arith, length-append}
-use Rattle.std.specs.Prelude.{Some, Err}
+use Rattle.std.proofs.Common.{◌≡◌, ◌∙◌, ℕ, zero, suc, ◌+◌, ◌-◌, ◌*◌, ◌≤◌, List, [], ◌∷◌, ◌++◌, length, replicate, ap, subst, arith, length-append}
+use Rattle.std.specs.Prelude.{Some, Result, Err}
+use Rattle.std.specs.declared.vec.Vec.{Vec}
+use Rattle.std.specs.declared.alloc.Global.{Global}
 use Rattle.std.specs.List.{flat_map}
 use Rattle.std.specs.Int.{to_le_bytes, next_multiple_of, w32}
 use Rattle.std.proofs.lemmas.Grind.{flat_map-append}
@@ -13,7 +15,7 @@ use Rattle.ipc_format.specs.Laying.{references_piece, elements_piece, message_by
 use Rattle.ipc_format.specs.Objects.{Object, piece_of, laid}
 use Rattle.ipc_format.specs.Types.{at_place}
 use Rattle.ipc_format.specs.Views.{Lays}
-use Rattle.tables_metadata.specs.Writing.{IsRefusal, IsRefusalOf}
+use Rattle.tables_metadata.specs.Writing.{IsRefusal, IsRefusalOf, WritesMetadata}
 
 slot-over : (slots : List Slot) (k : ℕ) (p : Piece) → at_place slots k ≡ Some (refers p) → length p.bytes ≤ length (flat_map child_bytes slots)
 slot-over [] k p e = absurd cc
@@ -59,20 +61,22 @@ pub lays-over : (error : LayError) (p q : Piece) → length p.bytes ≤ length q
 lays-over TooLong p q le h = omega arith
 lays-over Memory p q le h = tt
 
--- the bytes of a message whose root is laid
-pub laid-is : (object : Object) (root : Piece) (bytes : List ℕ) → bytes ≡ message_bytes root → root ≡ piece_of object → bytes ≡ laid object
+-- the metadata whose root is laid
+pub laid-within : (result : Result (Vec ℕ Global) Error) (object : Object) (root : Piece) → root ≡ piece_of object
+    → WritesMetadata result (message_bytes root) → WritesMetadata result (laid object)
 unfolding laid
-laid-is object root bytes e same = e ∙ ap message_bytes same
+laid-within result object root same h = subst (λ (bytes : List ℕ). WritesMetadata result bytes) (ap message_bytes same) h
 
-message-over : (root : Piece) → length root.bytes ≤ length (message_bytes root)
+-- a message has eight bytes before its root
+pub message_size : (root : Piece) → length (message_bytes root) ≡ 8 + length root.bytes
 unfolding message_bytes
-message-over root = omega (arith, length-append (to_le_bytes w32 (8 + root.entry) ++ replicate {A = ℕ} 4 0) root.bytes)
+message_size root = length-append (to_le_bytes w32 (8 + root.entry) ++ replicate {A = ℕ} 4 0) root.bytes
 
 -- the error for a message whose root can't be laid
 pub refused : (error : LayError) (made : Error) (object : Object) → Lays (Err error) (piece_of object) → IsRefusalOf error made
     → IsRefusal made (laid object)
 unfolding laid
-refused TooLong Overflow object h is = omega (arith, message-over (piece_of object))
+refused TooLong Overflow object h is = omega (arith, message_size (piece_of object))
 refused Memory OutOfMemory object h is = tt
 refused TooLong made object h is = absurd is
 refused Memory made object h is = absurd is

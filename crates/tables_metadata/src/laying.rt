@@ -1,5 +1,5 @@
 //! The metadata of what is written, as bytes (Message.fbs, Schema.fbs), in version V5.
-ghost use Rattle.std.specs.Prelude.{◌≡◌, true, [], ◌∷◌, ◌/◌, ◌↔◌, IsTrue, MatchResult, length, map};
+ghost use Rattle.std.specs.Prelude.{◌≡◌, true, [], ◌∷◌, ◌/◌, ◌↔◌, IsTrue, length, map};
 ghost use Rattle.std.specs.List.{All};
 ghost use Rattle.std.specs.Int.{w8, w16, w64};
 ghost use Rattle.ipc_format.specs.Laying as layout;
@@ -8,7 +8,7 @@ ghost use Rattle.ipc_format.specs.Schemas.{no_ids, ids};
 ghost use Rattle.ipc_format.specs.SchemaObjects as objects;
 ghost use Rattle.ipc_format.specs.Views.{piece_view, Lays};
 ghost use Rattle.tables_metadata.specs.Int32Schemas.{IsInt32Schema, IsInt32Field};
-ghost use Rattle.tables_metadata.specs.Writing.{structs_of, batch_message, IsRefusal, IsSchemaRefusal, IsRefusalOf};
+ghost use Rattle.tables_metadata.specs.Writing.{structs_of, batch_message, WritesMetadata, WritesSchema, IsRefusalOf};
 
 use columnar_memory::{DataType, Error, Field, Result, Schema};
 use ipc_format::flatbuffers::{
@@ -24,6 +24,15 @@ const RECORD_BATCH: u8 = 3;
 
 const INT: u8 = 2;
 
+/// With its prefix a message's metadata has at most so many bytes, so that lengths fit signed numbers of 32 bits.
+const MOST_METADATA: usize = 2_147_483_640;
+
+/// Before the metadata stand a marker and its length.
+const PREFIX_SIZE: usize = 8;
+
+/// Before a message's root stand its place and four zeros.
+const ROOT_PLACE: usize = 8;
+
 /// What could not be laid is too long, or found no memory.
 fn refusal(error: LayError) -> Error
     ensures { IsRefusalOf error result }
@@ -34,19 +43,28 @@ fn refusal(error: LayError) -> Error
     }
 }
 
+/// The bytes of a message's metadata, where they are within its limit.
+fn bytes_within(alloc: Global, root: &Laid) -> Result<Vec<u8>>
+    ensures { WritesMetadata result (layout.message_bytes (piece_view root.now)) }
+{
+    if root.bytes.len() > MOST_METADATA - PREFIX_SIZE - ROOT_PLACE {
+        return Err(Error::Overflow);
+    }
+    Ok(message_bytes(alloc, root)?)
+}
+
 /// The metadata of a schema message.
 ///
 /// - `NotYetImplemented`: a column isn't a 32-bit integer, or the schema or a field has custom metadata.
-/// - `Overflow`: the message would have more than 2^31 - 1 bytes.
+/// - `Overflow`: with its prefix of 8 bytes the metadata would have more than 2,147,483,640 bytes.
 pub fn schema_message(alloc: Global, schema: &Schema) -> Result<Vec<u8>>
-    ensures { MatchResult result (λ v. IsInt32Schema schema.now × (v.items ≡ laid (objects.schema_message schema.now no_ids)))
-        (λ e. IsSchemaRefusal e schema.now) }
+    ensures { WritesSchema result schema.now }
 {
     if !is_int32_schema(schema) {
         return Err(Error::NotYetImplemented("types other than Int32, and custom metadata"));
     }
     match lay_schema_message(alloc, schema) {
-        Ok(root) => Ok(message_bytes(alloc, &root)?),
+        Ok(root) => bytes_within(alloc, &root),
         Err(error) => Err(refusal(error)),
     }
 }
@@ -146,7 +164,7 @@ fn truth_byte(value: bool) -> u8
 
 /// The metadata of a record batch message: how many rows, the bytes of its nodes and buffers (16 each), and how many bytes its body has.
 ///
-/// - `Overflow`: the message would have more than 2^31 - 1 bytes.
+/// - `Overflow`: with its prefix of 8 bytes the metadata would have more than 2,147,483,640 bytes.
 pub fn record_batch_message(
     alloc: Global,
     rows: u64,
@@ -154,11 +172,10 @@ pub fn record_batch_message(
     buffers: &[u8],
     body_length: u64,
 ) -> Result<Vec<u8>>
-    ensures { MatchResult result (λ v. v.items ≡ laid (batch_message rows nodes.now buffers.now body_length))
-        (λ e. IsRefusal e (laid (batch_message rows nodes.now buffers.now body_length))) }
+    ensures { WritesMetadata result (laid (batch_message rows nodes.now buffers.now body_length)) }
 {
     match lay_batch_message(alloc, rows, nodes, buffers, body_length) {
-        Ok(root) => Ok(message_bytes(alloc, &root)?),
+        Ok(root) => bytes_within(alloc, &root),
         Err(error) => Err(refusal(error)),
     }
 }

@@ -18,11 +18,11 @@ use Rattle.ipc_format_columns.specs.Columns.{first_ids, other_ids}
 use Rattle.ipc_format_written.specs.Encoding.{Encoded, Encoder, encode, encode_step, joined, node_of}
 use Rattle.ipc_format_written.specs.Ids.{Numbering, number_step, numbered, number_fields, default_ids}
 use Rattle.ipc_format_written.specs.GivenDictionaries.{Giver, given_by, give_step, give_field_step}
-use Rattle.ipc_format_written.specs.WrittenMessages.{message_bytes, message_of, batch_object, record_tag, record_message, schema_written}
+use Rattle.ipc_format_written.specs.WrittenMessages.{Written, message_of, batch_object, record_tag, record_message, schema_written}
 use Rattle.ipc_format_written.specs.WrittenStreams.{columns_of_slots, given_of_slots, rows_of_slots, batch_of_slots, messages_after}
-use Rattle.ipc_format_written.specs.WrittenStreams.{stream_messages, bytes_of_messages, stream_bytes}
+use Rattle.ipc_format_written.specs.WrittenStreams.{stream_messages}
 use Rattle.tables_metadata.specs.Int32Schemas.{IsInt32Schema, IsInt32Field}
-use Rattle.tables_stream.specs.Int32Written.{int32_buffers, nodes_of, int32_message, int32_stream}
+use Rattle.tables_stream.specs.Int32Written.{int32_buffers, int32_together, int32_message, int32_messages}
 
 -- ---- columns
 
@@ -37,10 +37,6 @@ encode_int32 slots = ap (λ (encoder : Encoder). encoder slots) (fold-roll-DataT
 no_given : (here : Ids) (slots : List Slot) → given_by types.Int32 here slots ≡ []
 unfolding roll-DataType denote.Hole.Carrier.roll
 no_given here slots = ap (λ (giver : Giver). giver here slots) (para-roll-DataType Giver Giver give_step give_field_step layer.Int32)
-
--- columns as they are written together
-abbrev int32_together : List (List Slot) → Encoded
-int32_together columns = record { nodes = nodes_of columns; buffers = flat_map int32_buffers columns }
 
 abbrev with_column : Encoded → Encoded → Encoded
 with_column first others = record { nodes = first.nodes ++ others.nodes; buffers = first.buffers ++ others.buffers }
@@ -65,10 +61,10 @@ none_given (field ∷ fields) below (column ∷ columns) all =
 -- ---- batches
 
 message_is : (fields : List Field) (columns : List (List Slot)) → All IsInt32Field fields → length columns ≡ length fields
-    → message_bytes (record_message (rows_of_slots columns) (columns_of_slots fields columns)) ≡ int32_message columns
+    → record_message (rows_of_slots columns) (columns_of_slots fields columns) ≡ int32_message columns
 unfolding record_message int32_message
 message_is fields columns all same =
-    ap (λ (c : Encoded). message_bytes (message_of record_tag (batch_object (rows_of_slots columns) c) c.buffers))
+    ap (λ (c : Encoded). message_of record_tag (batch_object (rows_of_slots columns) c) c.buffers)
     (columns_together fields columns all same)
 
 -- the batches have a column a field
@@ -76,13 +72,13 @@ abbrev pub HaveWidth : List Field → List (List (List Slot)) → Type 0
 HaveWidth fields batches = All (λ columns. length columns ≡ length fields) batches
 
 batches_are : (fields : List Field) (below : IdsList) (batches : List (List (List Slot))) → All IsInt32Field fields → HaveWidth fields batches
-    → bytes_of_messages (messages_after [] (map (batch_of_slots fields below) batches)) ≡ flat_map int32_message batches
+    → messages_after [] (map (batch_of_slots fields below) batches) ≡ map int32_message batches
 unfolding batch_of_slots
 batches_are fields below [] all widths = refl
 batches_are fields below (columns ∷ batches) all widths =
     let here = message_is fields columns all (All-head (λ (c : List (List Slot)). length c ≡ length fields) columns batches widths) in
     let others = batches_are fields below batches all (All-tail (λ (c : List (List Slot)). length c ≡ length fields) columns batches widths) in
-    rw (none_given fields below columns all) (ap₂ (λ (x : List ℕ) y. x ++ y) here others)
+    rw (none_given fields below columns all) (ap₂ (λ (message : Written) messages. message ∷ messages) here others)
 
 -- ---- the schema: its ids are none at each field
 
@@ -107,8 +103,8 @@ schema_same schema all = rw (objects_same schema.fields 0 all) refl
 -- ---- the whole
 
 pub int32_streams : (schema : Schema) (batches : List (List (List Slot))) → IsInt32Schema schema → HaveWidth schema.fields batches
-    → int32_stream schema no_ids batches
-    ≡ stream_bytes schema (default_ids schema.fields) (map (batch_of_slots schema.fields (default_ids schema.fields)) batches)
-unfolding int32_stream stream_bytes stream_messages schema_written
+    → int32_messages schema batches
+    ≡ stream_messages schema (default_ids schema.fields) (map (batch_of_slots schema.fields (default_ids schema.fields)) batches)
+unfolding int32_messages stream_messages schema_written
 int32_streams schema batches first widths =
     rw (schema_same schema first.1, batches_are schema.fields (default_ids schema.fields) batches first.1 widths) refl

@@ -1,18 +1,23 @@
 -- Buffers written block by block, and the zeros behind them.
-use Rattle.std.proofs.Common.{◌≡◌, ◌∙◌, ℕ, zero, suc, ◌+◌, ◌-◌, ◌*◌, ◌/◌, ◌%◌, ◌≤◌, ℤ, List, [], ◌∷◌, ◌++◌, length, take, drop, map, refl}
-use Rattle.std.proofs.Common.{ap, ap₂, sym, arith, subst, replicate}
-use Rattle.std.specs.Prelude.{Option, Some, None, slice_range}
+use Rattle.std.proofs.Common.{◌≡◌, ◌∙◌, ℕ, zero, suc, ◌+◌, ◌-◌, ◌*◌, ◌/◌, ◌%◌, ◌≤◌, ◌<◌, ℤ, Bool, true, false, List, [], ◌∷◌, ◌++◌, length, take, drop, map, refl}
+use Rattle.std.proofs.Common.{ap, ap₂, sym, arith, subst, replicate, nat_lt, if◌then◌else◌, rules}
+use Rattle.std.specs.Prelude.{Option, Some, None, Result, slice_range}
 use Rattle.std.specs.Int.{next_multiple_of, div_ceil}
 use Rattle.std.specs.List.{flat_map}
 use Rattle.std.specs.Io.KnownBytes.{Appends}
 use Rattle.std.proofs.lemmas.Grind.{common_steps, flat_map-append}
-use Rattle.std.proofs.lemmas.List.{length-drop, length-append, map-append, take-append-le, drop-append-le, drop-drop}
+use Rattle.std.proofs.lemmas.Bool.{ltb-true, ltb-false}
+use Rattle.std.proofs.lemmas.List.{append-nil, length-drop, length-append, map-append, take-append-le, drop-append-le, drop-drop}
 use Rattle.std.proofs.Math.Seq.{take-add}
 use Rattle.nested_arrays.specs.Slots.{Slot}
-use Rattle.tables_stream.specs.Int32Written.{bits_of, bitmap_bytes, value_bytes}
-use Rattle.ipc_format_written.specs.WrittenMessages.{padded_buffer}
+use Rattle.tables_stream.specs.Int32Written.{bits_of, bitmap_bytes, value_bytes, int32_buffers}
+use Rattle.ipc_format_written.specs.Buffers.{null_count, validity_bytes}
+use Rattle.ipc_format_written.specs.WrittenMessages.{padded_buffer, body_bytes}
 use Rattle.tables_stream.specs.Cells.{slot_of}
-use Rattle.tables_stream.proofs.Appending.{appends_both}
+use Rattle.columnar_memory.specs.Error.{IsIo}
+use Rattle.columnar_memory.specs.declared.Error.{Error}
+use Rattle.tables_stream.specs.Devices.{AppendsBeginning, Puts}
+use Rattle.tables_stream.proofs.Appending.{appends_both, begins_first, begins_behind, begins_same, puts_behind, puts_same, puts_first, refused_same, append-empty}
 
 -- the slots of some cells of a column
 abbrev pub slots_between : List (Option ℤ) → ℕ → ℕ → List Slot
@@ -84,22 +89,58 @@ bitmap_size (suc most) (slot ∷ slots) fits =
     omega arith
 
 -- the bitmap of one more block
-pub bitmap_block : (old between new : Option (List ℕ)) (cells : List (Option ℤ)) (start done count : ℕ) → done % 8 ≡ 0 →
-    start + (done + count) ≤ length cells → Appends old between (bitmap_bytes done (slots_between cells start (start + done))) →
-    Appends between new (bitmap_bytes count (slots_between cells (start + done) (start + done + count))) →
-    Appends old new (bitmap_bytes (done + count) (slots_between cells start (start + (done + count))))
-bitmap_block old between new cells start done count eights inside first second =
+bitmap_more : (cells : List (Option ℤ)) (start done count : ℕ) → done % 8 ≡ 0 → start + (done + count) ≤ length cells
+    → bitmap_bytes (done + count) (slots_between cells start (start + (done + count)))
+    ≡ bitmap_bytes done (slots_between cells start (start + done))
+    ++ bitmap_bytes count (slots_between cells (start + done) (start + done + count))
+bitmap_more cells start done count eights inside =
     let xs = slots_between cells start (start + done) in
     let ys = slots_between cells (start + done) (start + done + count) in
     let before : length xs ≡ done = slots_size cells start done (omega arith) in
     let more : length ys ≡ count = slots_size cells (start + done) count (omega arith) in
     let whole : length xs ≡ 8 * (done / 8) = omega arith in
-    let joined : bitmap_bytes (done + count) (slots_between cells start (start + (done + count))) ≡ bitmap_bytes done xs
-    ++ bitmap_bytes count ys =
     ap (λ (slots : List Slot). bitmap_bytes (done + count) slots) (slots_joined cells start done count)
-    ∙ bitmap_append (done / 8) done count (done + count) xs ys whole (omega arith) (omega arith) (omega arith) in
-    subst (λ (bytes : List ℕ). Appends old new bytes) (sym joined)
-    (appends_both old between new (bitmap_bytes done xs) (bitmap_bytes count ys) first second)
+    ∙ bitmap_append (done / 8) done count (done + count) xs ys whole (omega arith) (omega arith) (omega arith)
+
+pub bitmap_block : (old between new : Option (List ℕ)) (cells : List (Option ℤ)) (start done count : ℕ) → done % 8 ≡ 0 →
+    start + (done + count) ≤ length cells → Appends old between (bitmap_bytes done (slots_between cells start (start + done))) →
+    Appends between new (bitmap_bytes count (slots_between cells (start + done) (start + done + count))) →
+    Appends old new (bitmap_bytes (done + count) (slots_between cells start (start + (done + count))))
+bitmap_block old between new cells start done count eights inside first second =
+    subst (λ (bytes : List ℕ). Appends old new bytes) (sym (bitmap_more cells start done count eights inside))
+    (appends_both old between new _ _ first second)
+
+bitmap_by_test : (is_less : Bool) (cells : List (Option ℤ)) (start done rows : ℕ) → nat_lt done rows ≡ is_less → done ≤ rows
+    → (done < rows → done % 8 ≡ 0) → start + rows ≤ length cells
+    → (rest : List ℕ) × (bitmap_bytes rows (slots_between cells start (start + rows))
+    ≡ bitmap_bytes done (slots_between cells start (start + done)) ++ rest)
+bitmap_by_test true cells start done rows test within eights inside =
+    let less : done < rows = ltb-true done rows test in
+    let all : rows ≡ done + (rows - done) = omega arith in
+    let more = bitmap_more cells start done (rows - done) (eights less) (omega arith) in
+    (_, ap (λ n. bitmap_bytes n (slots_between cells start (start + n))) all ∙ more)
+bitmap_by_test false cells start done rows test within eights inside =
+    let all : rows ≡ done = omega (arith, ltb-false done rows test) in
+    ([], ap (λ n. bitmap_bytes n (slots_between cells start (start + n))) all ∙ sym (append-nil _))
+
+-- a bitmap begins with that of its first whole eights
+bitmap_begins : (cells : List (Option ℤ)) (start done rows : ℕ) → done ≤ rows → (done < rows → done % 8 ≡ 0) → start + rows ≤ length cells
+    → (rest : List ℕ) × (bitmap_bytes rows (slots_between cells start (start + rows))
+    ≡ bitmap_bytes done (slots_between cells start (start + done)) ++ rest)
+bitmap_begins cells start done rows within eights inside = bitmap_by_test (nat_lt done rows) cells start done rows refl within eights inside
+
+-- a refusal within the next block
+pub bitmap_refused : (error : Error) (old between new : Option (List ℕ)) (cells : List (Option ℤ)) (start done count rows : ℕ) → done % 8 ≡ 0
+    → done + count ≤ rows → (done + count < rows → (done + count) % 8 ≡ 0) → start + rows ≤ length cells
+    → Appends old between (bitmap_bytes done (slots_between cells start (start + done)))
+    → IsIo error × AppendsBeginning between new (bitmap_bytes count (slots_between cells (start + done) (start + done + count)))
+    → IsIo error × AppendsBeginning old new (padded_buffer (bitmap_bytes rows (slots_between cells start (start + rows))))
+bitmap_refused error old between new cells start done count rows eights within later inside first second =
+    let whole : List ℕ = bitmap_bytes rows (slots_between cells start (start + rows)) in
+    let rest = bitmap_begins cells start (done + count) rows within later inside in
+    let begins = begins_first old new _ rest.0 (begins_behind old between new _ _ first second.1) in
+    let joined = ap (λ (bytes : List ℕ). bytes ++ rest.0) (sym (bitmap_more cells start done count eights (omega arith))) ∙ sym rest.1 in
+    (second.0, begins_first old new whole _ (begins_same old new _ whole joined begins))
 
 -- ---- values
 
@@ -116,24 +157,90 @@ values_size (cell ∷ cells) =
     length-append (value_bytes (slot_of cell)) (flat_map value_bytes (map slot_of cells)) ∙ omega arith
 
 -- the values of one more block
+values_more : (cells : List (Option ℤ)) (start done count : ℕ) → flat_map value_bytes (slots_between cells start (start + (done + count)))
+    ≡ flat_map value_bytes (slots_between cells start (start + done))
+    ++ flat_map value_bytes (slots_between cells (start + done) (start + done + count))
+values_more cells start done count =
+    ap (λ (slots : List Slot). flat_map value_bytes slots) (slots_joined cells start done count)
+    ∙ flat_map-append value_bytes (slots_between cells start (start + done)) (slots_between cells (start + done) (start + done + count))
+
 pub values_block : (old between new : Option (List ℕ)) (cells : List (Option ℤ)) (start done count : ℕ) →
     Appends old between (flat_map value_bytes (slots_between cells start (start + done))) →
     Appends between new (flat_map value_bytes (slots_between cells (start + done) (start + done + count))) →
     Appends old new (flat_map value_bytes (slots_between cells start (start + (done + count))))
 values_block old between new cells start done count first second =
-    let xs = slots_between cells start (start + done) in
-    let ys = slots_between cells (start + done) (start + done + count) in
-    let joined : flat_map value_bytes (slots_between cells start (start + (done + count))) ≡ flat_map value_bytes xs
-    ++ flat_map value_bytes ys =
-    ap (λ (slots : List Slot). flat_map value_bytes slots) (slots_joined cells start done count) ∙ flat_map-append value_bytes xs ys in
-    subst (λ (bytes : List ℕ). Appends old new bytes) (sym joined)
-    (appends_both old between new (flat_map value_bytes xs) (flat_map value_bytes ys) first second)
+    subst (λ (bytes : List ℕ). Appends old new bytes) (sym (values_more cells start done count))
+    (appends_both old between new _ _ first second)
+
+-- a refusal within the next block
+pub values_refused : (error : Error) (old between new : Option (List ℕ)) (cells : List (Option ℤ)) (start done count rows : ℕ)
+    → done + count ≤ rows → Appends old between (flat_map value_bytes (slots_between cells start (start + done)))
+    → IsIo error × AppendsBeginning between new (flat_map value_bytes (slots_between cells (start + done) (start + done + count)))
+    → IsIo error × AppendsBeginning old new (padded_buffer (flat_map value_bytes (slots_between cells start (start + rows))))
+values_refused error old between new cells start done count rows within first second =
+    let whole : List ℕ = flat_map value_bytes (slots_between cells start (start + rows)) in
+    let left : ℕ = rows - (done + count) in
+    let all : rows ≡ done + count + left = omega arith in
+    let more = ap (λ n. flat_map value_bytes (slots_between cells start (start + n))) all ∙ values_more cells start (done + count) left in
+    let begins = begins_first old new _ (flat_map value_bytes (slots_between cells (start + (done + count)) (start + (done + count) + left)))
+    (begins_behind old between new _ _ first second.1) in
+    let joined = ap (λ (bytes : List ℕ). bytes ++ flat_map value_bytes (slots_between cells (start + (done + count)) (start + (done + count) + left)))
+    (sym (values_more cells start done count)) ∙ sym more in
+    (second.0, begins_first old new whole _ (begins_same old new _ whole joined begins))
 
 -- ---- padding
 
--- some bytes and the zeros behind them
-pub appends_padded : (old between new : Option (List ℕ)) (bytes : List ℕ) (n : ℕ) → length bytes % 64 ≡ n % 64 → Appends old between bytes →
-    Appends between new (replicate ((64 - n % 64) % 64) 0) → Appends old new (padded_buffer bytes)
-appends_padded old between new bytes n size first second =
+-- some bytes were written, and then the zeros behind them, or a beginning of these
+pub puts_padded : {A : Type 0} (result : Result A Error) (old between new : Option (List ℕ)) (bytes : List ℕ) (n : ℕ)
+    → length bytes % 64 ≡ n % 64 → Appends old between bytes → Puts result between new (replicate ((64 - n % 64) % 64) 0)
+    → Puts result old new (padded_buffer bytes)
+puts_padded result old between new bytes n size first second =
     let zeros : (64 - n % 64) % 64 ≡ next_multiple_of (length bytes) 64 - length bytes = omega arith in
-    appends_both old between new bytes _ first (subst (λ (k : ℕ). Appends between new (replicate k 0)) zeros second)
+    puts_behind result old between new bytes _ first (subst (λ (k : ℕ). Puts result between new (replicate k 0)) zeros second)
+
+-- ---- a column
+
+validity_by : (test : Bool) (bytes : List ℕ) → test ≡ true → (if test then bytes else []) ≡ bytes
+validity_by true bytes is = refl
+validity_by false bytes is = absurd cc
+
+-- the validity of slots of which one is null
+validity_is : (slots : List Slot) (rows : ℕ) → length slots ≡ rows → 0 < null_count slots → bitmap_bytes rows slots ≡ validity_bytes slots
+validity_is slots rows size some =
+    let test : nat_lt 0 (null_count slots) ≡ true = search (rules, some) in
+    ap (λ n. bitmap_bytes n slots) (sym size) ∙ sym (validity_by _ (bitmap_bytes (length slots) slots) test)
+
+no_validity_by : (test : Bool) (bytes : List ℕ) → test ≡ false → (if test then bytes else []) ≡ []
+no_validity_by true bytes is = absurd cc
+no_validity_by false bytes is = refl
+
+-- and of slots of which none is
+no_validity : (slots : List Slot) → null_count slots ≡ 0 → validity_bytes slots ≡ []
+no_validity slots none =
+    let test : nat_lt 0 (null_count slots) ≡ false = search (rules, none) in
+    no_validity_by _ (bitmap_bytes (length slots) slots) test
+
+-- the validity was written, and then the values, or a beginning of them
+pub column_put : {A : Type 0} (result : Result A Error) (old between new : Option (List ℕ)) (slots : List Slot) (rows : ℕ) → length slots ≡ rows
+    → 0 < null_count slots → Appends old between (padded_buffer (bitmap_bytes rows slots))
+    → Puts result between new (padded_buffer (flat_map value_bytes slots)) → Puts result old new (body_bytes (int32_buffers slots))
+column_put result old between new slots rows size some first second =
+    puts_behind result old between new (padded_buffer (validity_bytes slots)) (padded_buffer (flat_map value_bytes slots) ++ [])
+    (subst (λ (bytes : List ℕ). Appends old between (padded_buffer bytes)) (validity_is slots rows size some) first)
+    (puts_same result between new _ _ (append-empty _) second)
+
+-- there is no validity to write
+pub values_put : {A : Type 0} (result : Result A Error) (old new : Option (List ℕ)) (slots : List Slot) → null_count slots ≡ 0
+    → Puts result old new (padded_buffer (flat_map value_bytes slots)) → Puts result old new (body_bytes (int32_buffers slots))
+values_put result old new slots none written =
+    let values : List ℕ = padded_buffer (flat_map value_bytes slots) in
+    puts_same result old new _ _
+    (append-empty values ∙ ap (λ (bytes : List ℕ). padded_buffer bytes ++ (values ++ [])) (sym (no_validity slots none))) written
+
+-- a refusal within the validity
+pub validity_refused : (error : Error) (old new : Option (List ℕ)) (slots : List Slot) (rows : ℕ) → length slots ≡ rows → 0 < null_count slots
+    → IsIo error × AppendsBeginning old new (padded_buffer (bitmap_bytes rows slots))
+    → IsIo error × AppendsBeginning old new (body_bytes (int32_buffers slots))
+validity_refused error old new slots rows size some refused =
+    puts_first error old new (padded_buffer (validity_bytes slots)) (padded_buffer (flat_map value_bytes slots) ++ [])
+    (refused_same error old new _ _ (ap padded_buffer (validity_is slots rows size some)) refused)

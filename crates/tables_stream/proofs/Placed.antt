@@ -1,13 +1,15 @@
 -- Where the buffers of columns lie, and their bytes.
 use Rattle.std.proofs.Common.{◌≡◌, ◌∙◌, ℕ, zero, suc, ◌+◌, ◌-◌, ◌*◌, ◌/◌, ◌%◌, ◌≤◌, ◌<◌, ℤ, Bool, true, false, List, [], ◌∷◌, ◌++◌, length}
-use Rattle.std.proofs.Common.{take, map, get_or, refl, ap, ap₂, sym, arith, subst, replicate, nat_lt, if◌then◌else◌, append_assoc, add-zero}
+use Rattle.std.proofs.Common.{take, drop, map, get_or, refl, ap, ap₂, sym, arith, subst, replicate, nat_lt, if◌then◌else◌, append_assoc, add-zero}
 use Rattle.std.proofs.Common.{add_assoc}
 use Rattle.std.specs.Prelude.{Option, slice_range}
 use Rattle.std.specs.Int.{next_multiple_of, div_ceil}
 use Rattle.std.specs.List.{flat_map}
 use Rattle.std.specs.Io.KnownBytes.{Appends}
 use Rattle.std.proofs.lemmas.Grind.{flat_map-append, take_at_read}
-use Rattle.std.proofs.lemmas.List.{append-nil, length-append, length-replicate, length-map, map-append}
+use Rattle.std.proofs.lemmas.List.{append-nil, length-append, length-replicate, length-map, map-append, take-append-drop}
+use Rattle.columnar_memory.specs.Error.{IsIo}
+use Rattle.columnar_memory.specs.declared.Error.{Error}
 use Rattle.ipc_format.specs.Objects.{elements}
 use Rattle.nested_arrays.specs.Slots.{Slot}
 use Rattle.ipc_format_grammar.specs.SchemaObjects.{structs_object}
@@ -22,7 +24,8 @@ use Rattle.tables_stream.specs.Cells.{slot_of}
 use Rattle.tables_stream.specs.Batches.{window_cells, rows_of_cells}
 use Rattle.tables_stream.specs.Structs.{struct_bytes, validity_size, buffers_of}
 use Rattle.tables_stream.specs.Tables.{batch_slots}
-use Rattle.tables_stream.proofs.Appending.{appends_both}
+use Rattle.tables_stream.specs.Devices.{AppendsBeginning}
+use Rattle.tables_stream.proofs.Appending.{appends_both, begins_first, begins_behind, begins_same}
 use Rattle.tables_stream.proofs.Padded.{slots_between, part_size, slots_size, bitmap_size, values_size}
 
 -- one more column, one more list of slots
@@ -235,6 +238,31 @@ count_at (first ∷ columns) start rows zero column inside here =
     ap (λ (c : List (Option ℤ)). null_count (slots_between c start (start + rows))) here
 count_at (first ∷ columns) start rows (suc i) column inside here = count_at columns start rows i column (omega arith) here
 
+-- a body begins with the buffers of its first columns
+body_begins : (columns : List (List (Option ℤ))) (start rows i : ℕ) → body_bytes (buffers_of (batch_slots (window_cells start rows columns)))
+    ≡ body_bytes (buffers_of (batch_slots (window_cells start rows (take i columns))))
+    ++ body_bytes (buffers_of (batch_slots (window_cells start rows (drop i columns))))
+body_begins columns start rows i =
+    let first : List (List (Option ℤ)) = take i columns in
+    let others : List (List (Option ℤ)) = drop i columns in
+    ap (λ (cs : List (List (Option ℤ))). body_bytes (buffers_of (batch_slots (window_cells start rows cs)))) (sym (take-append-drop i columns))
+    ∙ ap (λ (cells : List (List (Option ℤ))). body_bytes (buffers_of (batch_slots cells)))
+    (map-append (λ (c : List (Option ℤ)). slice_range c start (start + rows)) first others)
+    ∙ ap (λ (slots : List (List Slot)). body_bytes (buffers_of slots))
+    (map-append (λ (c : List (Option ℤ)). map slot_of c) (window_cells start rows first) (window_cells start rows others))
+    ∙ ap body_bytes (flat_map-append int32_buffers (batch_slots (window_cells start rows first)) (batch_slots (window_cells start rows others)))
+    ∙ flat_map-append padded_buffer (buffers_of (batch_slots (window_cells start rows first)))
+    (buffers_of (batch_slots (window_cells start rows others)))
+
+-- the bytes of the first columns and of one more
+next_bytes : (columns : List (List (Option ℤ))) (start rows i : ℕ) (column : List (Option ℤ)) → i < length columns → get_or columns i column ≡ column
+    → body_bytes (buffers_of (batch_slots (window_cells start rows (take (i + 1) columns))))
+    ≡ body_bytes (buffers_of (batch_slots (window_cells start rows (take i columns))))
+    ++ body_bytes (int32_buffers (slots_between column start (start + rows)))
+next_bytes columns start rows i column inside here =
+    ap (λ (cs : List (List Slot)). body_bytes (buffers_of cs)) (slots_more columns start rows i column inside here)
+    ∙ bytes_more (batch_slots (window_cells start rows (take i columns))) (slots_between column start (start + rows))
+
 -- one more column is written
 pub column_written : (old between new : Option (List ℕ)) (columns : List (List (Option ℤ))) (start rows i : ℕ) (column : List (Option ℤ)) →
     i < length columns → get_or columns i column ≡ column →
@@ -242,13 +270,38 @@ pub column_written : (old between new : Option (List ℕ)) (columns : List (List
     Appends between new (body_bytes (int32_buffers (slots_between column start (start + rows)))) →
     Appends old new (body_bytes (buffers_of (batch_slots (window_cells start rows (take (i + 1) columns)))))
 column_written old between new columns start rows i column inside here first second =
+    subst (λ (bytes : List ℕ). Appends old new bytes) (sym (next_bytes columns start rows i column inside here))
+    (appends_both old between new _ _ first second)
+
+-- a refusal within the next column
+pub column_refused : (error : Error) (old between new : Option (List ℕ)) (columns : List (List (Option ℤ))) (start rows i : ℕ)
+    (column : List (Option ℤ)) → i < length columns → get_or columns i column ≡ column →
+    Appends old between (body_bytes (buffers_of (batch_slots (window_cells start rows (take i columns))))) →
+    IsIo error × AppendsBeginning between new (body_bytes (int32_buffers (slots_between column start (start + rows)))) →
+    IsIo error × AppendsBeginning old new (body_bytes (buffers_of (batch_slots (window_cells start rows columns))))
+column_refused error old between new columns start rows i column inside here first second =
+    let begins = begins_same old new _ _ (sym (next_bytes columns start rows i column inside here))
+    (begins_behind old between new _ _ first second.1) in
+    (second.0, begins_same old new _ _ (sym (body_begins columns start rows (i + 1))) (begins_first old new _ _ begins))
+
+-- a body is at least as long as its first columns and the next one
+pub body_over : (columns : List (List (Option ℤ))) (start rows i : ℕ) (column : List (Option ℤ)) (nulls offset : ℕ) → i < length columns
+    → get_or columns i column ≡ column → start + rows ≤ length column → nulls ≡ null_count (slots_between column start (start + rows))
+    → offset ≡ length (body_bytes (buffers_of (batch_slots (window_cells start rows (take i columns)))))
+    → offset + next_multiple_of (validity_size rows nulls) 64 + next_multiple_of (4 * rows) 64
+    ≤ length (body_bytes (buffers_of (batch_slots (window_cells start rows columns))))
+body_over columns start rows i column nulls offset inside here within count at =
     let slots = slots_between column start (start + rows) in
     let before = batch_slots (window_cells start rows (take i columns)) in
-    let all : body_bytes (buffers_of (batch_slots (window_cells start rows (take (i + 1) columns)))) ≡ body_bytes (buffers_of before)
-    ++ body_bytes (int32_buffers slots) =
-    ap (λ (cs : List (List Slot)). body_bytes (buffers_of cs)) (slots_more columns start rows i column inside here)
-    ∙ bytes_more before slots in
-    subst (λ (bytes : List ℕ). Appends old new bytes) (sym all) (appends_both old between new _ _ first second)
+    let values : length (flat_map value_bytes slots) ≡ 4 * rows =
+    values_size (slice_range column start (start + rows)) ∙ ap (λ n. 4 * n) (part_size column start rows within) in
+    let more = body_more before slots offset rows (slots_size column start rows within) values at in
+    let next = ap (λ (cs : List (List Slot)). length (body_bytes (buffers_of cs))) (slots_more columns start rows i column inside here) in
+    let same = ap (λ n. offset + next_multiple_of (validity_size rows n) 64 + next_multiple_of (4 * rows) 64) count in
+    let all = ap length (body_begins columns start rows (i + 1)) in
+    let sum = length-append (body_bytes (buffers_of (batch_slots (window_cells start rows (take (i + 1) columns)))))
+    (body_bytes (buffers_of (batch_slots (window_cells start rows (drop (i + 1) columns))))) in
+    omega (arith, more, next, same, all, sum)
 
 -- how many rows the slots of some cells make
 pub rows_are_of_cells : (columns : List (List (Option ℤ))) → rows_of_slots (batch_slots columns) ≡ rows_of_cells columns

@@ -1,8 +1,8 @@
 -- In each batch of a table stands a column a field.
 use Rattle.std.proofs.Common.{◌≡◌, ◌∙◌, ℕ, zero, suc, ◌+◌, ◌-◌, ◌*◌, ℤ, Bool, true, false, List, [], ◌∷◌, ◌++◌, length, map, min, refl, sym}
 use Rattle.std.proofs.Common.{ap, subst}
-use Rattle.std.specs.Prelude.{Option, Some, None, Result, OnOk, not, nat_le, nat_lt, if◌then◌else◌}
-use Rattle.std.specs.List.{All}
+use Rattle.std.specs.Prelude.{Option, Some, None, not, nat_le, nat_lt, if◌then◌else◌}
+use Rattle.std.specs.List.{All, list_all}
 use Rattle.std.specs.Io.KnownBytes.{Appends}
 use Rattle.std.proofs.lemmas.List.{length-map}
 use Rattle.std.proofs.lemmas.List.Elements.{All-nil, All-cons, All-head, All-tail, All-push}
@@ -19,12 +19,17 @@ use Rattle.tables_stream.specs.Cells.{slot_of}
 use Rattle.tables_stream.specs.Cuts.{cut_of}
 use Rattle.tables_stream.specs.Int32.{int32_columns, int32_batch, batch_by, Step, batch_then, step_of, step_at}
 use Rattle.tables_stream.specs.Int32Values.{int32_slots}
-use Rattle.tables_stream.specs.Int32Written.{int32_stream}
-use Rattle.ipc_format.specs.Schemas.{no_ids}
-use Rattle.tables_stream.specs.Tables.{Stored, IsInt32Table, batch_slots, stored_cells, table_bytes}
+use Rattle.columnar_memory.specs.declared.Error.{Error}
+use Rattle.ipc_format.specs.WrittenMessages.{Written, fits_limit}
+use Rattle.ipc_format.specs.WrittenStreams.{stream_bytes}
+use Rattle.tables_stream.specs.Devices.{AppendsBeginning}
+use Rattle.tables_stream.specs.Faults.{fault_of}
+use Rattle.tables_stream.specs.Int32Written.{int32_messages}
+use Rattle.tables_stream.specs.Refusals.{bytes_of_stream, StopsAtTooLong, IsWriteError, IsWriteFault}
+use Rattle.tables_stream.specs.Tables.{Stored, IsInt32Table, batch_slots, stored_cells, table_messages, table_bytes}
 use Rattle.tables_stream.specs.declared.batches.Batch.{Batch}
-use Rattle.tables_stream.proofs.Appending.{on_ok}
 use Rattle.tables_stream.proofs.Int32Streams.{int32_streams}
+use Rattle.tables_stream.proofs.Refused.{fault_is}
 
 -- a column a field
 abbrev pub HasWidth : ℕ → List (List (Option ℤ)) → Type 0
@@ -135,11 +140,36 @@ widths_of_slots n (batch ∷ batches) all =
     (length-map batch (map slot_of) ∙ All-head (HasWidth n) batch batches all)
     (widths_of_slots n batches (All-tail (HasWidth n) batch batches all))
 
--- what was appended is the table's stream
-pub table_appended : {A E : Type 0} (result : Result A E) (old new : Option (List ℕ)) (stored : Stored) → IsInt32Table stored.schema stored.batches
-    → OnOk result (Appends old new (int32_stream stored.schema no_ids (map batch_slots stored.batches)))
-    → OnOk result (Appends old new (table_bytes stored))
-table_appended result old new stored known written =
-    on_ok result (subst (λ (bytes : List ℕ). Appends old new bytes)
-    (int32_streams stored.schema (map batch_slots stored.batches) known.0 (widths_of_slots (length stored.schema.fields) stored.batches known.1)))
-    written
+-- the messages of a table of such columns
+messages_are : (stored : Stored) → IsInt32Table stored.schema stored.batches
+    → int32_messages stored.schema (map batch_slots stored.batches) ≡ table_messages stored
+messages_are stored known =
+    int32_streams stored.schema (map batch_slots stored.batches) known.0 (widths_of_slots (length stored.schema.fields) stored.batches known.1)
+
+-- the bytes of their stream
+bytes_are : (stored : Stored) → bytes_of_stream (table_messages stored) ≡ table_bytes stored
+unfolding stream_bytes
+bytes_are stored = refl
+
+-- why a table's stream isn't written
+pub table_refused : (error : Error) (stored : Stored) (before after : ℕ) (old new : Option (List ℕ))
+    → IsInt32Table stored.schema stored.batches
+    → AppendsBeginning old new (bytes_of_stream (int32_messages stored.schema (map batch_slots stored.batches)))
+    × IsWriteError (StopsAtTooLong old new (int32_messages stored.schema (map batch_slots stored.batches))) before after error
+    → AppendsBeginning old new (table_bytes stored) × IsWriteFault (StopsAtTooLong old new (table_messages stored)) before after (fault_of error)
+table_refused error stored before after old new known refused =
+    let all = subst (λ (messages : List Written). AppendsBeginning old new (bytes_of_stream messages)
+    × IsWriteError (StopsAtTooLong old new messages) before after error) (messages_are stored known) refused in (
+      subst (λ (bytes : List ℕ). AppendsBeginning old new bytes) (bytes_are stored) all.0,
+      fault_is error before after (λ (long : StopsAtTooLong old new (table_messages stored)). long) all.1,
+    )
+
+-- what a table's stream is, by its messages
+pub table_written : (stored : Stored) (old new : Option (List ℕ)) → IsInt32Table stored.schema stored.batches
+    → (list_all fits_limit (int32_messages stored.schema (map batch_slots stored.batches)) ≡ true)
+    × Appends old new (bytes_of_stream (int32_messages stored.schema (map batch_slots stored.batches)))
+    → (list_all fits_limit (table_messages stored) ≡ true) × Appends old new (table_bytes stored)
+table_written stored old new known written =
+    let all = subst (λ (messages : List Written). (list_all fits_limit messages ≡ true) × Appends old new (bytes_of_stream messages))
+    (messages_are stored known) written in
+    (all.0, subst (λ (bytes : List ℕ). Appends old new bytes) (bytes_are stored) all.1)

@@ -1,16 +1,13 @@
 -- Columns, batches and streams of signed 32-bit numbers as they are written: the case of the general definitions.
-use Rattle.std.specs.Prelude.{ℕ, List, [], ◌∷◌, ◌++◌, length, map}
+use Rattle.std.specs.Prelude.{ℕ, List, [], ◌∷◌, map}
 use Rattle.std.specs.List.{flat_map}
 use Rattle.std.specs.Int.{w32}
-use Rattle.ipc_format.specs.Objects.{laid}
-use Rattle.ipc_format.specs.SchemaObjects.{message_object, record_batch_object}
 use Rattle.nested_arrays.specs.Slots.{Slot}
 use Rattle.columnar_memory.specs.declared.Schema.{Schema}
-use Rattle.ipc_format.specs.Schemas.{IdsList}
-use Rattle.ipc_format.specs.SchemaObjects.{schema_message}
+use Rattle.ipc_format.specs.Schemas.{no_ids}
 use Rattle.ipc_format_written.specs.Buffers.{bits_by, bitmap_by, is_valid, validity_bytes, number_bytes}
-use Rattle.ipc_format_written.specs.Encoding.{node_of}
-use Rattle.ipc_format_written.specs.WrittenMessages.{framed, end_mark, body_bytes, buffer_places, record_tag}
+use Rattle.ipc_format_written.specs.Encoding.{Encoded, node_of}
+use Rattle.ipc_format_written.specs.WrittenMessages.{Written, message_of, batch_object, record_tag, schema_written}
 use Rattle.ipc_format_written.specs.WrittenStreams.{rows_of_slots}
 
 -- the four bytes of a number, and zeros under a null
@@ -31,13 +28,16 @@ int32_buffers slots = validity_bytes slots ∷ flat_map value_bytes slots ∷ []
 abbrev pub nodes_of : List (List Slot) → List (ℕ × ℕ)
 nodes_of columns = map node_of columns
 
--- a record batch message of such columns
-unfoldable pub int32_message : List (List Slot) → List ℕ
-int32_message columns =
-    let buffers = flat_map int32_buffers columns in
-    let header = record_batch_object (rows_of_slots columns) (nodes_of columns) (buffer_places 0 buffers) in
-    framed (laid (message_object record_tag header (length (body_bytes buffers)))) (body_bytes buffers)
+-- such columns as they are written together
+abbrev pub int32_together : List (List Slot) → Encoded
+int32_together columns = record { nodes = nodes_of columns; buffers = flat_map int32_buffers columns }
 
--- a whole stream of such batches
-unfoldable pub int32_stream : Schema → IdsList → List (List (List Slot)) → List ℕ
-int32_stream schema ids batches = framed (laid (schema_message schema ids)) [] ++ flat_map int32_message batches ++ end_mark
+-- the record batch message of such columns
+unfoldable pub int32_message : List (List Slot) → Written
+int32_message columns =
+    let together = int32_together columns in
+    message_of record_tag (batch_object (rows_of_slots columns) together) together.buffers
+
+-- the messages of a stream of such batches
+unfoldable pub int32_messages : Schema → List (List (List Slot)) → List Written
+int32_messages schema batches = schema_written schema no_ids ∷ map int32_message batches

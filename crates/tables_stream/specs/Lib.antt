@@ -1,4 +1,5 @@
 pub mod Texts
+pub mod Devices
 pub mod Refusals
 pub mod Supported
 pub mod Frames

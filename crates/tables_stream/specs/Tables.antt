@@ -4,11 +4,12 @@ use Rattle.columnar_memory.specs.declared.Schema.{Schema}
 use Rattle.nested_arrays.specs.Slots.{Slot}
 use Rattle.nested_arrays.specs.Tables.{Table, rows_of_batches}
 use Rattle.ipc_format.specs.Ids.{default_ids}
-use Rattle.ipc_format.specs.WrittenStreams.{batch_of_slots, stream_bytes}
+use Rattle.ipc_format.specs.WrittenMessages.{Written}
+use Rattle.ipc_format.specs.WrittenStreams.{Batch, batch_of_slots, stream_messages, stream_bytes}
 use Rattle.tables_metadata.specs.Int32Schemas.{IsInt32Schema}
 use Rattle.tables_stream.specs.Cells.{slot_of}
 use Rattle.tables_stream.specs.Batches.{window_cells, rows_of_cells}
-use Rattle.tables_stream.specs.declared.batches.Batch.{Batch}
+use Rattle.tables_stream.specs.declared.batches.Batch as code
 
 -- a schema, and batch by batch the cells of each column
 pub record Stored : Type 0 where
@@ -20,7 +21,7 @@ abbrev pub row_count : Stored → ℕ
 row_count table = sum_by rows_of_cells table.batches
 
 -- the cells of a batch
-abbrev pub stored_cells : Batch → List (List (Option ℤ))
+abbrev pub stored_cells : code.Batch → List (List (Option ℤ))
 stored_cells batch = window_cells batch.start batch.rows batch.columns.value.items
 
 -- the slots of a batch's cells
@@ -35,8 +36,14 @@ as_table stored = record { schema = stored.schema; rows = rows_of_batches (map b
 abbrev pub IsInt32Table : Schema → List (List (List (Option ℤ))) → Type 0
 IsInt32Table schema batches = IsInt32Schema schema × All (λ columns. length columns ≡ length schema.fields) batches
 
--- the stream of a table: its schema, and a record batch message a batch
+-- the batches of a table as they are written, with the ids of its schema's dictionaries from 0
+abbrev pub written_batches : Stored → List Batch
+written_batches stored = map (batch_of_slots stored.schema.fields (default_ids stored.schema.fields)) (map batch_slots stored.batches)
+
+-- the messages of a table's stream: its schema, and a record batch message a batch
+abbrev pub table_messages : Stored → List Written
+table_messages stored = stream_messages stored.schema (default_ids stored.schema.fields) (written_batches stored)
+
+-- the stream of a table
 abbrev pub table_bytes : Stored → List ℕ
-table_bytes stored =
-    let ids = default_ids stored.schema.fields in
-    stream_bytes stored.schema ids (map (batch_of_slots stored.schema.fields ids) (map batch_slots stored.batches))
+table_bytes stored = stream_bytes stored.schema (default_ids stored.schema.fields) (written_batches stored)

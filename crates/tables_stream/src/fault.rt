@@ -6,6 +6,7 @@ ghost use Rattle.tables_stream.specs.declared.fault.Fault.TheVariants.{Memory};
 
 use columnar_memory::Error;
 use std::alloc::{AllocError, AllocFailed};
+use std::fmt;
 
 /// Why a schema may not be sealed: the first of these that holds anywhere in it.
 #[derive(Clone, Copy, Debug, PartialEq, Eq)]
@@ -18,34 +19,25 @@ pub enum SealBar {
 }
 
 /// Why a call on tables was refused.
-#[derive(Debug, Drop, thiserror::Error)]
+#[derive(Debug, Drop)]
 pub enum Fault {
     /// There was no memory.
-    #[error("out of memory")]
     Memory,
     /// The bytes of a stream or a file were refused, or could not be written.
-    #[error("ipc: {0}")]
     Ipc(Error),
     /// A cell, or a batch of rows, doesn't fit its column.
-    #[error("lower: {0}")]
     Lower(Error),
     /// A stream ends where its next message or its end mark would begin.
-    #[error("unfinished stream")]
     Unfinished,
     /// The schema may not be sealed.
-    #[error("not sealable: {0:?}")]
     NotSealable(SealBar),
     /// A row has another number of cells than the table has columns.
-    #[error("row of another width")]
     RowWidth,
     /// A table without columns takes no row.
-    #[error("no columns")]
     NoColumns,
     /// The number of rows doesn't fit 64 bits.
-    #[error("too many rows")]
     TooManyRows,
     /// A chosen column isn't below the number of columns.
-    #[error("no such column")]
     NoSuchColumn,
 }
 
@@ -67,6 +59,20 @@ impl Fault {
         }
     }
 }
+
+/// Prints a fault's text.
+impl fmt::Display for Fault {
+    ghost use Rattle.std.specs.Prelude.{Some};
+    ghost use Rattle.tables_stream.specs.Texts.{text_of};
+
+    ghost output = { λ fault. Some (text_of fault) };
+
+    fn fmt<W: fmt::Write>(&self, f: &mut fmt::Formatter<W>) -> fmt::Result {
+        f.write_str(self.text())
+    }
+}
+
+impl std::error::Error for Fault {}
 
 fn ipc_text(error: &Error) -> &'static str
     ensures { result.now ≡ ipc_text_of error.now }

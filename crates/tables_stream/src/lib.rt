@@ -17,6 +17,6 @@ mod table;
 mod writing;
 
 pub use fault::{Fault, SealBar};
-pub use output::Faults;
+pub use output::{Faults, put, refusal};
 pub use reading::Form;
 pub use table::Table;

@@ -1,7 +1,6 @@
 //! Writing to a device whose failures are counted.
-ghost use Rattle.std.specs.Prelude.{◌≡◌, OnOk, IfErr};
-ghost use Rattle.std.specs.Io.KnownBytes.{Appends};
-ghost use Rattle.tables_stream.specs.Refusals.{IsDeviceError};
+ghost use Rattle.std.specs.Prelude.{◌≡◌};
+ghost use Rattle.tables_stream.specs.Devices.{Puts, IsNamed};
 
 use columnar_memory::{Error, Result};
 use std::io;
@@ -9,52 +8,64 @@ use std::io::{ErrorKind, Write};
 
 /// A device that counts its failures, so that a failure is told from an end.
 pub trait Faults {
+    ghost use Rattle.std.specs.Prelude.{ℕ};
+
+    // How often the device has failed so far.
+    ghost failures: { Self → ℕ };
+
     /// How often the device has failed so far. At its greatest number the count stays.
-    fn faults(&self) -> u64;
+    fn faults(&self) -> u64
+        ensures { result ≡ failures self.now };
 }
 
 /// Memory never fails as a device does.
 impl Faults for Vec<u8> {
+    ghost failures = { λ _. 0 };
+
     fn faults(&self) -> u64 {
         0
     }
 }
 
 impl<T: Faults> Faults for &mut T {
+    ghost failures = { λ device. T.failures device.now };
+
     fn faults(&self) -> u64 {
         (**self).faults()
     }
 }
 
-/// What a failed write says: `OutOfMemory` for want of memory, `Io` where the count of failures rose, and else `OutOfSpec`.
-fn refusal(error: io::Error, has_failed: bool) -> Error
-    ensures { IsDeviceError result }
+/// What a refusal is called whose device had failed `before` times before the call, and has failed `after` times now. A device's refusal
+/// is `Io` where it failed in the call, and else `OutOfMemory` for want of memory and `OutOfSpec`; another error keeps its name.
+pub fn refusal(error: Error, before: u64, after: u64) -> Error
+    ensures { IsNamed error before after result }
 {
-    if has_failed {
-        Error::Io(error)
-    } else if error.kind() == ErrorKind::OutOfMemory {
-        Error::OutOfMemory
-    } else {
-        Error::OutOfSpec("a write was refused")
+    match error {
+        Error::Io(error) => {
+            if before < after {
+                Error::Io(error)
+            } else if error.kind() == ErrorKind::OutOfMemory {
+                Error::OutOfMemory
+            } else {
+                Error::OutOfSpec("a write was refused")
+            }
+        }
+        other => other,
     }
 }
 
 /// Writes all bytes, in as many writes as the device takes.
 ///
-/// - `Io`: the device failed; its count of failures rose.
-/// - `OutOfSpec`: it took nothing of a piece, or refused it without a failure.
-/// - `OutOfMemory`: it had no memory for them.
-pub fn put<W: Write + Faults>(writer: &mut W, bytes: &[u8]) -> Result<()>
-    ensures written { OnOk result (Appends (W.contents writer.old) (W.contents writer.new) bytes.now) }
-    ensures refused { IfErr result IsDeviceError }
+/// - `Io`: the device refused a piece, or took nothing of it. `refusal` says what that is called. A beginning of the bytes is written.
+pub fn put<W: Write>(writer: &mut W, bytes: &[u8]) -> Result<()>
+    ensures { Puts result (W.contents writer.old) (W.contents writer.new) bytes.now }
 {
     let mut rest = bytes;
     while !rest.is_empty() {
-        let before = writer.faults();
         match writer.write(rest) {
-            Ok(0) => return Err(Error::OutOfSpec("a write took nothing")),
+            Ok(0) => return Err(Error::Io(io::Error::from(ErrorKind::WriteZero))),
             Ok(count) => rest = &rest[count..],
-            Err(error) => return Err(refusal(error, writer.faults() > before)),
+            Err(error) => return Err(Error::Io(error)),
         }
     }
     Ok(())

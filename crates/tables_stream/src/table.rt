@@ -1,10 +1,9 @@
 //! Tables: a schema, and rows batch by batch.
-ghost use Rattle.std.specs.Prelude.{◌≡◌, ◌+◌, ◌≤◌, ◌<◌, ◌^◌, ◌↔◌, IsTrue, IfOk, IfErr, OnOk, length, map};
-ghost use Rattle.std.specs.Io.KnownBytes.{Appends};
+ghost use Rattle.std.specs.Prelude.{◌≡◌, ◌+◌, ◌≤◌, ◌<◌, ◌^◌, ◌↔◌, IsTrue, IfOk, IfErr, length, map};
 ghost use Rattle.nested_arrays.specs.Tables.{part};
 ghost use Rattle.tables_stream.specs.Cuts.{cut_of};
-ghost use Rattle.tables_stream.specs.Refusals.{IsWriteFault};
-ghost use Rattle.tables_stream.specs.Tables.{row_count, as_table, table_bytes};
+ghost use Rattle.tables_stream.specs.Refusals.{WritesStream};
+ghost use Rattle.tables_stream.specs.Tables.{row_count, as_table};
 ghost use Rattle.tables_metadata.specs.Int32Schemas.{IsInt32Schema};
 ghost use Rattle.ipc_format.specs.Messages.{Version};
 ghost use Rattle.tables_stream.specs.Reading.{ReadsTable, ReadsBatches};
@@ -110,19 +109,19 @@ impl Table {
 
     /// Writes the table as an Arrow stream (Arrow IPC, "IPC streaming format"), one record batch message a batch.
     ///
-    /// - `Ipc(Overflow)`: a message would be longer than Arrow's lengths go.
-    /// - `Ipc(Io)`: the writer failed.
+    /// # Errors
+    /// - `Ipc(Overflow)`: a message is longer than Arrow's lengths go. Exactly the messages before it are written.
+    /// - `Ipc(Io)`: the writer failed; its count of failures rose.
     /// - `Ipc(OutOfSpec)`: it took nothing of what was to be written, or refused it without a failure.
     /// - `Memory`: there was no memory, also in the writer.
     ///
-    /// What was written before an error stays written.
+    /// What was written before an error stays written: a beginning of the stream.
     pub fn write_stream<W: Write + Faults>(
         &self,
         alloc: Global,
         writer: &mut W,
     ) -> Result<(), Fault>
-        ensures written { OnOk result (Appends (W.contents writer.old) (W.contents writer.new) (table_bytes self.now)) }
-        ensures refused { IfErr result IsWriteFault }
+        ensures { WritesStream result self.now (W.failures writer.old) (W.failures writer.new) (W.contents writer.old) (W.contents writer.new) }
     {
         Ok(write_table(alloc, writer, &self.schema, &self.batches)?)
     }

@@ -1,10 +1,12 @@
 //! Streams from tables (Arrow IPC, "IPC streaming format"): the schema, a record batch message for each batch, and the end mark.
 ghost use Rattle.std.specs.Prelude.{◌≡◌, ◌+◌, ◌-◌, ◌*◌, ◌%◌, ◌≤◌, ◌<◌, ◌^◌, ◌++◌, [], length, map, replicate, OnOk, IfOk, IfErr, slice_range};
+ghost use Rattle.columnar_memory.specs.declared.Error.TheVariants.{OutOfMemory};
 ghost use Rattle.tables_metadata.specs.Int32Schemas.{IsInt32Schema};
-ghost use Rattle.tables_stream.specs.Refusals.{IsDeviceError, IsWriteError};
+ghost use Rattle.tables_metadata.specs.Writing.{FitsPrefix};
+ghost use Rattle.tables_stream.specs.Devices.{Puts};
+ghost use Rattle.tables_stream.specs.Refusals.{IsLayoutRefusal, PutsMessage, PutsStream, WritesMessages};
 ghost use Rattle.std.specs.Int.{next_multiple_of};
 ghost use Rattle.std.specs.List.{flat_map};
-ghost use Rattle.std.specs.Io.KnownBytes.{Appends};
 ghost use Rattle.ipc_format_written.specs.Buffers as buffers_format;
 ghost use Rattle.tables_stream.specs.Int32Written as int32_written;
 ghost use Rattle.ipc_format_written.specs.WrittenMessages as messages_format;
@@ -15,7 +17,7 @@ ghost use Rattle.tables_stream.specs.Tables.{stored_cells, batch_slots};
 
 use crate::batches::Batch;
 use crate::column::Column;
-use crate::output::{Faults, put};
+use crate::output::{Faults, put, refusal};
 use columnar_memory::{Error, Result, Schema};
 use std::alloc::Global;
 use std::io::Write;
@@ -25,8 +27,6 @@ use tables_metadata::{record_batch_message, schema_message};
 const MARKER: [u8; 4] = [0xff; 4];
 /// A length of 0, which ends a stream.
 const END: [u8; 8] = [0xff, 0xff, 0xff, 0xff, 0, 0, 0, 0];
-/// The most bytes of metadata with the eight bytes before it.
-const MOST_METADATA: usize = 2_147_483_640;
 /// Buffers begin at multiples of this.
 const ALIGNMENT: usize = 64;
 
@@ -38,10 +38,12 @@ const BITS_AT_ONCE: usize = 32_768;
 
 /// Writes a schema and batches as a stream.
 ///
-/// - `Overflow`: a message would be longer than Arrow's lengths go.
-/// - `Io`, `OutOfSpec`, `OutOfMemory`: the device failed, took nothing, or had no memory.
+/// - `Overflow`: a message would be longer than Arrow's lengths go. The messages before it are written.
+/// - `Io`: the device failed; its count of failures rose.
+/// - `OutOfSpec`: it took nothing of a piece, or refused it without a failure.
+/// - `OutOfMemory`: it had no memory, or there was none for a message's metadata.
 ///
-/// What was written before an error stays written.
+/// What was written before an error stays written: a beginning of the stream.
 pub fn write_table<W: Write + Faults>(
     alloc: Global,
     writer: &mut W,
@@ -49,26 +51,48 @@ pub fn write_table<W: Write + Faults>(
     batches: &[Batch],
 ) -> Result<()>
     requires { IsInt32Schema schema.now }
-    ensures written { OnOk result (Appends (W.contents writer.old) (W.contents writer.new)
-        (int32_written.int32_stream schema.now no_ids (map batch_slots (map stored_cells batches.now)))) }
-    ensures refused { IfErr result IsWriteError }
+    ensures { WritesMessages result (int32_written.int32_messages schema.now (map batch_slots (map stored_cells batches.now)))
+        (W.failures writer.old) (W.failures writer.new) (W.contents writer.old) (W.contents writer.new) }
 {
-    let metadata = schema_message(alloc, schema)?;
-    put_metadata(writer, &metadata)?;
+    let before = writer.faults();
+    match put_stream(alloc, writer, schema, batches) {
+        Ok(()) => Ok(()),
+        Err(error) => Err(refusal(error, before, writer.faults())),
+    }
+}
+
+/// Writes a schema and batches as a stream; `Io` is each refusal of the device.
+fn put_stream<W: Write>(
+    alloc: Global,
+    writer: &mut W,
+    schema: &Schema,
+    batches: &[Batch],
+) -> Result<()>
+    requires { IsInt32Schema schema.now }
+    ensures { PutsStream result (W.contents writer.old) (W.contents writer.new)
+        (int32_written.int32_messages schema.now (map batch_slots (map stored_cells batches.now))) }
+{
+    put_schema(alloc, writer, schema)?;
     for batch in batches {
         put_batch(alloc, writer, batch)?;
     }
     put(writer, &END)
 }
 
-/// Writes a message's marker, its length and its metadata.
-fn put_metadata<W: Write + Faults>(writer: &mut W, metadata: &[u8]) -> Result<()>
-    ensures written { OnOk result (Appends (W.contents writer.old) (W.contents writer.new) (messages_format.framed metadata.now [])) }
-    ensures refused { IfErr result IsWriteError }
+/// Writes the message of a schema.
+fn put_schema<W: Write>(alloc: Global, writer: &mut W, schema: &Schema) -> Result<()>
+    requires { IsInt32Schema schema.now }
+    ensures { PutsMessage result (W.contents writer.old) (W.contents writer.new) (messages_format.schema_written schema.now no_ids) }
 {
-    if metadata.len() > MOST_METADATA - 8 {
-        return Err(Error::Overflow);
-    }
+    let metadata = schema_message(alloc, schema)?;
+    put_metadata(writer, &metadata)
+}
+
+/// Writes a message's marker, its length and its metadata.
+fn put_metadata<W: Write>(writer: &mut W, metadata: &[u8]) -> Result<()>
+    requires { FitsPrefix metadata.now }
+    ensures { Puts result (W.contents writer.old) (W.contents writer.new) (messages_format.framed metadata.now []) }
+{
     let length = metadata.len() as u32;
     put(writer, &MARKER)?;
     put(writer, &length.to_le_bytes())?;
@@ -76,10 +100,9 @@ fn put_metadata<W: Write + Faults>(writer: &mut W, metadata: &[u8]) -> Result<()
 }
 
 /// Writes a batch: its metadata, and for each column the validity bitmap, if a cell is null, and the values.
-fn put_batch<W: Write + Faults>(alloc: Global, writer: &mut W, batch: &Batch) -> Result<()>
-    ensures written { OnOk result (Appends (W.contents writer.old) (W.contents writer.new)
-        (int32_written.int32_message (batch_slots (stored_cells batch.now)))) }
-    ensures refused { IfErr result IsWriteError }
+fn put_batch<W: Write>(alloc: Global, writer: &mut W, batch: &Batch) -> Result<()>
+    ensures { PutsMessage result (W.contents writer.old) (W.contents writer.new)
+        (int32_written.int32_message (batch_slots (stored_cells batch.now))) }
 {
     let layout = layout_of(alloc, batch)?;
     let rows = batch.rows as u64;
@@ -114,7 +137,8 @@ fn layout_of(alloc: Global, batch: &Batch) -> Result<Layout>
         map buffers_format.null_count (batch_slots (stored_cells batch.now))) }
     ensures body { IfOk result (λ layout. layout.body_length ≡
         length (messages_format.body_bytes (buffers_of (batch_slots (stored_cells batch.now))))) }
-    ensures refused { IfErr result IsWriteError }
+    ensures limit { IfOk result (λ layout. layout.body_length < messages_format.body_limit) }
+    ensures refused { IfErr result (IsLayoutRefusal (length (messages_format.body_bytes (buffers_of (batch_slots (stored_cells batch.now)))))) }
 {
     let mut nodes = Vec::new(alloc);
     let mut buffers = Vec::new(alloc);
@@ -134,11 +158,10 @@ fn layout_of(alloc: Global, batch: &Batch) -> Result<Layout>
 }
 
 /// Writes the buffers of a batch's columns, of which `null_counts` says how many cells are null.
-fn put_body<W: Write + Faults>(writer: &mut W, batch: &Batch, null_counts: &[usize]) -> Result<()>
+fn put_body<W: Write>(writer: &mut W, batch: &Batch, null_counts: &[usize]) -> Result<()>
     requires { null_counts.now ≡ map buffers_format.null_count (batch_slots (stored_cells batch.now)) }
-    ensures written { OnOk result (Appends (W.contents writer.old) (W.contents writer.new)
-        (messages_format.body_bytes (buffers_of (batch_slots (stored_cells batch.now))))) }
-    ensures refused { IfErr result IsDeviceError }
+    ensures { Puts result (W.contents writer.old) (W.contents writer.new)
+        (messages_format.body_bytes (buffers_of (batch_slots (stored_cells batch.now)))) }
 {
     for (k, column) in batch.columns.iter().enumerate() {
         put_column(writer, column, batch.start, batch.rows, null_counts[k])?;
@@ -147,7 +170,7 @@ fn put_body<W: Write + Faults>(writer: &mut W, batch: &Batch, null_counts: &[usi
 }
 
 /// Writes a column's validity bitmap, if one of the `nulls` cells is null, and its values.
-fn put_column<W: Write + Faults>(
+fn put_column<W: Write>(
     writer: &mut W,
     column: &Column,
     start: usize,
@@ -157,9 +180,8 @@ fn put_column<W: Write + Faults>(
     requires inside { start + rows ≤ length column.now }
     requires fits { start + rows < 2 ^ 64 }
     requires counted { nulls ≡ buffers_format.null_count (map slot_of (slice_range column.now start (start + rows))) }
-    ensures written { OnOk result (Appends (W.contents writer.old) (W.contents writer.new)
-        (messages_format.body_bytes (int32_written.int32_buffers (map slot_of (slice_range column.now start (start + rows)))))) }
-    ensures refused { IfErr result IsDeviceError }
+    ensures { Puts result (W.contents writer.old) (W.contents writer.new)
+        (messages_format.body_bytes (int32_written.int32_buffers (map slot_of (slice_range column.now start (start + rows))))) }
 {
     if nulls > 0 {
         put_validity(writer, column, start, rows)?;
@@ -182,7 +204,9 @@ fn lay_column(
         ++ struct_bytes (offset + next_multiple_of (validity_size count nulls) 64, 4 * count)) }
     ensures end { IfOk result (λ end. end ≡
         offset + next_multiple_of (validity_size count nulls) 64 + next_multiple_of (4 * count) 64) }
-    ensures refused { IfErr result IsWriteError }
+    ensures limit { IfOk result (λ end. end < messages_format.body_limit) }
+    ensures refused { IfErr result (IsLayoutRefusal
+        (offset + next_multiple_of (validity_size count nulls) 64 + next_multiple_of (4 * count) 64)) }
 {
     let count = count as u64;
     let nulls = nulls as u64;
@@ -200,7 +224,8 @@ fn lay_buffer(buffers: &mut Vec<u8>, offset: u64, length: u64) -> Result<u64>
     requires { offset % 64 ≡ 0 }
     ensures place { OnOk result (buffers.new.items ≡ buffers.old.items ++ struct_bytes (offset, length)) }
     ensures end { IfOk result (λ end. end ≡ offset + next_multiple_of length 64) }
-    ensures refused { IfErr result IsWriteError }
+    ensures limit { IfOk result (λ end. end < messages_format.body_limit) }
+    ensures refused { IfErr result (IsLayoutRefusal (offset + next_multiple_of length 64)) }
 {
     lay_struct(buffers, offset, length)?;
     let end = offset
@@ -216,7 +241,7 @@ fn lay_buffer(buffers: &mut Vec<u8>, offset: u64, length: u64) -> Result<u64>
 #[tactic(auto, unfolding(crate::specs::Structs::struct_bytes))]
 fn lay_struct(bytes: &mut Vec<u8>, first: u64, second: u64) -> Result<()>
     ensures written { OnOk result (bytes.new.items ≡ bytes.old.items ++ struct_bytes (first, second)) }
-    ensures refused { IfErr result IsWriteError }
+    ensures refused { IfErr result (λ error. error ≡ OutOfMemory) }
 {
     bytes.extend_from_slice(&first.to_le_bytes())?;
     bytes.extend_from_slice(&second.to_le_bytes())?;
@@ -225,10 +250,8 @@ fn lay_struct(bytes: &mut Vec<u8>, first: u64, second: u64) -> Result<()>
 
 /// Writes zeros after a buffer of `length` bytes.
 #[tactic(auto, using(crate::proofs::Appending::appends_nothing))]
-fn put_padding<W: Write + Faults>(writer: &mut W, length: usize) -> Result<()>
-    ensures written { OnOk result
-        (Appends (W.contents writer.old) (W.contents writer.new) (replicate ((64 - length % 64) % 64) 0)) }
-    ensures refused { IfErr result IsDeviceError }
+fn put_padding<W: Write>(writer: &mut W, length: usize) -> Result<()>
+    ensures { Puts result (W.contents writer.old) (W.contents writer.new) (replicate ((64 - length % 64) % 64) 0) }
 {
     let past = length % ALIGNMENT;
     if past == 0 {
@@ -239,17 +262,11 @@ fn put_padding<W: Write + Faults>(writer: &mut W, length: usize) -> Result<()>
 
 /// Writes the validity bitmap of `rows` cells of a column from `start` on: bit `i % 8` of byte `i / 8` is set where cell `i` of them
 /// isn't null.
-fn put_validity<W: Write + Faults>(
-    writer: &mut W,
-    column: &Column,
-    start: usize,
-    rows: usize,
-) -> Result<()>
+fn put_validity<W: Write>(writer: &mut W, column: &Column, start: usize, rows: usize) -> Result<()>
     requires inside { start + rows ≤ length column.now }
     requires fits { start + rows < 2 ^ 64 }
-    ensures written { OnOk result (Appends (W.contents writer.old) (W.contents writer.new)
-        (messages_format.padded_buffer (int32_written.bitmap_bytes rows (map slot_of (slice_range column.now start (start + rows)))))) }
-    ensures refused { IfErr result IsDeviceError }
+    ensures { Puts result (W.contents writer.old) (W.contents writer.new)
+        (messages_format.padded_buffer (int32_written.bitmap_bytes rows (map slot_of (slice_range column.now start (start + rows))))) }
 {
     let mut done = 0;
     while done < rows {
@@ -262,17 +279,11 @@ fn put_validity<W: Write + Faults>(
 }
 
 /// Writes the values of `rows` cells of a column from `start` on, with 0 for a null.
-fn put_values<W: Write + Faults>(
-    writer: &mut W,
-    column: &Column,
-    start: usize,
-    rows: usize,
-) -> Result<()>
+fn put_values<W: Write>(writer: &mut W, column: &Column, start: usize, rows: usize) -> Result<()>
     requires inside { start + rows ≤ length column.now }
     requires fits { start + rows < 2 ^ 64 }
-    ensures written { OnOk result (Appends (W.contents writer.old) (W.contents writer.new)
-        (messages_format.padded_buffer (flat_map int32_written.value_bytes (map slot_of (slice_range column.now start (start + rows)))))) }
-    ensures refused { IfErr result IsDeviceError }
+    ensures { Puts result (W.contents writer.old) (W.contents writer.new)
+        (messages_format.padded_buffer (flat_map int32_written.value_bytes (map slot_of (slice_range column.now start (start + rows))))) }
 {
     let mut done = 0;
     while done < rows {

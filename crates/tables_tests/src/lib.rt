@@ -6,4 +6,6 @@ mod commands;
 #[cfg(test)]
 mod metadata;
 #[cfg(test)]
+mod refusals;
+#[cfg(test)]
 mod samples;

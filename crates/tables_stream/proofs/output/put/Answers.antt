@@ -1,8 +1,11 @@
 -- What a write takes stands before what is left.
-use Rattle.tables_stream.proofs.Appending.{appends_part}
+use Rattle.std.proofs.Common.{refl, []}
+use Rattle.tables_stream.proofs.Appending.{appends_nothing, appends_part, begins_kept}
 use Rattle.tables_stream.proofs.output.put.Goals as goal
 
-pub loop-writer-preserved : goal.loop-writer-preserved
-loop-writer-preserved g c =
-    λ written rest. c.loop-writer.invariant written
-    (appends_part _ _ written c.loop-writer.rest.now c.in-Ok.count c.in-Ok.ensures.bytes rest)
+pub loop-rest-init : goal.loop-rest-init
+loop-rest-init g c = ([], refl, appends_nothing _)
+
+pub loop-rest-preserved : goal.loop-rest-preserved
+loop-rest-preserved g c =
+    appends_part _ _ _ _ c.loop-rest.rest.now c.in-Ok.count c.loop-rest.invariant c.in-Ok.ensures.bytes

@@ -1,13 +1,11 @@
--- Whatever is written when the rest is, all bytes are written; the rest gets shorter with each write.
-use Rattle.std.proofs.Common.{ℕ, List, length}
-use Rattle.std.specs.Prelude.{Option}
+-- What is written so far stands before the rest, which gets shorter with each write.
+use Rattle.std.proofs.Common.{◌≡◌, ◌++◌, List, ℕ, length}
 use Rattle.std.specs.Io.KnownBytes.{Appends}
 use Rattle.tables_stream.proofs.output.put.Given as goal
 
-abbrev pub invariant-loop-writer : goal.invariant-loop-writer
-invariant-loop-writer g l =
-    (written : Option (List ℕ)) → Appends (g.W.Write.contents l.writer) written l.rest →
-    Appends (g.W.Write.contents l.initial.writer) written l.bytes
+abbrev pub invariant-loop-rest : goal.invariant-loop-rest
+invariant-loop-rest g l =
+    (done : List ℕ) × (l.bytes ≡ done ++ l.rest) × Appends (g.W.Write.contents l.initial.writer) (g.W.Write.contents l.writer) done
 
-abbrev pub decreases-loop-writer : goal.decreases-loop-writer
-decreases-loop-writer g l = length l.rest
+abbrev pub decreases-loop-rest : goal.decreases-loop-rest
+decreases-loop-rest g l = length l.rest

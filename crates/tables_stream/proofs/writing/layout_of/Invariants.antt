@@ -1,5 +1,5 @@
 -- The columns so far are laid out.
-use Rattle.std.proofs.Common.{◌≡◌, ◌%◌, length, map, take}
+use Rattle.std.proofs.Common.{◌≡◌, ◌<◌, ◌%◌, length, map, take}
 use Rattle.std.specs.List.{flat_map}
 use Rattle.ipc_format_written.specs.Buffers as buffers_format
 use Rattle.tables_stream.specs.Int32Written as int32_written
@@ -17,3 +17,4 @@ invariant-loop-column l =
     × (l.null_counts.items ≡ map buffers_format.null_count slots)
     × (l.body_length ≡ length (messages_format.body_bytes (buffers_of slots)))
     × (l.body_length % 64 ≡ 0)
+    × (l.body_length < messages_format.body_limit)

@@ -1,7 +1,7 @@
 -- The zeros that are written.
 use Rattle.std.proofs.Common.{arith}
-use Rattle.tables_stream.proofs.Appending.{on_ok, zeros_behind}
+use Rattle.tables_stream.proofs.Appending.{puts_same, zeros_behind}
 use Rattle.tables_stream.proofs.writing.put_padding.Goals as goal
 
-pub returns-clause-written : goal.returns-clause-written
-returns-clause-written g c = on_ok c.put.result (zeros_behind _ _ c.args.length (omega arith)) c.put.ensures.written
+pub returns : goal.returns
+returns g c = puts_same c.put.result _ _ _ _ (zeros_behind c.args.length (omega arith)) c.put.ensures

@@ -1,18 +1,40 @@
--- What was written is the table's stream.
-use Rattle.std.proofs.Common.{rules, map}
-use Rattle.std.specs.Prelude.{OnOk}
+-- What was written is the table's stream, or a beginning of it.
+use Rattle.std.proofs.Common.{rules, ◌≡◌, ℕ, List, map, true, subst}
+use Rattle.std.specs.Prelude.{Option}
 use Rattle.std.specs.Io.KnownBytes.{Appends}
-use Rattle.ipc_format.specs.Schemas.{no_ids}
-use Rattle.tables_stream.specs.Int32Written.{int32_stream}
+use Rattle.std.specs.List.{list_all}
+use Rattle.ipc_format.specs.WrittenMessages.{fits_limit}
+use Rattle.tables_stream.specs.Devices.{AppendsBeginning}
+use Rattle.tables_stream.specs.Int32Written.{int32_messages}
+use Rattle.tables_stream.specs.Refusals.{bytes_of_stream, StopsAtTooLong, IsWriteError}
 use Rattle.tables_stream.specs.Tables.{Stored, batch_slots, stored_cells}
-use Rattle.tables_stream.proofs.Widths.{table_appended}
+use Rattle.tables_stream.specs.declared.batches.Batch.{Batch}
+use Rattle.tables_stream.proofs.Widths.{table_written, table_refused}
 use Rattle.tables_stream.proofs.table.Table.write_stream.Goals as goal
 
-pub returns-clause-written : goal.returns-clause-written
-returns-clause-written g c =
+pub returns-in_err-write_table : goal.returns-in_err-write_table
+returns-in_err-write_table g c =
     let stored : Stored = record { schema = c.self.inside.schema; batches = map stored_cells c.self.inside.batches.items } in
-    let written : OnOk c.write_table.result (Appends (g.W.Write.contents c.args.writer.now) (g.W.Write.contents c.write_table.new.writer)
-    (int32_stream stored.schema no_ids (map batch_slots stored.batches))) = search rules in
-    let whole = table_appended c.write_table.result (g.W.Write.contents c.args.writer.now) (g.W.Write.contents c.write_table.new.writer) stored
-    c.self.invariant.1 written in
+    let old : Option (List ℕ) = g.W.Write.contents c.args.writer.now in
+    let new : Option (List ℕ) = g.W.Write.contents c.write_table.new.writer in
+    let before : ℕ = g.W.Faults.failures c.args.writer.now in
+    let after : ℕ = g.W.Faults.failures c.write_table.new.writer in
+    let error = c.in_err-write_table.field-0.0 in
+    let known = subst (λ (batches : List Batch).
+    AppendsBeginning old new (bytes_of_stream (int32_messages stored.schema (map batch_slots (map stored_cells batches))))
+    × IsWriteError (StopsAtTooLong old new (int32_messages stored.schema (map batch_slots (map stored_cells batches)))) before after error)
+    c.deref.ensures.value c.in_err-write_table.ensures in
+    let whole = table_refused error stored before after old new c.self.invariant.1 known in
+    search (rules, whole)
+
+pub returns : goal.returns
+returns g c =
+    let stored : Stored = record { schema = c.self.inside.schema; batches = map stored_cells c.self.inside.batches.items } in
+    let old : Option (List ℕ) = g.W.Write.contents c.args.writer.now in
+    let new : Option (List ℕ) = g.W.Write.contents c.write_table.new.writer in
+    let known = subst (λ (batches : List Batch).
+    (list_all fits_limit (int32_messages stored.schema (map batch_slots (map stored_cells batches))) ≡ true)
+    × Appends old new (bytes_of_stream (int32_messages stored.schema (map batch_slots (map stored_cells batches)))))
+    c.deref.ensures.value c.in_ok-write_table.ensures in
+    let whole = table_written stored old new c.self.invariant.1 known in
     search (rules, whole)
