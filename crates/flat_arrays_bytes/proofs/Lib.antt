@@ -1,0 +1,6 @@
+pub mod Cuts
+pub mod Nulls
+pub mod Places
+pub mod Ranges
+pub mod Slots
+pub mod TextCuts

@@ -1,0 +1,15 @@
+//! Arrays of byte strings and of texts: values of any length between offsets, with validity marks (Arrow columnar format,
+//! "Variable-size Binary Layout").
+#![tactic(auto)]
+
+mod binary;
+mod column;
+mod iterators;
+mod laws;
+mod texts;
+mod utf8;
+
+pub use binary::BinaryArray;
+pub use iterators::{BinaryValueIter, Utf8ValuesIter};
+pub use laws::{a_cut_has_a_range_of_the_slots, a_cut_of_a_cut_is_one_cut};
+pub use utf8::Utf8Array;
