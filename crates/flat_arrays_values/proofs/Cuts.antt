@@ -14,7 +14,8 @@ use Rattle.flat_arrays_values.specs.Flat.{Flat, flat, cut, cut_mask, marks, mark
 abbrev slots : {V : Type 0} → List V → List Bool → List (Option V)
 slots values bits = map slot_of (zip values bits)
 
-drop-slots : {V : Type 0} (offset : ℕ) (values : List V) (bits : List Bool) → slots (drop offset values) (drop offset bits) ≡ drop offset (slots values bits)
+drop-slots : {V : Type 0} (offset : ℕ) (values : List V) (bits : List Bool) →
+    slots (drop offset values) (drop offset bits) ≡ drop offset (slots values bits)
 drop-slots zero values bits = refl
 drop-slots (suc offset) [] bits = refl
 drop-slots (suc offset) (value ∷ values) [] = slots-none (drop offset values)
@@ -24,7 +25,8 @@ drop-slots (suc offset) (value ∷ values) [] = slots-none (drop offset values)
     slots-none (value ∷ values) = refl
 drop-slots (suc offset) (value ∷ values) (b ∷ bits) = drop-slots offset values bits
 
-take-slots : {V : Type 0} (count : ℕ) (values : List V) (bits : List Bool) → slots (take count values) (take count bits) ≡ take count (slots values bits)
+take-slots : {V : Type 0} (count : ℕ) (values : List V) (bits : List Bool) →
+    slots (take count values) (take count bits) ≡ take count (slots values bits)
 take-slots zero values bits = refl
 take-slots (suc count) [] bits = refl
 take-slots (suc count) (value ∷ values) [] = refl

@@ -16,7 +16,8 @@ pub returns-then-not-is_place_below : goal.returns-then-not-is_place_below
 returns-then-not-is_place_below g c = (
   tt,
   λ all. true≢false (sym (c.is_place_below.ensures.1
-      (subst (λ key. IsPlaceBelow c.args.len (g.K.Number.value key)) (sym c.key-item.is) (all c.loop-key.key-index c.key-item.result c.loop-key-test.true)))
+      (subst (λ key. IsPlaceBelow c.args.len (g.K.Number.value key)) (sym c.key-item.is)
+      (all c.loop-key.key-index c.key-item.result c.loop-key-test.true)))
       ∙ c.if-not-is_place_below.true),
 )
 

@@ -8,4 +8,6 @@ use Rattle.flat_arrays_values.proofs.primitive.PrimitiveArray.from_values.Goals 
 pub returns : goal.returns
 returns g c =
     let run = c.in_ok-values.ensures.runs tt in
-    MatchResult-weaker c.from_vec.result c.from_vec.ensures (λ array same. (run.0, run.1, run.2, same ∙ ap (λ items. flat (type_of_primitive g.T.NativeType.PRIMITIVE) items None) run.3.0)) (λ e h. h)
+    let data_type = type_of_primitive g.T.NativeType.PRIMITIVE in
+    MatchResult-weaker c.from_vec.result c.from_vec.ensures
+    (λ array same. (run.0, run.1, run.2, same ∙ ap (λ items. flat data_type items None) run.3.0)) (λ e refused. refused)

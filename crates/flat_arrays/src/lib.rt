@@ -1,0 +1,12 @@
+//! Flat arrays under one name: arrays of numbers, booleans, byte strings and texts, which a contract sees as a data type, stored values
+//! and a mask.
+#![tactic(auto)]
+
+pub use flat_arrays_access::{ArrayAccessor, ArrayValuesIter};
+pub use flat_arrays_bytes::{BinaryArray, BinaryValueIter, Utf8Array, Utf8ValuesIter};
+pub use flat_arrays_values::{
+    BooleanArray, DaysMsArray, Int8Array, Int16Array, Int32Array, Int64Array, Int128Array,
+    Int256Array, MonthsDaysNsArray, PrimitiveArray, UInt8Array, UInt16Array, UInt32Array,
+    UInt64Array, a_cut_has_a_range_of_the_slots, a_cut_of_a_cut_is_one_cut, check_indexes,
+    there_is_a_slot_for_each_value,
+};
