@@ -20,6 +20,8 @@ use Rattle.std.proofs.Common.{
   refl,
   ap,
   ap₂,
+  sym,
+  append_assoc,
   arith,
 }
 use mir.Val.{bool_byte}
@@ -58,3 +60,9 @@ bits_with_more word count x b value is few small e =
     (window_same (bit x) (bit word) 0 0 count (λ (k : ℕ) (inside : k < count).
     bit_same x word (0 + k) (0 + k) (ap (λ n. number.bit_at n (0 + k)) cat ∙ bit_at_cat_low (bool_byte value) count word (0 + k) (omega arith))))
     last
+
+-- bits in front, those of a word and one more bit
+pub with_more : (front given held more : List Bool) (value : Bool) → front ++ held ≡ given → more ≡ held ++ value ∷ [] →
+    front ++ more ≡ given ++ value ∷ []
+with_more front given held more value is e =
+    ap (λ xs. front ++ xs) e ∙ sym (append_assoc front held (value ∷ [])) ∙ ap (λ xs. xs ++ value ∷ []) is

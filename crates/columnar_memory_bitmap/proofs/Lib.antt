@@ -1,5 +1,6 @@
 pub mod Combining
 pub mod Lists
+pub mod Passing
 pub mod Places
 pub mod RunLaws
 pub mod RunLemmas

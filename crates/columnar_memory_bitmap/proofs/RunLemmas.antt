@@ -7,7 +7,7 @@ use Rattle.std.proofs.lemmas.List.{length-drop, get_or-drop, get_or_default, sam
 use Rattle.std.proofs.lemmas.Option.{get_or_from_slice_get, same_Some}
 use Rattle.columnar_memory_bitmap.proofs.Lists.{length-window, get_or-window}
 use Rattle.columnar_memory_bits.specs.Windows.{window}
-use Rattle.columnar_memory_bitmap.specs.Runs.{joined, runs_at, BeginsFrom}
+use Rattle.columnar_memory_bitmap.specs.Runs.{joined, runs_at, BeginsFrom, Passes}
 use Rattle.columnar_memory_bitmap.proofs.RunLaws.{joined_next, joined_far, runs_begin}
 
 -- a place before runs that begin further on
@@ -79,22 +79,32 @@ read_at : (bits : List Bool) (k : ℕ) (b : Bool) → slice_get bits k ≡ Some 
 read_at bits k b is = get_or_from_slice_get bits k b false is
 
 -- falses up to the end
-pub no_run : (bits : List Bool) (place count : ℕ) → place + count ≡ length bits → ((k : ℕ) → k < count → slice_get bits (place + k) ≡ Some false) →
-    runs_at place (drop place bits) ≡ []
-no_run bits place count all falses =
-    let width : length bits - place ≡ count + 0 = omega arith in
+pub no_run : (bits : List Bool) (place end : ℕ) → Passes bits false place end → end ≡ length bits → runs_at place (drop place bits) ≡ []
+no_run bits place end falses all =
+    let count : ℕ = end - place in
+    let width : length bits - place ≡ count + 0 = omega (arith, falses.forward) in
     ap (λ xs. runs_at place xs) (list_window bits place) ∙ ap (λ n. runs_at place (window (λ k. get_or bits k false) place n)) width
     ∙ runs_at-falses (λ k. get_or bits k false) place place count 0
-    (λ (k : ℕ) (inside : k < count). read_at bits (place + k) false (falses k inside))
+    (λ (k : ℕ) (inside : k < count). read_at bits (place + k) false (falses.same k (omega arith)))
+
+-- nothing behind the end
+pub no_run_behind : (bits : List Bool) (place : ℕ) → place ≡ length bits → runs_at place (drop place bits) ≡ []
+no_run_behind bits place all =
+    no_run bits place place
+    (record {
+      forward = omega arith;
+      same = λ (k : ℕ) (inside : place + k < place). absurd (omega arith);
+      ends = λ (inside : place < length bits). absurd (omega arith);
+    }) all
 
 -- falses, and then trues up to the end or a false
-pub next_run : (bits : List Bool) (place count run : ℕ) → place + count + run ≤ length bits →
+next_counted : (bits : List Bool) (place count run : ℕ) → place + count + run ≤ length bits →
     ((k : ℕ) → k < count → slice_get bits (place + k) ≡ Some false) → 0 < run →
     ((k : ℕ) → k < run → slice_get bits (place + count + k) ≡ Some true) →
     (place + count + run < length bits → slice_get bits (place + count + run) ≡ Some false) →
     runs_at place (drop place bits) ≡ (place + count, run) ∷ runs_at (place + count + run) (drop (place + count + run) bits)
-next_run bits place count zero within falses some trues ends = absurd (omega arith)
-next_run bits place count (suc run) within falses some trues ends =
+next_counted bits place count zero within falses some trues ends = absurd (omega arith)
+next_counted bits place count (suc run) within falses some trues ends =
     let read : ℕ → Bool = λ (k : ℕ). get_or bits k false in
     let rest : ℕ = length bits - (place + count + suc run) in
     let width : length bits - place ≡ count + (suc run + rest) = omega arith in
@@ -107,9 +117,25 @@ next_run bits place count (suc run) within falses some trues ends =
     ∙ ap (λ xs. (place + count, suc run) ∷ runs_at (place + count + suc run) xs) (sym (list_window bits (place + count + suc run)))
 
 -- a run that begins with a true has one
-pub run_is_some : (bits : List Bool) (first run : ℕ) → first < length bits → slice_get bits first ≡ Some true →
+run_is_some : (bits : List Bool) (first run : ℕ) → first < length bits → slice_get bits first ≡ Some true →
     (first + run < length bits → slice_get bits (first + run) ≡ Some false) → 0 < run
 run_is_some bits first zero inside begins ends =
     let here : slice_get bits first ≡ Some false = ap (λ k. slice_get bits k) (sym (add-zero first)) ∙ ends (omega arith) in
     absurd (false≢true (same_Some false true (sym here ∙ begins)))
 run_is_some bits first (suc run) inside begins ends = omega arith
+
+-- a run between its first place and the place behind it
+pub next_run : (bits : List Bool) (place begin end : ℕ) → Passes bits false place begin → Passes bits true begin end → begin < length bits →
+    end ≤ length bits → runs_at place (drop place bits) ≡ (begin, end - begin) ∷ runs_at end (drop end bits)
+next_run bits place begin end falses trues inside within =
+    let count : ℕ = begin - place in
+    let run : ℕ = end - begin in
+    let first : place + count ≡ begin = omega (arith, falses.forward) in
+    let last : place + count + run ≡ end = omega (arith, falses.forward, trues.forward) in
+    let behind : begin + run ≡ end = omega (arith, trues.forward) in
+    let some : 0 < run = run_is_some bits begin run inside (falses.ends inside)
+    (λ (more : begin + run < length bits). ap (λ k. slice_get bits k) behind ∙ trues.ends (omega arith)) in
+    next_counted bits place count run (omega arith) (λ (k : ℕ) (near : k < count). falses.same k (omega arith)) some
+    (λ (k : ℕ) (near : k < run). ap (λ b. slice_get bits (b + k)) first ∙ trues.same k (omega arith))
+    (λ (more : place + count + run < length bits). ap (λ k. slice_get bits k) last ∙ trues.ends (omega arith))
+    ∙ ap₂ (λ (b e : ℕ). (b, run) ∷ runs_at e (drop e bits)) first last

@@ -1,6 +1,6 @@
 -- Bits compared by words.
 use Rattle.std.proofs.Common.{◌≡◌, ◌∙◌, ℕ, zero, suc, ◌+◌, ◌-◌, ◌*◌, ◌/◌, ◌%◌, ◌^◌, ◌≤◌, ◌<◌, Bool, true, false, List, [], ◌∷◌, ◌++◌, length, refl}
-use Rattle.std.proofs.Common.{ap, ap₂, sym, arith, if◌then◌else◌, Decides, ◌↔◌, IsTrue, ◌==◌, get_or, ⊎_elim}
+use Rattle.std.proofs.Common.{ap, ap₂, sym, arith, if◌then◌else◌, Decides, ◌↔◌, IsTrue, ◌==◌, get_or}
 use Rattle.std.proofs.Math.Bool.{beq}
 use Rattle.std.specs.Prelude.{slice_range}
 use Rattle.std.specs.Cmp.Lexicographic.{pointwise, pointwise_decides}
@@ -8,7 +8,6 @@ use Rattle.std.proofs.lemmas.Bool.Decides.{same_from_decides}
 use Rattle.std.specs.Int.{w64, bit_at, bit_not, trailing_zeros}
 use Rattle.std.specs.Int.Count.{trailing_of_zero}
 use Rattle.std.proofs.lemmas.Nat.{trailing_le}
-use Rattle.std.proofs.lemmas.Bool.{cases_lt}
 use Rattle.std.proofs.lemmas.Nat.Bits.{bit_at-zero, bit_at_lowest, bit_at-suc, bit_at-lt, bit_at_not, bit_at-trailing_zeros}
 use Rattle.columnar_memory_bits.specs.Bits.{bit}
 use Rattle.columnar_memory_bits.specs.Windows.{window}
@@ -103,21 +102,3 @@ zero_at n fits inside =
     let turned : bit_at (bit_not w64 n) (trailing_zeros w64 (bit_not w64 n)) ≡ 1 - bit_at n (trailing_zeros w64 (bit_not w64 n)) =
     bit_at_not w64 n (trailing_zeros w64 (bit_not w64 n)) fits inside in
     omega (arith, one_at (bit_not w64 n) (omega arith) inside, bit_at-lt n (trailing_zeros w64 (bit_not w64 n)))
-
--- bits of one value, and then those of a word
-pub same_further : (f : ℕ → Bool) (value : Bool) (first same count equal w : ℕ) → ((k : ℕ) → k < same → f (first + k) ≡ value) →
-    w ≡ word (window f (first + same) count) → equal ≤ count → ((k : ℕ) → k < equal → bit w k ≡ value) →
-    (k : ℕ) → k < same + equal → f (first + k) ≡ value
-same_further f value first same count equal w before is within equals k inside =
-    ⊎_elim (λ (near : k < same). before k near)
-    (λ (far : same ≤ k).
-    let place : first + k ≡ first + same + (k - same) = omega arith in
-    ap f place ∙ sym (ap (λ n. bit n (k - same)) is ∙ bit-word-window f (first + same) count (k - same) (omega arith))
-    ∙ equals (k - same) (omega arith))
-    (cases_lt k same)
-
-pub ends_there : (f : ℕ → Bool) (value : Bool) (first same count equal w : ℕ) →
-    w ≡ word (window f (first + same) count) → equal < count → bit w equal ≡ value → f (first + (same + equal)) ≡ value
-ends_there f value first same count equal w is within equals =
-    let place : first + (same + equal) ≡ first + same + equal = omega arith in
-    ap f place ∙ sym (ap (λ n. bit n equal) is ∙ bit-word-window f (first + same) count equal within) ∙ equals

@@ -1,5 +1,6 @@
 -- The runs of true in some booleans.
-use Rattle.std.specs.Prelude.{◌≡◌, ℕ, ◌+◌, ◌≤◌, ◌<◌, Bool, true, false, List, [], ◌∷◌, ◌⊎◌, Some, drop, slice_get, ◌==◌, if◌then◌else◌}
+use Rattle.std.specs.Prelude.{◌≡◌, ℕ, ◌+◌, ◌≤◌, ◌<◌, Bool, true, false, not, List, [], ◌∷◌, ◌⊎◌, Some, drop, length, slice_get, ◌==◌, if◌then◌else◌}
+use Rattle.columnar_memory_bits.specs.Bits.{bit}
 
 -- a place that is true, before the runs behind it: it begins the run that follows at once, or is a run of its own
 abbrev pub joined : ℕ → List (ℕ × ℕ) → List (ℕ × ℕ)
@@ -14,6 +15,18 @@ runs_at place (true ∷ bits) = joined place (runs_at (place + 1) bits)
 
 abbrev pub runs_of : List Bool → List (ℕ × ℕ)
 runs_of bits = runs_at 0 bits
+
+-- a word has n booleans from a place on in its lowest bits
+pub record HoldsBits (bits : List Bool) (place word n : ℕ) : Type 0 where
+  pub few : n ≤ 64
+  pub within : place + n ≤ length bits
+  pub same : (k : ℕ) → k < n → slice_get bits (place + k) ≡ Some (bit word k)
+
+-- from a place to another stand booleans of one value, and where they end none of it
+pub record Passes (bits : List Bool) (value : Bool) (from to : ℕ) : Type 0 where
+  pub forward : from ≤ to
+  pub same : (k : ℕ) → from + k < to → slice_get bits (from + k) ≡ Some value
+  pub ends : to < length bits → slice_get bits to ≡ Some (not value)
 
 -- a walk over the runs of some booleans that has come to a place
 pub record Walk : Type 0 where

@@ -9,10 +9,13 @@ ghost use Rattle.std.specs.Iterator.{IsFinite};
 ghost use Rattle.std.specs.Iterator.Runs.{WholeRun};
 ghost use Rattle.either.specs.Either.{MatchEither};
 ghost use Rattle.columnar_memory_bitmap.specs.Results.{FirstBits, OrOutOfMemory};
+ghost use Rattle.columnar_memory_bitmap.specs.Runs.{HoldsBits};
 
 use crate::MutableBitmap;
-use crate::equal::{equal_bits, same_bits};
-use columnar_memory_bits::{BitChunk, BitChunks, BitmapIter, bytes_for, count_zeros, get_bit};
+use crate::equal::same_bits;
+use columnar_memory_bits::{
+    BitChunk, BitChunks, BitmapIter, bytes_for, count_zeros, get_bit, load_word,
+};
 use columnar_memory_types::{Error, Result};
 use either::Either;
 use std::alloc::{AllocError, Global};
@@ -229,15 +232,14 @@ impl Bitmap {
         *self.bytes.allocator()
     }
 
-    /// How many bits have one value, from a place on.
+    /// Some bits, from a place on, as a word whose further bits are zeros.
     #[tactic(auto, using(crate::proofs::Lists::windows))]
-    pub(crate) fn equal_from(&self, from: usize, value: bool) -> usize
-        requires { from ≤ length self.now }
-        ensures within { from + result ≤ length self.now }
-        ensures same { (k : ℕ) → k < result → slice_get self.now (from + k) ≡ Some value }
-        ensures ends { from + result < length self.now → slice_get self.now (from + result) ≡ Some (not value) }
+    pub(crate) fn load(&self, place: usize, len: usize) -> u64
+        requires few { len ≤ 64 }
+        requires within { place + len ≤ length self.now }
+        ensures { HoldsBits self.now place result len }
     {
-        equal_bits(&self.bytes, self.offset + from, self.len - from, value)
+        load_word(&self.bytes, self.offset + place, len)
     }
 
     /// Whether the bits are the same as another's.

@@ -1,30 +1,11 @@
 ghost use Rattle.std.specs.Prelude.{◌≡◌, ◌+◌, ◌*◌, ◌^◌, ◌≤◌, ◌<◌, ℕ, not, length, ◌↔◌, IsTrue};
-ghost use Rattle.columnar_memory_bits.specs.Bits.{bit, bit_at, bits_of};
+ghost use Rattle.columnar_memory_bits.specs.Bits.{bit, bits_of};
 
 use columnar_memory_bits::load_word;
 
-/// How many of some bits, from the first one on, have one value.
-pub fn equal_bits(bytes: &[u8], first: usize, len: usize, value: bool) -> usize
-    requires in_range { first + len ≤ 8 * length bytes.now }
-    requires fits { first + len < 2 ^ 64 }
-    ensures within { result ≤ len }
-    ensures same { (k : ℕ) → k < result → bit_at bytes.now (first + k) ≡ value }
-    ensures ends { result < len → bit_at bytes.now (first + result) ≡ not value }
-{
-    let mut same = 0;
-    while same < len {
-        let count = (len - same).min(64);
-        let equal = equal_places(load_word(bytes, first + same, count), value).min(count);
-        same += equal;
-        if equal < count {
-            return same;
-        }
-    }
-    same
-}
-
 /// How many places of a word, from the lowest on, have one value.
-fn equal_places(word: u64, value: bool) -> usize
+#[inline(always)]
+pub(crate) fn equal_places(word: u64, value: bool) -> usize
     ensures within { result ≤ 64 }
     ensures same { (k : ℕ) → k < result → bit word k ≡ value }
     ensures ends { result < 64 → bit word result ≡ not value }

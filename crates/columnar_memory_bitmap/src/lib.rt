@@ -8,7 +8,6 @@
 
 mod bitmap;
 mod equal;
-mod gathered;
 mod into_iter;
 mod mutable;
 mod operators;

@@ -1,4 +1,4 @@
-ghost use Rattle.std.specs.Prelude.{◌≡◌, not, map, ◌+◌, ◌*◌, ◌≤◌, ◌<◌, true, false, [], ◌∷◌, ◌++◌, length, replicate, slice_get, slice_set, ◌↔◌};
+ghost use Rattle.std.specs.Prelude.{◌≡◌, not, map, ◌+◌, ◌*◌, ◌%◌, ◌≤◌, ◌<◌, true, false, [], ◌∷◌, ◌++◌, length, replicate, slice_get, slice_set, ◌↔◌};
 ghost use Rattle.std.specs.Prelude.{IsTrue, IsSome, OnOk, OnErr, ◌^◌};
 ghost use Rattle.std.specs.Option.{option_to_list};
 ghost use Rattle.std.specs.Iterator.{IsFinite};
@@ -7,16 +7,17 @@ ghost use Rattle.std.specs.Cmp.Lexicographic.{pointwise, lists_per, lists_equiv}
 ghost use Rattle.std.specs.Cmp.{bool_eq_equiv, partial_equiv_from_equiv};
 ghost use Rattle.std.proofs.Math.Bool.{beq};
 ghost use Rattle.columnar_memory_bits.specs.Bits.{IsPacked, bits_of, unset_count};
+ghost use Rattle.columnar_memory_bits.specs.Words.{word_bits};
 ghost use Rattle.columnar_memory_bitmap.specs.Operators.{pairwise, table};
 ghost use Rattle.columnar_memory_bitmap.specs.Edits.{Writes};
 ghost use Rattle.columnar_memory_bitmap.specs.Results.{TakesBits, Grows, OrOutOfMemory};
 
 use crate::Bitmap;
 use crate::equal::same_bits;
-use crate::gathered::Gathered;
 use crate::operators::{Operator, combine_bits, invert_bytes};
 use columnar_memory_bits::{
-    BitmapIter, append_bits, append_constant, bytes_for, count_zeros, get_bit, keep_bits, set_bit,
+    BitmapIter, append_bits, append_constant, append_word, bytes_for, count_zeros, get_bit,
+    keep_bits, set_bit,
 };
 use columnar_memory_types::{Error, Result};
 use std::alloc::{AllocError, Global};
@@ -128,11 +129,35 @@ impl MutableBitmap {
         requires ends { IsFinite (I.remaining iter) }
         ensures { OrOutOfMemory result (λ b. WholeRun I.next_gives iter (λ p. b ≡ p.items)) }
     {
-        let mut gathered = Gathered::new(alloc);
+        let mut bitmap = MutableBitmap::new(alloc);
+        let mut word = 0;
+        let mut count = 0;
         for bit in iter {
-            gathered.push(bit)?;
+            word = with_bit(word, count, bit);
+            count += 1;
+            if count == 64 {
+                bitmap.extend_word(word, count)?;
+                word = 0;
+                count = 0;
+            }
         }
-        gathered.finish()
+        bitmap.extend_word(word, count)?;
+        Ok(bitmap)
+    }
+
+    /// Adds the first `count` bits of a word behind whole bytes.
+    #[tactic(auto, using(crate::proofs::Lists::windows))]
+    fn extend_word(&mut self, word: u64, count: usize) -> Result<()>
+        requires whole { length self.old % 8 ≡ 0 }
+        requires few { count ≤ 64 }
+        ensures { Grows result self.old self.new (self.old ++ word_bits count word) }
+    {
+        let Some(len) = self.len.checked_add(count) else {
+            return Err(Error::OutOfMemory);
+        };
+        append_word(&mut self.buffer, self.len, word, count)?;
+        self.len = len;
+        Ok(())
     }
 
     /// How many bits there are.
@@ -406,6 +431,16 @@ impl<'a> IntoIterator for &'a MutableBitmap {
     fn into_iter(self) -> BitmapIter<'a> {
         self.iter()
     }
+}
+
+/// A word of some bits, the first in its lowest bit, with one more bit behind them.
+fn with_bit(word: u64, count: usize, value: bool) -> u64
+    requires few { count < 64 }
+    requires small { word < 2 ^ count }
+    ensures small { result < 2 ^ (count + 1) }
+    ensures bits { word_bits (count + 1) result ≡ word_bits count word ++ value ∷ [] }
+{
+    word + (u64::from(value) << count)
 }
 
 /// Adds a bit behind the first `held` bits of a vector.

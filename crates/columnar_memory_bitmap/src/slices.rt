@@ -1,27 +1,66 @@
 ghost use Rattle.std.specs.Prelude.{◌≡◌, ◌-◌, length};
 ghost use Rattle.std.specs.Iterator.{YieldsFirst, item_count};
 ghost use Rattle.columnar_memory_bits.specs.Bits.{unset_count};
+ghost use Rattle.columnar_memory_bitmap.specs.Runs.{HoldsBits, Passes};
 
 use crate::Bitmap;
+use crate::equal::equal_places;
 use std::marker::Model;
+
+/// A place among the bits of a bitmap, and a word that holds the `left` bits from there on, the first in its lowest bit.
+#[derive(Clone, Copy)]
+struct Cursor {
+    place: usize,
+    word: u64,
+    left: usize,
+}
+
+/// The place behind the bits of one value that come next. Each word is loaded once.
+#[inline(always)]
+fn pass(values: &Bitmap, from: Cursor, value: bool) -> Cursor
+    requires { HoldsBits values.now from.place from.word from.left }
+    ensures holds { HoldsBits values.now result.place result.word result.left }
+    ensures passed { Passes values.now value from.place result.place }
+    ensures all { result.left ≡ 0 → result.place ≡ length values.now }
+{
+    let len = values.len();
+    let mut place = from.place;
+    let mut word = from.word;
+    let mut left = from.left;
+    'words: loop {
+        let same = equal_places(word, value);
+        if same < left {
+            return Cursor {
+                place: place + same,
+                word: word >> same,
+                left: left - same,
+            };
+        }
+        place += left;
+        left = (len - place).min(64);
+        if left == 0 {
+            return Cursor { place, word, left };
+        }
+        word = values.load(place, left);
+    }
+}
 
 /// The maximal runs of bits that are set, in order, each as the place of its first bit and how many they are. A contract sees the bits, and
 /// the place that the walk has come to. It goes by words, so 64 bits of one value are one step.
 #[derive(Drop)]
 pub struct SlicesIterator<'a> {
     values: &'a Bitmap,
-    place: usize,
+    cursor: Cursor,
 }
 
 impl<'a> Model for SlicesIterator<'a> {
-    ghost use Rattle.std.specs.Prelude.{◌≤◌, length};
-    ghost use Rattle.columnar_memory_bitmap.specs.Runs.{Walk};
+    ghost use Rattle.columnar_memory_bitmap.specs.Runs.{HoldsBits, Walk};
 
     ghost Value = { Walk };
 
-    ghost view = { λ s. record { bits = s.values.now; place = s.place } };
+    ghost view = { λ s. record { bits = s.values.now; place = s.cursor.place } };
 
-    ghost invariant = { λ s. s.place ≤ length s.values.now };
+    ghost invariant = { λ s. HoldsBits s.values.now s.cursor.place s.cursor.word s.cursor.left };
 }
 
 impl<'a> SlicesIterator<'a> {
@@ -34,7 +73,12 @@ impl<'a> SlicesIterator<'a> {
         ensures start { result ≡ record { bits = values.now; place = 0 } }
         ensures runs { AreRuns values.now (runs_left result) }
     {
-        SlicesIterator { values, place: 0 }
+        let cursor = Cursor {
+            place: 0,
+            word: 0,
+            left: 0,
+        };
+        SlicesIterator { values, cursor }
     }
 
     /// How many bits the runs of the whole bitmap have.
@@ -57,14 +101,13 @@ impl Iterator for SlicesIterator<'_> {
     ghost remaining = { item_count runs_left };
 
     fn next(&mut self) -> Option<(usize, usize)> {
-        let len = self.values.len();
-        let start = self.place + self.values.equal_from(self.place, false);
-        if start == len {
-            self.place = start;
+        let begin = pass(self.values, self.cursor, false);
+        if begin.left == 0 {
+            self.cursor = begin;
             return None;
         }
-        let count = self.values.equal_from(start, true);
-        self.place = start + count;
-        Some((start, count))
+        let end = pass(self.values, begin, true);
+        self.cursor = end;
+        Some((begin.place, end.place - begin.place))
     }
 }

@@ -1,4 +1,4 @@
-ghost use Rattle.std.specs.Prelude.{◌≡◌, ◌+◌, ◌<◌, ◌≤◌, ◌↔◌, IsTrue, [], ◌∷◌, length, pos, sum, replicate, MatchOption, MatchResult, IfErr};
+ghost use Rattle.std.specs.Prelude.{◌≡◌, ◌+◌, ◌<◌, ◌≤◌, ◌↔◌, IsTrue, [], ◌∷◌, length, pos, sum, replicate, MatchOption, MatchResult, IfErr, IfOk};
 ghost use Rattle.std.specs.Iterator.{IsFinite};
 ghost use Rattle.columnar_memory_types.specs.Error.{IsOutOfMemory};
 ghost use Rattle.columnar_memory_buffer.specs.Growth.{CollectsAlong, Grows, GrowsAlong, Holds, IsChecked};
@@ -162,6 +162,17 @@ impl<O: Offset> Offsets<O> {
         ensures { Grows O.greatest self.old (length ∷ []) self.new result }
     {
         let last = self.number(self.len_proxy());
+        self.push_behind(last, length)?;
+        Ok(())
+    }
+
+    /// Adds a span of this length behind the others, the last of which ends at `last`, and answers where it ends.
+    #[inline(always)]
+    fn push_behind(&mut self, last: usize, length: usize) -> Result<usize>
+        requires { last ≡ last_of self.old }
+        ensures grows { Grows O.greatest self.old (length ∷ []) self.new result }
+        ensures end { IfOk result (λ end. end ≡ last_of self.new) }
+    {
         let Some(next) = last.checked_add(length) else {
             return Err(Error::Overflow);
         };
@@ -169,7 +180,7 @@ impl<O: Offset> Offsets<O> {
             return Err(Error::Overflow);
         };
         self.values.push(offset)?;
-        Ok(())
+        Ok(next)
     }
 
     /// Takes the last offset off where there is a span.
@@ -223,9 +234,11 @@ impl<O: Offset> Offsets<O> {
         requires ends { IsFinite (I.remaining lengths) }
         ensures { GrowsAlong I.next_gives O.greatest lengths self.old self.new result }
     {
-        let _last = self.number(self.len_proxy());
+        let mut last = self.number(self.len_proxy());
+        // An iterator that promises more than there is memory for may be refused for another cause first.
+        let _ = self.reserve(lengths.size_hint().0);
         for length in lengths {
-            self.try_push(length)?;
+            last = self.push_behind(last, length)?;
         }
         Ok(())
     }
@@ -268,17 +281,18 @@ impl<O: Offset> Offsets<O> {
         let kept = self.len_proxy();
         let mut before = number_at(offsets, 0);
         let total = number_at(offsets, spans) - before;
-        let Some(last) = self.number(kept).checked_add(total) else {
+        let mut last = self.number(kept);
+        let Some(end) = last.checked_add(total) else {
             return Err(Error::Overflow);
         };
-        if O::from_usize(last).is_none() {
+        if O::from_usize(end).is_none() {
             return Err(Error::Overflow);
         }
         self.reserve(spans)?;
         for index in 0..spans {
             let next = number_at(offsets, index + 1);
-            match self.try_push(next - before) {
-                Ok(()) => before = next,
+            match self.push_behind(last, next - before) {
+                Ok(end) => (before, last) = (next, end),
                 Err(_) => {
                     self.truncate(kept);
                     return Err(Error::OutOfMemory);

@@ -16,7 +16,8 @@ loop-index-preserved g c =
     let len : c.number_at-next.result - c.loop-index.before ≡ get_or s.lengths c.loop-index.index 0 =
     omega (arith, offset_at-more s c.loop-index.index lt, c.number_at-next.ensures.value, c.loop-index.invariant.reached) in
     record {
+      last = c.in-Ok.ensures.end;
       reached = c.number_at-next.ensures.value;
-      grown = grown-more c.try_push.new.self c.loop-index.self c.reserve.new.self s.lengths c.loop-index.index (c.number_at-next.result -
-          c.loop-index.before) c.in-Ok.ensures.0 c.loop-index.invariant.grown len lt;
+      grown = grown-more c.push_behind.new.self c.loop-index.self c.reserve.new.self s.lengths c.loop-index.index (c.number_at-next.result -
+          c.loop-index.before) c.in-Ok.ensures.grows.0 c.loop-index.invariant.grown len lt;
     }
