@@ -144,8 +144,10 @@ mask_holds total n None le h = tt
 mask_holds total n (Some mask) le h = omega (arith, le, h)
 
 -- what a column keeps, once its offsets and its mask are cut
-pub held_after : (s t : Spans) (bytes : List ℕ) (mask after : Option (List Bool)) (o n : ℕ) → t ≡ spans_between s o (n + 1 - 1) → after ≡ cut_mask mask o n
-    → o + n ≤ length s.lengths → IsMaskOf (length s.lengths) mask → last_of s ≤ length bytes → IsMaskOf (length t.lengths) after × (last_of t ≤ length bytes)
+pub held_after : (s t : Spans) (bytes : List ℕ) (mask after : Option (List Bool)) (o n : ℕ) → t ≡ spans_between s o (n + 1 - 1) → after ≡ cut_mask
+    mask o n
+    → o + n ≤ length s.lengths → IsMaskOf (length s.lengths) mask → last_of s ≤ length bytes → IsMaskOf (length t.lengths) after ×
+    (last_of t ≤ length bytes)
 held_after s t bytes mask after o n offsets marked h masked within =
     let count : n + 1 - 1 ≡ n = omega arith in
     let cut_spans : spans_between s o n ≡ t = sym (offsets ∙ ap (spans_between s o) count) in

@@ -19,7 +19,8 @@ no_texts zero = tt
 no_texts (suc n) = (IsUtf8-nil, no_texts n)
 
 -- nulls are texts where the data type is laid out so
-pub texts_of_nulls : (is_large : Bool) (data_type : DataType) (n : ℕ) → physical_type data_type ≡ text_layout is_large → IsText is_large (nulls data_type n)
+pub texts_of_nulls : (is_large : Bool) (data_type : DataType) (n : ℕ) → physical_type data_type ≡ text_layout is_large → IsText is_large
+    (nulls data_type n)
 texts_of_nulls is_large data_type n h = (
   record {
     fits = h;

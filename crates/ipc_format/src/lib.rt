@@ -3,7 +3,7 @@
 #![tactic(auto)]
 
 pub use ipc_format_flatbuffers as flatbuffers;
-pub use ipc_format_messages as format;
+pub use ipc_format_messages as messages;
 pub use ipc_format_metadata::{
     IpcField, IpcSchema, OutOfSpecKind, can_write, deserialize_schema, schema_in,
 };

@@ -11,7 +11,8 @@ use Rattle.nested_arrays.specs.Cells.{is_null, is_truth, is_bytes_of}
 use Rattle.nested_arrays.specs.SoundColumns.{is_byte}
 use Rattle.ipc_format_grammar.specs.Schemas.{Ids}
 use Rattle.ipc_format_columns.specs.Values.{bit_at, kind_size, value_of, value_at, element_bytes}
-use Rattle.ipc_format_columns.specs.Columns.{Source, Dictionary, Reader, node_at, buffer_at, taken_of, slot_by, fixed_slots, truth_slots, number_slots}
+use Rattle.ipc_format_columns.specs.Columns.{Source, Dictionary, Reader, node_at, buffer_at}
+use Rattle.ipc_format_columns.specs.Columns.{taken_of, slot_by, fixed_slots, truth_slots, number_slots}
 use Rattle.ipc_format_columns.specs.Columns.{fixed_bytes_slots, null_slots, validity_in}
 use Rattle.ipc_format_written.specs.Buffers.{bitmap_of, is_valid, is_true, validity_bytes, kind_bytes, fixed_content_of}
 use Rattle.ipc_format_written.specs.Encoding.{Encoded, Encoder, node_of, column_over, flat_column, values_column}

@@ -15,7 +15,8 @@ form_in bytes = if starts_with nat_eq bytes (codes "ARROW1") then forms.File els
 -- some bytes are a stream of this table, batch by batch
 abbrev pub IsStreamOf : List ℕ → Stored → Type 0
 IsStreamOf bytes stored =
-    (form_in bytes ≡ forms.Stream) × (table_of stream bytes ≡ Some (as_table stored)) × (batches_in stream bytes ≡ Some (map batch_slots stored.batches)) × IsInt32Schema stored.schema
+    (form_in bytes ≡ forms.Stream) × (table_of stream bytes ≡ Some (as_table stored)) ×
+    (batches_in stream bytes ≡ Some (map batch_slots stored.batches)) × IsInt32Schema stored.schema
 
 -- the n rows from row o on: of each batch that has such a row, those rows
 abbrev pub cut_table : ℕ → ℕ → Stored → Stored

@@ -1,5 +1,6 @@
 -- Buffers written block by block, and the zeros behind them.
-use Rattle.std.proofs.Common.{◌≡◌, ◌∙◌, ℕ, zero, suc, ◌+◌, ◌-◌, ◌*◌, ◌/◌, ◌%◌, ◌≤◌, ◌<◌, ℤ, Bool, true, false, List, [], ◌∷◌, ◌++◌, length, take, drop, map, refl}
+use Rattle.std.proofs.Common.{◌≡◌, ◌∙◌, ℕ, zero, suc, ◌+◌, ◌-◌, ◌*◌, ◌/◌, ◌%◌, ◌≤◌, ◌<◌}
+use Rattle.std.proofs.Common.{ℤ, Bool, true, false, List, [], ◌∷◌, ◌++◌, length, take, drop, map, refl}
 use Rattle.std.proofs.Common.{ap, ap₂, sym, arith, subst, replicate, nat_lt, if◌then◌else◌, rules}
 use Rattle.std.specs.Prelude.{Option, Some, None, Result, slice_range}
 use Rattle.std.specs.Int.{next_multiple_of, div_ceil}
@@ -16,7 +17,8 @@ use Rattle.tables_stream.specs.Cells.{slot_of}
 use Rattle.columnar_memory.specs.Error.{IsIo}
 use Rattle.columnar_memory.specs.declared.Error.{Error}
 use Rattle.tables_stream.specs.Devices.{AppendsBeginning, Puts}
-use Rattle.tables_stream.proofs.Appending.{appends_both, begins_first, begins_behind, begins_same, puts_behind, puts_same, puts_first, refused_same, append-empty}
+use Rattle.tables_stream.proofs.Appending.{appends_both, begins_first, begins_behind, begins_same}
+use Rattle.tables_stream.proofs.Appending.{puts_behind, puts_same, puts_first, refused_same, append-empty}
 use Rattle.tables_stream.proofs.Slices.{part_size, parts_joined}
 
 -- the slots of some cells of a column

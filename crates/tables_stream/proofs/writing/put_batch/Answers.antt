@@ -35,7 +35,8 @@ returns-in_err-put_metadata g c =
     let same = batch_metadata columns batch.rows layout.layout.body_length c.deref.result.now c.deref-2.result.now
     (batch.counted ∙ sym (rows_are_of_cells (stored_cells batch))) (c.deref.ensures.value ∙ layout.ensures.nodes)
     (c.deref-2.ensures.value ∙ layout.ensures.buffers) layout.ensures.body in
-    let whole = head_refused c.in_err-put_metadata.field-0.0 _ _ (int32_message columns) c.deref-3.result.now (c.deref-3.ensures.value ∙ c.in_ok-metadata.ensures.0 ∙ same)
+    let whole = head_refused c.in_err-put_metadata.field-0.0 _ _ (int32_message columns) c.deref-3.result.now
+    (c.deref-3.ensures.value ∙ c.in_ok-metadata.ensures.0 ∙ same)
     c.in_err-put_metadata.ensures in
     search (rules, whole)
 
@@ -48,7 +49,8 @@ returns g c =
     let same = batch_metadata columns batch.rows layout.layout.body_length c.deref.result.now c.deref-2.result.now
     (batch.counted ∙ sym (rows_are_of_cells (stored_cells batch))) (c.deref.ensures.value ∙ layout.ensures.nodes)
     (c.deref-2.ensures.value ∙ layout.ensures.buffers) layout.ensures.body in
-    let short : length message.body < body_limit = subst (λ n. n < body_limit) (layout.ensures.body ∙ ap length (batch_body columns)) layout.ensures.limit in
+    let short : length message.body < body_limit = subst (λ n. n < body_limit) (layout.ensures.body ∙ ap length (batch_body columns))
+    layout.ensures.limit in
     let prefix = subst metadata.FitsPrefix same c.in_ok-metadata.ensures.1 in
     body_put c.put_body.result _ _ _ message c.deref-3.result.now (body_bytes (buffers_of columns)) (fits message short prefix)
     (c.deref-3.ensures.value ∙ c.in_ok-metadata.ensures.0 ∙ same) (batch_body columns) c.in_ok-put_metadata.ensures c.put_body.ensures

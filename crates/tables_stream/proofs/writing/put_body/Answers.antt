@@ -28,5 +28,6 @@ returns-in_err-put_column g c =
     let column = c.column-item.result in
     let here : get_or columns c.loop-k.k column ≡ column = search rules in
     let inside : c.loop-k.k < length columns = search rules in
-    let whole = column_refused c.in_err-put_column.field-0.0 _ _ _ columns batch.start batch.rows c.loop-k.k column inside here c.loop-k.invariant c.in_err-put_column.ensures in
+    let whole = column_refused c.in_err-put_column.field-0.0 _ _ _ columns batch.start batch.rows c.loop-k.k column inside here c.loop-k.invariant
+    c.in_err-put_column.ensures in
     search (rules, whole)

@@ -5,7 +5,8 @@ use Rattle.tables_stream.proofs.writing.put_schema.Goals as goal
 
 pub returns-in_err-metadata : goal.returns-in_err-metadata
 returns-in_err-metadata g c =
-    let whole = schema_unlaid c.in_err-metadata.field-0.0 (g.W.Write.contents c.args.writer.now) c.args.schema.now c.requires c.in_err-metadata.ensures in
+    let whole = schema_unlaid c.in_err-metadata.field-0.0 (g.W.Write.contents c.args.writer.now) c.args.schema.now c.requires
+    c.in_err-metadata.ensures in
     search (rules, whole)
 
 pub returns : goal.returns

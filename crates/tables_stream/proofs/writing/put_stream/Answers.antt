@@ -27,7 +27,8 @@ returns-in_err-put_batch g c =
     let batch = c.batch-item.result in
     let here : get_or batches c.loop-batch.batch-index batch ≡ batch = search rules in
     let inside : c.loop-batch.batch-index < length batches = search rules in
-    let whole = batch_stopped c.in_err-put_batch.field-0.0 _ _ _ c.args.schema.now batches c.loop-batch.batch-index batch inside here c.loop-batch.invariant c.in_err-put_batch.ensures in
+    let whole = batch_stopped c.in_err-put_batch.field-0.0 _ _ _ c.args.schema.now batches c.loop-batch.batch-index batch inside here
+    c.loop-batch.invariant c.in_err-put_batch.ensures in
     search (rules, whole)
 
 pub returns : goal.returns

@@ -28,9 +28,11 @@ returns-in_err-put g c =
     let count = c.min-count.result in
     let eights : done % 8 ≡ 0 = c.loop-done.invariant.1 c.loop-done-test.true in
     let size : c.div_ceil.result ≡ (count + 7) / 8 = omega arith in
-    let whole = bitmap_refused c.in_err-put.field-0.0 _ _ _ c.args.column.now c.args.start done count c.args.rows eights (omega arith) (λ more. omega arith) (omega arith)
+    let whole = bitmap_refused c.in_err-put.field-0.0 _ _ _ c.args.column.now c.args.start done count c.args.rows eights (omega arith)
+    (λ more. omega arith) (omega arith)
     c.loop-done.invariant.2
-    (refused_known c.in_err-put.field-0.0 _ _ c.div_ceil.result ((count + 7) / 8) c.validity_block-bytes.result _ size c.validity_block-bytes.ensures c.in_err-put.ensures) in
+    (refused_known c.in_err-put.field-0.0 _ _ c.div_ceil.result ((count + 7) / 8) c.validity_block-bytes.result _ size
+    c.validity_block-bytes.ensures c.in_err-put.ensures) in
     search (rules, whole)
 
 pub returns : goal.returns

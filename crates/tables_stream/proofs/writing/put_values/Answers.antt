@@ -23,8 +23,10 @@ loop-done-preserved g c =
 pub returns-in_err-put : goal.returns-in_err-put
 returns-in_err-put g c =
     let count = c.min-count.result in
-    let whole = values_refused c.in_err-put.field-0.0 _ _ _ c.args.column.now c.args.start c.loop-done.done count c.args.rows (omega arith) c.loop-done.invariant.1
-    (refused_known c.in_err-put.field-0.0 _ _ (4 * count) (4 * count) c.values_block-bytes.result _ refl c.values_block-bytes.ensures c.in_err-put.ensures) in
+    let whole = values_refused c.in_err-put.field-0.0 _ _ _ c.args.column.now c.args.start c.loop-done.done count c.args.rows (omega arith)
+    c.loop-done.invariant.1
+    (refused_known c.in_err-put.field-0.0 _ _ (4 * count) (4 * count) c.values_block-bytes.result _ refl c.values_block-bytes.ensures
+    c.in_err-put.ensures) in
     search (rules, whole)
 
 pub returns : goal.returns

@@ -19,6 +19,7 @@ returns g c =
     let first : length (slots_of a) ≡ c.len-count.result = omega (arith, length_slots a c.len-count.ensures.masked, c.len-count.ensures.value) in
     let second : length (slots_of b) ≡ c.len.result = omega (arith, length_slots b c.len.ensures.masked, c.len.ensures.value) in
     let lengths : length (slots_of a) ≡ length (slots_of b) = omega (arith, first, second) in (
-      (λ h. same_elements (slots_of a) (slots_of b) lengths (λ (k : ℕ) (lt : k < length (slots_of a)). c.loop-index.invariant k (omega (arith, first)))),
+      (λ h. same_elements (slots_of a) (slots_of b) lengths (λ (k : ℕ) (lt : k < length (slots_of a)). c.loop-index.invariant k
+      (omega (arith, first)))),
       (λ e. refl),
     )
