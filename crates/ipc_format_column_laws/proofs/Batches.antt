@@ -1,7 +1,7 @@
 -- The message of a batch of written columns reads back.
-use Rattle.std.proofs.Common.{◌≡◌, ◌∙◌, ℕ, suc, ◌+◌, ◌-◌, ◌*◌, ◌≤◌, ◌<◌, ◌^◌, Bool, true, false, not, ◌&&◌, List, [], ◌∷◌, ◌++◌, length, replicate, refl, sym}
+use Rattle.std.proofs.Common.{◌≡◌, ◌∙◌, ℕ, ◌+◌, ◌-◌, ◌*◌, ◌≤◌, ◌<◌, ◌^◌, Bool, true, false, List, [], ◌∷◌, ◌++◌, length, replicate, refl, sym}
 use Rattle.std.proofs.Common.{ap, subst, arith, add-one, append-nil, length-append, nat_lt, nat_le, sum_by, ◌==◌}
-use Rattle.std.specs.Prelude.{Option, Some, None}
+use Rattle.std.specs.Prelude.{Some, None}
 use Rattle.std.specs.Int.{next_multiple_of}
 use Rattle.std.specs.List.{All, list_all, flat_map}
 use Rattle.std.proofs.lemmas.Bool.{and_parts, ltb-true, leb-true, le-leb, eq-eqb, eqb-true}
@@ -30,12 +30,14 @@ use Rattle.ipc_format_columns.specs.Dictionaries.{Layout, source_in}
 use Rattle.ipc_format_columns.specs.Tables.{agree_in_length, batch_in, columns_from, ids_at, stream_entry}
 use Rattle.ipc_format_written.specs.Buffers.{validity_bytes, null_count, kind_bytes}
 use Rattle.ipc_format_written.specs.Encoding.{Encoded, Encoder, encode, encode_step, joined, node_of}
-use Rattle.ipc_format_written.specs.WrittenMessages.{padded_buffer, buffer_places, body_bytes, body_limit, most_metadata, prefix_size, fits_limit, record_message}
+use Rattle.ipc_format_written.specs.WrittenMessages.{padded_buffer, buffer_places, body_bytes, body_limit, most_metadata, prefix_size}
+use Rattle.ipc_format_written.specs.WrittenMessages.{fits_limit, record_message}
 use Rattle.ipc_format_written.specs.WrittenStreams.{columns_of_slots, rows_of_slots}
 use Rattle.ipc_format_laws.specs.Counts.{has_no_union}
 use Rattle.ipc_format_laws.proofs.Counts.{column_counts, next_numbers}
 use Rattle.ipc_format_column_laws.specs.Columns.{StandsAt, StandsAmong, HoldsColumns, is_flat_step, is_flat}
-use Rattle.ipc_format_column_laws.specs.Batches.{fit_fields, have_room_fields, batch_written, BatchReadsBack, FlatBatchesReadBack, WholeBatchesReadBack}
+use Rattle.ipc_format_column_laws.specs.Batches.{fit_fields, have_room_fields, batch_written, BatchReadsBack, FlatBatchesReadBack}
+use Rattle.ipc_format_column_laws.specs.Batches.{WholeBatchesReadBack}
 use Rattle.ipc_format_column_laws.specs.Batches.{Int32BatchesReadBack}
 use Rattle.ipc_format_column_laws.proofs.Elements.{part_front, part_back, part_next, part_first, elements_size}
 use Rattle.ipc_format_column_laws.proofs.Values.{kind_bytes_size}

@@ -1,6 +1,6 @@
 -- Columns of texts and bytes read back (Arrow columnar format, "Variable-size Binary Layout").
-use Rattle.std.proofs.Common.{◌≡◌, ◌∙◌, ℕ, ◌+◌, ◌<◌, ◌^◌, Bool, true, List, [], ◌∷◌, length, get_or, map, refl, sym, ap, zero-add}
-use Rattle.std.specs.Prelude.{Option, Some, None}
+use Rattle.std.proofs.Common.{◌≡◌, ◌∙◌, ℕ, ◌+◌, ◌<◌, ◌^◌, Bool, true, List, [], ◌∷◌, length, get_or, map, refl, ap, zero-add}
+use Rattle.std.specs.Prelude.{Option, Some}
 use Rattle.std.specs.Int.{Width}
 use Rattle.std.specs.List.{flat_map, list_all}
 use Rattle.std.specs.Str.{is_utf8, chars}
@@ -11,7 +11,7 @@ use Rattle.nested_arrays.specs.Cells.{is_text, is_bytes}
 use Rattle.ipc_format_columns.specs.Columns.{Source, node_at, buffer_at, taken_of, last_of, piece_at, slot_by, byte_slots}
 use Rattle.ipc_format_written.specs.Buffers.{is_valid, validity_bytes, content_of, offset_bytes}
 use Rattle.ipc_format_written.specs.Encoding.{Encoded, node_of, bytes_column}
-use Rattle.ipc_format_column_laws.specs.Columns.{StandsAt, StandsAmong, HoldsColumns}
+use Rattle.ipc_format_column_laws.specs.Columns.{StandsAmong, HoldsColumns}
 use Rattle.ipc_format_column_laws.proofs.Elements.{part_next, part_back, passes_at, window_passes}
 use Rattle.ipc_format_column_laws.proofs.Buffers.{pair_of, pair_reads, buffer_reads, written_validity, validity_reads, slots_back}
 use Rattle.ipc_format_column_laws.proofs.Offsets.{ends_of, last_end, piece_back, offsets_read}

@@ -1,6 +1,5 @@
 -- What is shown of each type whose slots take one size each.
-use Rattle.std.proofs.Common.{◌≡◌, ◌∙◌, ℕ, Bool, true, false, ◌&&◌, List, [], ◌∷◌, map, refl, sym, ap, subst}
-use denote.Hole.Carrier
+use Rattle.std.proofs.Common.{◌≡◌, ℕ, Bool, true, false, ◌&&◌, List, [], ◌∷◌, map, refl, subst}
 use Rattle.columnar_memory.specs.declared.DataType.{DataType, map-DataType}
 use Rattle.columnar_memory.specs.declared.DataType.TheOpen as layer
 use Rattle.columnar_memory.specs.declared.DataType.TheViews.{roll-DataType}

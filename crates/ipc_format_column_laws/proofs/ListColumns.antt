@@ -1,5 +1,6 @@
 -- Columns of lists read back where their items do (Arrow columnar format, "Variable-size List Layout", "Fixed-Size List Layout").
-use Rattle.std.proofs.Common.{◌≡◌, ◌∙◌, ℕ, suc, ◌+◌, ◌-◌, ◌*◌, ◌≤◌, ◌<◌, ◌^◌, min, Bool, true, List, [], ◌∷◌, ◌++◌, length, get_or, map, take, drop, replicate}
+use Rattle.std.proofs.Common.{◌≡◌, ◌∙◌, ℕ, suc, ◌+◌, ◌-◌, ◌*◌, ◌≤◌, ◌<◌, ◌^◌, min, Bool, true, List, [], ◌∷◌, ◌++◌, length, get_or, map, take}
+use Rattle.std.proofs.Common.{drop, replicate}
 use Rattle.std.proofs.Common.{refl, sym, ap, subst, arith, zero, zero-add, add-one, mul-suc, ◌==◌, slice_range}
 use Rattle.std.specs.Prelude.{Option, Some, None}
 use Rattle.std.specs.Int.{Width}
@@ -19,7 +20,7 @@ use Rattle.ipc_format_columns.specs.Columns.{Source, Dictionary, Reader, node_at
 use Rattle.ipc_format_columns.specs.Columns.{limit_times, first_ids, ids_below}
 use Rattle.ipc_format_written.specs.Buffers.{is_valid, validity_bytes, offset_bytes}
 use Rattle.ipc_format_written.specs.Encoding.{Encoded, Encoder, node_of, column_over, list_column}
-use Rattle.ipc_format_column_laws.specs.Columns.{StandsAt, StandsAmong, HoldsColumns}
+use Rattle.ipc_format_column_laws.specs.Columns.{StandsAmong, HoldsColumns}
 use Rattle.ipc_format_column_laws.specs.WholeColumns.{ReadsWhole}
 use Rattle.ipc_format_column_laws.proofs.Elements.{part_front, part_next, part_back, passes_at, element_back, elements_size}
 use Rattle.ipc_format_column_laws.proofs.Buffers.{pair_of, pair_reads, written_validity, validity_reads, slots_back}

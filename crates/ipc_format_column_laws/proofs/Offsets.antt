@@ -1,27 +1,27 @@
 -- Offsets that are written give back the pieces between them (Arrow columnar format, "Variable-size Binary Layout").
-use Rattle.std.proofs.Common.{◌≡◌, ◌∙◌, ℕ, zero, suc, ◌+◌, ◌-◌, ◌*◌, ◌≤◌, ◌<◌, ◌^◌, ℤ, pos, Bool, true, false, ◌&&◌, List, [], ◌∷◌, ◌++◌, length, get_or}
-use Rattle.std.proofs.Common.{map, take, drop, refl, sym, ap, ap₂, arith, add-zero, add-one, zero-add, append_assoc, length-append, suc-mul, nat_lt, nat_le, ◌==◌}
-use Rattle.std.proofs.Common.{slice_index, slice_range, FitsSigned}
-use Rattle.std.specs.Prelude.{Option, Some, None}
+use Rattle.std.proofs.Common.{◌≡◌, ◌∙◌, ℕ, zero, suc, ◌+◌, ◌-◌, ◌*◌, ◌≤◌, ◌<◌, ◌^◌, ℤ, pos, Bool, true, false, ◌&&◌, List, [], ◌∷◌, ◌++◌}
+use Rattle.std.proofs.Common.{length, get_or}
+use Rattle.std.proofs.Common.{map, take, drop, refl, sym, ap, ap₂, arith, add-zero, add-one, zero-add, append_assoc, length-append, suc-mul}
+use Rattle.std.proofs.Common.{nat_lt, nat_le, ◌==◌}
+use Rattle.std.proofs.Common.{slice_index, slice_range}
+use Rattle.std.specs.Prelude.{Some}
 use Rattle.std.specs.Int.{Width, byte_len, to_le_bytes}
 use Rattle.std.specs.List.{flat_map, list_all}
 use mir.Val.{hbits}
 use Rattle.std.proofs.Math.ListN.{get_or-map}
 use Rattle.std.proofs.lemmas.List.{length-map}
 use Rattle.std.proofs.Math.Seq.{take-append_seam, drop-append_seam}
-use Rattle.std.proofs.lemmas.Bool.{and_parts, and_from, lt-ltb, ltb-true, le-leb, le-ltb}
+use Rattle.std.proofs.lemmas.Bool.{and_from, lt-ltb, ltb-true, le-leb, le-ltb}
 use Rattle.ipc_format_flatbuffers.proofs.Numbers.{length-to_le_bytes}
 use Rattle.columnar_memory.specs.NumberLaws.{signed_in-number_bytes}
 use Rattle.nested_arrays.specs.Slots.{Slot, null, window}
-use Rattle.ipc_format_grammar.specs.Messages.{struct_at}
 use Rattle.ipc_format_columns.specs.Values.{signed_of, element_bytes}
 use Rattle.ipc_format_columns.specs.Columns.{Source, buffer_at, rising, offsets_in, last_of, piece_at}
 use Rattle.ipc_format_written.specs.Buffers.{sums_from, offset_bytes}
 use Rattle.ipc_format_written.specs.Encoding.{Encoded}
-use Rattle.ipc_format_written.specs.WrittenMessages.{body_bytes}
 use Rattle.ipc_format_column_laws.specs.Columns.{StandsAt, HoldsColumns}
 use Rattle.ipc_format_column_laws.proofs.Elements.{passes_at, element_back, elements_size, window_is}
-use Rattle.ipc_format_column_laws.proofs.Buffers.{pair_of, buffer_reads, place_reads}
+use Rattle.ipc_format_column_laws.proofs.Buffers.{buffer_reads, place_reads}
 
 -- ---- sums
 

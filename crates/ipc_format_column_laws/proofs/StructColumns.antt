@@ -1,7 +1,7 @@
 -- Columns of structs read back where those of their fields do (Arrow columnar format, "Struct Layout").
-use Rattle.std.proofs.Common.{◌≡◌, ◌∙◌, ℕ, zero, suc, ◌+◌, ◌<◌, Bool, true, false, ◌&&◌, List, [], ◌∷◌, ◌++◌, length, get_or, map, refl, sym, ap, ap₂}
-use Rattle.std.proofs.Common.{arith, add-one, ◌==◌}
-use Rattle.std.specs.Prelude.{Option, Some, None, slice_index_or}
+use Rattle.std.proofs.Common.{◌≡◌, ◌∙◌, ℕ, zero, suc, ◌+◌, ◌<◌, Bool, true, List, [], ◌∷◌, length, get_or, map, refl, sym, ap, ap₂}
+use Rattle.std.proofs.Common.{◌==◌}
+use Rattle.std.specs.Prelude.{Option, Some}
 use Rattle.std.specs.List.{list_all}
 use Rattle.std.proofs.Math.ListN.{get_or-map}
 use Rattle.std.proofs.lemmas.Bool.{and_parts, and_from, eq-eqb}
@@ -11,14 +11,15 @@ use Rattle.nested_arrays.specs.Slots.{Slot, Slots, null, fields, no_slot, slot_t
 use Rattle.nested_arrays.specs.Cells.{fit_each, is_record_of}
 use Rattle.nested_arrays.specs.Children.{slot_number, field_of, field_slots}
 use Rattle.ipc_format_grammar.specs.Messages.{V5}
-use Rattle.ipc_format_grammar.specs.Schemas.{Ids, IdsList}
+use Rattle.ipc_format_grammar.specs.Schemas.{IdsList}
 use Rattle.ipc_format_columns.specs.Layouts.{node_count, buffer_count}
-use Rattle.ipc_format_columns.specs.Columns.{Source, Dictionary, Reader, node_at, taken_of, have_length, slots_at, slot_by, columns_below, struct_slots}
+use Rattle.ipc_format_columns.specs.Columns.{Source, Dictionary, Reader, node_at, taken_of, have_length, slots_at, slot_by, columns_below}
+use Rattle.ipc_format_columns.specs.Columns.{struct_slots}
 use Rattle.ipc_format_columns.specs.Columns.{first_ids, other_ids, ids_below}
 use Rattle.ipc_format_written.specs.Buffers.{is_valid, validity_bytes}
 use Rattle.ipc_format_written.specs.Encoding.{Encoded, Encoder, joined, node_of, column_over, field_columns}
 use Rattle.ipc_format_laws.specs.Counts.{HasCounts}
-use Rattle.ipc_format_column_laws.specs.Columns.{StandsAt, StandsAmong, HoldsColumns}
+use Rattle.ipc_format_column_laws.specs.Columns.{StandsAmong, HoldsColumns}
 use Rattle.ipc_format_column_laws.specs.WholeColumns.{ReadsWhole, fields_have_room}
 use Rattle.ipc_format_column_laws.proofs.Elements.{part_front, part_next, part_back, passes_at}
 use Rattle.ipc_format_column_laws.proofs.Buffers.{pair_of, pair_reads, written_validity, validity_reads, slots_back}

@@ -1,5 +1,5 @@
 -- What is shown of each type without a dictionary or union.
-use Rattle.std.proofs.Common.{◌≡◌, ◌∙◌, ℕ, Bool, true, false, ◌&&◌, List, [], ◌∷◌, length, map, refl, sym, ap, subst, ◌^◌, ◌<◌, ◌-◌, ◌*◌}
+use Rattle.std.proofs.Common.{◌≡◌, ◌∙◌, ℕ, Bool, true, ◌&&◌, List, [], ◌∷◌, length, map, refl, sym, ap, subst, ◌^◌, ◌<◌, ◌-◌, ◌*◌}
 use Rattle.std.proofs.Common.{nat_lt}
 use Rattle.std.specs.Int.{Width, w32, w64, byte_len}
 use mir.Val.{hbits}
@@ -10,7 +10,7 @@ use denote.Hole.Carrier
 use Rattle.columnar_memory.specs.declared.DataType.{DataType, map-DataType}
 use Rattle.columnar_memory.specs.declared.DataType.TheOpen as layer
 use Rattle.columnar_memory.specs.declared.DataType.TheViews.{roll-DataType, roll-Field}
-use Rattle.columnar_memory.specs.declared.DataType.TheFolds.{fold-Field, para-Field, fold-roll-DataType, fold-roll-Field, para-roll-DataType}
+use Rattle.columnar_memory.specs.declared.DataType.TheFolds.{fold-Field, fold-roll-DataType, fold-roll-Field, para-roll-DataType}
 use Rattle.columnar_memory.specs.declared.DataType.TheFolds.{para-roll-Field, ind-DataType}
 use Rattle.columnar_memory.specs.declared.Field.{Field, map-Field}
 use Rattle.columnar_memory.specs.declared.IntervalUnit.TheVariants as intervals

@@ -1,5 +1,5 @@
 -- When a written record batch reads back (Arrow IPC, "RecordBatch message").
-use Rattle.std.specs.Prelude.{◌≡◌, ℕ, ◌<◌, ◌^◌, Bool, true, false, ◌&&◌, List, [], ◌∷◌, length, Some}
+use Rattle.std.specs.Prelude.{◌≡◌, ◌<◌, ◌^◌, Bool, true, false, ◌&&◌, List, [], ◌∷◌, length, Some}
 use Rattle.std.specs.List.{All, list_all}
 use Rattle.ipc_format_flatbuffers.specs.FlatBuffers.{Table}
 use Rattle.columnar_memory.specs.declared.DataType.TheVariants as types
