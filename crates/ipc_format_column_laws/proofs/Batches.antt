@@ -1,8 +1,7 @@
 -- The message of a batch of written columns reads back.
-use Rattle.std.proofs.Common.{◌≡◌, ◌∙◌, ℕ, suc, ◌+◌, ◌-◌, ◌*◌, ◌≤◌, ◌<◌, ◌^◌, Bool}
-use Rattle.std.proofs.Common.{true, false, not, ◌&&◌, List, [], ◌∷◌, ◌++◌, length, replicate, refl, sym}
+use Rattle.std.proofs.Common.{◌≡◌, ◌∙◌, ℕ, ◌+◌, ◌-◌, ◌*◌, ◌≤◌, ◌<◌, ◌^◌, Bool, true, false, List, [], ◌∷◌, ◌++◌, length, replicate, refl, sym}
 use Rattle.std.proofs.Common.{ap, subst, arith, add-one, append-nil, length-append, nat_lt, nat_le, sum_by, ◌==◌}
-use Rattle.std.specs.Prelude.{Option, Some, None}
+use Rattle.std.specs.Prelude.{Some, None}
 use Rattle.std.specs.Int.{next_multiple_of}
 use Rattle.std.specs.List.{All, list_all, flat_map}
 use Rattle.std.proofs.lemmas.Bool.{and_parts, ltb-true, leb-true, le-leb, eq-eqb, eqb-true}
@@ -22,6 +21,7 @@ use Rattle.nested_arrays.specs.Slots.{Slot}
 use Rattle.nested_arrays.specs.Cells.{is_null, fits_cell}
 use Rattle.ipc_format_grammar.specs.Messages as message
 use Rattle.ipc_format_grammar.specs.Messages.{V5, record_batch_in}
+use Rattle.ipc_format_grammar.specs.Schemas.{Ids}
 use Rattle.ipc_format_round_trip.specs.Batches.{AreSigned, IsRecordBatch}
 use Rattle.ipc_format_round_trip.proofs.Batches.{record_batches_read_back}
 use Rattle.ipc_format_columns.specs.Layouts.{node_number, buffer_number}
@@ -30,39 +30,90 @@ use Rattle.ipc_format_columns.specs.Dictionaries.{Layout, source_in}
 use Rattle.ipc_format_columns.specs.Tables.{agree_in_length, batch_in, columns_from, ids_at, stream_entry}
 use Rattle.ipc_format_written.specs.Buffers.{validity_bytes, null_count, kind_bytes}
 use Rattle.ipc_format_written.specs.Encoding.{Encoded, Encoder, encode, encode_step, joined, node_of}
-use Rattle.ipc_format_written.specs.WrittenMessages.{padded_buffer, buffer_places, body_bytes, body_limit, most_metadata, prefix_size, record_message}
+use Rattle.ipc_format_written.specs.WrittenMessages.{padded_buffer, buffer_places, body_bytes, body_limit, most_metadata, prefix_size}
+use Rattle.ipc_format_written.specs.WrittenMessages.{fits_limit, record_message}
 use Rattle.ipc_format_written.specs.WrittenStreams.{columns_of_slots, rows_of_slots}
+use Rattle.ipc_format_laws.specs.Counts.{has_no_union}
 use Rattle.ipc_format_laws.proofs.Counts.{column_counts, next_numbers}
 use Rattle.ipc_format_column_laws.specs.Columns.{StandsAt, StandsAmong, HoldsColumns, is_flat_step, is_flat}
-use Rattle.ipc_format_column_laws.specs.Batches.{fit_fields, batch_written, FlatBatchesReadBack, Int32BatchesReadBack}
+use Rattle.ipc_format_column_laws.specs.Batches.{fit_fields, have_room_fields, batch_written, BatchReadsBack, FlatBatchesReadBack}
+use Rattle.ipc_format_column_laws.specs.Batches.{WholeBatchesReadBack}
+use Rattle.ipc_format_column_laws.specs.Batches.{Int32BatchesReadBack}
 use Rattle.ipc_format_column_laws.proofs.Elements.{part_front, part_back, part_next, part_first, elements_size}
 use Rattle.ipc_format_column_laws.proofs.Values.{kind_bytes_size}
+use Rattle.ipc_format_column_laws.specs.WholeColumns.{is_whole, has_room}
 use Rattle.ipc_format_column_laws.proofs.FlatTypes.{flat_holds}
+use Rattle.ipc_format_column_laws.proofs.WholeTypes.{whole_holds}
 
 -- whether the slots of each field take one size each
 abbrev are_flat : List Field → Bool
 are_flat fields = list_all (λ (field : Field). is_flat field.data_type) fields
 
+-- whether the types of each field are written whole
+abbrev are_whole : List Field → Bool
+are_whole fields = list_all (λ (field : Field). is_whole field.data_type) fields
+
 -- ---- the columns of a batch
 
--- the columns of some fields, where they stand among written columns
-columns_read : (layout : Layout) (standing : List Dictionary) (source : Source) (all : Encoded) (k : ℕ) (fields : List Field)
-    (columns : List (List Slot)) → source.version ≡ V5 → HoldsColumns source all → are_flat fields ≡ true → fit_fields fields columns ≡ true
-    → StandsAt layout.fields k fields
-    → StandsAmong all (joined (columns_of_slots fields columns)) (node_number layout.fields k) (buffer_number V5 layout.fields k)
-    → columns_from layout standing source k fields ≡ Some columns
-columns_read layout standing source all k [] [] version holds flat fit at s = refl
-columns_read layout standing source all k [] (column ∷ columns) version holds flat fit at s = absurd cc
-columns_read layout standing source all k (field ∷ fields) [] version holds flat fit at s = absurd cc
-columns_read layout standing source all k (field ∷ fields) (column ∷ columns) version holds flat fit at s =
+-- one column of a batch that is read, wherever it stands among written columns
+record ColumnReads (field : Field) (column : List Slot) : Type 0 where
+  plain : has_no_union field.data_type ≡ true
+  reads : (source : Source) (all : Encoded) (standing : List Dictionary) (n b : ℕ) (here : Ids) → source.version ≡ V5 → HoldsColumns source all
+      → StandsAmong all (encode field.data_type column) n b → slots_in field.data_type source standing None n b here ≡ Some column
+
+-- a column is read for each field
+abbrev EachReads : List Field → List (List Slot) → Type 0
+EachReads [] [] = Unit {0}
+EachReads (field ∷ fields) (column ∷ columns) = ColumnReads field column × EachReads fields columns
+EachReads _ _ = ⊥
+
+flat_reads : (fields : List Field) (columns : List (List Slot)) → are_flat fields ≡ true → fit_fields fields columns ≡ true
+    → EachReads fields columns
+flat_reads [] [] flat fit = tt
+flat_reads [] (column ∷ columns) flat fit = absurd cc
+flat_reads (field ∷ fields) [] flat fit = absurd cc
+flat_reads (field ∷ fields) (column ∷ columns) flat fit =
     let flats = and_parts (is_flat field.data_type) (are_flat fields) flat in
     let fits = and_parts (list_all (fits_cell field.data_type) column) (fit_fields fields columns) fit in
     let facts = flat_holds field.data_type flats.0 in
+    let here : ColumnReads field column = record {
+      plain = facts.plain;
+      reads = λ source all standing n b ids version holds stands. facts.reads column source all standing None n b ids fits.0 holds stands refl;
+    } in
+    (here, flat_reads fields columns flats.1 fits.1)
+
+whole_reads : (fields : List Field) (columns : List (List Slot)) → are_whole fields ≡ true → fit_fields fields columns ≡ true
+    → have_room_fields fields columns ≡ true → EachReads fields columns
+whole_reads [] [] whole fit room = tt
+whole_reads [] (column ∷ columns) whole fit room = absurd cc
+whole_reads (field ∷ fields) [] whole fit room = absurd cc
+whole_reads (field ∷ fields) (column ∷ columns) whole fit room =
+    let wholes = and_parts (is_whole field.data_type) (are_whole fields) whole in
+    let fits = and_parts (list_all (fits_cell field.data_type) column) (fit_fields fields columns) fit in
+    let rooms = and_parts (has_room field.data_type column) (have_room_fields fields columns) room in
+    let facts = whole_holds field.data_type wholes.0 in
+    let here : ColumnReads field column = record {
+      plain = facts.plain;
+      reads = λ source all standing n b ids version holds stands.
+          facts.reads column source all standing None n b ids fits.0 rooms.0 version holds stands refl;
+    } in
+    (here, whole_reads fields columns wholes.1 fits.1 rooms.1)
+
+-- the columns of some fields, where they stand among written columns
+columns_read : (layout : Layout) (standing : List Dictionary) (source : Source) (all : Encoded) (k : ℕ) (fields : List Field)
+    (columns : List (List Slot)) → source.version ≡ V5 → HoldsColumns source all → EachReads fields columns
+    → StandsAt layout.fields k fields
+    → StandsAmong all (joined (columns_of_slots fields columns)) (node_number layout.fields k) (buffer_number V5 layout.fields k)
+    → columns_from layout standing source k fields ≡ Some columns
+columns_read layout standing source all k [] [] version holds each at s = refl
+columns_read layout standing source all k [] (column ∷ columns) version holds each at s = absurd each
+columns_read layout standing source all k (field ∷ fields) [] version holds each at s = absurd each
+columns_read layout standing source all k (field ∷ fields) (column ∷ columns) version holds each at s =
     let first : Encoded = encode field.data_type column in
     let more : Encoded = joined (columns_of_slots fields columns) in
     let n : ℕ = node_number layout.fields k in
     let b : ℕ = buffer_number V5 layout.fields k in
-    let counts = column_counts field.data_type column facts.plain in
+    let counts = column_counts field.data_type column each.0.plain in
     let next = next_numbers V5 layout.fields k field (part_first field fields at) in
     let nodes_next : node_number layout.fields (k + 1) ≡ n + length first.nodes =
     ap (λ j. node_number layout.fields j) (add-one k) ∙ next.0 ∙ ap (λ j. n + j) (sym counts.0) in
@@ -70,10 +121,10 @@ columns_read layout standing source all k (field ∷ fields) (column ∷ columns
     ap (λ j. buffer_number V5 layout.fields j) (add-one k) ∙ next.1 ∙ ap (λ j. b + j) (sym counts.1) in
     let read : slots_in field.data_type source standing None n (buffer_number source.version layout.fields k) (ids_at layout.below k) ≡ Some column =
     ap (λ v. slots_in field.data_type source standing None n (buffer_number v layout.fields k) (ids_at layout.below k)) version
-    ∙ facts.reads column source all standing None n b (ids_at layout.below k) fits.0 holds
-    (record { nodes = part_front first.nodes more.nodes s.nodes; buffers = part_front first.buffers more.buffers s.buffers }) refl in
+    ∙ each.0.reads source all standing n b (ids_at layout.below k) version holds
+    (record { nodes = part_front first.nodes more.nodes s.nodes; buffers = part_front first.buffers more.buffers s.buffers }) in
     let others : columns_from layout standing source (k + 1) fields ≡ Some columns =
-    columns_read layout standing source all (k + 1) fields columns version holds flats.1 fits.1 (part_next field fields at)
+    columns_read layout standing source all (k + 1) fields columns version holds each.1 (part_next field fields at)
     (record {
       nodes = part_back first.nodes more.nodes (node_number layout.fields (k + 1)) nodes_next s.nodes;
       buffers = part_back first.buffers more.buffers (buffer_number V5 layout.fields (k + 1)) buffers_next s.buffers;
@@ -107,8 +158,7 @@ whole_window bytes = window_stands (length bytes) refl (record { before = []; af
 
 -- a record batch of written columns gives them back
 batch_reads : (layout : Layout) (columns : List (List Slot)) (metadata : List ℕ) (header : message.Header) (table : Table)
-    (standing : List Dictionary) → layout.is_little_endian ≡ true → are_flat layout.fields ≡ true → fit_fields layout.fields columns ≡ true
-    → agree_in_length columns ≡ true
+    (standing : List Dictionary) → layout.is_little_endian ≡ true → EachReads layout.fields columns → agree_in_length columns ≡ true
     → IsRecordBatch metadata table (joined (columns_of_slots layout.fields columns)).nodes
     (buffer_places 0 (joined (columns_of_slots layout.fields columns)).buffers)
     → batch_in layout standing (stream_entry V5 (record {
@@ -117,7 +167,7 @@ batch_reads : (layout : Layout) (columns : List (List Slot)) (metadata : List �
       body = body_bytes (joined (columns_of_slots layout.fields columns)).buffers;
     })) table ≡ Some columns
 unfolding batch_in source_in
-batch_reads layout columns metadata header table standing little flat fit agree h =
+batch_reads layout columns metadata header table standing little each agree h =
     let all : Encoded = joined (columns_of_slots layout.fields columns) in
     let body : List ℕ = body_bytes all.buffers in
     let source : Source = record {
@@ -133,7 +183,7 @@ batch_reads layout columns metadata header table standing little flat fit agree 
     let holds : HoldsColumns source all =
     record { nodes = h.has_nodes; buffers = h.has_buffers; body = whole_window body; order = little } in
     let read : columns_from layout standing source 0 layout.fields ≡ Some columns =
-    columns_read layout standing source all 0 layout.fields columns refl holds flat fit (whole_list layout.fields)
+    columns_read layout standing source all 0 layout.fields columns refl holds each (whole_list layout.fields)
     (record { nodes = whole_list all.nodes; buffers = whole_list all.buffers }) in
     rw (h.batch, h.has_buffers.sum_is, enough, read, agree) refl
 
@@ -174,9 +224,11 @@ agree_is (column ∷ columns) agree = rw (eq-eqb (length column) (length column)
 
 -- ---- the message
 
-pub flat_batches_read_back : FlatBatchesReadBack
+message_reads : (layout : Layout) (columns : List (List Slot)) → layout.is_little_endian ≡ true → EachReads layout.fields columns
+    → agree_in_length columns ≡ true → rows_of_slots columns < 2 ^ 63 → AreSigned (joined (columns_of_slots layout.fields columns)).nodes
+    → fits_limit (batch_written layout.fields columns) ≡ true → BatchReadsBack layout columns
 unfolding record_message
-flat_batches_read_back layout columns little flat fit agree small limit =
+message_reads layout columns little each agree small nodes limit =
     let all : Encoded = joined (columns_of_slots layout.fields columns) in
     let body : List ℕ = body_bytes all.buffers in
     let metadata : List ℕ = (batch_written layout.fields columns).metadata in
@@ -185,16 +237,24 @@ flat_batches_read_back layout columns little flat fit agree small limit =
     let least : prefix_size + length metadata ≤ most_metadata = leb-true (prefix_size + length metadata) most_metadata limits.1 in
     let within : length metadata < 2 ^ 32 = omega arith in
     let rows : rows_of_slots columns < 2 ^ 64 = omega arith in
-    let read = record_batches_read_back (rows_of_slots columns) all.nodes (buffer_places 0 all.buffers) (length body) rows
-    (nodes_signed layout.fields columns (rows_of_slots columns) flat (agree_is columns agree) small)
+    let read = record_batches_read_back (rows_of_slots columns) all.nodes (buffer_places 0 all.buffers) (length body) rows nodes
     (places_signed 0 all.buffers (omega arith)) short within in
     record {
       header_at = read.header_at;
       version = read.version;
       message = read.message;
       header = λ (standing : List Dictionary). batch_reads layout columns metadata (message.record_batch read.header_at) read.header_at standing
-          little flat fit agree read.header;
+          little each agree read.header;
     }
+
+pub flat_batches_read_back : FlatBatchesReadBack
+flat_batches_read_back layout columns little flat fit agree small limit =
+    message_reads layout columns little (flat_reads layout.fields columns flat fit) agree small
+    (nodes_signed layout.fields columns (rows_of_slots columns) flat (agree_is columns agree) small) limit
+
+pub whole_batches_read_back : WholeBatchesReadBack
+whole_batches_read_back layout columns little whole fit room agree small nodes limit =
+    message_reads layout columns little (whole_reads layout.fields columns whole fit room) agree small nodes limit
 
 -- ---- 32-bit integers
 

@@ -1,10 +1,9 @@
 -- The nodes and buffers of written columns, read in a batch that has them.
-use Rattle.std.proofs.Common.{inl, inr, ◌≡◌, ◌∙◌, ℕ, zero, suc, ◌+◌, ◌-◌, ◌/◌, ◌≤◌, ◌<◌, pos, Bool, true, false, cond, not, List, [], ◌∷◌, ◌++◌}
+use Rattle.std.proofs.Common.{inl, inr, ◌≡◌, ◌∙◌, ℕ, zero, suc, ◌+◌, ◌-◌, ◌/◌, ◌<◌, pos, Bool, true, false, cond, not, List, [], ◌∷◌, ◌++◌}
 use Rattle.std.proofs.Common.{length, get_or, replicate, refl, sym, ap, ap₂, subst, arith, add-zero, zero-add, le_refl, length-append, append-nil}
 use Rattle.std.proofs.Common.{nat_lt, nat_le}
-use Rattle.std.specs.Prelude.{Option, Some, None, if◌then◌else◌}
+use Rattle.std.specs.Prelude.{Some, if◌then◌else◌}
 use Rattle.std.specs.Int.{next_multiple_of}
-use Rattle.std.specs.List.{flat_map}
 use Rattle.std.proofs.Math.Seq.{get_or-append_seam}
 use Rattle.std.proofs.lemmas.Bool.{cases_lt, lt-ltb, le-ltb, le-leb}
 use Rattle.std.proofs.lemmas.Grind.{flat_map-append}
@@ -13,15 +12,16 @@ use Rattle.ipc_format_flatbuffers.specs.Reading.{window_at}
 use Rattle.ipc_format_flatbuffers.specs.FlatBuffers.{Vector}
 use Rattle.ipc_format_spelling.proofs.Places.{Stands, front, back, window_stands}
 use Rattle.ipc_format_spelling.proofs.Contents.{stands_window}
-use Rattle.nested_arrays.specs.Slots.{Slot, null}
+use Rattle.nested_arrays.specs.Slots.{Slot, null, window}
 use Rattle.nested_arrays.specs.Cells.{is_null}
 use Rattle.ipc_format_grammar.specs.Messages.{Pair, struct_at}
 use Rattle.ipc_format_round_trip.specs.Batches.{HasPairs}
-use Rattle.ipc_format_columns.specs.Columns.{Source, Validity, all_valid, bitmap, is_valid_at, buffer_at, validity_in}
+use Rattle.ipc_format_columns.specs.Columns.{Source, Validity, all_valid, bitmap, is_valid_at, slot_by, buffer_at, validity_in}
 use Rattle.ipc_format_written.specs.Buffers.{bitmap_of, is_valid, null_count, validity_bytes}
 use Rattle.ipc_format_written.specs.Encoding.{Encoded, node_of}
 use Rattle.ipc_format_written.specs.WrittenMessages.{padded_buffer, buffer_places, body_bytes}
 use Rattle.ipc_format_column_laws.specs.Columns.{StandsAt, HoldsColumns}
+use Rattle.ipc_format_column_laws.proofs.Elements.{window_is}
 use Rattle.ipc_format_column_laws.proofs.Bitmaps.{bitmap_size, bit_back}
 
 -- ---- pairs of numbers
@@ -79,15 +79,22 @@ body_parts : (buffers : List (List ℕ)) (k : ℕ) (bytes : List ℕ) (rest : Li
     → body_bytes buffers ≡ body_bytes s.before ++ (padded_buffer bytes ++ body_bytes (rest ++ s.after))
 body_parts buffers k bytes rest s = ap body_bytes s.whole ∙ flat_map-append padded_buffer s.before (bytes ∷ (rest ++ s.after))
 
+-- where a buffer begins, and how many bytes it states
+pub place_reads : (source : Source) (all : Encoded) (k : ℕ) (bytes : List ℕ) (rest : List (List ℕ)) → HoldsColumns source all
+    → (s : StandsAt all.buffers k (bytes ∷ rest))
+    → struct_at source.metadata source.vectors.buffers k ≡ Some (pair_of (0 + length (body_bytes s.before), length bytes))
+place_reads source all k bytes rest holds s =
+    let place : ℕ = 0 + length (body_bytes s.before) in
+    pair_reads source.metadata source.vectors.buffers (buffer_places 0 all.buffers) k (place, length bytes)
+    (buffer_places (place + length (padded_buffer bytes)) (rest ++ s.after)) holds.buffers (place_stands all.buffers k bytes rest s)
+
 -- the bytes of a buffer, where it stands among written ones
 pub buffer_reads : (source : Source) (all : Encoded) (k needed : ℕ) (bytes : List ℕ) (rest : List (List ℕ)) → HoldsColumns source all
     → StandsAt all.buffers k (bytes ∷ rest) → needed ≡ length bytes → buffer_at source k needed ≡ Some bytes
 unfolding buffer_at
 buffer_reads source all k needed bytes rest holds s enough =
     let place : ℕ = 0 + length (body_bytes s.before) in
-    let pair : struct_at source.metadata source.vectors.buffers k ≡ Some (pair_of (place, length bytes)) =
-    pair_reads source.metadata source.vectors.buffers (buffer_places 0 all.buffers) k (place, length bytes)
-    (buffer_places (place + length (padded_buffer bytes)) (rest ++ s.after)) holds.buffers (place_stands all.buffers k bytes rest s) in
+    let pair = place_reads source all k bytes rest holds s in
     let stated : nat_le needed (length bytes) ≡ true = le-leb needed (length bytes) (omega arith) in
     let whole : Stands source.room source.origin (body_bytes all.buffers) =
     stands_window (length (body_bytes all.buffers)) (body_bytes all.buffers) holds.body in
@@ -125,7 +132,7 @@ none_null (slot ∷ slots) zero none inside = first_valid (is_null slot) (null_c
 none_null (slot ∷ slots) (suc i) none inside =
     none_null slots i (others_none (is_null slot) (null_count slots) (sym (count_next slot slots) ∙ none)) (omega arith)
 
-pub valid_at : (slots : List Slot) (i : ℕ) → i < length slots → is_valid_at (written_validity slots) i ≡ is_valid (get_or slots i null)
+valid_at : (slots : List Slot) (i : ℕ) → i < length slots → is_valid_at (written_validity slots) i ≡ is_valid (get_or slots i null)
 valid_at slots i inside = elim (cases_lt 0 (null_count slots)) [
   | inl some ↦
       let test : nat_lt 0 (null_count slots) ≡ true = lt-ltb 0 (null_count slots) some in
@@ -155,3 +162,19 @@ validity_reads source all slots rest b holds s = elim (cases_lt 0 (null_count sl
       let test : nat_lt 0 (null_count slots) ≡ false = le-ltb 0 (null_count slots) none in
       rw (test) refl
 ]
+
+-- a slot by its validity, and its value where it is valid
+slot_back : (valid : Bool) (value slot : Slot) → valid ≡ is_valid slot → (is_valid slot ≡ true → value ≡ slot)
+    → (if valid then value else null) ≡ slot
+slot_back true value slot is back = back (sym is)
+slot_back false value null is back = refl
+slot_back false value _ is back = absurd cc
+
+-- where each valid slot's value is found, the slots are these
+pub slots_back : (slots : List Slot) (value : ℕ → Slot)
+    → ((i : ℕ) → i < length slots → is_valid (get_or slots i null) ≡ true → value i ≡ get_or slots i null)
+    → window (slot_by (written_validity slots) value) 0 (length slots) ≡ slots
+slots_back slots value each =
+    window_is null (slot_by (written_validity slots) value) 0 slots (λ (i : ℕ) (inside : i < length slots).
+    ap (slot_by (written_validity slots) value) (zero-add i)
+    ∙ slot_back _ (value i) (get_or slots i null) (valid_at slots i inside) (each i inside))

@@ -2,11 +2,11 @@
 use Rattle.std.proofs.Common.{◌≡◌, ◌∙◌, ℕ, zero, suc, ◌+◌, ◌*◌, ◌<◌, Bool, true, List, [], ◌∷◌, ◌++◌, length, get_or, take, drop, refl, sym, ap, ap₂}
 use Rattle.std.proofs.Common.{arith, add-zero, add_comm, mul-zero, mul-suc, suc-mul, append_assoc, length-append}
 use Rattle.std.proofs.Math.Seq.{take-append_seam, drop-append-add}
-use Rattle.std.proofs.lemmas.Bool.{and_parts}
+use Rattle.std.proofs.lemmas.Bool.{and_parts, and_from}
 use Rattle.std.proofs.lemmas.List.Sums.{AllPass-from_list_all}
 use Rattle.std.specs.List.{flat_map, list_all, slice_get}
-use Rattle.std.specs.Prelude.{Option, Some}
-use Rattle.nested_arrays.specs.Slots.{Slot, null, window}
+use Rattle.std.specs.Prelude.{Some}
+use Rattle.nested_arrays.specs.Slots.{window}
 use Rattle.ipc_format_column_laws.specs.Columns.{StandsAt}
 
 -- ---- parts
@@ -51,7 +51,7 @@ pub passes_at : {A : Type 0} (test : A → Bool) (xs : List A) (i : ℕ) (d : A)
 passes_at test xs i d all inside = AllPass-from_list_all test xs all i d inside
 
 -- element i of values of one size is value i
-pub element_back : {A : Type 0} (value : A → List ℕ) (size : ℕ) (test : A → Bool) → ((x : A) → test x ≡ true → length (value x) ≡ size)
+pub element_back : {A B : Type 0} (value : A → List B) (size : ℕ) (test : A → Bool) → ((x : A) → test x ≡ true → length (value x) ≡ size)
     → (xs : List A) (i : ℕ) (d : A) → list_all test xs ≡ true → i < length xs
     → take size (drop (size * i) (flat_map value xs)) ≡ value (get_or xs i d)
 element_back value size test sized [] i d all inside = absurd (omega arith)
@@ -68,7 +68,7 @@ element_back value size test sized (x ∷ xs) (suc i) d all inside =
     ∙ element_back value size test sized xs i d parts.1 (omega arith)
 
 -- values of one size take so many bytes together
-pub elements_size : {A : Type 0} (value : A → List ℕ) (size : ℕ) (test : A → Bool) → ((x : A) → test x ≡ true → length (value x) ≡ size)
+pub elements_size : {A B : Type 0} (value : A → List B) (size : ℕ) (test : A → Bool) → ((x : A) → test x ≡ true → length (value x) ≡ size)
     → (xs : List A) → list_all test xs ≡ true → length xs * size ≡ length (flat_map value xs)
 elements_size value size test sized [] all = suc-mul-none size
   where
@@ -86,11 +86,21 @@ place_after : (a i : ℕ) → a + 1 + i ≡ a + suc i
 place_after a i = omega arith
 
 -- the values of a function that gives each slot at its place
-pub window_is : (f : ℕ → Slot) (a : ℕ) (slots : List Slot) → ((i : ℕ) → i < length slots → f (a + i) ≡ get_or slots i null)
-    → window f a (length slots) ≡ slots
-window_is f a [] each = refl
-window_is f a (slot ∷ slots) each =
-    let first : f a ≡ slot = ap f (sym (add-zero a)) ∙ each 0 (omega arith) in
-    let others : window f (a + 1) (length slots) ≡ slots =
-    window_is f (a + 1) slots (λ (i : ℕ) (inside : i < length slots). ap f (place_after a i) ∙ each (suc i) (omega arith)) in
-    ap₂ (λ (x : Slot) xs. x ∷ xs) first others
+pub window_is : {A : Type 0} (d : A) (f : ℕ → A) (a : ℕ) (xs : List A) → ((i : ℕ) → i < length xs → f (a + i) ≡ get_or xs i d)
+    → window f a (length xs) ≡ xs
+window_is d f a [] each = refl
+window_is d f a (x ∷ xs) each =
+    let first : f a ≡ x = ap f (sym (add-zero a)) ∙ each 0 (omega arith) in
+    let others : window f (a + 1) (length xs) ≡ xs =
+    window_is d f (a + 1) xs (λ (i : ℕ) (inside : i < length xs). ap f (place_after a i) ∙ each (suc i) (omega arith)) in
+    ap₂ (λ y ys. y ∷ ys) first others
+
+-- what holds of a function's values at places holds of them all
+pub window_passes : {A : Type 0} (test : A → Bool) (f : ℕ → A) (a n : ℕ) → ((i : ℕ) → i < n → test (f (a + i)) ≡ true)
+    → list_all test (window f a n) ≡ true
+window_passes test f a zero each = refl
+window_passes test f a (suc n) each =
+    let first : test (f a) ≡ true = ap (λ j. test (f j)) (sym (add-zero a)) ∙ each 0 (omega arith) in
+    let others : list_all test (window f (a + 1) n) ≡ true =
+    window_passes test f (a + 1) n (λ (i : ℕ) (inside : i < n). ap (λ j. test (f j)) (place_after a i) ∙ each (suc i) (omega arith)) in
+    and_from (test (f a)) (list_all test (window f (a + 1) n)) first others

@@ -1,7 +1,7 @@
 -- Columns whose slots take one size each read back.
-use Rattle.std.proofs.Common.{◌≡◌, ◌∙◌, ℕ, ◌+◌, ◌*◌, ◌/◌, ◌<◌, Bool, true, false, List, [], ◌∷◌, ◌++◌, length, get_or, replicate, refl, sym, ap, ap₂}
-use Rattle.std.proofs.Common.{arith, le_refl, zero-add}
-use Rattle.std.specs.Prelude.{Option, Some, None, if◌then◌else◌, ◌==◌}
+use Rattle.std.proofs.Common.{◌≡◌, ◌∙◌, ℕ, ◌+◌, ◌*◌, ◌/◌, ◌<◌, true, List, [], ◌∷◌, length, get_or, replicate, refl, ap, ap₂}
+use Rattle.std.proofs.Common.{le_refl}
+use Rattle.std.specs.Prelude.{Option, Some, ◌==◌}
 use Rattle.std.specs.List.{flat_map, list_all}
 use Rattle.std.proofs.lemmas.Bool.{and_parts, eqb-true}
 use Rattle.std.proofs.lemmas.List.{length-replicate}
@@ -9,25 +9,16 @@ use Rattle.columnar_memory.specs.declared.PrimitiveType.{PrimitiveType}
 use Rattle.nested_arrays.specs.Slots.{Slot, null, truth, bytes, window}
 use Rattle.nested_arrays.specs.Cells.{is_null, is_truth, is_bytes_of}
 use Rattle.nested_arrays.specs.SoundColumns.{is_byte}
-use Rattle.ipc_format_grammar.specs.Schemas.{Ids}
 use Rattle.ipc_format_columns.specs.Values.{bit_at, kind_size, value_of, value_at, element_bytes}
-use Rattle.ipc_format_columns.specs.Columns.{Source, Dictionary, Reader, node_at, buffer_at}
-use Rattle.ipc_format_columns.specs.Columns.{taken_of, slot_by, fixed_slots, truth_slots, number_slots}
-use Rattle.ipc_format_columns.specs.Columns.{fixed_bytes_slots, null_slots, validity_in}
+use Rattle.ipc_format_columns.specs.Columns.{Source, node_at, buffer_at, taken_of, slot_by, fixed_slots, truth_slots, number_slots}
+use Rattle.ipc_format_columns.specs.Columns.{fixed_bytes_slots, null_slots}
 use Rattle.ipc_format_written.specs.Buffers.{bitmap_of, is_valid, is_true, validity_bytes, kind_bytes, fixed_content_of}
-use Rattle.ipc_format_written.specs.Encoding.{Encoded, Encoder, node_of, column_over, flat_column, values_column}
-use Rattle.ipc_format_column_laws.specs.Columns.{StandsAt, StandsAmong, HoldsColumns, ReadsBack}
-use Rattle.ipc_format_column_laws.proofs.Elements.{part_next, passes_at, element_back, elements_size, window_is}
+use Rattle.ipc_format_written.specs.Encoding.{Encoded, node_of, column_over, flat_column, values_column}
+use Rattle.ipc_format_column_laws.specs.Columns.{StandsAmong, HoldsColumns, ReadsBack}
+use Rattle.ipc_format_column_laws.proofs.Elements.{part_next, passes_at, element_back, elements_size}
 use Rattle.ipc_format_column_laws.proofs.Bitmaps.{bitmap_size, bit_back}
 use Rattle.ipc_format_column_laws.proofs.Values.{fits_kind, kind_bytes_size, value_back}
-use Rattle.ipc_format_column_laws.proofs.Buffers.{pair_of, pair_reads, buffer_reads, written_validity, valid_at, validity_reads}
-
--- a slot by its validity, and its value where it is valid
-slot_back : (valid : Bool) (value slot : Slot) → valid ≡ is_valid slot → (is_valid slot ≡ true → value ≡ slot)
-    → (if valid then value else null) ≡ slot
-slot_back true value slot is back = back (sym is)
-slot_back false value null is back = refl
-slot_back false value _ is back = absurd cc
+use Rattle.ipc_format_column_laws.proofs.Buffers.{pair_of, pair_reads, buffer_reads, written_validity, validity_reads, slots_back}
 
 -- a buffer of values behind the validity bitmap: it has as many bytes as are needed, and each valid slot's value is found in it
 pub fixed_reads : (needed : ℕ → ℕ) (value : List ℕ → ℕ → Slot) (content : List ℕ) (slots : List Slot) (source : Source) (all : Encoded)
@@ -43,10 +34,7 @@ fixed_reads needed value content slots source all limit n b holds stands whole e
     let values : buffer_at source (b + 1) (needed (length slots)) ≡ Some content =
     buffer_reads source all (b + 1) (needed (length slots)) content [] holds (part_next (validity_bytes slots) (content ∷ []) stands.buffers)
     enough in
-    let back : window (slot_by (written_validity slots) (value content)) 0 (length slots) ≡ slots =
-    window_is (slot_by (written_validity slots) (value content)) 0 slots (λ (i : ℕ) (inside : i < length slots).
-    ap (slot_by (written_validity slots) (value content)) (zero-add i)
-    ∙ slot_back _ (value content i) (get_or slots i null) (valid_at slots i inside) (each i inside)) in
+    let back : window (slot_by (written_validity slots) (value content)) 0 (length slots) ≡ slots = slots_back slots (value content) each in
     rw (node, whole, validity, values, back) refl
 
 -- ---- each layout

@@ -1,6 +1,5 @@
 -- What is shown of each type whose slots take one size each.
-use Rattle.std.proofs.Common.{◌≡◌, ◌∙◌, ℕ, Bool, true, false, ◌&&◌, List, [], ◌∷◌, map, refl, sym, ap, subst}
-use denote.Hole.Carrier
+use Rattle.std.proofs.Common.{◌≡◌, ℕ, Bool, true, false, ◌&&◌, List, [], ◌∷◌, map, refl, subst}
 use Rattle.columnar_memory.specs.declared.DataType.{DataType, map-DataType}
 use Rattle.columnar_memory.specs.declared.DataType.TheOpen as layer
 use Rattle.columnar_memory.specs.declared.DataType.TheViews.{roll-DataType}
@@ -45,28 +44,28 @@ nulls_flat = record { node = λ slots. refl; plain = refl; reads = nulls_read_ba
 abbrev pub FlatHolds : DataType → Type 0
 FlatHolds t = is_flat t ≡ true → IsFlat (encode t) (fits_cell t) (has_no_union t) (slots_in t)
 
-unlike : false ≡ true → ⊥
+pub unlike : false ≡ true → ⊥
 unlike e = absurd cc
 
 alone : (b : Bool) → b ≡ true → (b && true) ≡ true
 alone b h = rw h refl
 
-abbrev Layer : Type 0
+abbrev pub Layer : Type 0
 Layer = layer.DataType-F DataType Field
 
 abbrev flat_field : Field → Bool
 flat_field = fold-Field Bool Bool is_flat_step (λ field. field.data_type)
 
-abbrev encode_field : Field → Encoder
+abbrev pub encode_field : Field → Encoder
 encode_field = fold-Field Encoder Encoder encode_step (λ field. field.data_type)
 
-abbrev fits_field : Field → Slot → Bool
+abbrev pub fits_field : Field → Slot → Bool
 fits_field = fold-Field (Slot → Bool) (Slot → Bool) fits_step (λ field. field.data_type)
 
-abbrev no_union_field : Field → Bool
+abbrev pub no_union_field : Field → Bool
 no_union_field = fold-Field Bool Bool has_no_union_step (λ field. field.data_type)
 
-abbrev read_field : Field → Reader
+abbrev pub read_field : Field → Reader
 read_field = para-Field Reader Reader read_step read_field_step
 
 -- a layer's claim is its type's

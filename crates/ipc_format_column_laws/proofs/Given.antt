@@ -1,5 +1,5 @@
 -- What is known of the value that some reading gives, if it gives one.
-use Rattle.std.proofs.Common.{◌≡◌, Bool, true, false, sym, subst}
+use Rattle.std.proofs.Common.{◌≡◌, Bool, true, false, subst}
 use Rattle.std.specs.Prelude.{Option, Some, None, if◌then◌else◌}
 use Rattle.ipc_format_flatbuffers.specs.Reading.{◌>>=◌}
 

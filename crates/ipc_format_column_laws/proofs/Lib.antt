@@ -3,7 +3,12 @@ pub mod Bitmaps
 pub mod Values
 pub mod Buffers
 pub mod FixedColumns
+pub mod Offsets
+pub mod ByteColumns
+pub mod ListColumns
+pub mod StructColumns
 pub mod FlatTypes
+pub mod WholeTypes
 pub mod Batches
 pub mod Given
 pub mod MetadataTexts

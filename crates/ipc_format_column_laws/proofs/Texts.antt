@@ -1,5 +1,5 @@
 -- A schema that is read is of texts.
-use Rattle.std.proofs.Common.{◌≡◌, ◌∙◌, ℕ, zero, suc, ◌+◌, ℤ, pos, negsuc, Bool, true, false, ◌&&◌, List, [], ◌∷◌, length, map, refl, sym, ap, nat_le}
+use Rattle.std.proofs.Common.{◌≡◌, ◌∙◌, ℕ, zero, suc, ◌+◌, ℤ, pos, Bool, true, ◌&&◌, List, length, map, refl, nat_le}
 use Rattle.std.specs.Prelude.{Option, Some, None}
 use Rattle.std.specs.Ordering.{int_eq}
 use Rattle.std.specs.Int.{w8, w16, w32, w64}
@@ -22,8 +22,8 @@ use Rattle.columnar_memory.specs.declared.TimeUnit.{TimeUnit}
 use Rattle.columnar_memory.specs.declared.TimeUnit.TheVariants as units
 use Rattle.ipc_format_grammar.specs.Messages.{natural}
 use Rattle.ipc_format_grammar.specs.Types as kind
-use Rattle.ipc_format_grammar.specs.Types.{Tag, UnionTable, tag_of, integer_in, type_of_integer}
-use Rattle.ipc_format_grammar.specs.Types.{size_of, decimal_of, decimal_in, date_of, time_of, time_in}
+use Rattle.ipc_format_grammar.specs.Types.{Tag, UnionTable, tag_of, integer_in, type_of_integer, size_of, decimal_of, decimal_in, date_of}
+use Rattle.ipc_format_grammar.specs.Types.{time_of, time_in}
 use Rattle.ipc_format_grammar.specs.Types.{short_time_of, long_time_of, timestamp_in, interval_of, time_unit_of, union_in}
 use Rattle.ipc_format_grammar.specs.Schemas.{FieldIn, TypeIn, SchemaIn, Encoded, fields_of, visit, each_of, child_in, children_in, type_in}
 use Rattle.ipc_format_grammar.specs.Schemas.{metadata_in, extended, extended_by, extension_name_key, extension_metadata_key, encoded_by, field_in}

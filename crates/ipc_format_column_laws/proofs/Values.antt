@@ -1,10 +1,10 @@
 -- The bytes of a value give it back (Arrow columnar format, "Fixed-size Primitive Layout").
-use Rattle.std.proofs.Common.{◌≡◌, ◌∙◌, ℕ, ◌+◌, ◌-◌, ◌/◌, ◌%◌, ◌^◌, ◌<◌, ◌≤◌, ℤ, pos, negsuc, Bool, true, false, length, refl, sym, ap, subst, arith}
+use Rattle.std.proofs.Common.{◌≡◌, ◌∙◌, ℕ, ◌-◌, ◌%◌, ◌^◌, ◌<◌, ℤ, pos, negsuc, Bool, true, false, length, refl, sym, ap, subst, arith}
 use Rattle.std.proofs.Common.{FitsSigned, nat_lt}
-use Rattle.std.specs.Prelude.{not, ◌&&◌, if◌then◌else◌}
+use Rattle.std.specs.Prelude.{not}
 use Rattle.std.specs.Int.{Width, w8, w16, w32, w64, w128, byte_len, cast_unsigned, FitsUnsignedBits}
 use mir.Val.{hbits}
-use Rattle.std.proofs.lemmas.Bool.{and_parts, ltb-true, lt-ltb, le-ltb}
+use Rattle.std.proofs.lemmas.Bool.{and_parts, ltb-true, le-ltb}
 use Rattle.std.proofs.lemmas.List.{length-replicate}
 use Rattle.ipc_format_flatbuffers.proofs.Numbers.{length-to_le_bytes}
 use Rattle.columnar_memory.specs.declared.PrimitiveType.{PrimitiveType}

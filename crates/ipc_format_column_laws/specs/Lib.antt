@@ -1,3 +1,4 @@
 pub mod Columns
+pub mod WholeColumns
 pub mod Batches
 pub mod Texts

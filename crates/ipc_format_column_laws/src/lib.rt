@@ -4,9 +4,10 @@
 //! on `ipc_format_round_trip`: the metadata of a message reads back.
 #![tactic(auto)]
 
-ghost use Rattle.ipc_format_column_laws.specs.Batches.{FlatBatchesReadBack, Int32BatchesReadBack};
+ghost use Rattle.ipc_format_column_laws.specs.Batches.{FlatBatchesReadBack, Int32BatchesReadBack, WholeBatchesReadBack};
 ghost use Rattle.ipc_format_column_laws.specs.Columns.{FlatColumnsReadBack};
 ghost use Rattle.ipc_format_column_laws.specs.Texts.{SchemasReadHaveTexts};
+ghost use Rattle.ipc_format_column_laws.specs.WholeColumns.{WholeColumnsReadBack};
 
 /// A written column reads back as the slots that it was written from, with its nulls, wherever it stands in a batch: where its type has
 /// no columns below it and its slots take one size each, as numbers, truth values and bytes of one size do (Arrow columnar format,
@@ -15,11 +16,22 @@ pub fn flat_columns_read_back()
     ensures { FlatColumnsReadBack }
 {}
 
-/// The message that is written for columns of such types gives back these very columns in a stream (Arrow IPC, "RecordBatch message").
-/// For columns of 32-bit integers the limit of a message bounds their length.
+/// A written column of texts, bytes, lists or structs reads back too, at any depth, where no dictionary or union is below it and offsets
+/// have room for what they count (Arrow columnar format, "Variable-size Binary Layout" to "Struct Layout").
+pub fn whole_columns_read_back()
+    ensures { WholeColumnsReadBack }
+{}
+
+/// The message that is written for columns whose slots take one size each gives back these very columns in a stream (Arrow IPC,
+/// "RecordBatch message"). For columns of 32-bit integers the limit of a message bounds their length.
 pub fn flat_batches_read_back()
     ensures all { FlatBatchesReadBack }
     ensures int32 { Int32BatchesReadBack }
+{}
+
+/// The message that is written for columns of texts, bytes, lists and structs gives back these very columns in a stream too.
+pub fn whole_batches_read_back()
+    ensures { WholeBatchesReadBack }
 {}
 
 /// The names, keys and values of a schema that was read are UTF-8, and the keys of its metadata ascend (Schema.fbs).
