@@ -5,10 +5,9 @@ use Rattle.std.specs.Prelude.{Option, Some, None, Result, slice_range}
 use Rattle.std.specs.Int.{next_multiple_of, div_ceil}
 use Rattle.std.specs.List.{flat_map}
 use Rattle.std.specs.Io.KnownBytes.{Appends}
-use Rattle.std.proofs.lemmas.Grind.{common_steps, flat_map-append}
+use Rattle.std.proofs.lemmas.Grind.{flat_map-append}
 use Rattle.std.proofs.lemmas.Bool.{ltb-true, ltb-false}
-use Rattle.std.proofs.lemmas.List.{append-nil, length-drop, length-append, map-append, take-append-le, drop-append-le, drop-drop}
-use Rattle.std.proofs.Math.Seq.{take-add}
+use Rattle.std.proofs.lemmas.List.{append-nil, length-drop, length-append, length-map, map-append, take-append-le, drop-append-le}
 use Rattle.nested_arrays.specs.Slots.{Slot}
 use Rattle.tables_stream.specs.Int32Written.{bits_of, bitmap_bytes, value_bytes, int32_buffers}
 use Rattle.ipc_format_written.specs.Buffers.{null_count, validity_bytes}
@@ -18,35 +17,27 @@ use Rattle.columnar_memory.specs.Error.{IsIo}
 use Rattle.columnar_memory.specs.declared.Error.{Error}
 use Rattle.tables_stream.specs.Devices.{AppendsBeginning, Puts}
 use Rattle.tables_stream.proofs.Appending.{appends_both, begins_first, begins_behind, begins_same, puts_behind, puts_same, puts_first, refused_same, append-empty}
+use Rattle.tables_stream.proofs.Slices.{part_size, parts_joined}
 
 -- the slots of some cells of a column
 abbrev pub slots_between : List (Option ℤ) → ℕ → ℕ → List Slot
 slots_between cells first end = map slot_of (slice_range cells first end)
 
 -- two neighbouring parts
-slots_joined : (cells : List (Option ℤ)) (start done count : ℕ) →
+pub slots_joined : (cells : List (Option ℤ)) (start done count : ℕ) →
     slots_between cells start (start + (done + count)) ≡ slots_between cells start (start + done)
     ++ slots_between cells (start + done) (start + done + count)
 slots_joined cells start done count =
-    let whole : start + (done + count) - start ≡ done + count = omega arith in
-    let first : done ≡ start + done - start = omega arith in
-    let second : count ≡ start + done + count - (start + done) = omega arith in
-    ap (λ (slots : List (Option ℤ)). map slot_of slots)
-    (ap (λ k. take k (drop start cells)) whole ∙ take-add done count (drop start cells)
-    ∙ ap₂ (λ (xs : List (Option ℤ)) ys. xs ++ ys) (ap (λ k. take k (drop start cells)) first)
-    (ap (λ (rest : List (Option ℤ)). take count rest) (drop-drop done start cells) ∙ ap (λ k. take k (drop (start + done) cells)) second))
+    ap (λ (part : List (Option ℤ)). map slot_of part) (parts_joined cells start done count)
     ∙ map-append slot_of (slice_range cells start (start + done)) (slice_range cells (start + done) (start + done + count))
 
--- a part has as many cells, and slots, as it should
-pub part_size : (cells : List (Option ℤ)) (first n : ℕ) → first + n ≤ length cells → length (slice_range cells first (first + n)) ≡ n
-part_size cells first n inside = grind (arith, common_steps)
-
+-- a part has as many slots as it should
 pub slots_size : (cells : List (Option ℤ)) (first n : ℕ) → first + n ≤ length cells → length (slots_between cells first (first + n)) ≡ n
-slots_size cells first n inside = grind (arith, common_steps)
+slots_size cells first n inside = length-map (slice_range cells first (first + n)) slot_of ∙ part_size cells first n inside
 
 -- ---- bitmaps
 
-bitmap_none : (most : ℕ) → bitmap_bytes most [] ≡ []
+pub bitmap_none : (most : ℕ) → bitmap_bytes most [] ≡ []
 bitmap_none zero = refl
 bitmap_none (suc most) = refl
 
@@ -61,7 +52,7 @@ bitmap_most (suc a) (suc b) (slot ∷ slots) first second =
     ap (λ (bytes : List ℕ). bits_of (take 8 (slot ∷ slots)) ∷ bytes) (bitmap_most a b (drop 8 (slot ∷ slots)) (omega arith) (omega arith))
 
 -- the bitmap of some whole eights, and of what stands behind them
-bitmap_append : (m a b most : ℕ) (xs ys : List Slot) → length xs ≡ 8 * m → length xs ≤ a → length ys ≤ b → length xs + length ys ≤ most →
+pub bitmap_append : (m a b most : ℕ) (xs ys : List Slot) → length xs ≡ 8 * m → length xs ≤ a → length ys ≤ b → length xs + length ys ≤ most →
     bitmap_bytes most (xs ++ ys) ≡ bitmap_bytes a xs ++ bitmap_bytes b ys
 bitmap_append zero a b most [] ys size first second all =
     bitmap_most most b ys (omega arith) second ∙ ap (λ (bytes : List ℕ). bytes ++ bitmap_bytes b ys) (sym (bitmap_none a))

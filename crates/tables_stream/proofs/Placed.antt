@@ -26,7 +26,8 @@ use Rattle.tables_stream.specs.Structs.{struct_bytes, validity_size, buffers_of}
 use Rattle.tables_stream.specs.Tables.{batch_slots}
 use Rattle.tables_stream.specs.Devices.{AppendsBeginning}
 use Rattle.tables_stream.proofs.Appending.{appends_both, begins_first, begins_behind, begins_same}
-use Rattle.tables_stream.proofs.Padded.{slots_between, part_size, slots_size, bitmap_size, values_size}
+use Rattle.tables_stream.proofs.Padded.{slots_between, slots_size, bitmap_size, values_size}
+use Rattle.tables_stream.proofs.Slices.{part_size}
 
 -- one more column, one more list of slots
 pub slots_more : (columns : List (List (Option ℤ))) (start rows i : ℕ) (column : List (Option ℤ)) → i < length columns →

@@ -1,5 +1,7 @@
 -- The cells of a column as the values that the format gives.
-use Rattle.std.specs.Prelude.{◌≡◌, ℕ, ◌+◌, ℤ, true, List, [], ◌∷◌, Option, Some, None, Result, Ok, Err, if◌then◌else◌}
+use Rattle.std.specs.Prelude.{◌≡◌, ℕ, ℤ, Bool, true, List, map, Option, Some, None, Result, Ok, Err, if◌then◌else◌}
+use Rattle.std.specs.List.{zip}
+use Rattle.std.specs.Int.{w32, to_le_bytes, cast_unsigned}
 use Rattle.columnar_memory.specs.declared.Error.{Error}
 use Rattle.columnar_memory.specs.declared.Error.TheVariants as errors
 use Rattle.columnar_memory.specs.declared.PrimitiveType.TheVariants as kinds
@@ -8,8 +10,6 @@ use Rattle.ipc_format_columns.specs.Columns as format
 use Rattle.ipc_format.specs.Messages.{V5}
 use Rattle.tables_metadata.specs.Views.{batch_view}
 use Rattle.std.specs.Borrow.{Bor}
-use Rattle.std.specs.declared.vec.Vec.{Vec}
-use Rattle.std.specs.declared.alloc.Global.{Global}
 use Rattle.tables_stream.specs.declared.parts.BatchBytes.{BatchBytes}
 
 -- a cell: a null, or a signed 32-bit number
@@ -40,15 +40,15 @@ abbrev pub bits_of : Option (Bor (List ℕ)) → format.Validity
 bits_of None = format.all_valid
 bits_of (Some bits) = format.bitmap bits.now
 
--- the validity that a stored bitmap gives
-abbrev pub validity_of : Option (Vec ℕ Global) → format.Validity
-validity_of None = format.all_valid
-validity_of (Some bits) = format.bitmap bits.items
+-- a value where its bit is set, and else nothing
+abbrev pub cell_of : ℤ × Bool → Option ℤ
+cell_of (value, is_set) = if is_set then Some value else None
 
--- the cells of values whose first has place i: nothing where the validity says null
-abbrev pub cells_from : format.Validity → ℕ → List ℤ → List (Option ℤ)
-cells_from validity i [] = []
-cells_from validity i (value ∷ values) = (if format.is_valid_at validity i then Some value else None) ∷ cells_from validity (i + 1) values
+-- the cells of some values beside their validity bits; without bits no cell is null
+abbrev pub cells_of : Option (List Bool) → List ℤ → List (Option ℤ)
+cells_of None values = map (λ (value : ℤ). Some value) values
+cells_of (Some bits) values = map cell_of (zip values bits)
 
-abbrev pub cells_of : format.Validity → List ℤ → List (Option ℤ)
-cells_of validity values = cells_from validity 0 values
+-- the four bytes of a number
+abbrev pub int32_bytes : ℤ → List ℕ
+int32_bytes value = to_le_bytes w32 (cast_unsigned w32 value)

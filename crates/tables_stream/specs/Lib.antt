@@ -13,5 +13,4 @@ pub mod Int32
 pub mod Steps
 pub mod Reading
 pub mod Faults
-pub mod Bits
 pub mod Structs

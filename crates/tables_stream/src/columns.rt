@@ -1,6 +1,7 @@
 //! The cells of a column of 32-bit integers in a record batch (Arrow columnar format, "Validity bitmaps" and "Fixed-size Primitive Layout").
 ghost use Rattle.std.specs.Prelude.{◌≡◌, ◌+◌, ◌*◌, ◌/◌, ◌≤◌, ◌<◌, ◌^◌, length, map, IfOk, IfSome, true, None};
 ghost use Rattle.std.specs.Option.{ForSome, option_copied, option_map};
+ghost use Rattle.columnar_memory.specs.Results.{OrOutOfMemory};
 ghost use Rattle.nested_arrays.specs.Slots.{window};
 ghost use Rattle.ipc_format_columns.specs.Columns as format;
 ghost use Rattle.tables_stream.specs.Int32Values as int32;
@@ -9,7 +10,7 @@ ghost use Rattle.tables_stream.specs.Cells.{slot_of, batch_of, bits_of, Reads};
 
 use crate::column::Column;
 use crate::parts::BatchBytes;
-use columnar_memory::{Error, Result};
+use columnar_memory::{Bitmap, Buffer, Error, Result};
 use ipc_format::flatbuffers::window;
 use std::alloc::{AllocError, Global};
 use std::result;
@@ -83,27 +84,27 @@ fn taken<'a>(bytes: &BatchBytes<'a>, k: usize, needed: usize) -> Option<&'a [u8]
     window(bytes.body, offset, needed)
 }
 
-/// The column that values and a validity bitmap give: cell `i` is null where bit `i % 8` of byte `i / 8` is not set.
-#[tactic(auto, using(crate::proofs::Windows::slots_of_cells, crate::proofs::Windows::length_of_window))]
-fn column_of(
-    alloc: Global,
-    values: &[u8],
-    validity: Option<&[u8]>,
-    count: usize,
-) -> result::Result<Column, AllocError>
+/// The column that values and a validity bitmap give: cell `i` is null where bit `i % 8` of byte `i / 8` is not set. An error is for want
+/// of memory.
+#[tactic(auto, using(crate::proofs::Windows::slots_of_cells))]
+fn column_of(alloc: Global, values: &[u8], validity: Option<&[u8]>, count: usize) -> Result<Column>
     requires values { count * 4 ≤ length values.now }
     requires validity { ForSome validity (λ bits. count ≤ 8 * length bits.now) }
-    ensures { IfOk result (λ column. map slot_of column ≡ window (int32.int32_slot (bits_of validity.entry) values.now) 0 count) }
+    ensures { OrOutOfMemory result (λ column. map slot_of column ≡
+        window (int32.int32_slot (bits_of validity.entry) values.now) 0 count) }
 {
-    let values = numbers(alloc, values, count)?;
+    let values = Buffer::from_vec(numbers(alloc, values, count)?)?;
     match validity {
         None => Ok(Column::new(values, None)),
-        Some(bits) => Ok(Column::new(values, Some(bits.to_vec(alloc)?))),
+        Some(bits) => {
+            let bits = Bitmap::from_u8_slice(alloc, bits, count)?;
+            Ok(Column::new(values, Some(bits)))
+        }
     }
 }
 
 /// The first `count` 32-bit numbers of some values.
-#[tactic(auto, using(crate::proofs::Windows::window_next))]
+#[tactic(auto, using(columnar_memory_bits::proofs::Windows::window_next))]
 fn numbers(alloc: Global, values: &[u8], count: usize) -> result::Result<Vec<i32>, AllocError>
     requires { count * 4 ≤ length values.now }
     ensures { IfOk result (λ v. v.items ≡ window (int32.int32_at values.now) 0 count) }

@@ -1,11 +1,14 @@
--- The bytes so far are those of the cells so far.
-use Rattle.std.proofs.Common.{◌≡◌, ◌*◌, take, map}
-use Rattle.std.specs.List.{flat_map}
-use Rattle.ipc_format_columns.specs.Columns as format
-use Rattle.tables_stream.specs.Int32Written as int32_written
-use Rattle.tables_stream.specs.Cells.{slot_of, cells_from}
+-- The bytes so far are those of the values so far.
+use Rattle.std.proofs.Common.{◌≡◌, ◌+◌, ◌-◌, ◌*◌, ◌≤◌, take, length}
+use Rattle.std.specs.Prelude.{slice_range}
+use Rattle.tables_stream.proofs.Cells.{bytes_of_both}
 use Rattle.tables_stream.proofs.column.valid_bytes.Given as goal
 
-abbrev pub invariant-loop-i : goal.invariant-loop-i
-invariant-loop-i l =
-    take (4 * l.i) l.bytes ≡ flat_map int32_written.value_bytes (map slot_of (cells_from (format.bitmap l.bits) l.start (take l.i l.values)))
+abbrev pub invariant-loop-done : goal.invariant-loop-done
+invariant-loop-done l = record {
+  within : l.done ≤ length l.values;
+  written : take (4 * l.done) l.block ≡ bytes_of_both (slice_range l.bits l.start (l.start + l.done)) (take l.done l.values);
+}
+
+abbrev pub decreases-loop-done : goal.decreases-loop-done
+decreases-loop-done l = length l.values - l.done
