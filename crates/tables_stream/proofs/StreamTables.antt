@@ -65,7 +65,7 @@ fields_are_normal (field ∷ fields) all =
     ap₂ (λ (x : Field) xs. x ∷ xs) (field_is_normal field (All-head IsInt32Field field fields all))
     (fields_are_normal fields (All-tail IsInt32Field field fields all))
 
-schema_is_normal : (schema : Schema) → IsInt32Schema schema → normalised schema ≡ schema
+pub schema_is_normal : (schema : Schema) → IsInt32Schema schema → normalised schema ≡ schema
 unfolding normalised
 schema_is_normal schema first =
     ap (λ (fields : List Field). record { fields = fields; metadata = schema.metadata }) (fields_are_normal schema.fields first.1)
@@ -79,7 +79,7 @@ abbrev or_other : SchemaIn × ℕ → Option (SchemaIn × ℕ) → SchemaIn × �
 or_other other None = other
 or_other other (Some x) = x
 
-same_pair : (a b : SchemaIn × ℕ) → Some a ≡ Some b → a ≡ b
+pub same_pair : (a b : SchemaIn × ℕ) → Some a ≡ Some b → a ≡ b
 same_pair a b e = ap (or_other a) e
 
 -- what a layout's batches make of later messages

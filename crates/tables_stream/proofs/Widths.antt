@@ -28,6 +28,7 @@ use Rattle.tables_stream.specs.Int32Written.{int32_messages}
 use Rattle.tables_stream.specs.Refusals.{bytes_of_stream, StopsAtTooLong, IsWriteError, IsWriteFault}
 use Rattle.tables_stream.specs.Tables.{Stored, IsInt32Table, batch_slots, stored_cells, table_messages, table_bytes}
 use Rattle.tables_stream.specs.declared.batches.Batch.{Batch}
+use Rattle.tables_stream.proofs.Int32Batches.{came_of}
 use Rattle.tables_stream.proofs.Int32Streams.{int32_streams}
 use Rattle.tables_stream.proofs.Refused.{fault_is}
 
@@ -36,11 +37,6 @@ abbrev pub HasWidth : ℕ → List (List (Option ℤ)) → Type 0
 HasWidth n columns = length columns ≡ n
 
 -- ---- read batches
-
--- where something follows, there was something to follow
-came_of : {A B : Type 0} (r : Option A) (f : A → Option B) (y : B) → (r >>= f) ≡ Some y → (x : A) × (r ≡ Some x) × (f x ≡ Some y)
-came_of None f y e = absurd cc
-came_of (Some x) f y e = (x, refl, e)
 
 abbrev or_none : List (List Slot) → Option (List (List Slot)) → List (List Slot)
 or_none other None = other
@@ -54,11 +50,21 @@ columns_width source k (suc n) columns e =
     let others = columns_width source (k + 1) n b.0 b.1 in
     ap length (sym (ap (or_none []) b.2)) ∙ ap suc others
 
-batch_width : (n : ℕ) (metadata : List ℕ) (table : flat.Table) (body : List ℕ) (columns : List (List Slot))
-    → int32_batch n metadata table body ≡ Some columns
-    → length columns ≡ n
+-- n columns of a record batch that are of one length
+pub record AreRead (n : ℕ) (columns : List (List Slot)) : Type 0 where
+  pub source : Source
+  pub order : source.is_little_endian ≡ true
+  pub read : int32_columns source 0 n ≡ Some columns
+  pub lengths : agree_in_length columns ≡ true
+
+agreed : (test : Bool) (found columns : List (List Slot)) → (guard test >>= (λ _. Some found)) ≡ Some columns → (test ≡ true) × (found ≡ columns)
+agreed true found columns e = (refl, ap (or_none []) e)
+agreed false found columns e = absurd cc
+
+batch_read : (n : ℕ) (metadata : List ℕ) (table : flat.Table) (body : List ℕ) (columns : List (List Slot))
+    → int32_batch n metadata table body ≡ Some columns → AreRead n columns
 unfolding int32_batch
-batch_width n metadata table body columns e =
+batch_read n metadata table body columns e =
     let a = came_of {A = RecordBatch} (record_batch_in metadata table) _ columns e in
     let b = came_of {A = Bool} (guard (not a.0.is_compressed)) _ columns a.2 in
     let c = came_of {A = ℕ} (lengths_sum metadata a.0.buffers) _ columns b.2 in
@@ -66,13 +72,13 @@ batch_width n metadata table body columns e =
     let source : Source =
     record { metadata = metadata; vectors = a.0; version = V5; is_little_endian = true; room = body; origin = 0 } in
     let f = came_of {A = List (List Slot)} (int32_columns source 0 n) _ columns d.2 in
-    let g = came_of {A = Bool} (guard (agree_in_length f.0)) _ columns f.2 in
-    ap length (sym (ap (or_none []) g.2)) ∙ columns_width source 0 n f.0 f.1
+    let g = agreed (agree_in_length f.0) f.0 columns f.2 in
+    subst (AreRead n) g.1 (record { source = source; order = refl; read = f.1; lengths = g.0 })
 
-by_width : (n : ℕ) (framed : Framed) (header : Header) (columns : List (List Slot)) → batch_by n framed header ≡ Some columns → length columns ≡ n
-by_width n framed (schema table) columns e = absurd cc
-by_width n framed (dictionary_batch table) columns e = absurd cc
-by_width n framed (record_batch table) columns e = batch_width n framed.metadata table framed.body columns e
+by_read : (n : ℕ) (framed : Framed) (header : Header) (columns : List (List Slot)) → batch_by n framed header ≡ Some columns → AreRead n columns
+by_read n framed (schema table) columns e = absurd cc
+by_read n framed (dictionary_batch table) columns e = absurd cc
+by_read n framed (record_batch table) columns e = batch_read n framed.metadata table framed.body columns e
 
 abbrev columns_of_step : Step → List (List Slot)
 columns_of_step (batch_then columns after) = columns
@@ -82,19 +88,23 @@ abbrev or_step : Option Step → List (List Slot)
 or_step None = []
 or_step (Some step) = columns_of_step step
 
-step_of_width : (n : ℕ) (next : Next) (columns : List (List Slot)) (after : ℕ) → step_of n next ≡ Some (batch_then columns after) → length columns ≡ n
-step_of_width n nothing_whole columns after e = absurd cc
-step_of_width n at_end columns after e = absurd cc
-step_of_width n (message_then framed place) columns after e =
+next_read : (n : ℕ) (next : Next) (columns : List (List Slot)) (after : ℕ) → step_of n next ≡ Some (batch_then columns after) → AreRead n columns
+next_read n nothing_whole columns after e = absurd cc
+next_read n at_end columns after e = absurd cc
+next_read n (message_then framed place) columns after e =
     let a = came_of {A = List (List Slot)} (batch_by n framed framed.header) _ (batch_then columns after) e in
-    ap length (sym (ap or_step a.2)) ∙ by_width n framed framed.header a.0 a.1
+    subst (AreRead n) (ap or_step a.2) (by_read n framed framed.header a.0 a.1)
+
+pub step_read : (n : ℕ) (bytes : List ℕ) (place : ℕ) (columns : List (List Slot)) (after : ℕ)
+    → step_at n bytes place ≡ Some (batch_then columns after) → AreRead n columns
+unfolding step_at
+step_read n bytes place columns after e =
+    let a = came_of {A = Next} (next_at bytes place) _ (batch_then columns after) e in
+    next_read n a.0 columns after a.2
 
 step_width : (n : ℕ) (bytes : List ℕ) (place : ℕ) (columns : List (List Slot)) (after : ℕ) → step_at n bytes place ≡ Some (batch_then columns after)
     → length columns ≡ n
-unfolding step_at
-step_width n bytes place columns after e =
-    let a = came_of {A = Next} (next_at bytes place) _ (batch_then columns after) e in
-    step_of_width n a.0 columns after a.2
+step_width n bytes place columns after e = let read = step_read n bytes place columns after e in columns_width read.source 0 n columns read.read
 
 -- one more batch that was read
 pub widths_more : (n : ℕ) (bytes : List ℕ) (place after : ℕ) (batches more : List Batch) (batch : Batch)
@@ -108,27 +118,27 @@ widths_more n bytes place after batches more batch step all pushed =
 
 -- ---- windows
 
-window_if : (n : ℕ) (is_kept : Bool) (window : List (List (Option ℤ))) (others : List (List (List (Option ℤ)))) → HasWidth n window
-    → All (HasWidth n) others
-    → All (HasWidth n) ((if is_kept then window ∷ [] else []) ++ others)
-window_if n true window others here all = All-cons (HasWidth n) window others here all
-window_if n false window others here all = all
+-- what holds of each window of a batch
+abbrev pub Keeps : (List (List (Option ℤ)) → Type 0) → Type 0
+Keeps P = (begin count : ℕ) (columns : List (List (Option ℤ))) → P columns → P (window_cells begin count columns)
 
-pub widths_of_cut : (n o count : ℕ) (batches : List (List (List (Option ℤ)))) → All (HasWidth n) batches → All (HasWidth n) (cut_of o count batches)
-widths_of_cut n o count [] all = All-nil (HasWidth n)
-widths_of_cut n o count (batch ∷ batches) all =
+window_if : (P : List (List (Option ℤ)) → Type 0) (is_kept : Bool) (window : List (List (Option ℤ))) (others : List (List (List (Option ℤ))))
+    → P window → All P others → All P ((if is_kept then window ∷ [] else []) ++ others)
+window_if P true window others here all = All-cons P window others here all
+window_if P false window others here all = all
+
+-- a cut's windows have what each window keeps
+pub cut_keeps : (P : List (List (Option ℤ)) → Type 0) → Keeps P → (o count : ℕ) (batches : List (List (List (Option ℤ)))) → All P batches
+    → All P (cut_of o count batches)
+cut_keeps P keeps o count [] all = All-nil P
+cut_keeps P keeps o count (batch ∷ batches) all =
     let begin = min (rows_of_cells batch) o in
     let taken = min (rows_of_cells batch - begin) count in
-    window_if n (nat_lt 0 taken) (window_cells begin taken batch) (cut_of (o - begin) (count - taken) batches)
-    (length-map batch _ ∙ All-head (HasWidth n) batch batches all)
-    (widths_of_cut n (o - begin) (count - taken) batches (All-tail (HasWidth n) batch batches all))
+    window_if P (nat_lt 0 taken) (window_cells begin taken batch) (cut_of (o - begin) (count - taken) batches)
+    (keeps begin taken batch (All-head P batch batches all)) (cut_keeps P keeps (o - begin) (count - taken) batches (All-tail P batch batches all))
 
--- a cut of such a table is one
-pub cut_is_int32 : (known same : Schema) (o count : ℕ) (batches windows : List (List (List (Option ℤ)))) → IsInt32Table known batches → same ≡ known
-    → windows ≡ cut_of o count batches → IsInt32Table same windows
-cut_is_int32 known same o count batches windows sound e cut =
-    subst (λ (s : Schema). IsInt32Table s windows) (sym e)
-    (sound.0, subst (All (HasWidth (length known.fields))) (sym cut) (widths_of_cut (length known.fields) o count batches sound.1))
+pub width_kept : (n : ℕ) → Keeps (HasWidth n)
+width_kept n begin count columns here = length-map columns _ ∙ here
 
 -- ---- written batches
 
@@ -144,7 +154,7 @@ widths_of_slots n (batch ∷ batches) all =
 messages_are : (stored : Stored) → IsInt32Table stored.schema stored.batches
     → int32_messages stored.schema (map batch_slots stored.batches) ≡ table_messages stored
 messages_are stored known =
-    int32_streams stored.schema (map batch_slots stored.batches) known.0 (widths_of_slots (length stored.schema.fields) stored.batches known.1)
+    int32_streams stored.schema (map batch_slots stored.batches) known.types (widths_of_slots (length stored.schema.fields) stored.batches known.widths)
 
 -- the bytes of their stream
 bytes_are : (stored : Stored) → bytes_of_stream (table_messages stored) ≡ table_bytes stored

@@ -3,9 +3,10 @@ ghost use Rattle.std.specs.Prelude.{◌≡◌, ◌+◌, ◌≤◌, ◌<◌, ◌^
 ghost use Rattle.nested_arrays.specs.Tables.{part};
 ghost use Rattle.tables_stream.specs.Cuts.{cut_of};
 ghost use Rattle.tables_stream.specs.Refusals.{WritesStream};
-ghost use Rattle.tables_stream.specs.Tables.{row_count, as_table};
+ghost use Rattle.tables_stream.specs.Tables.{row_count, as_table, table_bytes, ReadAsTable};
 ghost use Rattle.tables_metadata.specs.Int32Schemas.{IsInt32Schema};
 ghost use Rattle.ipc_format.specs.Messages.{Version};
+ghost use Rattle.ipc_format_round_trip.specs.Schemas.{HasTexts};
 ghost use Rattle.tables_stream.specs.Reading.{ReadsTable, ReadsBatches};
 ghost use Rattle.tables_stream.specs.declared.fault.Fault.TheVariants.{Memory};
 
@@ -107,7 +108,8 @@ impl Table {
         })
     }
 
-    /// Writes the table as an Arrow stream (Arrow IPC, "IPC streaming format"), one record batch message a batch.
+    /// Writes the table as an Arrow stream (Arrow IPC, "IPC streaming format"), one record batch message a batch. What is written reads
+    /// as this very table, batch by batch.
     ///
     /// # Errors
     /// - `Ipc(Overflow)`: a message is longer than Arrow's lengths go. Exactly the messages before it are written.
@@ -121,7 +123,8 @@ impl Table {
         alloc: Global,
         writer: &mut W,
     ) -> Result<(), Fault>
-        ensures { WritesStream result self.now (W.failures writer.old) (W.failures writer.new) (W.contents writer.old) (W.contents writer.new) }
+        ensures written { WritesStream result self.now (W.failures writer.old) (W.failures writer.new) (W.contents writer.old) (W.contents writer.new) }
+        ensures reads_back { IfOk result (λ done. ReadAsTable (table_bytes self.now) self.now) }
     {
         Ok(write_table(alloc, writer, &self.schema, &self.batches)?)
     }
@@ -130,6 +133,7 @@ impl Table {
 /// The table of the messages from a place on, under a schema.
 fn read_batches(alloc: Global, bytes: &[u8], schema: Schema, first: usize) -> Result<Table, Fault>
     requires schema { IsInt32Schema schema }
+    requires texts { HasTexts schema }
     requires begun { 0 < first }
     requires inside { first ≤ length bytes.now }
     ensures { (version : Version) → ReadsBatches schema version bytes.now first result }

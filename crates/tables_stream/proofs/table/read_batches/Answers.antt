@@ -10,6 +10,7 @@ use Rattle.tables_stream.specs.Tables.{batch_slots, stored_cells}
 use Rattle.tables_stream.proofs.ColumnLists.{Cells}
 use Rattle.tables_stream.proofs.BatchLists.{batches_next, batches_end, batches_cut, batches_many, batches_error, rows_more, cells_more}
 use Rattle.tables_stream.proofs.Widths.{widths_more}
+use Rattle.tables_stream.proofs.SoundBatches.{sound_more}
 use Rattle.tables_stream.proofs.table.read_batches.Goals as goal
 
 pub returns-in_err-next_batch : goal.returns-in_err-next_batch
@@ -62,6 +63,9 @@ loop-batches-preserved c =
       fits = search rules;
       widths = widths_more n c.args.bytes.now c.loop-batches.place c.in-Rows.after c.loop-batches.batches.items c.push.new.self.items batch step
           c.loop-batches.invariant.widths (cells_more c.loop-batches.batches.items c.push.new.self.items batch pushed);
+      sound = sound_more c.args.schema.fields c.args.bytes.now c.loop-batches.place c.in-Rows.after c.loop-batches.batches.items
+          c.push.new.self.items batch c.requires.schema.1 step c.loop-batches.invariant.sound
+          (cells_more c.loop-batches.batches.items c.push.new.self.items batch pushed);
       read = batches_next c.args.schema c.args.bytes.now c.args.first cells (map stored_cells c.push.new.self.items) (stored_cells batch)
           c.loop-batches.place c.in-Rows.after c.requires.schema c.loop-batches.invariant.read step (search rules) (search rules)
           (cells_more c.loop-batches.batches.items c.push.new.self.items batch pushed);
@@ -78,3 +82,15 @@ returns c =
           c.loop-batches.invariant.read step,
       omega (arith, c.loop-batches.invariant.counted, c.loop-batches.invariant.fits),
     )
+
+pub invariant_of-result : goal.invariant_of-result
+invariant_of-result c = (
+  c.loop-batches.invariant.counted,
+  record {
+    types = c.requires.schema;
+    texts = c.requires.texts;
+    widths = c.loop-batches.invariant.widths;
+    slots = c.loop-batches.invariant.sound;
+    rows = omega (arith, c.loop-batches.invariant.counted, c.loop-batches.invariant.fits);
+  },
+)

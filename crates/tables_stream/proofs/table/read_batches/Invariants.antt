@@ -1,7 +1,8 @@
--- The rows so far are those of the batches so far, and the batches are those so far and those of the messages that are left.
+-- The rows so far are those of the batches so far, which fit the fields, and the batches are those so far and those of the messages that are
+-- left.
 use Rattle.std.proofs.Common.{◌≡◌, ◌-◌, ◌<◌, ◌^◌, length, map, sum_by}
 use Rattle.tables_stream.specs.Batches.{rows_of_cells}
-use Rattle.tables_stream.specs.Tables.{stored_cells}
+use Rattle.tables_stream.specs.Tables.{FitsFields, stored_cells}
 use Rattle.std.specs.List.{All}
 use Rattle.tables_stream.proofs.BatchLists.{BatchesRead}
 use Rattle.tables_stream.proofs.Widths.{HasWidth}
@@ -12,6 +13,7 @@ invariant-loop-batches l = record {
   counted : l.rows ≡ sum_by rows_of_cells (map stored_cells l.batches.items);
   fits : l.rows < 2 ^ 64;
   widths : All (HasWidth (length l.schema.fields)) (map stored_cells l.batches.items);
+  sound : All (FitsFields l.schema.fields) (map stored_cells l.batches.items);
   read : BatchesRead l.schema l.bytes l.first (map stored_cells l.batches.items) l.place;
 }
 

@@ -3,7 +3,7 @@ use Rattle.std.proofs.Common.{rules, ◌≡◌, map}
 use Rattle.tables_stream.specs.Tables.{Stored, stored_cells}
 use Rattle.tables_stream.specs.Cuts.{cut_of}
 use Rattle.tables_stream.proofs.TableParts.{part_of_cut}
-use Rattle.tables_stream.proofs.Widths.{cut_is_int32}
+use Rattle.tables_stream.proofs.ReadsBack.{cut_is_int32}
 use Rattle.tables_stream.proofs.table.Table.cut.Goals as goal
 
 pub returns-clause-rows : goal.returns-clause-rows

@@ -10,10 +10,11 @@ use Rattle.tables_stream.specs.Refusals.{bytes_of_stream, StopsAtTooLong, IsWrit
 use Rattle.tables_stream.specs.Tables.{Stored, batch_slots, stored_cells}
 use Rattle.tables_stream.specs.declared.batches.Batch.{Batch}
 use Rattle.tables_stream.proofs.Widths.{table_written, table_refused}
+use Rattle.tables_stream.proofs.ReadsBack.{table_reads_back}
 use Rattle.tables_stream.proofs.table.Table.write_stream.Goals as goal
 
-pub returns-in_err-write_table : goal.returns-in_err-write_table
-returns-in_err-write_table g c =
+pub returns-in_err-write_table-clause-written : goal.returns-in_err-write_table-clause-written
+returns-in_err-write_table-clause-written g c =
     let stored : Stored = record { schema = c.self.inside.schema; batches = map stored_cells c.self.inside.batches.items } in
     let old : Option (List ℕ) = g.W.Write.contents c.args.writer.now in
     let new : Option (List ℕ) = g.W.Write.contents c.write_table.new.writer in
@@ -27,8 +28,8 @@ returns-in_err-write_table g c =
     let whole = table_refused error stored before after old new c.self.invariant.1 known in
     search (rules, whole)
 
-pub returns : goal.returns
-returns g c =
+pub returns-clause-written : goal.returns-clause-written
+returns-clause-written g c =
     let stored : Stored = record { schema = c.self.inside.schema; batches = map stored_cells c.self.inside.batches.items } in
     let old : Option (List ℕ) = g.W.Write.contents c.args.writer.now in
     let new : Option (List ℕ) = g.W.Write.contents c.write_table.new.writer in
@@ -37,4 +38,16 @@ returns g c =
     × Appends old new (bytes_of_stream (int32_messages stored.schema (map batch_slots (map stored_cells batches)))))
     c.deref.ensures.value c.in_ok-write_table.ensures in
     let whole = table_written stored old new c.self.invariant.1 known in
+    search (rules, whole)
+
+pub returns-clause-reads_back : goal.returns-clause-reads_back
+returns-clause-reads_back g c =
+    let stored : Stored = record { schema = c.self.inside.schema; batches = map stored_cells c.self.inside.batches.items } in
+    let known = subst (λ (batches : List Batch).
+    (list_all fits_limit (int32_messages stored.schema (map batch_slots (map stored_cells batches))) ≡ true)
+    × Appends (g.W.Write.contents c.args.writer.now) (g.W.Write.contents c.write_table.new.writer)
+    (bytes_of_stream (int32_messages stored.schema (map batch_slots (map stored_cells batches)))))
+    c.deref.ensures.value c.in_ok-write_table.ensures in
+    let whole = table_reads_back stored c.self.invariant.1
+    ((table_written stored (g.W.Write.contents c.args.writer.now) (g.W.Write.contents c.write_table.new.writer) c.self.invariant.1 known).0) in
     search (rules, whole)
