@@ -154,7 +154,8 @@ widths_of_slots n (batch ∷ batches) all =
 messages_are : (stored : Stored) → IsInt32Table stored.schema stored.batches
     → int32_messages stored.schema (map batch_slots stored.batches) ≡ table_messages stored
 messages_are stored known =
-    int32_streams stored.schema (map batch_slots stored.batches) known.types (widths_of_slots (length stored.schema.fields) stored.batches known.widths)
+    int32_streams stored.schema (map batch_slots stored.batches) known.types
+    (widths_of_slots (length stored.schema.fields) stored.batches known.widths)
 
 -- the bytes of their stream
 bytes_are : (stored : Stored) → bytes_of_stream (table_messages stored) ≡ table_bytes stored

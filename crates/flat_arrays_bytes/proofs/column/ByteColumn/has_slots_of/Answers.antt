@@ -20,6 +20,6 @@ returns g c =
     let second : length (slots_of b) ≡ c.len.result = omega (arith, length_slots b c.len.ensures.masked, c.len.ensures.value) in
     let lengths : length (slots_of a) ≡ length (slots_of b) = omega (arith, first, second) in (
       (λ h. same_elements (slots_of a) (slots_of b) lengths (λ (k : ℕ) (lt : k < length (slots_of a)). c.loop-index.invariant k
-      (omega (arith, first)))),
+          (omega (arith, first)))),
       (λ e. refl),
     )
