@@ -123,7 +123,8 @@ impl Table {
         alloc: Global,
         writer: &mut W,
     ) -> Result<(), Fault>
-        ensures written { WritesStream result self.now (W.failures writer.old) (W.failures writer.new) (W.contents writer.old) (W.contents writer.new) }
+        ensures written { WritesStream result self.now (W.failures writer.old) (W.failures writer.new) (W.contents writer.old)
+            (W.contents writer.new) }
         ensures reads_back { IfOk result (λ done. ReadAsTable (table_bytes self.now) self.now) }
     {
         Ok(write_table(alloc, writer, &self.schema, &self.batches)?)
