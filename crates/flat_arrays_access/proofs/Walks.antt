@@ -1,9 +1,11 @@
 -- Walks over the slots of arrays, step by step.
-use Rattle.std.proofs.Common.{◌≡◌, ◌∙◌, Bool, true, false, List, [], ◌∷◌, ◌++◌, length, map, refl, ap, ap₂, sym, subst, arith}
+use Rattle.std.proofs.Common.{◌≡◌, ◌∙◌, ◌+◌, Bool, true, false, List, [], ◌∷◌, ◌++◌, length, map, refl, ap, ap₂, sym, subst, arith}
 use Rattle.std.proofs.lemmas.List.{length-append, map-append}
-use Rattle.std.specs.Prelude.{Option, Some, None, option_map}
+use Rattle.std.proofs.lemmas.List.Sums.{sum_by-cons}
+use Rattle.std.specs.Prelude.{Option, Some, None, cond, not, option_map}
 use Rattle.std.specs.Iterator.{YieldsFirst, YieldsFirstBy, YieldsLast, YieldsLastBy}
 use Rattle.std.specs.List.{zip}
+use Rattle.columnar_memory_bits.specs.Bits.{unset_count}
 use Rattle.columnar_memory_bits.specs.ZipValidity.{slot}
 use Rattle.columnar_memory_bits.specs.ZipValidityCases.{StepsEither}
 use Rattle.columnar_memory_bits.specs.declared.zip_validity.ZipValidity.{ZipValidity}
@@ -16,6 +18,17 @@ slots values bits = map slot_of (zip values bits)
 
 abbrev slots_of_pair : {V : Type 0} → List V × List Bool → List (Option V)
 slots_of_pair left = slots left.0 left.1
+
+-- where no mark is false each slot has its value
+pub all_there : {V : Type 0} (xs : List V) (bits : List Bool) → length bits ≡ length xs → unset_count bits ≡ 0 → map Some xs ≡ slots xs bits
+all_there [] bits even none = refl
+all_there (x ∷ xs) [] even none = absurd (omega (arith, even))
+all_there (x ∷ xs) (true ∷ bits) even none =
+    let step : unset_count (true ∷ bits) ≡ 0 + unset_count bits = sum_by-cons (λ b. cond (not b) 1 0) true bits in
+    ap (λ rest. Some x ∷ rest) (all_there xs bits (omega (arith, even)) (omega (arith, none, step)))
+all_there (x ∷ xs) (false ∷ bits) even none =
+    let step : unset_count (false ∷ bits) ≡ 1 + unset_count bits = sum_by-cons (λ b. cond (not b) 1 0) false bits in
+    absurd (omega (arith, none, step))
 
 -- one value and one mark more, behind as many of both
 slots-more : {V : Type 0} (xs : List V) (bits : List Bool) (x : V) (b : Bool) → length xs ≡ length bits
