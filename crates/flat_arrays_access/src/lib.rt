@@ -2,5 +2,7 @@
 #![tactic(auto)]
 
 mod accessor;
+mod laws;
 
 pub use accessor::{ArrayAccessor, ArrayValuesIter};
+pub use laws::a_walk_gives_each_slot_once;
