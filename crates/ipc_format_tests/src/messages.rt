@@ -1,10 +1,11 @@
 //! Messages, batches and footers: their views at the bounds of each rule, and what is written.
 use crate::samples::{DICTIONARY_BATCH, FOOTER, NO_FIELDS, RECORD_BATCH, X};
 use columnar_memory::Error as MemoryError;
+use ipc_format_message_writing::{dictionary_batch_to_bytes, record_batch_to_bytes};
 use ipc_format_messages::{
     Buffer, BuffersRef, DictionaryBatchRef, Error, FieldNode, FooterRef, MessageHeaderRef,
-    MessageRef, MetadataVersion, RecordBatchRef, dictionary_batch_in, dictionary_batch_to_bytes,
-    message_in, record_batch_in, record_batch_to_bytes, version_in,
+    MessageRef, MetadataVersion, RecordBatchRef, dictionary_batch_in, message_in, record_batch_in,
+    version_in,
 };
 use std::test::*;
 

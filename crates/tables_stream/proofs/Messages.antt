@@ -19,7 +19,7 @@ use Rattle.ipc_format_written.specs.Ids.{default_ids}
 use Rattle.ipc_format_written.specs.WrittenMessages.{Written, framed, message_bytes, fits_limit, end_mark, body_bytes, buffer_places, schema_written}
 use Rattle.ipc_format_written.specs.WrittenMessages.{prefix_size, most_metadata, record_tag}
 use Rattle.ipc_format.specs.WrittenStreams.{rows_of_slots, bytes_of_messages}
-use Rattle.ipc_format_messages.specs.MessageWriting.{WritesMessage, record_message, node_pair, buffer_pair}
+use Rattle.ipc_format_message_writing.specs.MessageWriting.{WritesMessage, record_message, node_pair, buffer_pair}
 use Rattle.ipc_format_messages.specs.declared.values.FieldNode.{FieldNode}
 use Rattle.ipc_format_messages.specs.declared.values.Buffer.{Buffer}
 use Rattle.ipc_format_schema_writing.specs.Writing.{WritesSchema, may_write}
