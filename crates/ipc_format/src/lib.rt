@@ -10,4 +10,4 @@ pub use ipc_format_metadata::{
     schema_in,
 };
 pub use ipc_format_schema_writing::{default_ipc_fields, normalised, schema_to_bytes};
-pub use ipc_format_streams::{Counting, Faults, Frame, Framed, NextMessage, next_at};
+pub use ipc_format_streams::{Counting, Faults, Frame, Framed, NextMessage, next_at, put, refusal};

@@ -11,7 +11,7 @@ ghost use Rattle.ipc_format_streams.specs.Devices.{Puts};
 use crate::commands::Command;
 use crate::places::Places;
 use columnar_memory::Error;
-use ipc_format_streams::put;
+use ipc_format::put;
 use std::alloc::Global;
 use std::fmt;
 use std::io::Write;

@@ -18,8 +18,9 @@ use crate::batches::Batch;
 use crate::column::Column;
 use columnar_memory::{Error, Result, Schema};
 use ipc_format::messages::{Buffer, FieldNode};
-use ipc_format::{Faults, default_ipc_fields, record_batch_to_bytes, schema_to_bytes};
-use ipc_format_streams::{put, refusal};
+use ipc_format::{
+    Faults, default_ipc_fields, put, record_batch_to_bytes, refusal, schema_to_bytes,
+};
 use std::alloc::Global;
 use std::io::Write;
 
