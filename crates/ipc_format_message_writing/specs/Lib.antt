@@ -1,1 +1,2 @@
 pub mod MessageWriting
+pub mod FooterWriting
