@@ -2,7 +2,7 @@
 //! and a mask.
 #![tactic(auto)]
 
-pub use flat_arrays_access::{ArrayAccessor, ArrayValuesIter};
+pub use flat_arrays_access::{ArrayAccessor, ArrayValuesIter, IntoMut};
 pub use flat_arrays_bytes::{BinaryArray, BinaryValueIter, Utf8Array, Utf8ValuesIter};
 pub use flat_arrays_values::{
     BooleanArray, DaysMsArray, Int8Array, Int16Array, Int32Array, Int64Array, Int128Array,
