@@ -2,7 +2,9 @@
 //! and a mask.
 #![tactic(auto)]
 
-pub use flat_arrays_access::{ArrayAccessor, ArrayValuesIter, a_walk_gives_each_slot_once};
+pub use flat_arrays_access::{
+    ArrayAccessor, ArrayValuesIter, IntoMut, a_walk_gives_each_slot_once,
+};
 pub use flat_arrays_bytes::{
     BinaryArray, BinaryValueIter, Utf8Array, Utf8ValuesIter,
     a_cut_of_a_cut_of_byte_strings_is_one_cut, a_cut_of_byte_strings_has_a_range_of_the_slots,

@@ -27,7 +27,8 @@ pub fn refusal(error: Error, before: u64, after: u64) -> Error
 
 /// Writes all bytes, in as many writes as the device takes.
 ///
-/// - `Io`: the device refused a piece, or took nothing of it. `refusal` says what that is called. A beginning of the bytes is written.
+/// # Errors
+/// `Io`: the device refused a piece, or took nothing of it. `refusal` says what that is called. A beginning of the bytes is written.
 pub fn put<W: Write>(writer: &mut W, bytes: &[u8]) -> Result<()>
     ensures { Puts result (W.contents writer.old) (W.contents writer.new) bytes.now }
 {
