@@ -1,0 +1,13 @@
+//! Builders of arrays of byte strings: values of any length, pushed one behind another, with validity marks (Arrow columnar
+//! format, "Variable-size Binary Layout").
+#![tactic(auto)]
+
+mod binary;
+mod binary_values;
+mod builder;
+mod laws;
+
+pub use binary::MutableBinaryArray;
+pub use binary_values::MutableBinaryValuesArray;
+pub use builder::ByteBuilder;
+pub use laws::a_push_adds_one_slot;
