@@ -7,3 +7,5 @@ pub use Rattle.flat_arrays_values.specs.Results
 pub use Rattle.flat_arrays_bytes.specs.ByteStrings
 pub use Rattle.flat_arrays_bytes.specs.Fits
 pub use Rattle.flat_arrays_bytes.specs.Texts
+pub use Rattle.flat_arrays_byte_builders.specs.Growing
+pub use Rattle.flat_arrays_byte_builders.specs.GrowthLaws

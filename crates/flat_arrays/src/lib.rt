@@ -3,6 +3,10 @@
 #![tactic(auto)]
 
 pub use flat_arrays_access::{ArrayAccessor, ArrayValuesIter};
+pub use flat_arrays_byte_builders::{
+    ByteBuilder, MutableBinaryArray, MutableBinaryValuesArray, MutableUtf8Array,
+    MutableUtf8ValuesArray, a_push_adds_one_slot,
+};
 pub use flat_arrays_bytes::{BinaryArray, BinaryValueIter, Utf8Array, Utf8ValuesIter};
 pub use flat_arrays_values::{
     BooleanArray, DaysMsArray, Int8Array, Int16Array, Int32Array, Int64Array, Int128Array,

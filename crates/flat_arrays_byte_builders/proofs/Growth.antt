@@ -117,17 +117,26 @@ IsFilled-with_slot a None h = IsFilled-pushed a [] false h
 
 -- ---- the first slots
 
-values_of-first_slots : (a : ByteStrings) (n : ℕ) → IsFilled a → values_of (first_slots a n) ≡ values_of (cut a 0 n)
-values_of-first_slots a n h =
-    let ls = take n a.offsets.lengths in
-    let rest : List ℕ = drop a.offsets.start a.bytes in
-    let within : sum ls ≤ length rest = omega (arith, h.filled, offset_at-le-last_of a.offsets n, length-drop a.offsets.start a.bytes) in
+-- bytes behind the last byte string play no part
+cut_by-taken : (ls bytes : List ℕ) (start : ℕ) → start + sum ls ≤ length bytes
+    → cut_by ls (drop start (take (start + sum ls) bytes)) ≡ cut_by ls (drop start bytes)
+cut_by-taken ls bytes start h =
+    let rest : List ℕ = drop start bytes in
+    let within : sum ls ≤ length rest = omega (arith, h, length-drop start bytes) in
     let held : length (take (sum ls) rest) ≡ sum ls = length-take-le (sum ls) rest within in
     let le : sum ls ≤ length (take (sum ls) rest) = omega (arith, held) in
-    ap (cut_by ls) (drop-take a.offsets.start (sum ls) a.bytes)
+    ap (cut_by ls) (drop-take start (sum ls) bytes)
     ∙ sym (cut_by-within ls (take (sum ls) rest) (drop (sum ls) rest) le)
     ∙ ap (cut_by ls) (take-append-drop (sum ls) rest)
-    ∙ ap (λ s. cut_by ls (drop s a.bytes)) (sym (add-zero a.offsets.start))
+
+pub values_of-trimmed : (a b : ByteStrings) → b ≡ trimmed a → last_of a.offsets ≤ length a.bytes → values_of b ≡ values_of a
+values_of-trimmed a b e h = ap values_of e ∙ cut_by-taken a.offsets.lengths a.bytes a.offsets.start h
+
+pub values_of-first_slots : (a : ByteStrings) (n : ℕ) → IsFilled a → values_of (first_slots a n) ≡ values_of (cut a 0 n)
+values_of-first_slots a n h =
+    let ls : List ℕ = take n a.offsets.lengths in
+    let within : a.offsets.start + sum ls ≤ length a.bytes = omega (arith, h.filled, offset_at-le-last_of a.offsets n) in
+    cut_by-taken ls a.bytes a.offsets.start within ∙ ap (λ s. cut_by ls (drop s a.bytes)) (sym (add-zero a.offsets.start))
 
 pub slots_of-first_slots : (a : ByteStrings) (n : ℕ) → n ≤ len_of a → IsFilled a → slots_of (first_slots a n) ≡ take n (slots_of a)
 slots_of-first_slots a n le h =

@@ -1,2 +1,3 @@
 pub mod Growth
+pub mod Kept
 pub mod Undone

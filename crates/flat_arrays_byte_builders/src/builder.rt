@@ -1,4 +1,4 @@
-//! Byte strings that grow, with validity marks: what builders of byte strings hold.
+//! Byte strings that grow, with validity marks: what builders of bytes and of texts hold.
 ghost use Rattle.std.specs.Prelude.{◌≡◌, ◌-◌, ◌<◌, ◌≤◌, ◌↔◌, ◌++◌, ◌∷◌, IsTrue, Some, None, [], length, replicate, slice_get};
 ghost use Rattle.std.specs.Prelude.{true, false, MatchResult, IfErr, option_map, take};
 ghost use Rattle.std.specs.Option.{option_copied};
@@ -7,7 +7,8 @@ ghost use Rattle.columnar_memory.specs.Layouts.{physical_type};
 ghost use Rattle.columnar_memory.specs.Results.{OrOutOfMemory};
 ghost use Rattle.columnar_memory.specs.Spans.{last_of, no_spans, shortened};
 ghost use Rattle.flat_arrays_bytes.specs.ByteStrings.{byte_strings, len_of, marks_of, slots_of, values_of, with_mask};
-ghost use Rattle.flat_arrays_bytes.specs.Fits.{Fits, IsMaskOf, binary_layout};
+ghost use Rattle.flat_arrays_bytes.specs.Fits.{Fits, IsMaskOf, binary_layout, text_layout};
+ghost use Rattle.flat_arrays_bytes.specs.Texts.{AllTexts};
 ghost use Rattle.flat_arrays_byte_builders.specs.Growing.{Grows, IsFilled, IsTaken, OrUnchanged, Pops, frozen_mask};
 ghost use Rattle.flat_arrays_byte_builders.specs.Growing.{marked, pushed, with_slot, without_last};
 
@@ -15,13 +16,14 @@ use columnar_memory::{
     Bitmap, Buffer, DataType, Error, Index, MutableBitmap, Offset, Offsets, OffsetsBuffer,
     PhysicalType, Result,
 };
+use simdutf8::is_utf8;
 use std::alloc::Global;
 use std::marker::Model;
 
 /// A data type, offsets, bytes and a mask, as an array shares them.
 pub(crate) type Parts<O> = (DataType, OffsetsBuffer<O>, Buffer<u8>, Option<Bitmap>);
 
-/// What each builder of byte strings holds, and may be asked for what it has: byte strings, each between two neighbouring offsets,
+/// What each builder of byte strings or texts holds, and may be asked for what it has: byte strings, each between two neighbouring offsets,
 /// a data type, and a validity mark for each where a mask is held. No bytes stand behind the last of them.
 #[derive(Drop)]
 pub struct ByteBuilder<O: Offset> {
@@ -52,6 +54,17 @@ pub(crate) fn binary_layout_of<O: Offset>() -> PhysicalType
         PhysicalType::LargeBinary
     } else {
         PhysicalType::Binary
+    }
+}
+
+/// The same of texts.
+pub(crate) fn text_layout_of<O: Offset>() -> PhysicalType
+    ensures { result ≡ text_layout O.IS_LARGE }
+{
+    if O::IS_LARGE {
+        PhysicalType::LargeUtf8
+    } else {
+        PhysicalType::Utf8
     }
 }
 
@@ -293,6 +306,19 @@ impl<O: Offset> ByteBuilder<O> {
         }
     }
 
+    /// Whether each stored byte string is UTF-8 by itself.
+    pub(crate) fn holds_texts(&self) -> bool
+        ensures { IsTrue result ↔ AllTexts (values_of self.now) }
+    {
+        let count = self.len();
+        for index in 0..count {
+            if !is_utf8(self.value(index)) {
+                return false;
+            }
+        }
+        true
+    }
+
     /// The allocator of the bytes.
     pub(crate) fn allocator(&self) -> Global {
         *self.values.allocator()
@@ -349,7 +375,8 @@ impl<O: Offset> ByteBuilder<O> {
     /// # Errors
     /// `OutOfMemory`: it found no memory.
     pub(crate) fn push_null(&mut self) -> Result<()>
-        ensures { OrUnchanged self.old self.new result (λ _. self.new ≡ with_slot self.old None) }
+        ensures null { OrUnchanged self.old self.new result (λ _. self.new ≡ with_slot self.old None) }
+        ensures whole { IsFilled self.old }
     {
         let _end = end_of(&self.offsets);
         self.try_push(&[], false)

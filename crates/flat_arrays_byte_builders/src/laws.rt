@@ -1,4 +1,4 @@
-//! Laws of builders of byte strings.
+//! Laws of builders of byte strings and texts.
 ghost use Rattle.flat_arrays_byte_builders.specs.GrowthLaws.{PushesAdd};
 
 /// A push adds its slot behind the others, and taking the last slot off undoes it.
