@@ -12,3 +12,5 @@ pub use Rattle.flat_arrays_bytes.specs.Equal
 pub use Rattle.flat_arrays_bytes.specs.Fits
 pub use Rattle.flat_arrays_bytes.specs.Laws
 pub use Rattle.flat_arrays_bytes.specs.Texts
+pub use Rattle.flat_arrays_byte_builders.specs.Growing
+pub use Rattle.flat_arrays_byte_builders.specs.GrowthLaws

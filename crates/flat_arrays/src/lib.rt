@@ -5,6 +5,10 @@
 pub use flat_arrays_access::{
     ArrayAccessor, ArrayValuesIter, IntoMut, a_walk_gives_each_slot_once,
 };
+pub use flat_arrays_byte_builders::{
+    ByteBuilder, MutableBinaryArray, MutableBinaryValuesArray, MutableUtf8Array,
+    MutableUtf8ValuesArray, a_push_adds_one_slot,
+};
 pub use flat_arrays_bytes::{
     BinaryArray, BinaryValueIter, Utf8Array, Utf8ValuesIter,
     a_cut_of_a_cut_of_byte_strings_is_one_cut, a_cut_of_byte_strings_has_a_range_of_the_slots,
