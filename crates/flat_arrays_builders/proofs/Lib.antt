@@ -1,0 +1,4 @@
+pub mod Added
+pub mod Along
+pub mod Marked
+pub mod Popped
