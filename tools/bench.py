@@ -3,6 +3,7 @@
 
     bench.py cut PROGRAM FOLDER        `tables cut` on nearly all of a large stream, against plain_cut.rs and `cp` of the same file
     bench.py memory PROGRAM FOLDER     the jobs of `columnar_memory_bench`, against plain_memory.rs, as a table
+    bench.py metadata PROGRAM FOLDER   the jobs of `ipc_format_bench` at three sizes, against a copy of the metadata's bytes, as a table
 
 What is made stands in FOLDER; streams are taken away at the end. Times of a cut are the best of five rounds, those of the memory layer's
 jobs the best of 21. Outputs and checksums of both programs have to be the same.
@@ -19,6 +20,9 @@ ROUNDS = 5
 
 # What `rt run` builds for.
 CPU = "x86-64-v2"
+
+# How many fields the schemas of the metadata's jobs have.
+FIELDS = [1000, 10000, 100000]
 
 # How often the memory layer's programs run in turn; each run is the best of seven rounds.
 TURNS = 3
@@ -119,8 +123,23 @@ def measure_memory(program, folder):
         print("| %s | 2^%d | %.1f | %.1f | %.2f |" % (what, power, ours / 1e6, plainly / 1e6, ours / plainly), flush=True)
 
 
+def measure_metadata(program, folder):
+    least = {}
+    print("| fields | metadata, kB | read, ms | write, ms | copy, ms | read / copy | write / copy |")
+    print("|---|---|---|---|---|---|---|")
+    for fields in FIELDS:
+        turns = [[timed(program, job, fields) for job in ("read", "write", "copy")] for _ in range(TURNS)]
+        read, write, copy = (min(turn[k][0] for turn in turns) for k in range(3))
+        least[fields] = read, write
+        row = (fields, int(turns[0][0][1]) / 1e3, read / 1e6, write / 1e6, copy / 1e6, read / copy, write / copy)
+        print("| %d | %.0f | %.3f | %.3f | %.4f | %.0f | %.0f |" % row, flush=True)
+    few, many = FIELDS[0], FIELDS[-1]
+    for k, job in enumerate(("read", "write")):
+        print("%s: %.1f times as long for %d times the fields" % (job, least[many][k] / least[few][k], many // few))
+
+
 if __name__ == "__main__":
-    measures = {"cut": measure_cut, "memory": measure_memory}
+    measures = {"cut": measure_cut, "memory": measure_memory, "metadata": measure_metadata}
     if len(sys.argv) != 4 or sys.argv[1] not in measures:
         sys.exit(__doc__)
     measures[sys.argv[1]](sys.argv[2], sys.argv[3])

@@ -23,32 +23,23 @@ zero_or_one zero below = inl refl
 zero_or_one (suc zero) below = inr refl
 zero_or_one (suc (suc r)) below = absurd (omega arith)
 
+-- what holds of the four pairs of bits holds of all
+of_bits : (P : ℕ → ℕ → Type 0) → P 0 0 → P 0 1 → P 1 0 → P 1 1 → (a b : ℕ) → a < 2 → b < 2 → P a b
+of_bits P none right left all zero zero small below = none
+of_bits P none right left all zero (suc zero) small below = right
+of_bits P none right left all (suc zero) zero small below = left
+of_bits P none right left all (suc zero) (suc zero) small below = all
+of_bits P none right left all a (suc (suc b)) small below = absurd (omega arith)
+of_bits P none right left all (suc (suc a)) b small below = absurd (omega arith)
+
 both : (a b : ℕ) → a < 2 → b < 2 → (min a b == 1) ≡ ((a == 1) && (b == 1))
-both zero zero small below = refl
-both zero (suc zero) small below = refl
-both zero (suc (suc b)) small below = absurd (omega arith)
-both (suc zero) zero small below = refl
-both (suc zero) (suc zero) small below = refl
-both (suc zero) (suc (suc b)) small below = absurd (omega arith)
-both (suc (suc a)) b small below = absurd (omega arith)
+both = of_bits (λ a b. (min a b == 1) ≡ ((a == 1) && (b == 1))) refl refl refl refl
 
 either_of : (a b : ℕ) → a < 2 → b < 2 → (max a b == 1) ≡ ((a == 1) || (b == 1))
-either_of zero zero small below = refl
-either_of zero (suc zero) small below = refl
-either_of zero (suc (suc b)) small below = absurd (omega arith)
-either_of (suc zero) zero small below = refl
-either_of (suc zero) (suc zero) small below = refl
-either_of (suc zero) (suc (suc b)) small below = absurd (omega arith)
-either_of (suc (suc a)) b small below = absurd (omega arith)
+either_of = of_bits (λ a b. (max a b == 1) ≡ ((a == 1) || (b == 1))) refl refl refl refl
 
 one_of : (a b : ℕ) → a < 2 → b < 2 → ((a + b) % 2 == 1) ≡ xor (a == 1) (b == 1)
-one_of zero zero small below = refl
-one_of zero (suc zero) small below = refl
-one_of zero (suc (suc b)) small below = absurd (omega arith)
-one_of (suc zero) zero small below = refl
-one_of (suc zero) (suc zero) small below = refl
-one_of (suc zero) (suc (suc b)) small below = absurd (omega arith)
-one_of (suc (suc a)) b small below = absurd (omega arith)
+one_of = of_bits (λ a b. ((a + b) % 2 == 1) ≡ xor (a == 1) (b == 1)) refl refl refl refl
 
 pub bit-and : (a b i : ℕ) → bit (bit_and a b) i ≡ (bit a i && bit b i)
 unfolding bit

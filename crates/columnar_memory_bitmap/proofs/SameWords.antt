@@ -4,6 +4,7 @@ use Rattle.std.proofs.Common.{ap, ap₂, sym, arith, if◌then◌else◌, Decide
 use Rattle.std.proofs.Math.Bool.{beq}
 use Rattle.std.specs.Prelude.{slice_range}
 use Rattle.std.specs.Cmp.Lexicographic.{pointwise, pointwise_decides}
+use Rattle.std.proofs.lemmas.Bool.{false≢true}
 use Rattle.std.proofs.lemmas.Bool.Decides.{same_from_decides}
 use Rattle.std.specs.Int.{w64, bit_at, bit_not, trailing_zeros}
 use Rattle.std.specs.Int.Count.{trailing_of_zero}
@@ -59,8 +60,16 @@ pub equal_by_test : (r : Bool) (xs ys : List Bool) → IsTrue r ↔ (xs ≡ ys) 
 equal_by_test r xs ys decides = same_from_decides r (pointwise beq xs ys) decides (lists_decide xs ys)
 
 -- windows of other lengths are not the same
-pub other_lengths : (f g : ℕ → Bool) (a b m n : ℕ) → (m ≡ n → ⊥) → window f a m ≡ window g b n → ⊥
+other_lengths : (f g : ℕ → Bool) (a b m n : ℕ) → (m ≡ n → ⊥) → window f a m ≡ window g b n → ⊥
 other_lengths f g a b m n other same = other (sym (length-window f a m) ∙ ap length same ∙ length-window g b n)
+
+-- and so a test says of two lists that are such windows
+pub false_of_lengths : (f g : ℕ → Bool) (a b m n : ℕ) (xs ys : List Bool) → (m ≡ n → ⊥) → window f a m ≡ xs → window g b n ≡ ys →
+    (false ≡ true → xs ≡ ys) × (xs ≡ ys → false ≡ true)
+false_of_lengths f g a b m n xs ys other first second = (
+  λ (said : false ≡ true). absurd (false≢true said),
+  λ (same : xs ≡ ys). absurd (other_lengths f g a b m n other (first ∙ same ∙ sym second)),
+)
 
 -- a bit of a word
 lowest : (x : Bool) (n : ℕ) → (((if x then 1 else 0) + 2 * n) % 2 == 1) ≡ x
@@ -82,23 +91,40 @@ pub bit-word-window : (f : ℕ → Bool) (first n i : ℕ) → i < n → bit (wo
 bit-word-window f first n i inside = bit-word (window f first n) i ∙ get_or-window f first n i false inside
 
 -- the zeros below the lowest bit that is set
-pub zeros_below : (n i : ℕ) → n < 2 ^ 64 → i < trailing_zeros w64 n → bit_at n i ≡ 0
+zeros_below : (n i : ℕ) → n < 2 ^ 64 → i < trailing_zeros w64 n → bit_at n i ≡ 0
 zeros_below zero i fits below = bit_at-zero i
 zeros_below (suc n) i fits below = (bit_at-trailing_zeros w64 (suc n) (omega arith) fits).2 i below
 
-pub one_at : (n : ℕ) → n < 2 ^ 64 → trailing_zeros w64 n < 64 → bit_at n (trailing_zeros w64 n) ≡ 1
+one_at : (n : ℕ) → n < 2 ^ 64 → trailing_zeros w64 n < 64 → bit_at n (trailing_zeros w64 n) ≡ 1
 one_at zero fits inside = let all : trailing_zeros w64 0 ≡ 64 = trailing_of_zero 64 in absurd (omega arith)
 one_at (suc n) fits inside = (bit_at-trailing_zeros w64 (suc n) (omega arith) fits).1
 
 -- the same with each bit turned
-pub ones_below : (n i : ℕ) → n < 2 ^ 64 → i < trailing_zeros w64 (bit_not w64 n) → bit_at n i ≡ 1
+ones_below : (n i : ℕ) → n < 2 ^ 64 → i < trailing_zeros w64 (bit_not w64 n) → bit_at n i ≡ 1
 ones_below n i fits below =
     let bound : i < 64 = omega (arith, trailing_le 64 (bit_not w64 n)) in
     let turned : bit_at (bit_not w64 n) i ≡ 1 - bit_at n i = bit_at_not w64 n i fits bound in
     omega (arith, zeros_below (bit_not w64 n) i (omega arith) below, bit_at-lt n i)
 
-pub zero_at : (n : ℕ) → n < 2 ^ 64 → trailing_zeros w64 (bit_not w64 n) < 64 → bit_at n (trailing_zeros w64 (bit_not w64 n)) ≡ 0
+zero_at : (n : ℕ) → n < 2 ^ 64 → trailing_zeros w64 (bit_not w64 n) < 64 → bit_at n (trailing_zeros w64 (bit_not w64 n)) ≡ 0
 zero_at n fits inside =
     let turned : bit_at (bit_not w64 n) (trailing_zeros w64 (bit_not w64 n)) ≡ 1 - bit_at n (trailing_zeros w64 (bit_not w64 n)) =
     bit_at_not w64 n (trailing_zeros w64 (bit_not w64 n)) fits inside in
     omega (arith, one_at (bit_not w64 n) (omega arith) inside, bit_at-lt n (trailing_zeros w64 (bit_not w64 n)))
+
+-- the same by the bits of a word
+pub unset_below : (n i : ℕ) → n < 2 ^ 64 → i < trailing_zeros w64 n → bit n i ≡ false
+unfolding bit
+unset_below n i fits below = ap (λ k. k == 1) (zeros_below n i fits below)
+
+pub set_at : (n : ℕ) → n < 2 ^ 64 → trailing_zeros w64 n < 64 → bit n (trailing_zeros w64 n) ≡ true
+unfolding bit
+set_at n fits inside = ap (λ k. k == 1) (one_at n fits inside)
+
+pub set_below : (n i : ℕ) → n < 2 ^ 64 → i < trailing_zeros w64 (bit_not w64 n) → bit n i ≡ true
+unfolding bit
+set_below n i fits below = ap (λ k. k == 1) (ones_below n i fits below)
+
+pub unset_at : (n : ℕ) → n < 2 ^ 64 → trailing_zeros w64 (bit_not w64 n) < 64 → bit n (trailing_zeros w64 (bit_not w64 n)) ≡ false
+unfolding bit
+unset_at n fits inside = ap (λ k. k == 1) (zero_at n fits inside)

@@ -175,13 +175,7 @@ impl Bitmap {
         ensures within { result.1 + result.2 ≤ 8 * length result.0.value.items }
         ensures unset { result.3 ≡ unset_count self }
     {
-        let Bitmap {
-            bytes,
-            offset,
-            len,
-            unset_bits,
-        } = self;
-        (bytes, offset, len, unset_bits)
+        (self.bytes, self.offset, self.len, self.unset_bits)
     }
 
     /// The bits to change, on the right, where this is the one owner of its bytes and its first bit stands first in them; else this bitmap,

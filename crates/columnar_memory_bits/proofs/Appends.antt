@@ -1,42 +1,8 @@
 -- Bits that are added behind others, and bits that are cut off.
-use Rattle.std.proofs.Common.{
-  ◌≡◌,
-  ◌∙◌,
-  ℕ,
-  zero,
-  suc,
-  ◌+◌,
-  ◌-◌,
-  ◌*◌,
-  ◌/◌,
-  ◌%◌,
-  ◌^◌,
-  ◌≤◌,
-  ◌<◌,
-  Bool,
-  false,
-  List,
-  ◌∷◌,
-  ◌++◌,
-  length,
-  take,
-  get_or,
-  replicate,
-  refl,
-  ap,
-  ap₂,
-  sym,
-  arith,
-  ◌⊎◌,
-  inl,
-  inr,
-  length-append,
-  Result,
-  Ok,
-  Err,
-  OnOk,
-  IsOk,
-}
+use Rattle.std.proofs.Common.{◌≡◌, ◌∙◌, refl, sym, ap, ap₂}
+use Rattle.std.proofs.Common.{ℕ, zero, suc, ◌+◌, ◌-◌, ◌*◌, ◌/◌, ◌%◌, ◌^◌, ◌≤◌, ◌<◌, arith}
+use Rattle.std.proofs.Common.{Bool, false, ◌⊎◌, inl, inr}
+use Rattle.std.proofs.Common.{List, ◌∷◌, ◌++◌, length, take, get_or, replicate, length-append, Result, Ok, Err, OnOk, IsOk}
 use Rattle.std.specs.Int as number
 use Rattle.std.specs.Int.{w64, to_le_bytes, bytes_low_first, byte_at}
 use Rattle.std.proofs.lemmas.List.{get_or_append_left, get_or-append_right, get_or_past, get_or-take, length-take-le}
@@ -188,6 +154,16 @@ appends_next old mid new bytes offset held done n x one two e =
 pub appends_at : (old new : List ℕ) (f : ℕ → Bool) (held other n m : ℕ) → held ≡ other → n ≡ m → AppendsBits old new held f n →
     AppendsBits old new other f m
 appends_at old new f held other n m e d added = rw (← e, ← d) added
+
+-- a second step from the byte boundary at which the first one ended
+pub appends_rest : (old mid new : List ℕ) (f g : ℕ → Bool) (held done len begun : ℕ) → AppendsBits old mid held f done → (held + done) % 8 ≡ 0 →
+    done ≤ len → length mid ≡ begun → AppendsBits mid new (8 * begun) g (len - done) → ((i : ℕ) → i < len - done → g i ≡ f (done + i)) →
+    AppendsBits old new held f len
+appends_rest old mid new f g held done len begun one whole within count two same =
+    let place : 8 * begun ≡ held + done = omega (arith, one.counted, whole, count) in
+    let all : done + (len - done) ≡ len = omega arith in
+    let here = appends_at mid new g (8 * begun) (held + done) (len - done) (len - done) place refl two in
+    appends_at old new f held held (done + (len - done)) len refl all (appends_then old mid new held f g done (len - done) one here same)
 
 -- what a call that adds bits may answer
 pub appended_on_ok : {A E : Type 0} (result : Result A E) (old new bytes : List ℕ) (held offset n : ℕ) → IsOk result →

@@ -1,56 +1,12 @@
 -- Lemmas on single bits of numbers and bytes.
-use Rattle.std.proofs.Common.{
-  ◌≡◌,
-  ◌∙◌,
-  ℕ,
-  zero,
-  suc,
-  ◌+◌,
-  ◌-◌,
-  ◌*◌,
-  ◌/◌,
-  ◌%◌,
-  ◌^◌,
-  ◌≤◌,
-  ◌<◌,
-  ◌≢◌,
-  Bool,
-  true,
-  false,
-  List,
-  ◌∷◌,
-  length,
-  get_or,
-  set,
-  slice_index,
-  ◌==◌,
-  refl,
-  ap,
-  ap₂,
-  sym,
-  arith,
-  if◌then◌else◌,
-  bit_and,
-  bit_or,
-  ◌⊎◌,
-  inl,
-  inr,
-}
+use Rattle.std.proofs.Common.{◌≡◌, ◌≢◌, ◌∙◌, refl, sym, ap, ap₂}
+use Rattle.std.proofs.Common.{ℕ, zero, suc, ◌+◌, ◌-◌, ◌*◌, ◌/◌, ◌%◌, ◌^◌, ◌≤◌, ◌<◌, bit_and, bit_or, arith}
+use Rattle.std.proofs.Common.{Bool, true, false, if◌then◌else◌, ◌==◌, ◌⊎◌, inl, inr}
+use Rattle.std.proofs.Common.{List, ◌∷◌, length, get_or, set, slice_index}
 use Rattle.std.specs.Int as number
 use Rattle.std.proofs.lemmas.Nat.{shr-shr, and_mask}
-use Rattle.std.proofs.lemmas.Nat.Bits.{
-  bit_at_above,
-  bit_at_and,
-  bit_at_ones,
-  bit_at-lt,
-  bit_at_cat_low,
-  bit_at_cat_high,
-  bit_at-zero,
-  bit_at_set_same,
-  bit_at_set_other,
-  bit_at_clear_same,
-  bit_at_clear_other,
-}
+use Rattle.std.proofs.lemmas.Nat.Bits.{bit_at_above, bit_at_and, bit_at_ones, bit_at-lt, bit_at_cat_low, bit_at_cat_high}
+use Rattle.std.proofs.lemmas.Nat.Bits.{bit_at-zero, bit_at_set_same, bit_at_set_other, bit_at_clear_same, bit_at_clear_other}
 use Rattle.std.specs.Int.{w8}
 use Rattle.std.proofs.lemmas.Nat.{and_le_l}
 use Rattle.std.proofs.Common.{get_or-set_same, get_or-set_other}

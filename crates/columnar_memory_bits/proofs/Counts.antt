@@ -1,28 +1,6 @@
 -- How many booleans are true and how many false.
-use Rattle.std.proofs.Common.{
-  ◌≡◌,
-  ◌∙◌,
-  ℕ,
-  ◌+◌,
-  ◌-◌,
-  ◌≤◌,
-  Bool,
-  true,
-  false,
-  not,
-  List,
-  [],
-  ◌∷◌,
-  ◌++◌,
-  length,
-  count_by,
-  count_ones,
-  cond,
-  refl,
-  ap,
-  sym,
-  arith,
-}
+use Rattle.std.proofs.Common.{◌≡◌, ◌∙◌, refl, sym, ap, ℕ, ◌+◌, ◌-◌, ◌≤◌, count_ones, arith}
+use Rattle.std.proofs.Common.{Bool, true, false, not, cond, List, [], ◌∷◌, ◌++◌, length, count_by}
 use Rattle.std.proofs.lemmas.List.Sums.{sum_by-cons, sum_by-append}
 use Rattle.columnar_memory_bits.specs.Bits.{bit_at, bits_of, unset_count}
 use Rattle.columnar_memory_bits.specs.Words.{word}

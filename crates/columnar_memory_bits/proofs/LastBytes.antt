@@ -1,42 +1,8 @@
 -- Changes of the byte at which bits end.
-use Rattle.std.proofs.Common.{
-  ◌≡◌,
-  ◌∙◌,
-  ℕ,
-  ◌+◌,
-  ◌-◌,
-  ◌*◌,
-  ◌/◌,
-  ◌%◌,
-  ◌^◌,
-  ◌≤◌,
-  ◌<◌,
-  ◌≢◌,
-  Bool,
-  true,
-  false,
-  List,
-  ◌++◌,
-  length,
-  take,
-  drop,
-  get_or,
-  set,
-  replicate,
-  refl,
-  ap,
-  ap₂,
-  sym,
-  arith,
-  bit_and,
-  bit_or,
-  ◌⊎◌,
-  inl,
-  inr,
-  get_or-set_same,
-  get_or-set_other,
-  ◌==◌,
-}
+use Rattle.std.proofs.Common.{◌≡◌, ◌≢◌, ◌∙◌, refl, sym, ap, ap₂}
+use Rattle.std.proofs.Common.{ℕ, ◌+◌, ◌-◌, ◌*◌, ◌/◌, ◌%◌, ◌^◌, ◌≤◌, ◌<◌, bit_and, bit_or, arith}
+use Rattle.std.proofs.Common.{Bool, true, false, ◌==◌, ◌⊎◌, inl, inr}
+use Rattle.std.proofs.Common.{List, ◌++◌, length, take, drop, get_or, set, replicate, get_or-set_same, get_or-set_other}
 use Rattle.std.specs.Int as number
 use Rattle.std.proofs.lemmas.List.{get_or-drop, get_or-take, length-take-le, length-set, get_or-replicate}
 use Rattle.std.proofs.lemmas.Bool.{cases_eq, eqb-false}
@@ -44,17 +10,8 @@ use Rattle.std.proofs.lemmas.Nat.{and_mask, mod_below, pow_pos}
 use Rattle.std.proofs.lemmas.Nat.Bits.{bit_at_or, bit_at_ones, bit_at-lt, ones_shr}
 use Rattle.columnar_memory_bits.specs.Bits.{bit, bit_at, bytes_for, IsPacked}
 use Rattle.columnar_memory_bits.specs.Appends.{AppendsBits, KeepsBits}
-use Rattle.columnar_memory_bits.proofs.Bits.{
-  digit,
-  digit_mod,
-  digit_shl_low,
-  digit_shl_high,
-  bit_at_byte,
-  bit_at_digit,
-  bit_same,
-  bit_true,
-  bit_above,
-}
+use Rattle.columnar_memory_bits.proofs.Bits.{digit, digit_mod, digit_shl_low, digit_shl_high, bit_at_byte, bit_at_digit, bit_same}
+use Rattle.columnar_memory_bits.proofs.Bits.{bit_true, bit_above}
 use Rattle.columnar_memory_bits.proofs.Appends.{bit_at_beyond, bit_at_front, bit_at_behind}
 
 -- a byte that is written, and the others

@@ -1,36 +1,7 @@
 -- Words that are read from bytes.
-use Rattle.std.proofs.Common.{
-  ◌≡◌,
-  ◌∙◌,
-  ℕ,
-  suc,
-  ◌+◌,
-  ◌-◌,
-  ◌*◌,
-  ◌/◌,
-  ◌%◌,
-  ◌^◌,
-  ◌≤◌,
-  ◌<◌,
-  List,
-  [],
-  ◌∷◌,
-  length,
-  take,
-  drop,
-  get_or,
-  ap,
-  ap₂,
-  sym,
-  arith,
-  bit_and,
-  bit_or,
-  max,
-  ◌⊎◌,
-  inl,
-  inr,
-  length-drop,
-}
+use Rattle.std.proofs.Common.{◌≡◌, ◌∙◌, sym, ap, ap₂}
+use Rattle.std.proofs.Common.{ℕ, suc, ◌+◌, ◌-◌, ◌*◌, ◌/◌, ◌%◌, ◌^◌, ◌≤◌, ◌<◌, max, bit_and, bit_or, arith}
+use Rattle.std.proofs.Common.{◌⊎◌, inl, inr, List, [], ◌∷◌, length, take, drop, get_or, length-drop}
 use Rattle.std.specs.Int as number
 use Rattle.std.specs.Simd.Lanes.{number_l}
 use Rattle.std.proofs.Math.Nat.{pow-le-pow_right}

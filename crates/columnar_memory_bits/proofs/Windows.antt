@@ -1,33 +1,7 @@
 -- Lemmas on the values of a function at places one after another.
-use Rattle.std.proofs.Common.{
-  ◌≡◌,
-  ◌∙◌,
-  ℕ,
-  zero,
-  suc,
-  ◌+◌,
-  ◌-◌,
-  ◌≤◌,
-  ◌<◌,
-  List,
-  [],
-  ◌∷◌,
-  ◌++◌,
-  length,
-  map,
-  take,
-  drop,
-  get_or,
-  slice_get,
-  refl,
-  ap,
-  ap₂,
-  sym,
-  arith,
-  add-zero,
-  add-one,
-  zero-add,
-}
+use Rattle.std.proofs.Common.{◌≡◌, ◌∙◌, refl, sym, ap, ap₂}
+use Rattle.std.proofs.Common.{ℕ, zero, suc, ◌+◌, ◌-◌, ◌≤◌, ◌<◌, arith, add-zero, add-one, zero-add}
+use Rattle.std.proofs.Common.{List, [], ◌∷◌, ◌++◌, length, map, take, drop, get_or, slice_get}
 use Rattle.std.specs.Prelude.{Some}
 use Rattle.columnar_memory_bits.specs.Windows.{window}
 

@@ -1,14 +1,16 @@
 -- Words that are answered one after the other.
-use Rattle.std.proofs.Common.{◌≡◌, ◌∙◌, ℕ, zero, suc, ◌+◌, ◌-◌, ◌*◌, ◌/◌, ◌≤◌, ◌<◌, Bool, List, [], ◌∷◌, ◌++◌, length, take, slice_index}
-use Rattle.std.proofs.Common.{refl, ap, ap₂, sym, arith, length-append}
+use Rattle.std.proofs.Common.{◌≡◌, ◌∙◌, ℕ, zero, suc, ◌+◌, ◌-◌, ◌*◌, ◌≤◌, ◌<◌, Bool, List, [], ◌∷◌, ◌++◌, length, take, slice_index}
+use Rattle.std.proofs.Common.{refl, ap, ap₂, sym, arith, length-append, length-drop, min, drop, ◌⊎◌, inl, inr, Result, Ok, Err}
 use Rattle.std.proofs.lemmas.List.{append-nil, take_all}
 use Rattle.std.proofs.lemmas.Grind.{flat_map-append}
 use Rattle.std.proofs.lemmas.Bool.{cases_lt}
-use Rattle.columnar_memory_bits.specs.Bits.{bit, bit_at, bits_of, IsPacked}
+use Rattle.columnar_memory_bits.specs.Bits.{bit, bit_at, IsPacked}
+use Rattle.columnar_memory_types.specs.declared.error.Error.{Error}
+use Rattle.columnar_memory_bitmap.specs.Results.{OrOutOfMemory}
 use Rattle.columnar_memory_bits.specs.Words.{word, word_at, word_bits, words_bits, words_for}
-use Rattle.columnar_memory_bits.proofs.Windows.{length_window, part_of_window, drop_window, take_window}
+use Rattle.columnar_memory_bits.proofs.Windows.{take_window}
 use Rattle.columnar_memory_bits.proofs.Appends.{bit_at_beyond}
-use Rattle.columnar_memory_kernels.specs.Kernels.{IsWordwise}
+use Rattle.columnar_memory_kernels.specs.Kernels.{IsWordwise, part}
 use Rattle.columnar_memory_kernels.proofs.WordLists.{length_words, more_each}
 
 -- the first k words are answered, and these are their booleans
@@ -71,25 +73,32 @@ last_answered answers k rest y n bits more so_far here some few e last =
           ∙ ap₂ (λ (m : ℕ) (xs : List Bool). take m xs) (sym e) all.whole;
     }
 
--- ---- the words of some bits of bytes
+-- ---- the parts of some bits
 
-pub whole_word : (bytes : List ℕ) (offset len k : ℕ) → k < len / 64 →
-    word (bits_of bytes (offset + 64 * k) 64) ≡ word_at 64 (bits_of bytes offset len) k
-whole_word bytes offset len k h =
-    let within : 64 * k + 64 ≤ len = omega arith in
-    ap word (sym (part_of_window (bit_at bytes) offset (64 * k) 64 len within))
+take_most : (rest : List Bool) → (64 < length rest) ⊎ (length rest ≤ 64) → take (min 64 (length rest)) rest ≡ take 64 rest
+take_most rest (inl more) = let count : min 64 (length rest) ≡ 64 = omega arith in ap (λ n. take n rest) count
+take_most rest (inr few) =
+    let most : length rest ≤ min 64 (length rest) = omega arith in
+    take_all (min 64 (length rest)) rest most ∙ sym (take_all 64 rest few)
 
-pub last_word : (bytes : List ℕ) (offset len : ℕ) →
-    word (bits_of bytes (offset + 64 * (len / 64)) (len - 64 * (len / 64))) ≡ word_at 64 (bits_of bytes offset len) (len / 64)
-last_word bytes offset len =
-    let rest = len - 64 * (len / 64) in
-    let parts : len ≡ 64 * (len / 64) + rest = omega arith in
-    let few : length (bits_of bytes (offset + 64 * (len / 64)) rest) ≤ 64 = omega (
-      arith,
-      length_window (bit_at bytes) (offset + 64 * (len / 64)) rest,
-    ) in
-    ap word (sym (ap (take 64) (drop_window (bit_at bytes) offset (64 * (len / 64)) rest len parts)
-    ∙ take_all 64 (bits_of bytes (offset + 64 * (len / 64)) rest) few))
+-- a part of 64 bits, or of those that are left, is a word
+pub part_is_word : (bits : List Bool) (n k : ℕ) → n ≡ length bits → part bits (64 * k) (min 64 (n - 64 * k)) ≡ word_at 64 bits k
+part_is_word bits n k e =
+    let rest = drop (64 * k) bits in
+    let count : min 64 (n - 64 * k) ≡ min 64 (length rest) = omega (arith, length-drop (64 * k) bits) in
+    ap (λ m. part bits (64 * k) m) count ∙ ap word (take_most rest (cases_lt 64 (length rest)))
+
+-- what a kernel answers, where it answers the words as the parts
+pub words_answered : (parts answers : ℕ → ℕ → Type 0) (n : ℕ) (bits made : List Bool) (result : Result (List Bool) Error) → n ≡ length bits →
+    IsWordwise 64 parts n made → OrOutOfMemory result (λ b. b ≡ made) → ((k y : ℕ) → parts k y → answers k y) →
+    OrOutOfMemory result (IsWordwise 64 answers (length bits))
+words_answered parts answers n bits made (Ok b) size all is known = record {
+  answered = all.answered;
+  counted = all.counted ∙ ap (words_for 64) size;
+  each = λ k h. let within : k < words_for 64 n = omega (arith, size) in known k (slice_index all.answered k) (all.each k within);
+  cut = is ∙ all.cut ∙ ap (λ m. take m (words_bits 64 all.answered)) size;
+}
+words_answered parts answers n bits made (Err e) size all is known = is
 
 -- no bytes hold no bits
 pub packed_none : (bytes : List ℕ) → bytes ≡ [] → IsPacked bytes 0

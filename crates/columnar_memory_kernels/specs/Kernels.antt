@@ -1,6 +1,6 @@
 -- Kernels: a function of words on the words of lists of booleans (Arrow columnar format, "Validity bitmaps").
-use Rattle.std.specs.Prelude.{◌≡◌, ℕ, ◌<◌, Bool, List, length, take, slice_index}
-use Rattle.columnar_memory_bits.specs.Words.{words_for, words_bits}
+use Rattle.std.specs.Prelude.{◌≡◌, ℕ, ◌+◌, ◌<◌, ◌≤◌, Bool, List, length, take, drop, slice_index}
+use Rattle.columnar_memory_bits.specs.Words.{word, words_for, words_bits}
 
 -- The booleans are those of words of w bits, cut to n: each word is an answer at its place.
 pub record IsWordwise (w : ℕ) (answers : ℕ → ℕ → Type 0) (n : ℕ) (result : List Bool) : Type 0 where
@@ -26,3 +26,11 @@ module _ {T : Type 0} (value : T → ℕ) where
     pub right_is : value right ≡ second
     pub result_is : value result ≡ answer
     pub answers : post left right result
+
+-- the word of so many booleans of a list, from a first one on
+abbrev pub part : List Bool → ℕ → ℕ → ℕ
+part bits first count = word (take count (drop first bits))
+
+-- a function of a first bit and a count takes each part of n bits that is no longer than a word
+abbrev pub TakesParts : (ℕ → ℕ → Type 0) → ℕ → Type 0
+TakesParts takes n = (first count : ℕ) → count ≤ 64 → first + count ≤ n → takes first count

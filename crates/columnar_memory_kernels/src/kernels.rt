@@ -1,11 +1,11 @@
-ghost use Rattle.std.specs.Prelude.{◌≡◌, ◌&&◌, ◌||◌, length};
+ghost use Rattle.std.specs.Prelude.{◌≡◌, ◌+◌, ◌≤◌, ◌&&◌, ◌||◌, length};
 ghost use Rattle.columnar_memory_bits.specs.Words.{word_at};
 ghost use Rattle.columnar_memory_bitmap.specs.Operators as operator;
 ghost use Rattle.columnar_memory_bitmap.specs.Operators.{pairwise};
 ghost use Rattle.columnar_memory_bitmap.specs.Results.{OrOutOfMemory};
-ghost use Rattle.columnar_memory_kernels.specs.Kernels.{IsWordwise};
+ghost use Rattle.columnar_memory_kernels.specs.Kernels.{IsWordwise, part};
 
-use crate::words::{binary_words, quaternary_words, ternary_words, unary_words};
+use crate::words::{BitWords, answered_words};
 use columnar_memory_bitmap::Bitmap;
 use columnar_memory_types::Result;
 use std::alloc::Global;
@@ -19,8 +19,15 @@ pub fn unary<F: Fn(u64) -> u64>(alloc: Global, lhs: &Bitmap, op: F) -> Result<Bi
     requires { F.IsAlwaysCallable op }
     ensures { OrOutOfMemory result (IsWordwise 64 (λ k answer. F.post op (word_at 64 lhs.now k) answer) (length lhs.now)) }
 {
-    let (bytes, offset, len) = lhs.as_slice();
-    Bitmap::from_u8_vec(unary_words(alloc, bytes, offset, len, op)?, len)
+    let bits = BitWords::of(lhs);
+    let answer = |first: usize, count: usize| -> u64
+        requires callable { F.IsAlwaysCallable op }
+        requires few { count ≤ 64 }
+        requires within { first + count ≤ length bits }
+        ensures { F.post op (part bits.entry first count) result }
+    { op(bits.part(first, count)) };
+    let len = bits.len();
+    Bitmap::from_u8_vec(answered_words(alloc, len, answer)?, len)
 }
 
 /// The answers of a function to the words of two bitmaps.
@@ -38,12 +45,17 @@ pub fn binary<F: Fn(u64, u64) -> u64>(
     requires lengths { length lhs.now ≡ length rhs.now }
     ensures { OrOutOfMemory result (IsWordwise 64 (λ k answer. F.post op (word_at 64 lhs.now k) (word_at 64 rhs.now k) answer) (length lhs.now)) }
 {
-    let (first, first_offset, len) = lhs.as_slice();
-    let (second, second_offset, _) = rhs.as_slice();
-    Bitmap::from_u8_vec(
-        binary_words(alloc, first, first_offset, second, second_offset, len, op)?,
-        len,
-    )
+    let left = BitWords::of(lhs);
+    let right = BitWords::of(rhs);
+    let answer = |first: usize, count: usize| -> u64
+        requires callable { F.IsAlwaysCallable op }
+        requires few { count ≤ 64 }
+        requires left { first + count ≤ length left }
+        requires right { first + count ≤ length right }
+        ensures { F.post op (part left.entry first count) (part right.entry first count) result }
+    { op(left.part(first, count), right.part(first, count)) };
+    let len = left.len();
+    Bitmap::from_u8_vec(answered_words(alloc, len, answer)?, len)
 }
 
 /// The answers of a function to the words of three bitmaps.
@@ -64,21 +76,25 @@ pub fn ternary<F: Fn(u64, u64, u64) -> u64>(
     ensures { OrOutOfMemory result (IsWordwise 64 (λ k answer.
         F.post op (word_at 64 a1.now k) (word_at 64 a2.now k) (word_at 64 a3.now k) answer) (length a1.now)) }
 {
-    let (first, first_offset, len) = a1.as_slice();
-    let (second, second_offset, _) = a2.as_slice();
-    let (third, third_offset, _) = a3.as_slice();
-    let bytes = ternary_words(
-        alloc,
-        first,
-        first_offset,
-        second,
-        second_offset,
-        third,
-        third_offset,
-        len,
-        op,
-    )?;
-    Bitmap::from_u8_vec(bytes, len)
+    let one = BitWords::of(a1);
+    let two = BitWords::of(a2);
+    let three = BitWords::of(a3);
+    let answer = |first: usize, count: usize| -> u64
+        requires callable { F.IsAlwaysCallable op }
+        requires few { count ≤ 64 }
+        requires one { first + count ≤ length one }
+        requires two { first + count ≤ length two }
+        requires three { first + count ≤ length three }
+        ensures { F.post op (part one.entry first count) (part two.entry first count) (part three.entry first count) result }
+    {
+        op(
+            one.part(first, count),
+            two.part(first, count),
+            three.part(first, count),
+        )
+    };
+    let len = one.len();
+    Bitmap::from_u8_vec(answered_words(alloc, len, answer)?, len)
 }
 
 /// The answers of a function to the words of four bitmaps.
@@ -101,24 +117,29 @@ pub fn quaternary<F: Fn(u64, u64, u64, u64) -> u64>(
     ensures { OrOutOfMemory result (IsWordwise 64 (λ k answer.
         F.post op (word_at 64 a1.now k) (word_at 64 a2.now k) (word_at 64 a3.now k) (word_at 64 a4.now k) answer) (length a1.now)) }
 {
-    let (first, first_offset, len) = a1.as_slice();
-    let (second, second_offset, _) = a2.as_slice();
-    let (third, third_offset, _) = a3.as_slice();
-    let (fourth, fourth_offset, _) = a4.as_slice();
-    let bytes = quaternary_words(
-        alloc,
-        first,
-        first_offset,
-        second,
-        second_offset,
-        third,
-        third_offset,
-        fourth,
-        fourth_offset,
-        len,
-        op,
-    )?;
-    Bitmap::from_u8_vec(bytes, len)
+    let one = BitWords::of(a1);
+    let two = BitWords::of(a2);
+    let three = BitWords::of(a3);
+    let four = BitWords::of(a4);
+    let answer = |first: usize, count: usize| -> u64
+        requires callable { F.IsAlwaysCallable op }
+        requires few { count ≤ 64 }
+        requires one { first + count ≤ length one }
+        requires two { first + count ≤ length two }
+        requires three { first + count ≤ length three }
+        requires four { first + count ≤ length four }
+        ensures { F.post op (part one.entry first count) (part two.entry first count)
+            (part three.entry first count) (part four.entry first count) result }
+    {
+        op(
+            one.part(first, count),
+            two.part(first, count),
+            three.part(first, count),
+            four.part(first, count),
+        )
+    };
+    let len = one.len();
+    Bitmap::from_u8_vec(answered_words(alloc, len, answer)?, len)
 }
 
 /// Whether both bits are set, place by place.

@@ -1,9 +1,14 @@
 pub use Rattle.flat_arrays_access.specs.Places
+pub use Rattle.flat_arrays_access.specs.Walks
 pub use Rattle.flat_arrays_values.specs.Flat
 pub use Rattle.flat_arrays_values.specs.FlatEqual
 pub use Rattle.flat_arrays_values.specs.FlatLaws
 pub use Rattle.flat_arrays_values.specs.Iteration
 pub use Rattle.flat_arrays_values.specs.Results
+pub use Rattle.flat_arrays_values.specs.SlotWalks
 pub use Rattle.flat_arrays_bytes.specs.ByteStrings
+pub use Rattle.flat_arrays_bytes.specs.ByteWalks
+pub use Rattle.flat_arrays_bytes.specs.Equal
 pub use Rattle.flat_arrays_bytes.specs.Fits
+pub use Rattle.flat_arrays_bytes.specs.Laws
 pub use Rattle.flat_arrays_bytes.specs.Texts

@@ -2,11 +2,18 @@
 //! and a mask.
 #![tactic(auto)]
 
-pub use flat_arrays_access::{ArrayAccessor, ArrayValuesIter, IntoMut};
-pub use flat_arrays_bytes::{BinaryArray, BinaryValueIter, Utf8Array, Utf8ValuesIter};
+pub use flat_arrays_access::{
+    ArrayAccessor, ArrayValuesIter, IntoMut, a_walk_gives_each_slot_once,
+};
+pub use flat_arrays_bytes::{
+    BinaryArray, BinaryValueIter, Utf8Array, Utf8ValuesIter,
+    a_cut_of_a_cut_of_byte_strings_is_one_cut, a_cut_of_byte_strings_has_a_range_of_the_slots,
+    a_walk_over_byte_strings_begins_with_all_slots,
+};
 pub use flat_arrays_values::{
     BooleanArray, DaysMsArray, Int8Array, Int16Array, Int32Array, Int64Array, Int128Array,
     Int256Array, MonthsDaysNsArray, PrimitiveArray, UInt8Array, UInt16Array, UInt32Array,
-    UInt64Array, a_cut_has_a_range_of_the_slots, a_cut_of_a_cut_is_one_cut, check_indexes,
+    UInt64Array, a_cut_has_a_range_of_the_slots, a_cut_of_a_cut_is_one_cut,
+    a_walk_begins_with_all_slots, a_walk_over_values_gives_each_slot_once, check_indexes,
     there_is_a_slot_for_each_value,
 };

@@ -3,6 +3,8 @@
 
 mod accessor;
 mod builders;
+mod laws;
 
 pub use accessor::{ArrayAccessor, ArrayValuesIter};
 pub use builders::IntoMut;
+pub use laws::a_walk_gives_each_slot_once;

@@ -4,3 +4,4 @@ pub mod Places
 pub mod Ranges
 pub mod Slots
 pub mod TextCuts
+pub mod Walks

@@ -1,8 +1,9 @@
 -- The slots of byte strings: how many there are, and the one at a place.
-use Rattle.std.proofs.Common.{◌≡◌, ℕ, ◌+◌, ◌<◌, List, [], ◌∷◌, length, drop, refl, ap, sym, ◌∙◌, arith, zero, suc}
+use Rattle.std.proofs.Common.{◌≡◌, ℕ, ◌+◌, ◌<◌, ◌≤◌, List, [], ◌∷◌, length, drop, refl, ap, sym, ◌∙◌, arith, zero, suc}
 use Rattle.std.proofs.lemmas.List.{length-map, length-replicate}
+use Rattle.std.proofs.lemmas.Option.{slice_get_past}
 use Rattle.std.proofs.lemmas.Slice.Zip.{length-zip}
-use Rattle.std.specs.Prelude.{Bool, true, false, Option, Some, None, map, replicate, slice_get, slice_range, if◌then◌else◌}
+use Rattle.std.specs.Prelude.{Bool, true, false, Option, Some, None, map, replicate, slice_get, slice_range, unwrap_or, if◌then◌else◌}
 use Rattle.std.specs.List.{zip}
 use Rattle.columnar_memory.specs.Bits.{unset_count}
 use Rattle.columnar_memory.specs.Spans.{offset_at}
@@ -79,3 +80,16 @@ same_elements (x ∷ xs) (y ∷ ys) e h =
 -- arrays with the same slots have as many
 pub same_len : (a b : ByteStrings) → IsMaskOf (len_of a) a.validity → IsMaskOf (len_of b) b.validity → slots_of a ≡ slots_of b → len_of a ≡ len_of b
 same_len a b h k e = sym (length_slots a h) ∙ ap length e ∙ length_slots b k
+
+-- the slot at a place that there is
+pub slot_there : (slots : List (Option (List ℕ))) (i : ℕ) (slot : Option (List ℕ)) → slice_get slots i ≡ Some slot
+    → slot ≡ unwrap_or (slice_get slots i) None
+slot_there slots i slot is = sym (ap (λ found. unwrap_or found None) is)
+
+-- behind the last slot there is none
+pub slot_past : (a : ByteStrings) (i : ℕ) → IsMaskOf (len_of a) a.validity → len_of a ≤ i → None ≡ unwrap_or (slice_get (slots_of a) i) None
+slot_past a i masked past =
+    let count : length (slots_of a) ≡ len_of a = length_slots a masked in
+    sym (ap (λ slot. unwrap_or slot None) (slice_get_past (slots_of a) i (omega arith)))
+
+pub ruleset past_slots = (slot_there, slot_past)

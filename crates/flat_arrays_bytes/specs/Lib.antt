@@ -1,4 +1,5 @@
 pub mod ByteStrings
+pub mod ByteWalks
 pub mod Equal
 pub mod Fits
 pub mod Laws

@@ -2,7 +2,9 @@
 //! "Variable-size Binary Layout").
 #![tactic(auto)]
 
+mod access;
 mod binary;
+mod clones;
 mod column;
 mod iterators;
 mod laws;
@@ -11,5 +13,8 @@ mod utf8;
 
 pub use binary::BinaryArray;
 pub use iterators::{BinaryValueIter, Utf8ValuesIter};
-pub use laws::{a_cut_has_a_range_of_the_slots, a_cut_of_a_cut_is_one_cut};
+pub use laws::{
+    a_cut_of_a_cut_of_byte_strings_is_one_cut, a_cut_of_byte_strings_has_a_range_of_the_slots,
+    a_walk_over_byte_strings_begins_with_all_slots,
+};
 pub use utf8::Utf8Array;

@@ -1,11 +1,12 @@
 ghost use Rattle.std.specs.Prelude.{◌≡◌, ◌+◌, ◌<◌, ◌≤◌, ◌↔◌, IsTrue, Bool, Some};
-ghost use Rattle.std.specs.Prelude.{None, List, MatchOption, ◌==◌, not, [], length, slice_get, if◌then◌else◌};
+ghost use Rattle.std.specs.Prelude.{None, List, MatchOption, not, [], length, slice_get, unwrap_or};
 ghost use Rattle.std.specs.Option.{ForSome, option_copied};
 ghost use Rattle.columnar_memory.specs.Bits.{unset_count};
 ghost use Rattle.columnar_memory.specs.Layouts.{physical_type};
 ghost use Rattle.columnar_memory.specs.Results.{OrOutOfMemory};
 ghost use Rattle.columnar_memory.specs.Spans.{no_spans};
 ghost use Rattle.flat_arrays_bytes.specs.ByteStrings.{byte_strings, cut, len_of, marks_of, nulls, slots_of, values_of, with_mask};
+ghost use Rattle.flat_arrays_bytes.specs.ByteWalks.{StandsBefore};
 ghost use Rattle.flat_arrays_bytes.specs.Equal.{AreEqual, same_array, same_array-equivalence, same_array-per};
 ghost use Rattle.flat_arrays_bytes.specs.Fits.{text_layout, text_type, IsText, IsChecked, IsMaskOf, KeepsLength};
 
@@ -185,8 +186,20 @@ impl<O: Offset> Utf8Array<O> {
         unsafe { from_utf8_unchecked(bytes) }
     }
 
-    /// The slot at a place: its text, or none where it is null.
+    /// The slot at a place: its text, or none where it is null or where there is no such place.
+    #[tactic(auto, using(crate::proofs::Slots::past_slots))]
     pub fn get(&self, index: usize) -> Option<&str>
+        ensures { option_copied result ≡ unwrap_or (slice_get (slots_of self.now) index) None }
+    {
+        if index < self.len() {
+            self.slot(index)
+        } else {
+            None
+        }
+    }
+
+    /// The slot at a place that there is: its text, or none where it is null.
+    fn slot(&self, index: usize) -> Option<&str>
         requires { index < len_of self.now }
         ensures { slice_get (slots_of self.now) index ≡ Some (option_copied result) }
     {
@@ -275,8 +288,7 @@ impl<O: Offset> Utf8Array<O> {
 
     /// The slots from both ends: the stored texts, and where a slot is null their marks beside them.
     pub fn iter(&self) -> ZipValidity<&str, Utf8ValuesIter<'_, O>, BitmapIter<'_>>
-        ensures { MatchOption self.now.validity (result ≡ ZipValidity.Required (values_of self.now)) (λ mask. result ≡ (
-            if unset_count mask == 0 then ZipValidity.Required (values_of self.now) else ZipValidity.Optional (values_of self.now, mask))) }
+        ensures { StandsBefore self.now result }
     {
         ZipValidity::new_with_validity(self.values_iter(), self.column.validity())
     }

@@ -92,6 +92,9 @@ count_marks : {V : Type 0} (values : List V) (validity : Option (List Bool)) →
 count_marks values None is = length-replicate (length values) true
 count_marks values (Some mask) is = is mask refl
 
+pub length-marks_of : {V : Type 0} (a : Flat V) → IsMaskOf (length a.values) a.validity → length (marks_of a) ≡ length a.values
+length-marks_of a is = count_marks a.values a.validity is
+
 pub slots_count : {V : Type 0} (a : Flat V) → IsMaskOf (length a.values) a.validity
     → (length (slots_of a) ≡ length a.values) × (count_by is_none (slots_of a) ≡ unset_count (marks_of a))
 slots_count a is = count_slots a.values (marks_of a) (count_marks a.values a.validity is)

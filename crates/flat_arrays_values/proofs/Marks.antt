@@ -6,7 +6,9 @@ use Rattle.std.specs.List.{zip}
 use Rattle.columnar_memory.specs.declared.DataType.{DataType}
 use Rattle.columnar_memory.specs.Bits.{unset_count}
 use Rattle.columnar_memory.specs.Window.{window}
-use Rattle.flat_arrays_values.specs.Flat.{flat, mask_of, of_slots, slot_of, IsMaskOf}
+use Rattle.std.proofs.lemmas.Option.{slice_get_past}
+use Rattle.flat_arrays_values.proofs.Cuts.{length-slots_of}
+use Rattle.flat_arrays_values.specs.Flat.{Flat, flat, mask_of, of_slots, slot_of, slots_of, IsMaskOf}
 use Rattle.flat_arrays_values.specs.Results.{AppliesTo}
 use Rattle.std.specs.Option.{ForSome}
 use mathlib.Core.Bool.{true≢false}
@@ -59,6 +61,20 @@ applied_masked gives (Some mask) None n is keeps masked = absurd is
 applied_masked gives (Some mask) (Some made) n is keeps masked = λ other some.
     let same : made ≡ other = ap (λ o. unwrap_or o made) some in
     ap length (sym same) ∙ keeps mask refl made is ∙ masked mask refl
+
+-- the slot at a place that there is
+pub slot_there : {V : Type 0} (slots : List (Option V)) (i : ℕ) (slot : Option V) → slice_get slots i ≡ Some slot
+    → slot ≡ unwrap_or (slice_get slots i) None
+slot_there slots i slot is = sym (ap (λ found. unwrap_or found None) is)
+
+-- behind the last slot there is none
+pub slot_past : {V : Type 0} (a : Flat V) (i : ℕ) → IsMaskOf (length a.values) a.validity → length a.values ≤ i
+    → None ≡ unwrap_or (slice_get (slots_of a) i) None
+slot_past a i masked past =
+    let count : length (slots_of a) ≡ length a.values = length-slots_of a masked in
+    sym (ap (λ slot. unwrap_or slot None) (slice_get_past (slots_of a) i (omega arith)))
+
+pub ruleset past_slots = (slot_there, slot_past)
 
 pub ruleset applied = (applied_masked)
 

@@ -3,3 +3,4 @@ pub mod FlatEqual
 pub mod FlatLaws
 pub mod Iteration
 pub mod Results
+pub mod SlotWalks

@@ -16,7 +16,7 @@ impl<T: NativeType> PrimitiveArray<T> {
         requires inside_other { i < length other.now.values }
         ensures { IsTrue result ↔ (slice_get (slots_of self.now) i ≡ slice_get (slots_of other.now) i) }
     {
-        self.get(i) == other.get(i)
+        self.slot(i) == other.slot(i)
     }
 
     /// Whether the slots are the same as another's.
@@ -60,7 +60,7 @@ impl BooleanArray {
         requires inside_other { i < length other.now.values }
         ensures { IsTrue result ↔ (slice_get (slots_of self.now) i ≡ slice_get (slots_of other.now) i) }
     {
-        self.get(i) == other.get(i)
+        self.slot(i) == other.slot(i)
     }
 
     /// Whether the slots are the same as another's.

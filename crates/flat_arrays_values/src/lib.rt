@@ -6,6 +6,7 @@
 
 mod boolean;
 mod boolean_from;
+mod clones;
 mod equality;
 mod indexes;
 mod iterate;
@@ -18,7 +19,8 @@ mod primitive_from;
 pub use boolean::BooleanArray;
 pub use indexes::check_indexes;
 pub use laws::{
-    a_cut_has_a_range_of_the_slots, a_cut_of_a_cut_is_one_cut, there_is_a_slot_for_each_value,
+    a_cut_has_a_range_of_the_slots, a_cut_of_a_cut_is_one_cut, a_walk_begins_with_all_slots,
+    a_walk_over_values_gives_each_slot_once, there_is_a_slot_for_each_value,
 };
 pub use masks::{apply_to_mask, is_mask_of, mark_at, mask_from, slice_mask, unset_marks};
 pub use names::{

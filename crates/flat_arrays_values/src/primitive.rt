@@ -1,4 +1,4 @@
-ghost use Rattle.std.specs.Prelude.{◌≡◌, ◌+◌, ◌<◌, ◌≤◌, [], not, length, slice_get, option_copied, ◌↔◌, IsTrue, Some, Bool, List};
+ghost use Rattle.std.specs.Prelude.{◌≡◌, ◌+◌, ◌<◌, ◌≤◌, [], not, length, slice_get, option_copied, unwrap_or, ◌↔◌, IsTrue, Some, None, Bool, List};
 ghost use Rattle.std.specs.Option.{ForSome};
 ghost use Rattle.columnar_memory.specs.Bits.{unset_count};
 ghost use Rattle.columnar_memory.specs.Layouts.{physical_type};
@@ -140,9 +140,17 @@ impl<T: NativeType> PrimitiveArray<T> {
         self.values.as_slice()[i]
     }
 
-    /// The slot at a place: its value, or none where it is null.
-    #[tactic(auto, using(crate::proofs::Marks::slot_lemmas))]
+    /// The slot at a place: its value, or none where it is null or where there is no such place.
+    #[tactic(auto, using(crate::proofs::Marks::past_slots))]
     pub fn get(&self, i: usize) -> Option<T>
+        ensures { result ≡ unwrap_or (slice_get (slots_of self.now) i) None }
+    {
+        if i < self.len() { self.slot(i) } else { None }
+    }
+
+    /// The slot at a place that there is: its value, or none where it is null.
+    #[tactic(auto, using(crate::proofs::Marks::slot_lemmas))]
+    pub(crate) fn slot(&self, i: usize) -> Option<T>
         requires { i < length self.now.values }
         ensures { slice_get (slots_of self.now) i ≡ Some result }
     {

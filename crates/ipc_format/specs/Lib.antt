@@ -30,8 +30,11 @@ pub use Rattle.ipc_format_messages.specs.MessageSlots
 pub use Rattle.ipc_format_messages.specs.MessageViews
 pub use Rattle.ipc_format_messages.specs.SchemaSlots
 pub use Rattle.ipc_format_messages.specs.SchemaRefs
+pub use Rattle.ipc_format_messages.specs.TypeSlots
+pub use Rattle.ipc_format_messages.specs.TypeRefs
 pub use Rattle.ipc_format_messages.specs.WholeMessages
 pub use Rattle.ipc_format_messages.specs.BufferLengths
-pub use Rattle.ipc_format_messages.specs.MessageWriting
+pub use Rattle.ipc_format_message_writing.specs.MessageWriting
+pub use Rattle.ipc_format_message_writing.specs.FooterWriting
 pub use Rattle.ipc_format_streams.specs.Frames
 pub use Rattle.ipc_format_streams.specs.Failures

@@ -3,9 +3,13 @@
 #![tactic(auto)]
 
 pub use ipc_format_flatbuffers as flatbuffers;
+pub use ipc_format_message_writing::{
+    dictionary_batch_to_bytes, footer_to_bytes, record_batch_to_bytes,
+};
 pub use ipc_format_messages as messages;
 pub use ipc_format_metadata::{
-    IpcField, IpcSchema, OutOfSpecKind, can_write, deserialize_schema, schema_in,
+    IpcField, IpcSchema, OutOfSpecKind, can_write, deserialize_schema, deserialize_schema_counted,
+    schema_in,
 };
 pub use ipc_format_schema_writing::{default_ipc_fields, normalised, schema_to_bytes};
-pub use ipc_format_streams::{Counting, Faults, Frame, Framed, NextMessage, next_at};
+pub use ipc_format_streams::{Counting, Faults, Frame, Framed, NextMessage, next_at, put, refusal};

@@ -33,6 +33,7 @@ use Rattle.ipc_format_column_laws.specs.Columns.{ReadsBack}
 use Rattle.ipc_format_column_laws.specs.WholeColumns.{ReadsWhole, is_whole_step, is_whole, have_room, room_step, has_room, fields_have_room}
 use Rattle.ipc_format_column_laws.specs.WholeColumns.{WholeColumnsReadBack}
 use Rattle.ipc_format_column_laws.proofs.Values.{fits_kind}
+use Rattle.ipc_format_grammar.proofs.Claims.{TypeWith, FieldWith, LayerWith, bare_layer}
 use Rattle.ipc_format_column_laws.proofs.FlatTypes.{Layer, encode_field, fits_field, no_union_field, read_field, unlike}
 use Rattle.ipc_format_column_laws.proofs.FixedColumns.{numbers_read_back, fixed_bytes_read_back, truths_read_back, nulls_read_back}
 use Rattle.ipc_format_column_laws.proofs.ByteColumns.{bytes_read, text_allowed, text_back, bytes_back}
@@ -94,12 +95,6 @@ at_roll x h = rw (
   fold-roll-DataType Bool Bool has_no_union_step (λ field. field.data_type) x,
   para-roll-DataType Reader Reader read_step read_field_step x,
 ) h
-
-abbrev D : Type 0
-D = (t : DataType) × WholeHolds t
-
-abbrev F : Type 0
-F = (u : Field) × FieldHolds u
 
 alone : (b : Bool) → (b && true) ≡ true → b ≡ true
 alone b h = (and_parts b true h).0
@@ -165,7 +160,7 @@ child_of u h = record {
   reads = h.column.reads;
 }
 
-children_are : (ys : List F) → all_of (map whole_field (map (λ e. e.0) ys)) ≡ true → AreChildren (map (λ e. e.0) ys)
+children_are : (ys : List (FieldWith FieldHolds)) → all_of (map whole_field (map (λ e. e.0) ys)) ≡ true → AreChildren (map (λ e. e.0) ys)
 children_are [] h = record { children = []; encoders = refl; tests = refl; rooms = refl; readers = refl; plain = refl }
 children_are (y ∷ ys) h =
     let parts = and_parts (whole_field y.0) (all_of (map whole_field (map (λ e. e.0) ys))) h in
@@ -201,7 +196,7 @@ struct_whole us h =
 
 -- ---- the induction
 
-whole_step : (y : layer.DataType-F D F) → WholeHolds (roll-DataType (map-DataType D F DataType Field (λ e. e.0) (λ e. e.0) y))
+whole_step : (y : LayerWith WholeHolds FieldHolds) → WholeHolds (roll-DataType (bare_layer WholeHolds FieldHolds y))
 whole_step layer.Null = at_roll layer.Null (λ whole. flat_whole _ is_null _ refl nulls_read_back)
 whole_step layer.Boolean = at_roll layer.Boolean (λ whole. flat_whole _ is_truth _ refl truths_read_back)
 whole_step layer.Int8 = at_roll layer.Int8 (λ whole. numbers_whole kinds.Int8 refl)
@@ -286,7 +281,7 @@ field_step x h whole =
 pub whole_holds : (t : DataType) → WholeHolds t
 whole_holds = ind-DataType WholeHolds FieldHolds (λ x y is. subst (λ (x : Layer). WholeHolds (roll-DataType x)) is (whole_step y))
     (λ x y is. subst (λ (x : layer.Field-F DataType Field). FieldHolds (roll-Field x)) is
-    (field_step (map-Field D F DataType Field (λ e. e.0) (λ e. e.0) y) y.data_type.1))
+    (field_step (map-Field (TypeWith WholeHolds) (FieldWith FieldHolds) DataType Field (λ e. e.0) (λ e. e.0) y) y.data_type.1))
 
 pub whole_columns_read_back : WholeColumnsReadBack
 whole_columns_read_back t whole = (whole_holds t whole).reads

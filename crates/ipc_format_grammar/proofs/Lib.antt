@@ -1,1 +1,2 @@
 pub mod NormalReports
+pub mod Claims

@@ -255,39 +255,35 @@ strings_agree layout w mask offsets content sound fits fresh =
     (λ i lt. unless content_of mask (byte_strings offsets content) i (string_at offsets content i) fresh lt refl (no_bytes
     (string_at offsets content i))))
 
-texts_agree : (layout : PhysicalType) (w : Width) (mask : Mask) (offsets content : List ℕ) → are_strings layout offsets content ≡ true
+texts_agree : (layout : PhysicalType) (w : Width) (mask : Mask) (offsets content : List ℕ)
+    → (are_strings layout offsets content && holds_below (length offsets - 1) (is_text_at offsets content)) ≡ true
     → mask_fits mask (length offsets - 1) ≡ true → is_fresh mask (texts offsets content) ≡ true
     → bytes_column w (flat_slots mask (texts offsets content)) ≡ stored_column w mask (texts offsets content)
 texts_agree layout w mask offsets content sound fits fresh =
+    let parts = and_parts (are_strings layout offsets content) (holds_below (length offsets - 1) (is_text_at offsets content)) sound in
     let g = flat_slot mask (texts offsets content) in
-    same_columns mask (texts offsets content) _ _ fits (string_buffers layout w g offsets content sound
+    same_columns mask (texts offsets content) _ _ fits (string_buffers layout w g offsets content parts.0
     (λ i lt. unless content_of mask (texts offsets content) i (string_at offsets content i) fresh lt refl (no_bytes (string_at offsets content i))))
 
-short_texts : (mask : Mask) (stored : Stored) → is_stored_as physical.Utf8 stored ≡ true → mask_fits mask (stored_len stored) ≡ true
+-- what encodes the slots of texts and bytes with offsets of a width makes the same as is stored
+abbrev AgreesAs : PhysicalType → Width → Type 0
+AgreesAs layout w = (mask : Mask) (stored : Stored) → is_stored_as layout stored ≡ true → mask_fits mask (stored_len stored) ≡ true
     → is_fresh mask stored ≡ true
-    → bytes_column w32 (flat_slots mask stored) ≡ stored_column w32 mask stored
-short_texts mask (texts offsets content) sound fits fresh =
-    let parts = and_parts (are_strings physical.Utf8 offsets content) (holds_below (length offsets - 1) (is_text_at offsets content)) sound in
-    texts_agree physical.Utf8 w32 mask offsets content parts.0 fits fresh
+    → bytes_column w (flat_slots mask stored) ≡ stored_column w mask stored
+
+short_texts : AgreesAs physical.Utf8 w32
+short_texts mask (texts offsets content) sound fits fresh = texts_agree physical.Utf8 w32 mask offsets content sound fits fresh
 short_texts mask _ sound fits fresh = absurd (both_ways false refl sound)
 
-long_texts : (mask : Mask) (stored : Stored) → is_stored_as physical.LargeUtf8 stored ≡ true → mask_fits mask (stored_len stored) ≡ true
-    → is_fresh mask stored ≡ true
-    → bytes_column w64 (flat_slots mask stored) ≡ stored_column w64 mask stored
-long_texts mask (texts offsets content) sound fits fresh =
-    let parts = and_parts (are_strings physical.LargeUtf8 offsets content) (holds_below (length offsets - 1) (is_text_at offsets content)) sound in
-    texts_agree physical.LargeUtf8 w64 mask offsets content parts.0 fits fresh
+long_texts : AgreesAs physical.LargeUtf8 w64
+long_texts mask (texts offsets content) sound fits fresh = texts_agree physical.LargeUtf8 w64 mask offsets content sound fits fresh
 long_texts mask _ sound fits fresh = absurd (both_ways false refl sound)
 
-short_strings : (mask : Mask) (stored : Stored) → is_stored_as physical.Binary stored ≡ true → mask_fits mask (stored_len stored) ≡ true
-    → is_fresh mask stored ≡ true
-    → bytes_column w32 (flat_slots mask stored) ≡ stored_column w32 mask stored
+short_strings : AgreesAs physical.Binary w32
 short_strings mask (byte_strings offsets content) sound fits fresh = strings_agree physical.Binary w32 mask offsets content sound fits fresh
 short_strings mask _ sound fits fresh = absurd (both_ways false refl sound)
 
-long_strings : (mask : Mask) (stored : Stored) → is_stored_as physical.LargeBinary stored ≡ true → mask_fits mask (stored_len stored) ≡ true
-    → is_fresh mask stored ≡ true
-    → bytes_column w64 (flat_slots mask stored) ≡ stored_column w64 mask stored
+long_strings : AgreesAs physical.LargeBinary w64
 long_strings mask (byte_strings offsets content) sound fits fresh = strings_agree physical.LargeBinary w64 mask offsets content sound fits fresh
 long_strings mask _ sound fits fresh = absurd (both_ways false refl sound)
 

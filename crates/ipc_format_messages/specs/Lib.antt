@@ -4,4 +4,5 @@ pub mod SchemaSlots
 pub mod SchemaRefs
 pub mod WholeMessages
 pub mod BufferLengths
-pub mod MessageWriting
+pub mod TypeSlots
+pub mod TypeRefs

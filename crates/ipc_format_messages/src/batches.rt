@@ -6,15 +6,15 @@ ghost use Rattle.ipc_format_messages.specs.MessageSlots as slots;
 ghost use Rattle.ipc_format_messages.specs.MessageViews.{table_view, nodes_view, buffers_view, batch_view, compression_view};
 
 use crate::error::Error;
-use crate::slots::{
-    DICTIONARY_BATCH_DATA, DICTIONARY_BATCH_ID, DICTIONARY_BATCH_IS_DELTA, PAIR_SIZE,
-    RECORD_BATCH_BUFFERS, RECORD_BATCH_COMPRESSION, RECORD_BATCH_LENGTH, RECORD_BATCH_NODES,
-};
 use crate::tables::TableRef;
 use crate::vectors::{BuffersRef, FieldNodesRef};
+use ipc_format_slots::sizes::PAIR_SIZE;
+use ipc_format_slots::slots::{
+    DICTIONARY_BATCH_DATA, DICTIONARY_BATCH_ID, DICTIONARY_BATCH_IS_DELTA, RECORD_BATCH_BUFFERS,
+    RECORD_BATCH_COMPRESSION, RECORD_BATCH_LENGTH, RECORD_BATCH_NODES,
+};
 
-/// How the buffers of a record batch are compressed (Message.fbs, `BodyCompression`). Compressed batches are not read, so that one is
-/// there is all that is looked at.
+/// How the buffers of a record batch are compressed (Message.fbs, `BodyCompression`): that they are is all that is looked at.
 #[derive(Clone, Copy, Debug)]
 pub struct BodyCompressionRef<'a> {
     pub table: TableRef<'a>,

@@ -5,15 +5,18 @@ ghost use Rattle.std.specs.Result.{result_ok};
 ghost use Rattle.ipc_format_messages.specs.MessageViews.{table_view};
 ghost use Rattle.ipc_format_messages.specs.SchemaRefs.{fields_view, pairs_view, encoding_view, int_view};
 ghost use Rattle.ipc_format_messages.specs.SchemaSlots as slots;
+ghost use Rattle.ipc_format_messages.specs.TypeRefs.{type_view};
+ghost use Rattle.ipc_format_messages.specs.TypeSlots as types;
 
 use crate::error::Error;
 use crate::schemas::{FieldsRef, KeyValuesRef};
-use crate::slots::{
+use crate::tables::TableRef;
+use crate::types::{TypeRef, type_of};
+use ipc_format_slots::slots::{
     DICTIONARY_ENCODING_ID, DICTIONARY_ENCODING_INDEX_TYPE, DICTIONARY_ENCODING_IS_ORDERED,
     FIELD_CHILDREN, FIELD_CUSTOM_METADATA, FIELD_DICTIONARY, FIELD_NAME, FIELD_NULLABLE,
-    INT_BIT_WIDTH, INT_IS_SIGNED, KEY_VALUE_KEY, KEY_VALUE_VALUE,
+    FIELD_TYPE, FIELD_TYPE_TYPE, INT_BIT_WIDTH, INT_IS_SIGNED, KEY_VALUE_KEY, KEY_VALUE_VALUE,
 };
-use crate::tables::TableRef;
 
 /// A field (Schema.fbs, `Field`).
 #[derive(Clone, Copy, Debug)]
@@ -58,6 +61,20 @@ impl<'a> FieldRef<'a> {
         ensures { result_ok result ≡ slots.field_is_nullable (table_view self.now.table) }
     {
         self.table.truth(FIELD_NULLABLE)
+    }
+
+    /// The type, if it is there.
+    ///
+    /// # Errors
+    /// - `InvalidFlatbuffer`: a slot of the type breaks a rule of FlatBuffers, or its tag is that of no type.
+    pub fn type_(&self) -> Result<Option<TypeRef<'a>>, Error>
+        ensures { option_map (option_map type_view) (result_ok result) ≡ types.field_type (table_view self.now.table) }
+    {
+        let number = self.table.byte(FIELD_TYPE_TYPE)?;
+        match self.table.table(FIELD_TYPE)? {
+            Some(table) => Ok(Some(type_of(number, table).ok_or(Error::InvalidFlatbuffer)?)),
+            None => Ok(None),
+        }
     }
 
     /// The dictionary in which the values stand, if there is one.

@@ -7,12 +7,13 @@ ghost use Rattle.ipc_format_messages.specs.MessageViews.{table_view, footer_view
 
 use crate::error::Error;
 use crate::schemas::SchemaRef;
-use crate::slots::{
-    BLOCK_SIZE, FOOTER_DICTIONARIES, FOOTER_RECORD_BATCHES, FOOTER_SCHEMA, FOOTER_VERSION,
-};
 use crate::tables::TableRef;
 use crate::values::{MetadataVersion, version_of};
 use crate::vectors::BlocksRef;
+use ipc_format_slots::sizes::BLOCK_SIZE;
+use ipc_format_slots::slots::{
+    FOOTER_DICTIONARIES, FOOTER_RECORD_BATCHES, FOOTER_SCHEMA, FOOTER_VERSION,
+};
 
 /// A file's footer (File.fbs, `Footer`).
 #[derive(Clone, Copy, Debug)]

@@ -1,5 +1,4 @@
-//! Messages, record batches, dictionary batches and footers in their metadata (Message.fbs, File.fbs, Schema.fbs): read by address in
-//! views that borrow the bytes and take no memory, and written.
+//! Messages, batches and footers in their metadata (Message.fbs, File.fbs, Schema.fbs), by address, in views that take no memory.
 //!
 //! A view has one call a slot, which looks at that slot alone. Where the bytes break a rule of the format there, the call answers
 //! `Error`.
@@ -12,12 +11,11 @@ mod footer;
 mod messages;
 mod reading;
 mod schemas;
-mod slots;
 mod structs;
 mod tables;
+mod types;
 mod values;
 mod vectors;
-mod writing;
 
 pub use batches::{BodyCompressionRef, DictionaryBatchRef, RecordBatchRef};
 pub use error::Error;
@@ -30,6 +28,9 @@ pub use reading::{
 };
 pub use schemas::{Endianness, FieldsRef, KeyValuesRef, SchemaRef};
 pub use tables::TableRef;
+pub use types::{
+    DateRef, DateUnit, DecimalRef, DurationRef, FixedSizeBinaryRef, FixedSizeListRef, IntervalRef,
+    MapRef, TimeRef, TimestampRef, TypeRef, UnionRef,
+};
 pub use values::{Block, Buffer, FieldNode, MetadataVersion};
 pub use vectors::{BlocksRef, BuffersRef, FieldNodesRef, TablesRef};
-pub use writing::{dictionary_batch_to_bytes, record_batch_to_bytes};

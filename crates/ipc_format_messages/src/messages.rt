@@ -8,12 +8,12 @@ ghost use Rattle.ipc_format_messages.specs.MessageViews.{table_view, message_vie
 use crate::batches::{DictionaryBatchRef, RecordBatchRef};
 use crate::error::Error;
 use crate::schemas::SchemaRef;
-use crate::slots::{
-    DICTIONARY_BATCH_HEADER, MESSAGE_BODY_LENGTH, MESSAGE_HEADER, MESSAGE_HEADER_TYPE,
-    MESSAGE_VERSION, RECORD_BATCH_HEADER, SCHEMA_HEADER,
-};
 use crate::tables::TableRef;
 use crate::values::{MetadataVersion, version_of};
+use ipc_format_slots::slots::{
+    MESSAGE_BODY_LENGTH, MESSAGE_HEADER, MESSAGE_HEADER_TYPE, MESSAGE_VERSION,
+};
+use ipc_format_slots::tags::{DICTIONARY_BATCH_HEADER, RECORD_BATCH_HEADER, SCHEMA_HEADER};
 
 /// A message's metadata (Message.fbs, `Message`).
 #[derive(Clone, Copy, Debug)]

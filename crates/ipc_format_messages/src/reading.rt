@@ -10,16 +10,17 @@ ghost use Rattle.ipc_format_messages.specs.MessageViews.{version_view};
 
 use crate::batches::{DictionaryBatchRef, RecordBatchRef};
 use crate::messages::{MessageHeaderRef, header_of};
-use crate::slots::{
-    DICTIONARY_BATCH_DATA, DICTIONARY_BATCH_ID, DICTIONARY_BATCH_IS_DELTA, MESSAGE_BODY_LENGTH,
-    MESSAGE_HEADER, MESSAGE_HEADER_TYPE, MESSAGE_VERSION, PAIR_SIZE, RECORD_BATCH_BUFFERS,
-    RECORD_BATCH_COMPRESSION, RECORD_BATCH_NODES,
-};
 use crate::tables::TableRef;
 use crate::values::{MetadataVersion, version_of};
 use crate::vectors::{BuffersRef, FieldNodesRef};
 use ipc_format_flatbuffers::{
     i16_field, i64_field, root_of, table_field, truth_field, u8_field, vector_field,
+};
+use ipc_format_slots::sizes::PAIR_SIZE;
+use ipc_format_slots::slots::{
+    DICTIONARY_BATCH_DATA, DICTIONARY_BATCH_ID, DICTIONARY_BATCH_IS_DELTA, MESSAGE_BODY_LENGTH,
+    MESSAGE_HEADER, MESSAGE_HEADER_TYPE, MESSAGE_VERSION, RECORD_BATCH_BUFFERS,
+    RECORD_BATCH_COMPRESSION, RECORD_BATCH_NODES,
 };
 
 /// What a message carries, and how many bytes its body has.

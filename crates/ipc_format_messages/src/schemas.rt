@@ -9,9 +9,9 @@ ghost use Rattle.ipc_format_messages.specs.SchemaSlots as slots;
 
 use crate::error::Error;
 use crate::fields::{FieldRef, KeyValueRef};
-use crate::slots::{SCHEMA_CUSTOM_METADATA, SCHEMA_ENDIANNESS, SCHEMA_FIELDS};
 use crate::tables::TableRef;
 use crate::vectors::TablesRef;
+use ipc_format_slots::slots::{SCHEMA_CUSTOM_METADATA, SCHEMA_ENDIANNESS, SCHEMA_FIELDS};
 
 /// A schema's table (Schema.fbs, `Schema`).
 #[derive(Clone, Copy, Debug)]

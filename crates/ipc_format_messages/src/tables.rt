@@ -11,12 +11,12 @@ ghost use Rattle.ipc_format_messages.specs.SchemaSlots as schema_slots;
 ghost use Rattle.ipc_format_messages.specs.SchemaRefs.{tables_view};
 
 use crate::error::Error;
-use crate::slots::REFERENCE_SIZE;
 use crate::vectors::TablesRef;
 use ipc_format_flatbuffers::{
     Table, Vector, element_at, i16_field, i32_field, i64_field, root_of, string_field, table_field,
     truth_field, u8_field, vector_field,
 };
+use ipc_format_slots::sizes::REFERENCE_SIZE;
 
 /// A table of a message, with the message's bytes.
 #[derive(Clone, Copy, Debug)]

@@ -16,6 +16,8 @@ use columnar_memory::{DataType, IntegerType, Items, Text, UnionMode};
 use ipc_format_flatbuffers::{
     Table, Vector, i16_field, i32_at, string_field, truth_field, vector_field,
 };
+use ipc_format_slots::sizes::I32_SIZE;
+use ipc_format_slots::slots::{MAP_KEYS_SORTED, TIMESTAMP_TIMEZONE, UNION_MODE, UNION_TYPE_IDS};
 use std::alloc::{AllocError, Global};
 
 /// A type but for the fields below it.
@@ -57,7 +59,7 @@ fn timestamp_in(alloc: Global, bytes: &[u8], table: &Table) -> Result<Option<Dat
     let Some(unit) = unit_in(bytes, table, 0) else {
         return Ok(None);
     };
-    match string_field(bytes, table, 1) {
+    match string_field(bytes, table, TIMESTAMP_TIMEZONE) {
         Some(Some(timezone)) => {
             let timezone = Text::from_str(alloc, timezone)?;
             Ok(Some(DataType::Timestamp(unit, Some(timezone))))
@@ -91,13 +93,13 @@ fn numbers_in(
 fn union_in(alloc: Global, bytes: &[u8], table: &Table) -> Result<Option<UnionTable>, AllocError>
     ensures { IfOk result (λ found. option_map union_view found ≡ kinds.union_in bytes.now (table_of table.now)) }
 {
-    let Some(number) = i16_field(bytes, table, 0, 0) else {
+    let Some(number) = i16_field(bytes, table, UNION_MODE, 0) else {
         return Ok(None);
     };
     let Some(mode) = mode_of(number) else {
         return Ok(None);
     };
-    match vector_field(bytes, table, 1, 4) {
+    match vector_field(bytes, table, UNION_TYPE_IDS, I32_SIZE) {
         Some(Some(vector)) => match numbers_in(alloc, bytes, &vector)? {
             Some(numbers) => Ok(Some(UnionTable {
                 mode,
@@ -134,7 +136,7 @@ fn plain_layer(bytes: &[u8], tag: Tag, table: &Table) -> Option<Layer>
         Tag::List => Some(Layer::Over(OverField::List)),
         Tag::LargeList => Some(Layer::Over(OverField::LargeList)),
         Tag::FixedSizeList => Some(Layer::Over(OverField::FixedSizeList(size_in(bytes, table)?))),
-        Tag::Map => Some(Layer::Over(OverField::Map(truth_field(bytes, table, 0)?))),
+        Tag::Map => Some(Layer::Over(OverField::Map(truth_field(bytes, table, MAP_KEYS_SORTED)?))),
         Tag::Struct => Some(Layer::OverAll(OverFields::Struct)),
         Tag::FloatingPoint | Tag::Timestamp | Tag::Union => None,
     }

@@ -14,6 +14,11 @@ mod types;
 mod writable;
 
 pub use ipc_schema::{IpcField, IpcSchema};
-pub use messages::{MOST_LEVELS, any_schema_in, deserialize_schema, schema_in};
+pub use messages::{
+    MOST_LEVELS, any_schema_in, deserialize_schema, deserialize_schema_counted, schema_in,
+    schema_in_counted,
+};
 pub use out_of_spec::OutOfSpecKind;
+pub use tags::{Tag, tag_of};
+pub use types::{mode_of, unit_in};
 pub use writable::can_write;

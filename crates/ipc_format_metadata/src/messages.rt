@@ -13,10 +13,15 @@ use crate::out_of_spec::OutOfSpecKind;
 use crate::pairs::metadata_in;
 use crate::schemas::each_in;
 use crate::writable::can_write;
-use columnar_memory::{Error, Result, Schema};
+use columnar_memory::{Error, Result, Schema, Steps};
 use ipc_format_flatbuffers::{
     Table, Vector, i16_field, root_of, table_field, u8_field, vector_field,
 };
+use ipc_format_slots::sizes::REFERENCE_SIZE;
+use ipc_format_slots::slots::{
+    MESSAGE_HEADER, MESSAGE_HEADER_TYPE, SCHEMA_CUSTOM_METADATA, SCHEMA_ENDIANNESS, SCHEMA_FIELDS,
+};
+use ipc_format_slots::tags::SCHEMA_HEADER;
 use std::alloc::Global;
 
 /// So many levels deep may fields nest.
@@ -26,7 +31,7 @@ pub const MOST_LEVELS: u8 = 64;
 fn order_in(bytes: &[u8], table: &Table) -> Option<bool>
     ensures { result ≡ steps.order_in bytes.now (table_of table.now) }
 {
-    match i16_field(bytes, table, 0, 0)? {
+    match i16_field(bytes, table, SCHEMA_ENDIANNESS, 0)? {
         0 => Some(true),
         1 => Some(false),
         _ => None,
@@ -38,18 +43,24 @@ fn tables_in(bytes: &[u8], table: &Table) -> Option<Vector>
     ensures value { option_map vector_of result ≡ steps.tables_in bytes.now (table_of table.now) }
     ensures inside { IfSome result (λ v. v.place + v.count * 4 ≤ length bytes.now) }
 {
-    vector_field(bytes, table, 1, 4)?
+    vector_field(bytes, table, SCHEMA_FIELDS, REFERENCE_SIZE)?
 }
 
-/// The schema of a Schema table, whether or not it is one that is written, and what the table says beside it.
+/// The schema of a Schema table, written or not, and what the table says beside it. Each Field table that is visited is a step.
 ///
 /// # Errors
 /// - `OutOfSpec`: the bytes are no schema.
 /// - `NotYetImplemented`: a field of floating-point numbers stands in it.
 /// - `OutOfMemory`: there was no memory for names and fields.
-pub fn any_schema_in(alloc: Global, bytes: &[u8], table: &Table) -> Result<(Schema, IpcSchema)>
-    ensures { Reads schema_view (steps.FloatInSchema bytes.now (table_of table.now)) result
+pub fn any_schema_in(
+    alloc: Global,
+    bytes: &[u8],
+    table: &Table,
+    visits: &mut Steps,
+) -> Result<(Schema, IpcSchema)>
+    ensures value { Reads schema_view (steps.FloatInSchema bytes.now (table_of table.now)) result
         (format.any_schema_in None bytes.now (table_of table.now)) }
+    ensures visits { visits.new.count ≤ visits.old.count + length bytes.now }
 {
     let Some(is_little_endian) = order_in(bytes, table) else {
         return Err(Error::OutOfSpec(OutOfSpecKind::InvalidFlatbufferSchema.name()));
@@ -57,8 +68,8 @@ pub fn any_schema_in(alloc: Global, bytes: &[u8], table: &Table) -> Result<(Sche
     let Some(vector) = tables_in(bytes, table) else {
         return Err(Error::OutOfSpec(OutOfSpecKind::MissingFields.name()));
     };
-    let found = each_in(alloc, bytes, &vector, MOST_LEVELS, bytes.len())?;
-    let metadata = metadata_in(alloc, bytes, table, 2)?;
+    let found = each_in(alloc, bytes, &vector, MOST_LEVELS, bytes.len(), visits)?;
+    let metadata = metadata_in(alloc, bytes, table, SCHEMA_CUSTOM_METADATA)?;
     let schema = Schema {
         fields: found.fields,
         metadata,
@@ -76,9 +87,13 @@ fn schema_table(bytes: &[u8]) -> Option<Table>
     ensures { option_map table_of result ≡ steps.schema_table_in bytes.now }
 {
     let root = root_of(bytes)?;
-    let tag = u8_field(bytes, &root, 1, 0)?;
-    let table = table_field(bytes, &root, 2)??;
-    if tag == 1 { Some(table) } else { None }
+    let tag = u8_field(bytes, &root, MESSAGE_HEADER_TYPE, 0)?;
+    let table = table_field(bytes, &root, MESSAGE_HEADER)??;
+    if tag == SCHEMA_HEADER {
+        Some(table)
+    } else {
+        None
+    }
 }
 
 /// The schema of a Schema table, and what the table says beside it.
@@ -90,7 +105,24 @@ fn schema_table(bytes: &[u8]) -> Option<Table>
 pub fn schema_in(alloc: Global, bytes: &[u8], table: &Table) -> Result<(Schema, IpcSchema)>
     ensures { Reads schema_view (steps.FloatInSchema bytes.now (table_of table.now)) result (grammar.schema_in bytes.now (table_of table.now)) }
 {
-    let (schema, ipc_schema) = any_schema_in(alloc, bytes, table)?;
+    schema_in_counted(alloc, bytes, table, &mut Steps::new())
+}
+
+/// As [`schema_in`]: each Field table that is visited is a step.
+///
+/// # Errors
+/// As [`schema_in`].
+pub fn schema_in_counted(
+    alloc: Global,
+    bytes: &[u8],
+    table: &Table,
+    visits: &mut Steps,
+) -> Result<(Schema, IpcSchema)>
+    ensures value { Reads schema_view (steps.FloatInSchema bytes.now (table_of table.now)) result
+        (grammar.schema_in bytes.now (table_of table.now)) }
+    ensures visits { visits.new.count ≤ visits.old.count + length bytes.now }
+{
+    let (schema, ipc_schema) = any_schema_in(alloc, bytes, table, visits)?;
     if !can_write(&schema) {
         return Err(Error::OutOfSpec(OutOfSpecKind::InvalidDataType.name()));
     }
@@ -106,8 +138,23 @@ pub fn schema_in(alloc: Global, bytes: &[u8], table: &Table) -> Result<(Schema, 
 pub fn deserialize_schema(alloc: Global, metadata: &[u8]) -> Result<(Schema, IpcSchema)>
     ensures { Reads schema_view (steps.FloatInMessage metadata.now) result (steps.schema_message_in metadata.now) }
 {
+    deserialize_schema_counted(alloc, metadata, &mut Steps::new())
+}
+
+/// As [`deserialize_schema`]: each Field table that is visited is a step, and no more are visited than the message has bytes.
+///
+/// # Errors
+/// As [`deserialize_schema`].
+pub fn deserialize_schema_counted(
+    alloc: Global,
+    metadata: &[u8],
+    visits: &mut Steps,
+) -> Result<(Schema, IpcSchema)>
+    ensures value { Reads schema_view (steps.FloatInMessage metadata.now) result (steps.schema_message_in metadata.now) }
+    ensures visits { visits.new.count ≤ visits.old.count + length metadata.now }
+{
     let Some(table) = schema_table(metadata) else {
         return Err(Error::OutOfSpec(OutOfSpecKind::MissingSchema.name()));
     };
-    schema_in(alloc, metadata, &table)
+    schema_in_counted(alloc, metadata, &table, visits)
 }

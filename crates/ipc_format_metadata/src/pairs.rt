@@ -13,6 +13,11 @@ use columnar_memory::{Boxed, DataType, Error, IntegerType, Metadata, Result, Tex
 use ipc_format_flatbuffers::{
     Table, Vector, element_at, i64_field, string_field, table_field, truth_field, vector_field,
 };
+use ipc_format_slots::sizes::REFERENCE_SIZE;
+use ipc_format_slots::slots::{
+    DICTIONARY_ENCODING_ID, DICTIONARY_ENCODING_INDEX_TYPE, DICTIONARY_ENCODING_IS_ORDERED,
+    KEY_VALUE_KEY, KEY_VALUE_VALUE,
+};
 use std::alloc::{AllocError, Global};
 use std::result;
 
@@ -27,8 +32,8 @@ fn pair_at<'a>(
     ensures { option_map (λ p. (option_copied p.0, option_copied p.1)) result ≡ parts.pair_in bytes.now (vector_of vector.now) k }
 {
     let pair = element_at(bytes, vector, k)?;
-    let key = string_field(bytes, &pair, 0)?;
-    let value = string_field(bytes, &pair, 1)?;
+    let key = string_field(bytes, &pair, KEY_VALUE_KEY)?;
+    let value = string_field(bytes, &pair, KEY_VALUE_VALUE)?;
     Some((key, value))
 }
 
@@ -42,7 +47,7 @@ pub fn metadata_in(alloc: Global, bytes: &[u8], table: &Table, slot: u8) -> Resu
     ensures { Reads (λ pairs. pairs) ⊥ result (format.metadata_in bytes.now (table_of table.now) slot) }
 {
     let mut pairs = Metadata::new(alloc);
-    let Some(vector) = vector_field(bytes, table, slot, 4) else {
+    let Some(vector) = vector_field(bytes, table, slot, REFERENCE_SIZE) else {
         return Err(Error::OutOfSpec(OutOfSpecKind::InvalidFlatbufferSchema.name()));
     };
     let Some(vector) = vector else {
@@ -105,10 +110,10 @@ pub struct Encoding {
 fn encoding_in(bytes: &[u8], table: &Table) -> Option<Encoding>
     ensures { option_map encoding_view result ≡ parts.encoding_in bytes.now (table_of table.now) }
 {
-    let id = i64_field(bytes, table, 0, 0)?;
-    let keys = table_field(bytes, table, 1)??;
+    let id = i64_field(bytes, table, DICTIONARY_ENCODING_ID, 0)?;
+    let keys = table_field(bytes, table, DICTIONARY_ENCODING_INDEX_TYPE)??;
     let keys = integer_in(bytes, &keys)?;
-    let is_ordered = truth_field(bytes, table, 2)?;
+    let is_ordered = truth_field(bytes, table, DICTIONARY_ENCODING_IS_ORDERED)?;
     Some(Encoding {
         id,
         keys,

@@ -1,5 +1,5 @@
 //! Schemas (Schema.fbs) with fields of every type but the floating-point ones.
-ghost use Rattle.std.specs.Prelude.{◌≡◌, ◌↔◌, IsTrue, IfOk, IfSome, ◌<◌, ◌+◌, ◌*◌, ◌≤◌, length, None, Some};
+ghost use Rattle.std.specs.Prelude.{◌≡◌, ◌↔◌, IsTrue, IfOk, IfSome, MatchResult, ◌<◌, ◌+◌, ◌*◌, ◌≤◌, length, None, Some};
 ghost use Rattle.std.specs.Option.{option_map};
 ghost use Rattle.ipc_format_grammar.specs.Schemas as format;
 ghost use Rattle.ipc_format_columns.specs.Refusals.{IsFloat};
@@ -14,15 +14,18 @@ use crate::layers::{Layer, OverField, OverFields, layer_of};
 use crate::out_of_spec::OutOfSpecKind;
 use crate::pairs::{encoded_by, extended, metadata_in};
 use crate::tags::tag_of;
-use columnar_memory::{Boxed, DataType, Error, Field, Items, Result, Text};
+use columnar_memory::{Boxed, DataType, Error, Field, Items, Result, Steps, Text};
 use ipc_format_flatbuffers::{
     Table, Vector, element_at, string_field, table_field, truth_field, u8_field, vector_field,
 };
+use ipc_format_slots::sizes::REFERENCE_SIZE;
+use ipc_format_slots::slots::{
+    FIELD_CHILDREN, FIELD_CUSTOM_METADATA, FIELD_DICTIONARY, FIELD_NAME, FIELD_NULLABLE,
+    FIELD_TYPE, FIELD_TYPE_TYPE,
+};
+use ipc_format_slots::tags::TYPE_FLOATING_POINT;
 use std::alloc::{AllocError, Global};
 use std::result;
-
-/// The tag of FloatingPoint in the union `Type`.
-const FLOATING_POINT: u8 = 3;
 
 /// A field, the dictionary ids beside it, and how many Field tables may still be visited.
 #[derive(Debug, Drop)]
@@ -58,20 +61,20 @@ struct Head<'a> {
 fn is_float(bytes: &[u8], field: &Table) -> bool
     ensures { IsTrue result ↔ IsFloat bytes.now (table_of field.now) }
 {
-    u8_field(bytes, field, 2, 0) == Some(FLOATING_POINT)
+    u8_field(bytes, field, FIELD_TYPE_TYPE, 0) == Some(TYPE_FLOATING_POINT)
 }
 
 /// The layer of a field's type.
 fn layer_in(alloc: Global, bytes: &[u8], field: &Table) -> result::Result<Option<Layer>, AllocError>
     ensures { IfOk result (λ found. option_map layer_view found ≡ steps.layer_in bytes.now (table_of field.now)) }
 {
-    let Some(number) = u8_field(bytes, field, 2, 0) else {
+    let Some(number) = u8_field(bytes, field, FIELD_TYPE_TYPE, 0) else {
         return Ok(None);
     };
     let Some(tag) = tag_of(number) else {
         return Ok(None);
     };
-    match table_field(bytes, field, 3) {
+    match table_field(bytes, field, FIELD_TYPE) {
         Some(Some(table)) => layer_of(alloc, bytes, tag, &table),
         Some(None) | None => Ok(None),
     }
@@ -82,7 +85,7 @@ fn children(bytes: &[u8], field: &Table) -> Option<Vector>
     ensures value { option_map vector_of result ≡ steps.children bytes.now (table_of field.now) }
     ensures inside { IfSome result (λ v. v.place + v.count * 4 ≤ length bytes.now) }
 {
-    vector_field(bytes, field, 5, 4)?
+    vector_field(bytes, field, FIELD_CHILDREN, REFERENCE_SIZE)?
 }
 
 /// The first child of a field, which counts alone for lists and maps.
@@ -99,8 +102,8 @@ fn first_child(bytes: &[u8], field: &Table) -> Option<Table>
 fn head_in<'a>(bytes: &'a [u8], field: &Table) -> Option<Head<'a>>
     ensures { option_map head_view result ≡ steps.head_in bytes.now (table_of field.now) }
 {
-    let name = string_field(bytes, field, 0)??;
-    let is_nullable = truth_field(bytes, field, 1)?;
+    let name = string_field(bytes, field, FIELD_NAME)??;
+    let is_nullable = truth_field(bytes, field, FIELD_NULLABLE)?;
     Some(Head { name, is_nullable })
 }
 
@@ -110,7 +113,8 @@ fn with_field(
     over: OverField,
     found: FieldRead,
 ) -> result::Result<TypeRead, AllocError>
-    ensures { IfOk result (λ made. steps.over_one (over_field over) (field_view found) ≡ Some (type_view made)) }
+    ensures value { IfOk result (λ made. steps.over_one (over_field over) (field_view found) ≡ Some (type_view made)) }
+    ensures left { IfOk result (λ made. made.left ≡ found.left) }
 {
     let mut below = Items::new(alloc);
     below.push(found.ids)?;
@@ -130,7 +134,8 @@ fn with_field(
 
 /// The type over some fields.
 fn with_fields(over: OverFields, found: FieldsRead) -> TypeRead
-    ensures { steps.over_each (over_fields over) (fields_view found) ≡ Some (type_view result) }
+    ensures value { steps.over_each (over_fields over) (fields_view found) ≡ Some (type_view result) }
+    ensures left { result.left ≡ found.left }
 {
     let data_type = match over {
         OverFields::Struct => DataType::Struct(found.fields),
@@ -151,12 +156,13 @@ fn completed(
     head: Head<'_>,
     found: TypeRead,
 ) -> Result<FieldRead>
-    ensures { Reads field_view ⊥ result (steps.completed bytes.now (table_of table.now) (head_view head.entry) (type_view found)) }
+    ensures value { Reads field_view ⊥ result (steps.completed bytes.now (table_of table.now) (head_view head.entry) (type_view found)) }
+    ensures left { IfOk result (λ read. read.left ≡ found.left) }
 {
-    let Some(dictionary) = table_field(bytes, table, 4) else {
+    let Some(dictionary) = table_field(bytes, table, FIELD_DICTIONARY) else {
         return Err(Error::OutOfSpec(OutOfSpecKind::InvalidFlatbufferSchema.name()));
     };
-    let metadata = metadata_in(alloc, bytes, table, 6)?;
+    let metadata = metadata_in(alloc, bytes, table, FIELD_CUSTOM_METADATA)?;
     let data_type = extended(alloc, &metadata, found.data_type)?;
     let encoded = encoded_by(alloc, bytes, &dictionary, data_type)?;
     let name = Text::from_str(alloc, head.name)?;
@@ -183,9 +189,12 @@ fn field_in(
     table: &Table,
     levels: u8,
     left: usize,
+    visits: &mut Steps,
 ) -> Result<FieldRead>
-    ensures { Reads field_view (steps.FloatBelow bytes.now (table_of table.now)) result
+    ensures value { Reads field_view (steps.FloatBelow bytes.now (table_of table.now)) result
         (format.field_in None bytes.now levels (table_of table.now) left) }
+    ensures visits { MatchResult result (λ read. visits.new.count + read.left ≤ visits.old.count + left)
+        (λ _. visits.new.count ≤ visits.old.count + left) }
 {
     if levels == 0 {
         return Err(Error::OutOfSpec(OutOfSpecKind::InvalidFlatbufferSchema.name()));
@@ -193,18 +202,28 @@ fn field_in(
     if left == 0 {
         return Err(Error::OutOfSpec(OutOfSpecKind::InvalidFlatbufferSchema.name()));
     }
+    visits.tick();
     let Some(head) = head_in(bytes, table) else {
         return Err(Error::OutOfSpec(OutOfSpecKind::InvalidFlatbufferSchema.name()));
     };
-    let found = type_in(alloc, bytes, table, levels - 1, left - 1)?;
+    let found = type_in(alloc, bytes, table, levels - 1, left - 1, visits)?;
     completed(alloc, bytes, table, head, found)
 }
 
 /// The type of a Field table, over fields that may nest so many `levels` deep.
 #[cycle(reading)]
-fn type_in(alloc: Global, bytes: &[u8], field: &Table, levels: u8, left: usize) -> Result<TypeRead>
-    ensures { Reads type_view (steps.FloatBelow bytes.now (table_of field.now)) result
+fn type_in(
+    alloc: Global,
+    bytes: &[u8],
+    field: &Table,
+    levels: u8,
+    left: usize,
+    visits: &mut Steps,
+) -> Result<TypeRead>
+    ensures value { Reads type_view (steps.FloatBelow bytes.now (table_of field.now)) result
         (steps.type_found (format.field_in None bytes.now levels) bytes.now (table_of field.now) left) }
+    ensures visits { MatchResult result (λ read. visits.new.count + read.left ≤ visits.old.count + left)
+        (λ _. visits.new.count ≤ visits.old.count + left) }
 {
     if is_float(bytes, field) {
         return Err(Error::NotYetImplemented("floating-point numbers"));
@@ -222,14 +241,14 @@ fn type_in(alloc: Global, bytes: &[u8], field: &Table, levels: u8, left: usize) 
             let Some(child) = first_child(bytes, field) else {
                 return Err(Error::OutOfSpec(OutOfSpecKind::InvalidFlatbufferSchema.name()));
             };
-            let found = field_in(alloc, bytes, &child, levels, left)?;
+            let found = field_in(alloc, bytes, &child, levels, left, visits)?;
             Ok(with_field(alloc, over, found)?)
         }
         Layer::OverAll(over) => {
             let Some(vector) = children(bytes, field) else {
                 return Err(Error::OutOfSpec(OutOfSpecKind::InvalidFlatbufferSchema.name()));
             };
-            let found = each_in(alloc, bytes, &vector, levels, left)?;
+            let found = each_in(alloc, bytes, &vector, levels, left, visits)?;
             Ok(with_fields(over, found))
         }
     }
@@ -243,10 +262,13 @@ pub fn each_in(
     vector: &Vector,
     levels: u8,
     left: usize,
+    visits: &mut Steps,
 ) -> Result<FieldsRead>
     requires in_message { vector.now.place + vector.now.count * 4 ≤ length bytes.now }
-    ensures { Reads fields_view (steps.FloatAmong bytes.now (vector_of vector.now)) result
+    ensures value { Reads fields_view (steps.FloatAmong bytes.now (vector_of vector.now)) result
         (steps.fields_in (format.field_in None bytes.now levels) bytes.now (vector_of vector.now) left) }
+    ensures visits { MatchResult result (λ read. visits.new.count + read.left ≤ visits.old.count + left)
+        (λ _. visits.new.count ≤ visits.old.count + left) }
 {
     let mut fields = Items::new(alloc);
     let mut below = Items::new(alloc);
@@ -255,7 +277,7 @@ pub fn each_in(
         let Some(table) = element_at(bytes, vector, k) else {
             return Err(Error::OutOfSpec(OutOfSpecKind::InvalidFlatbufferSchema.name()));
         };
-        let found = field_in(alloc, bytes, &table, levels, still)?;
+        let found = field_in(alloc, bytes, &table, levels, still, visits)?;
         fields.push(found.field)?;
         below.push(found.ids)?;
         still = found.left;

@@ -8,14 +8,15 @@ ghost use Rattle.ipc_format_metadata.specs.Leaves as leaves;
 
 use columnar_memory::{DataType, IntegerType, IntervalUnit, TimeUnit, UnionMode};
 use ipc_format_flatbuffers::{Table, i16_field, i32_field, truth_field};
+use ipc_format_slots::slots;
 
 /// The whole numbers of an Int table.
 #[tactic(auto, unfolding(ipc_format_grammar::specs::Types::integer_in))]
 pub fn integer_in(bytes: &[u8], table: &Table) -> Option<IntegerType>
     ensures { result ≡ kinds.integer_in bytes.now (table_of table.now) }
 {
-    let bits = i32_field(bytes, table, 0, 0)?;
-    let is_signed = truth_field(bytes, table, 1)?;
+    let bits = i32_field(bytes, table, slots::INT_BIT_WIDTH, 0)?;
+    let is_signed = truth_field(bytes, table, slots::INT_IS_SIGNED)?;
     if is_signed {
         signed_of(bits)
     } else {
@@ -52,9 +53,9 @@ fn unsigned_of(bits: i32) -> Option<IntegerType>
 pub fn decimal_in(bytes: &[u8], table: &Table) -> Option<DataType>
     ensures { result ≡ kinds.decimal_in bytes.now (table_of table.now) }
 {
-    let precision = natural(i32_field(bytes, table, 0, 0)?)?;
-    let scale = natural(i32_field(bytes, table, 1, 0)?)?;
-    match i32_field(bytes, table, 2, 128)? {
+    let precision = natural(i32_field(bytes, table, slots::DECIMAL_PRECISION, 0)?)?;
+    let scale = natural(i32_field(bytes, table, slots::DECIMAL_SCALE, 0)?)?;
+    match i32_field(bytes, table, slots::DECIMAL_BIT_WIDTH, 128)? {
         128 => Some(DataType::Decimal(precision, scale)),
         256 => Some(DataType::Decimal256(precision, scale)),
         _ => None,
@@ -72,18 +73,18 @@ fn natural(number: i32) -> Option<usize>
 pub fn date_in(bytes: &[u8], table: &Table) -> Option<DataType>
     ensures { result ≡ leaves.date_in bytes.now (table_of table.now) }
 {
-    match i16_field(bytes, table, 0, 1)? {
+    match i16_field(bytes, table, slots::UNIT, 1)? {
         0 => Some(DataType::Date32),
         1 => Some(DataType::Date64),
         _ => None,
     }
 }
 
-/// The unit of a table's first slot, or `absent`.
+/// The unit of a table, or `absent`.
 pub fn unit_in(bytes: &[u8], table: &Table, absent: u8) -> Option<TimeUnit>
     ensures { result ≡ leaves.unit_in bytes.now (table_of table.now) absent }
 {
-    match i16_field(bytes, table, 0, i16::from(absent))? {
+    match i16_field(bytes, table, slots::UNIT, i16::from(absent))? {
         0 => Some(TimeUnit::Second),
         1 => Some(TimeUnit::Millisecond),
         2 => Some(TimeUnit::Microsecond),
@@ -98,7 +99,7 @@ pub fn time_in(bytes: &[u8], table: &Table) -> Option<DataType>
     ensures { result ≡ kinds.time_in bytes.now (table_of table.now) }
 {
     let unit = unit_in(bytes, table, 1)?;
-    let bits = i32_field(bytes, table, 1, 32)?;
+    let bits = i32_field(bytes, table, slots::TIME_BIT_WIDTH, 32)?;
     match unit {
         TimeUnit::Second | TimeUnit::Millisecond if bits == 32 => Some(DataType::Time32(unit)),
         TimeUnit::Microsecond | TimeUnit::Nanosecond if bits == 64 => Some(DataType::Time64(unit)),
@@ -110,7 +111,7 @@ pub fn time_in(bytes: &[u8], table: &Table) -> Option<DataType>
 pub fn interval_in(bytes: &[u8], table: &Table) -> Option<DataType>
     ensures { result ≡ leaves.interval_in bytes.now (table_of table.now) }
 {
-    match i16_field(bytes, table, 0, 0)? {
+    match i16_field(bytes, table, slots::UNIT, 0)? {
         0 => Some(DataType::Interval(IntervalUnit::YearMonth)),
         1 => Some(DataType::Interval(IntervalUnit::DayTime)),
         2 => Some(DataType::Interval(IntervalUnit::MonthDayNano)),
@@ -122,7 +123,7 @@ pub fn interval_in(bytes: &[u8], table: &Table) -> Option<DataType>
 pub fn size_in(bytes: &[u8], table: &Table) -> Option<usize>
     ensures { result ≡ leaves.size_in bytes.now (table_of table.now) }
 {
-    let size = usize::try_from(i32_field(bytes, table, 0, 0)?).ok()?;
+    let size = usize::try_from(i32_field(bytes, table, slots::FIXED_SIZE, 0)?).ok()?;
     if size == 0 { None } else { Some(size) }
 }
 

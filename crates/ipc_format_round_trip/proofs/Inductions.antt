@@ -14,6 +14,7 @@ use Rattle.ipc_format_grammar.specs.Types as kind
 use Rattle.ipc_format_grammar.specs.SchemaObjects.{Told, told_of, told_step, told_field_step, short_table, long_table, unit_number, interval_number}
 use Rattle.ipc_format_grammar.specs.Writable.{Report, report_of, report_step, field_step, normalised_type, normalised_step, is_short, is_size}
 use Rattle.ipc_format_grammar.proofs.NormalReports.{normal_field, report_field}
+use Rattle.ipc_format_grammar.proofs.Claims.{TypeWith, FieldWith, LayerWith, FieldLayerWith, bare_layer}
 use Rattle.ipc_format_round_trip.specs.Schemas.{is_text_or_none, IdsTold, ids_step, ids_field_step, ids_of_field, texts_step}
 use Rattle.ipc_format_round_trip.specs.Schemas.{texts_field_step, has_texts}
 use Rattle.ipc_format_round_trip.proofs.TypeTables.{timestamp_fields}
@@ -72,17 +73,10 @@ at_roll_field x h = rw (
   fold-roll-Field Bool Bool texts_step texts_field_step x,
 ) h
 
-abbrev ATypeThatHolds : Type 0
-ATypeThatHolds = (d : DataType) × TypeHolds d
-
-abbrev AFieldThatHolds : Type 0
-AFieldThatHolds = (f : Field) × FieldHolds f
-
-abbrev field_at : AFieldThatHolds → Field
+abbrev field_at : FieldWith FieldHolds → Field
 field_at e = e.0
 
-type_step : (y : layer.DataType-F ATypeThatHolds AFieldThatHolds)
-    → TypeHolds (roll-DataType (map-DataType ATypeThatHolds AFieldThatHolds DataType Field (λ e. e.0) (λ e. e.0) y))
+type_step : (y : LayerWith TypeHolds FieldHolds) → TypeHolds (roll-DataType (bare_layer TypeHolds FieldHolds y))
 unfolding type_in roll-DataType denote.Hole.Carrier.roll
 type_step layer.Null = at_roll layer.Null (empty_claim 1 kind.null layer.Null (omega arith) refl (λ ws. refl, λ ws. refl)
     (λ bytes read field found total. refl))
@@ -145,9 +139,9 @@ type_step (layer.FixedSizeList item size) = at_roll (layer.FixedSizeList item.0 
 type_step (layer.Map entry is_sorted) = at_roll (layer.Map entry.0 is_sorted)
     (map_claim is_sorted (told_field entry.0) (normal_field entry.0) (report_field entry.0) (ids_of_field entry.0) (has_texts entry.0) entry.1)
 type_step (layer.Struct fields) = at_roll (layer.Struct (map field_at fields))
-    (struct_claim field_at told_field normal_field report_field ids_of_field has_texts (λ (e : AFieldThatHolds). e.1) fields)
+    (struct_claim field_at told_field normal_field report_field ids_of_field has_texts (λ (e : FieldWith FieldHolds). e.1) fields)
 type_step (layer.Union fields numbers mode) = at_roll (layer.Union (map field_at fields) numbers mode)
-    (union_claim field_at told_field normal_field report_field ids_of_field has_texts (λ (e : AFieldThatHolds). e.1) fields numbers mode)
+    (union_claim field_at told_field normal_field report_field ids_of_field has_texts (λ (e : FieldWith FieldHolds). e.1) fields numbers mode)
 type_step (layer.Dictionary key value is_ordered) = at_roll (layer.Dictionary key value.0 is_ordered)
     (dictionary_claim key is_ordered (told_of value.0) (normalised_type value.0) (report_of value.0) (ids_in_type value.0)
     (texts_in_type value.0) value.1)
@@ -155,8 +149,8 @@ type_step (layer.Extension name inner metadata) = at_roll (layer.Extension name 
     (extension_claim name metadata (told_of inner.0) (normalised_type inner.0) (report_of inner.0) (ids_in_type inner.0)
     (texts_in_type inner.0) inner.1)
 
-field_step_holds : (y : layer.Field-F ATypeThatHolds AFieldThatHolds)
-    → FieldHolds (roll-Field (map-Field ATypeThatHolds AFieldThatHolds DataType Field (λ e. e.0) (λ e. e.0) y))
+field_step_holds : (y : FieldLayerWith TypeHolds FieldHolds)
+    → FieldHolds (roll-Field (map-Field (TypeWith TypeHolds) (FieldWith FieldHolds) DataType Field (λ e. e.0) (λ e. e.0) y))
 field_step_holds y = at_roll_field (record { name = y.name; data_type = y.data_type.0; is_nullable = y.is_nullable; metadata = y.metadata })
     (field_claim y.name y.is_nullable y.metadata (told_of y.data_type.0) (normalised_type y.data_type.0) (report_of y.data_type.0)
     (ids_in_type y.data_type.0) (texts_in_type y.data_type.0) y.data_type.1)

@@ -11,7 +11,7 @@ use Rattle.columnar_memory.specs.declared.DataType.TheFolds.{fold-roll-Field}
 use Rattle.columnar_memory.specs.declared.Field.{Field}
 use Rattle.columnar_memory.specs.declared.Schema.{Schema}
 use Rattle.columnar_memory.specs.declared.Error.{Error}
-use Rattle.columnar_memory.specs.declared.Error.TheVariants.{Overflow, OutOfMemory}
+use Rattle.columnar_memory.specs.declared.Error.TheVariants.{NotYetImplemented, InvalidArgumentError, Overflow, OutOfMemory}
 use Rattle.ipc_format_flatbuffers.specs.declared.Laid.{Laid}
 use Rattle.ipc_format_flatbuffers.specs.declared.LayError.{LayError}
 use Rattle.ipc_format_flatbuffers.specs.declared.LayError.TheVariants.{Memory, TooLong}
@@ -24,7 +24,7 @@ use Rattle.ipc_format_grammar.specs.Writable.{Report, report_of, reports_of, rep
 use Rattle.ipc_format_metadata.specs.Reports.{field_report}
 use Rattle.ipc_format_written.specs.WrittenMessages.{schema_written, fits_limit}
 use Rattle.ipc_format_schema_writing.specs.Pieces.{LaysIf, piece_if, slot_if, field_told}
-use Rattle.ipc_format_schema_writing.specs.Writing.{WritesSchema, IsEndRefusal, IsRefusalOf, may_write}
+use Rattle.ipc_format_schema_writing.specs.Writing.{WritesSchema, RefusesSchema, IsEndRefusal, IsRefusalOf, may_write}
 use Rattle.ipc_format_schema_writing.proofs.Sizes.{table_over, lays_over}
 use Rattle.ipc_format_schema_writing.proofs.TypeTables.{slot_is, if_over}
 use Rattle.ipc_format_schema_writing.proofs.FieldTables.{told_is}
@@ -139,6 +139,12 @@ metadata_is schema below root bytes same e = e ∙ ap message_bytes same
 
 pub both_true : (a b : Bool) → a ≡ true → b ≡ true → (a && b) ≡ true
 both_true a b p q = rw (p, q) refl
+
+-- what is refused of a schema is not written
+pub schema_refused : (error : Error) (schema : Schema) (below : IdsList) → RefusesSchema error schema below → WritesSchema (Err error) schema below
+schema_refused (NotYetImplemented what) schema below h = h
+schema_refused (InvalidArgumentError what) schema below h = h
+schema_refused error schema below h = absurd h
 
 pub end_refused : (error : Error) (schema : Schema) (below : IdsList) (root : Piece) → may_write schema below ≡ true → root
     ≡ piece_of (schema_message schema below)

@@ -28,6 +28,12 @@ WritesSchema (Err Overflow) schema ids = (may_write schema ids ≡ true) × (fit
 WritesSchema (Err OutOfMemory) schema ids = Unit {0}
 WritesSchema (Err _) schema ids = ⊥
 
+-- a float stands in the schema; or it breaks another rule, or the ids don't fit
+abbrev pub RefusesSchema : Error → Schema → IdsList → Type 0
+RefusesSchema (NotYetImplemented what) schema ids = has_float schema ≡ true
+RefusesSchema (InvalidArgumentError what) schema ids = (has_float schema ≡ false) × (may_write schema ids ≡ false)
+RefusesSchema _ schema ids = ⊥
+
 -- a message of so many bytes behind its first eight is too long; or memory ran out
 abbrev pub IsEndRefusal : Error → ℕ → Type 0
 IsEndRefusal Overflow count = 2147483624 < count

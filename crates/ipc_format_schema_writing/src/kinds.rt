@@ -6,6 +6,7 @@ ghost use Rattle.ipc_format_grammar.specs.Writable.{report_of, fits_i32};
 ghost use Rattle.ipc_format_schema_writing.specs.Kinds.{table_view, kind_view, kind_told};
 
 use columnar_memory::{DataType, IntegerType, IntervalUnit, Items, Text, TimeUnit, UnionMode};
+use ipc_format_slots::tags;
 
 /// A type's own table.
 #[derive(Clone, Copy, Debug)]
@@ -83,7 +84,7 @@ fn int<'a>(bits: u32, is_signed: bool) -> Kind<'a>
     ensures { kind_view result ≡ (2, objects.int_object bits is_signed) }
 {
     Kind {
-        tag: 2,
+        tag: tags::TYPE_INT,
         table: TypeTable::Int { bits, is_signed },
     }
 }
@@ -105,40 +106,55 @@ pub fn kind_of(data_type: &DataType) -> Kind<'_>
         DataType::UInt64 => return int(64, false),
         DataType::Dictionary(_, value, _) => return kind_of(value.get()),
         DataType::Extension(_, inner, _) => return kind_of(inner.get()),
-        DataType::Null => (1, TypeTable::Empty),
-        DataType::Float16 => (3, TypeTable::Unit(0)),
-        DataType::Float32 => (3, TypeTable::Unit(1)),
-        DataType::Float64 => (3, TypeTable::Unit(2)),
-        DataType::Binary => (4, TypeTable::Empty),
-        DataType::Utf8 => (5, TypeTable::Empty),
-        DataType::Boolean => (6, TypeTable::Empty),
-        DataType::Decimal(precision, scale) => (7, decimal(*precision, *scale, 128)),
-        DataType::Decimal256(precision, scale) => (7, decimal(*precision, *scale, 256)),
-        DataType::Date32 => (8, TypeTable::Unit(0)),
-        DataType::Date64 => (8, TypeTable::Unit(1)),
-        DataType::Time32(unit) => (9, time(*unit, 32)),
-        DataType::Time64(unit) => (9, time(*unit, 64)),
+        DataType::Null => (tags::TYPE_NULL, TypeTable::Empty),
+        DataType::Float16 => (tags::TYPE_FLOATING_POINT, TypeTable::Unit(0)),
+        DataType::Float32 => (tags::TYPE_FLOATING_POINT, TypeTable::Unit(1)),
+        DataType::Float64 => (tags::TYPE_FLOATING_POINT, TypeTable::Unit(2)),
+        DataType::Binary => (tags::TYPE_BINARY, TypeTable::Empty),
+        DataType::Utf8 => (tags::TYPE_UTF8, TypeTable::Empty),
+        DataType::Boolean => (tags::TYPE_BOOL, TypeTable::Empty),
+        DataType::Decimal(precision, scale) => (
+            tags::TYPE_DECIMAL,
+            decimal(*precision, *scale, 128),
+        ),
+        DataType::Decimal256(precision, scale) => (
+            tags::TYPE_DECIMAL,
+            decimal(*precision, *scale, 256),
+        ),
+        DataType::Date32 => (tags::TYPE_DATE, TypeTable::Unit(0)),
+        DataType::Date64 => (tags::TYPE_DATE, TypeTable::Unit(1)),
+        DataType::Time32(unit) => (tags::TYPE_TIME, time(*unit, 32)),
+        DataType::Time64(unit) => (tags::TYPE_TIME, time(*unit, 64)),
         DataType::Timestamp(unit, timezone) => {
             let unit = time_unit(*unit);
-            (10, TypeTable::Timestamp { unit, timezone })
+            (
+                tags::TYPE_TIMESTAMP,
+                TypeTable::Timestamp { unit, timezone },
+            )
         }
-        DataType::Interval(unit) => (11, TypeTable::Unit(interval_unit(*unit))),
-        DataType::List(_) => (12, TypeTable::Empty),
-        DataType::Struct(_) => (13, TypeTable::Empty),
+        DataType::Interval(unit) => (tags::TYPE_INTERVAL, TypeTable::Unit(interval_unit(*unit))),
+        DataType::List(_) => (tags::TYPE_LIST, TypeTable::Empty),
+        DataType::Struct(_) => (tags::TYPE_STRUCT, TypeTable::Empty),
         DataType::Union(_, ids, mode) => {
             let mode = union_mode(*mode);
-            (14, TypeTable::Union { mode, ids })
+            (tags::TYPE_UNION, TypeTable::Union { mode, ids })
         }
-        DataType::FixedSizeBinary(size) => (15, TypeTable::Size(*size as u32)),
-        DataType::FixedSizeList(_, size) => (16, TypeTable::Size(*size as u32)),
+        DataType::FixedSizeBinary(size) => (
+            tags::TYPE_FIXED_SIZE_BINARY,
+            TypeTable::Size(*size as u32),
+        ),
+        DataType::FixedSizeList(_, size) => (
+            tags::TYPE_FIXED_SIZE_LIST,
+            TypeTable::Size(*size as u32),
+        ),
         DataType::Map(_, are_keys_sorted) => {
             let are_keys_sorted = *are_keys_sorted;
-            (17, TypeTable::Map { are_keys_sorted })
+            (tags::TYPE_MAP, TypeTable::Map { are_keys_sorted })
         }
-        DataType::Duration(unit) => (18, TypeTable::Unit(time_unit(*unit))),
-        DataType::LargeBinary => (19, TypeTable::Empty),
-        DataType::LargeUtf8 => (20, TypeTable::Empty),
-        DataType::LargeList(_) => (21, TypeTable::Empty),
+        DataType::Duration(unit) => (tags::TYPE_DURATION, TypeTable::Unit(time_unit(*unit))),
+        DataType::LargeBinary => (tags::TYPE_LARGE_BINARY, TypeTable::Empty),
+        DataType::LargeUtf8 => (tags::TYPE_LARGE_UTF8, TypeTable::Empty),
+        DataType::LargeList(_) => (tags::TYPE_LARGE_LIST, TypeTable::Empty),
     };
     Kind { tag, table }
 }

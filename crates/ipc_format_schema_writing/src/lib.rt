@@ -15,4 +15,4 @@ mod tables;
 
 pub use normal::normalised;
 pub use numbering::default_ipc_fields;
-pub use schemas::schema_to_bytes;
+pub use schemas::{lay_schema, refuse_unwritten, schema_to_bytes};

@@ -4,7 +4,9 @@
 mod faults;
 mod frames;
 mod framing;
+mod output;
 
 pub use faults::{Counting, Faults};
 pub use frames::{Frame, Framed, NextMessage};
 pub use framing::next_at;
+pub use output::{put, refusal};

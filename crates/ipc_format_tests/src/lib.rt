@@ -16,4 +16,6 @@ mod schemas;
 #[cfg(test)]
 mod streams;
 #[cfg(test)]
+mod writable;
+#[cfg(test)]
 mod writing;

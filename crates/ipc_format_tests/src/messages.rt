@@ -1,10 +1,13 @@
 //! Messages, batches and footers: their views at the bounds of each rule, and what is written.
 use crate::samples::{DICTIONARY_BATCH, FOOTER, NO_FIELDS, RECORD_BATCH, X};
-use columnar_memory::Error as MemoryError;
+use columnar_memory::{Error as MemoryError, Items, Schema};
+use ipc_format_message_writing::{
+    dictionary_batch_to_bytes, footer_to_bytes, record_batch_to_bytes,
+};
 use ipc_format_messages::{
-    Buffer, BuffersRef, DictionaryBatchRef, Error, FieldNode, FooterRef, MessageHeaderRef,
-    MessageRef, MetadataVersion, RecordBatchRef, dictionary_batch_in, dictionary_batch_to_bytes,
-    message_in, record_batch_in, record_batch_to_bytes, version_in,
+    Block, Buffer, BuffersRef, DictionaryBatchRef, Error, FieldNode, FooterRef, MessageHeaderRef,
+    MessageRef, MetadataVersion, RecordBatchRef, dictionary_batch_in, message_in, record_batch_in,
+    version_in,
 };
 use std::test::*;
 
@@ -69,6 +72,20 @@ fn a_dictionary_batch_is_written(rt: HostRuntime) -> Result<(), Fail> {
     let written = dictionary_batch_to_bytes(rt.alloc(), -2, 2, &NODES, &BUFFERS, 128);
     let bytes = written.ok().ok_or("refused")?;
     assert!(rt; bytes.as_slice() == DICTIONARY_BATCH.as_slice());
+    Ok(())
+}
+
+#[test]
+fn a_footer_is_written(rt: HostRuntime) -> Result<(), Fail> {
+    let schema = Schema::from_fields(Items::new(rt.alloc()));
+    let block = Block {
+        offset: 104,
+        meta_data_length: 160,
+        body_length: 128,
+    };
+    let written = footer_to_bytes(rt.alloc(), &schema, &[], &[], &[block]);
+    let bytes = written.ok().ok_or("refused")?;
+    assert!(rt; bytes.as_slice() == FOOTER.as_slice());
     Ok(())
 }
 

@@ -1,7 +1,7 @@
 //! Views of schemas and fields.
 use crate::samples::{DICTIONARY, EXTENSION, NO_FIELDS, X};
 use ipc_format_messages::{
-    Endianness, FieldRef, KeyValuesRef, MessageHeaderRef, MessageRef, SchemaRef,
+    Endianness, FieldRef, KeyValuesRef, MessageHeaderRef, MessageRef, SchemaRef, TypeRef,
 };
 use std::test::*;
 
@@ -90,5 +90,17 @@ fn a_field_has_pairs(rt: HostRuntime) -> Result<(), Fail> {
     let pair = pairs.get(0).ok().ok_or("broken")?.ok_or("no pair")?;
     assert_eq!(rt; pair.key().ok(), Some(Some("ARROW:extension:metadata")));
     assert_eq!(rt; pair.value().ok(), Some(Some("m")));
+    Ok(())
+}
+
+#[test]
+fn a_field_has_a_type(rt: HostRuntime) -> Result<(), Fail> {
+    for (tag, is_int) in [(0, false), (2, true), (21, false), (22, false)] {
+        let mut bytes = X;
+        bytes[129] = tag;
+        let found = first_field(&bytes)?.type_();
+        assert_eq!(rt; matches!(found, Ok(Some(TypeRef::Int(_)))), is_int);
+        assert_eq!(rt; found.is_err(), tag == 0 || tag == 22);
+    }
     Ok(())
 }

@@ -39,7 +39,7 @@ fn nested(alloc: Global, levels: usize, children: u8, tag: u8) -> Result<Vec<u8>
 }
 
 /// The schema of one field.
-pub fn schema_of(
+pub(crate) fn schema_of(
     alloc: Global,
     name: &str,
     data_type: DataType,
@@ -82,7 +82,7 @@ fn ids_stand_beside_the_fields(rt: HostRuntime) -> Result<(), Fail> {
 }
 
 /// x as an extension type e with the metadata m.
-pub fn extension(alloc: Global) -> Result<DataType, Fail> {
+pub(crate) fn extension(alloc: Global) -> Result<DataType, Fail> {
     let name = Text::from_str(alloc, "e")?;
     let inner = Boxed::new(alloc, DataType::Int32)?;
     let metadata = Text::from_str(alloc, "m")?;

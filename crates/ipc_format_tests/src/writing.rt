@@ -23,12 +23,12 @@ fn written(alloc: Global, schema: &Schema) -> Result<Vec<u8>, Fail> {
 }
 
 /// A dictionary by signed keys of 32 bits.
-fn dictionary(alloc: Global, value: DataType) -> Result<DataType, Fail> {
+pub(crate) fn dictionary(alloc: Global, value: DataType) -> Result<DataType, Fail> {
     let value = Boxed::new(alloc, value)?;
     Ok(DataType::Dictionary(IntegerType::Int32, value, false))
 }
 
-fn field(alloc: Global, name: &str, data_type: DataType) -> Result<Field, Fail> {
+pub(crate) fn field(alloc: Global, name: &str, data_type: DataType) -> Result<Field, Fail> {
     Ok(Field::new(alloc, Text::from_str(alloc, name)?, data_type, true))
 }
 
@@ -93,7 +93,7 @@ fn keys_of_an_extension_are_dropped(rt: HostRuntime) -> Result<(), Fail> {
 }
 
 /// A list of one field.
-fn single(alloc: Global, field: Field) -> Result<Items<Field>, Fail> {
+pub(crate) fn single(alloc: Global, field: Field) -> Result<Items<Field>, Fail> {
     let mut fields = Items::new(alloc);
     fields.push(field)?;
     Ok(fields)
@@ -181,14 +181,14 @@ fn schemas_are_refused(rt: HostRuntime) -> Result<(), Fail> {
 }
 
 /// A struct of a key and a value.
-fn entry(alloc: Global) -> Result<Boxed<Field>, Fail> {
+pub(crate) fn entry(alloc: Global) -> Result<Boxed<Field>, Fail> {
     let mut fields = single(alloc, field(alloc, "key", DataType::Utf8)?)?;
     fields.push(field(alloc, "value", DataType::Int8)?)?;
     Ok(Boxed::new(alloc, field(alloc, "entry", DataType::Struct(fields))?)?)
 }
 
 /// A dense union of numbers and texts, by the ids 5 and 7.
-fn union(alloc: Global) -> Result<DataType, Fail> {
+pub(crate) fn union(alloc: Global) -> Result<DataType, Fail> {
     let ids = Items::from_vec(Vec::from_array(alloc, [5, 7])?);
     let mut fields = single(alloc, field(alloc, "n", DataType::Int8)?)?;
     fields.push(field(alloc, "t", DataType::Utf8)?)?;

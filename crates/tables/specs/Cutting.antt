@@ -2,7 +2,7 @@
 use Rattle.std.specs.Prelude.{◌≡◌, ℕ, ◌+◌, ◌≤◌, List, map, Some, codes, nat_eq, if◌then◌else◌}
 use Rattle.std.specs.List.{starts_with}
 use Rattle.ipc_format.specs.Tables.{stream, batches_in, table_of}
-use Rattle.tables_metadata.specs.Int32Schemas.{IsInt32Schema}
+use Rattle.tables_stream.specs.Int32Schemas.{IsInt32Schema}
 use Rattle.tables_stream.specs.Cuts.{cut_of}
 use Rattle.tables_stream.specs.declared.reading.Form.{Form}
 use Rattle.tables_stream.specs.declared.reading.Form.TheVariants as forms

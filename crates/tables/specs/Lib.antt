@@ -4,4 +4,8 @@ pub mod Contents
 pub mod Failure
 pub mod Number
 pub mod Outcome
-pub use Rattle.tables_stream.specs.Texts
+pub use Rattle.tables_faults.specs.Texts
+pub use Rattle.tables_stream.specs.Tables
+pub use Rattle.tables_stream.specs.Cuts
+pub use Rattle.tables_stream.specs.Reading
+pub use Rattle.tables_stream.specs.Refusals

@@ -7,7 +7,9 @@ mod places;
 mod program;
 
 pub use commands::{Command, number};
+pub use ipc_format::Faults;
 pub use memory_places::MemoryPlaces;
 pub use places::{FilePlaces, Places};
 pub use program::{Failure, run};
-pub use tables_stream::{Fault, Faults, Form, SealBar, Table};
+pub use tables_faults::{Fault, SealBar};
+pub use tables_stream::{Form, Table};

@@ -6,15 +6,17 @@ ghost use Rattle.tables.specs.Command.{Cut, asked_by, command_of};
 ghost use Rattle.tables.specs.Cutting.{form_in};
 ghost use Rattle.tables.specs.Failure.{failure_text, failure_line};
 ghost use Rattle.tables.specs.Outcome.{Answers, CarriesOut, ReadsInput, CutsBytes, CutsTable};
-ghost use Rattle.tables_stream.specs.Devices.{Puts};
+ghost use Rattle.ipc_format_streams.specs.Devices.{Puts};
 
 use crate::commands::Command;
 use crate::places::Places;
 use columnar_memory::Error;
+use ipc_format::put;
 use std::alloc::Global;
 use std::fmt;
 use std::io::Write;
-use tables_stream::{Fault, Form, Table, put};
+use tables_faults::Fault;
+use tables_stream::{Form, Table};
 
 const DONE: u8 = 0;
 

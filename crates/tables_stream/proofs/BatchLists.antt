@@ -20,11 +20,11 @@ use Rattle.tables_stream.specs.Batches.{rows_of_cells}
 use Rattle.tables_stream.specs.declared.batches.Batch.{Batch}
 use Rattle.tables_stream.specs.Tables.{batch_slots, stored_cells}
 use Rattle.tables_stream.specs.Int32.{batch_by, Step, cut_off, ended, batch_then, step_of, step_at, behind, by_step, stream_batches, first_from}
-use Rattle.tables_stream.specs.Faults.{fault_of}
+use Rattle.tables_faults.specs.Faults.{fault_of}
 use Rattle.ipc_format_columns.specs.Refusals.{next_after}
 use Rattle.ipc_format_metadata.specs.Reading.{Refuses}
 use Rattle.tables_stream.specs.Reading.{ReadsBatches, HasTooManyFrom, IsUnfinishedFrom, IsCompressedThere, HasCompressedFrom}
-use Rattle.tables_metadata.specs.Int32Schemas.{IsInt32Schema}
+use Rattle.tables_stream.specs.Int32Schemas.{IsInt32Schema}
 use Rattle.ipc_format.specs.Messages.{Version}
 use Rattle.tables_stream.proofs.Int32Batches.{counts_none, batches_step, first_step, one_on, truncated_next}
 use Rattle.tables_stream.proofs.ColumnLists.{Cells}

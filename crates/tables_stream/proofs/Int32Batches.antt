@@ -23,7 +23,7 @@ use Rattle.ipc_format_columns.specs.Framing.{Framed, Next, nothing_whole, at_end
 use Rattle.ipc_format_columns.specs.Tables.{columns_from, batch_in, batches_of, batches_behind, stream_entry, ids_at}
 use Rattle.ipc_format.specs.Reading.{◌>>=◌, guard}
 use Rattle.ipc_format.specs.FlatBuffers as flat
-use Rattle.tables_metadata.specs.Int32Schemas.{IsInt32Schema, IsInt32Field}
+use Rattle.tables_stream.specs.Int32Schemas.{IsInt32Schema, IsInt32Field}
 use Rattle.tables_stream.specs.Int32Values.{int32_slots}
 use Rattle.ipc_format_columns.specs.Refusals.{first_messages, next_after}
 use Rattle.tables_stream.specs.Int32.{int32_columns, int32_batch, agreeing, batch_by, cut_off, batch_then, step_of, step_at, behind, by_step}

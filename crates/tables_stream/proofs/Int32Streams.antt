@@ -1,7 +1,6 @@
 -- A stream of columns of signed 32-bit numbers is the stream that the general definitions give.
-use Rattle.std.proofs.Common.{◌≡◌, ◌∙◌, ℕ, List, [], ◌∷◌, ◌++◌, length, map, refl, ap, ap₂, arith}
-use Rattle.std.specs.Prelude.{None}
-use Rattle.std.specs.List.{All, flat_map}
+use Rattle.std.proofs.Common.{◌≡◌, List, [], ◌∷◌, ◌++◌, length, map, refl, ap, ap₂, arith}
+use Rattle.std.specs.List.{All}
 use Rattle.std.proofs.lemmas.List.Elements.{All-head, All-tail}
 use denote.Hole.Carrier
 use Rattle.columnar_memory.specs.declared.DataType.TheOpen as layer
@@ -11,17 +10,15 @@ use Rattle.columnar_memory.specs.declared.DataType.TheVariants as types
 use Rattle.columnar_memory.specs.declared.Field.{Field}
 use Rattle.columnar_memory.specs.declared.Schema.{Schema}
 use Rattle.nested_arrays.specs.Slots.{Slot}
-use Rattle.ipc_format_grammar.specs.Schemas.{Ids, IdsList, ids, no_ids}
-use Rattle.ipc_format_grammar.specs.SchemaObjects.{field_object, objects_of, schema_object, schema_message}
-use Rattle.ipc_format.specs.Objects.{Objects, object_then}
+use Rattle.ipc_format_grammar.specs.Schemas.{Ids, IdsList}
 use Rattle.ipc_format_columns.specs.Columns.{first_ids, other_ids}
 use Rattle.ipc_format_written.specs.Encoding.{Encoded, Encoder, encode, encode_step, joined, node_of}
-use Rattle.ipc_format_written.specs.Ids.{Numbering, number_step, numbered, number_fields, default_ids}
+use Rattle.ipc_format_written.specs.Ids.{default_ids}
 use Rattle.ipc_format_written.specs.GivenDictionaries.{Giver, given_by, give_step, give_field_step}
-use Rattle.ipc_format_written.specs.WrittenMessages.{Written, message_of, batch_object, record_tag, record_message, schema_written}
+use Rattle.ipc_format_written.specs.WrittenMessages.{Written, message_of, batch_object, record_tag, record_message}
 use Rattle.ipc_format_written.specs.WrittenStreams.{columns_of_slots, given_of_slots, rows_of_slots, batch_of_slots, messages_after}
 use Rattle.ipc_format_written.specs.WrittenStreams.{stream_messages}
-use Rattle.tables_metadata.specs.Int32Schemas.{IsInt32Schema, IsInt32Field}
+use Rattle.tables_stream.specs.Int32Schemas.{IsInt32Schema, IsInt32Field}
 use Rattle.tables_stream.specs.Int32Written.{int32_buffers, int32_together, int32_message, int32_messages}
 
 -- ---- columns
@@ -80,31 +77,11 @@ batches_are fields below (columns ∷ batches) all widths =
     let others = batches_are fields below batches all (All-tail (λ (c : List (List Slot)). length c ≡ length fields) columns batches widths) in
     rw (none_given fields below columns all) (ap₂ (λ (message : Written) messages. message ∷ messages) here others)
 
--- ---- the schema: its ids are none at each field
-
-no_number : (n : ℕ) → numbered types.Int32 n ≡ (ids None no_ids, n)
-unfolding roll-DataType denote.Hole.Carrier.roll
-no_number n = ap (λ (numbering : Numbering). numbering n) (fold-roll-DataType Numbering Numbering number_step (λ field. field.data_type) layer.Int32)
-
-objects_same : (fields : List Field) (n : ℕ) → All IsInt32Field fields
-    → objects_of (map field_object fields) (number_fields fields n).0 ≡ objects_of (map field_object fields) no_ids
-objects_same [] n all = refl
-objects_same (field ∷ fields) n all =
-    let here : numbered field.data_type n ≡ (ids None no_ids, n) =
-    ap (λ data_type. numbered data_type n) ((All-head IsInt32Field field fields all).0) ∙ no_number n in
-    rw here
-    (ap (λ (others : Objects). object_then (field_object field (ids None no_ids)) others)
-    (objects_same fields n (All-tail IsInt32Field field fields all)))
-
-schema_same : (schema : Schema) → All IsInt32Field schema.fields → schema_message schema (default_ids schema.fields) ≡ schema_message schema no_ids
-unfolding schema_object default_ids
-schema_same schema all = rw (objects_same schema.fields 0 all) refl
-
 -- ---- the whole
 
 pub int32_streams : (schema : Schema) (batches : List (List (List Slot))) → IsInt32Schema schema → HaveWidth schema.fields batches
     → int32_messages schema batches
     ≡ stream_messages schema (default_ids schema.fields) (map (batch_of_slots schema.fields (default_ids schema.fields)) batches)
-unfolding int32_messages stream_messages schema_written
+unfolding int32_messages stream_messages
 int32_streams schema batches first widths =
-    rw (schema_same schema first.1, batches_are schema.fields (default_ids schema.fields) batches first.1 widths) refl
+    rw (batches_are schema.fields (default_ids schema.fields) batches first.1 widths) refl

@@ -1,33 +1,36 @@
 -- A batch's message, and a whole stream, message by message.
-use Rattle.std.proofs.Common.{◌≡◌, ◌∙◌, ℕ, ◌+◌, ◌<◌, Bool, true, ◌&&◌, List, [], ◌∷◌, ◌++◌, length, map, take, drop, get_or, replicate, refl, ap, ap₂}
-use Rattle.std.proofs.Common.{sym, subst, append_assoc, lit<}
+use Rattle.std.proofs.Common.{◌≡◌, ◌∙◌, ℕ, ◌+◌, ◌≤◌, ◌<◌, Bool, true, ◌&&◌, List, [], ◌∷◌, ◌++◌, length, map, take, drop, get_or, replicate}
+use Rattle.std.proofs.Common.{refl, ap, ap₂, sym, subst, append_assoc}
 use Rattle.std.specs.Prelude.{Option, Result, Ok, Err}
-use Rattle.std.specs.Int.{w32, w64, to_le_bytes}
-use Rattle.std.specs.List.{flat_map, list_all}
+use Rattle.std.specs.Int.{w32, to_le_bytes}
+use Rattle.std.specs.List.{list_all}
 use Rattle.std.specs.Io.KnownBytes.{Appends}
 use Rattle.std.proofs.lemmas.Grind.{flat_map-append, take_at_read}
 use Rattle.std.proofs.lemmas.List.{append-nil, map-append, take-append-drop}
 use Rattle.std.proofs.lemmas.List.Folds.{list_all-append}
-use Rattle.columnar_memory.specs.Error.{IsIo}
+use Rattle.columnar_memory.specs.Error.{IsIo, IsOutOfMemory}
 use Rattle.columnar_memory.specs.declared.Error.{Error}
 use Rattle.columnar_memory.specs.declared.Schema.{Schema}
 use Rattle.nested_arrays.specs.Slots.{Slot}
-use Rattle.ipc_format.specs.Objects.{Object, table, number_then, refers_then, absent_then, no_field, laid}
-use Rattle.ipc_format.specs.Schemas.{no_ids}
-use Rattle.ipc_format_grammar.specs.SchemaObjects.{message_object, schema_message}
-use Rattle.ipc_format.specs.WrittenMessages.{Written, framed, message_bytes, fits_limit, end_mark, body_bytes, buffer_places, schema_written}
+use Rattle.ipc_format.specs.Objects.{Object, laid}
+use Rattle.ipc_format_grammar.specs.Schemas.{IdsList}
+use Rattle.ipc_format_grammar.specs.SchemaObjects.{message_object, record_batch_object}
+use Rattle.ipc_format_written.specs.Ids.{default_ids}
+use Rattle.ipc_format_written.specs.WrittenMessages.{Written, framed, message_bytes, fits_limit, end_mark, body_bytes, buffer_places, schema_written}
+use Rattle.ipc_format_written.specs.WrittenMessages.{prefix_size, most_metadata, record_tag}
 use Rattle.ipc_format.specs.WrittenStreams.{rows_of_slots, bytes_of_messages}
-use Rattle.tables_metadata.specs.Int32Schemas.{IsInt32Schema}
-use Rattle.tables_metadata.specs.Writing as metadata
-use Rattle.tables_stream.specs.Devices.{AppendsBeginning, Puts}
-use Rattle.tables_stream.specs.Int32Written.{nodes_of, int32_message, int32_messages}
+use Rattle.ipc_format_message_writing.specs.MessageWriting.{WritesMessage, record_message, node_pair, buffer_pair}
+use Rattle.ipc_format_messages.specs.declared.values.FieldNode.{FieldNode}
+use Rattle.ipc_format_messages.specs.declared.values.Buffer.{Buffer}
+use Rattle.ipc_format_schema_writing.specs.Writing.{WritesSchema, may_write}
+use Rattle.ipc_format_streams.specs.Devices.{AppendsBeginning, Puts}
+use Rattle.ipc_format_streams.proofs.Appending.{appends_nothing, appends_both, begins_nothing, begins_first, begins_behind, begins_same, puts_behind}
+use Rattle.tables_stream.specs.Int32Schemas.{IsInt32Schema}
+use Rattle.tables_stream.specs.Int32Written.{nodes_of, buffers_of, schema_message, int32_message, int32_messages}
 use Rattle.tables_stream.specs.Refusals.{IsLayoutRefusal, IsRefusal, IsTooLong, PutsMessage, StopsAtTooLong, PutsStream, bytes_of_stream}
-use Rattle.tables_stream.specs.Structs.{struct_bytes, buffers_of}
 use Rattle.tables_stream.specs.Tables.{batch_slots, stored_cells}
 use Rattle.tables_stream.specs.declared.batches.Batch.{Batch}
-use Rattle.tables_stream.proofs.Appending.{appends_nothing, appends_both, begins_nothing, begins_first, begins_behind, begins_same, puts_behind}
-use Rattle.tables_stream.proofs.Placed.{structs_are}
-use Rattle.tables_stream.proofs.Refused.{fits, body_refused, metadata_refused, schema_refused, io_refused, refused_by}
+use Rattle.tables_stream.proofs.Refused.{body_refused, metadata_refused, schema_refused, memory_refused, prefix_fits, io_refused, refused_by}
 
 -- ---- a message
 
@@ -63,22 +66,17 @@ head_refused error old new message head same refused = (
   io_refused (IsTooLong old new message) error refused.0,
 )
 
--- the metadata of a batch's message, by its structs
-pub batch_metadata : (columns : List (List Slot)) (rows body_length : ℕ) (nodes buffers : List ℕ) → rows ≡ rows_of_slots columns
-    → nodes ≡ flat_map struct_bytes (nodes_of columns) → buffers ≡ flat_map struct_bytes (buffer_places 0 (buffers_of columns))
+-- the metadata of a batch's message, by its nodes and the places of its buffers
+pub batch_metadata : (columns : List (List Slot)) (rows body_length : ℕ) (nodes : List FieldNode) (buffers : List Buffer)
+    → rows ≡ rows_of_slots columns
+    → map node_pair nodes ≡ nodes_of columns → map buffer_pair buffers ≡ buffer_places 0 (buffers_of columns)
     → body_length ≡ length (body_bytes (buffers_of columns))
-    → laid (metadata.batch_message rows nodes buffers body_length) ≡ (int32_message columns).metadata
+    → laid (record_message rows nodes buffers body_length) ≡ (int32_message columns).metadata
 unfolding int32_message
 batch_metadata columns rows body_length nodes buffers counted node places size =
-    let structs : metadata.batch_message rows nodes buffers body_length
-    ≡ metadata.batch_message (rows_of_slots columns) nodes buffers (length (body_bytes (buffers_of columns))) =
-    ap₂ (λ (m : ℕ) (n : ℕ). metadata.batch_message m nodes buffers n) counted size in
-    let objects =
-    ap₂ (λ (ns : Object) (bs : Object).
-    message_object 3 (table (number_then w64 (rows_of_slots columns) (refers_then ns (refers_then bs (absent_then no_field)))))
-    (length (body_bytes (buffers_of columns))))
-    (structs_are nodes (nodes_of columns) node) (structs_are buffers (buffer_places 0 (buffers_of columns)) places) in
-    ap laid structs ∙ ap laid objects
+    ap₂ (λ (m : ℕ) (n : ℕ). laid (message_object record_tag (record_batch_object m (map node_pair nodes) (map buffer_pair buffers)) n)) counted size
+    ∙ ap₂ (λ (ns bs : List (ℕ × ℕ)). laid (message_object record_tag (record_batch_object (rows_of_slots columns) ns bs)
+    (length (body_bytes (buffers_of columns))))) node places
 
 -- the body of a batch's message
 pub batch_body : (columns : List (List Slot)) → body_bytes (buffers_of columns) ≡ (int32_message columns).body
@@ -96,32 +94,60 @@ layout_stopped error contents columns refused = (
       (subst (λ (bytes : List ℕ). IsLayoutRefusal (length bytes) error) (batch_body columns) refused),
 )
 
--- a batch's metadata is not laid
-pub metadata_stopped : (error : Error) (contents : Option (List ℕ)) (columns : List (List Slot)) (bytes : List ℕ)
-    → bytes ≡ (int32_message columns).metadata → metadata.IsRefusal error bytes
+-- a batch's metadata is not written
+pub metadata_stopped : (error : Error) (contents : Option (List ℕ)) (columns : List (List Slot)) (object : Object) (body_length : ℕ)
+    → laid object ≡ (int32_message columns).metadata → body_length ≡ length (int32_message columns).body
+    → WritesMessage (Err error) object body_length
     → AppendsBeginning contents contents (message_bytes (int32_message columns))
     × IsRefusal (IsTooLong contents contents (int32_message columns)) error
-metadata_stopped error contents columns bytes same refused = (
+metadata_stopped error contents columns object body_length same size refused = (
   begins_nothing contents (message_bytes (int32_message columns)),
-  metadata_refused error contents (int32_message columns)
-      (subst (λ (all : List ℕ). metadata.IsRefusal error all) same refused),
+  metadata_refused error contents (int32_message columns) object body_length same size refused,
 )
 
--- a schema's metadata is not laid
-pub schema_unlaid : (error : Error) (contents : Option (List ℕ)) (schema : Schema) → IsInt32Schema schema → metadata.IsSchemaRefusal error schema
-    → AppendsBeginning contents contents (message_bytes (schema_written schema no_ids))
-    × IsRefusal (IsTooLong contents contents (schema_written schema no_ids)) error
-schema_unlaid error contents schema int32 refused =
-    (begins_nothing contents (message_bytes (schema_written schema no_ids)), schema_refused error contents schema int32 refused)
+-- a schema's metadata is not written
+pub schema_unwritten : (error : Error) (contents : Option (List ℕ)) (schema : Schema) (ids : IdsList) → IsInt32Schema schema
+    → ids ≡ default_ids schema.fields → WritesSchema (Err error) schema ids
+    → AppendsBeginning contents contents (message_bytes (schema_message schema))
+    × IsRefusal (IsTooLong contents contents (schema_message schema)) error
+schema_unwritten error contents schema ids int32 same refused = (
+  begins_nothing contents (message_bytes (schema_message schema)),
+  schema_refused error contents schema int32 (subst (λ (i : IdsList). WritesSchema (Err error) schema i) same refused),
+)
+
+-- there was no memory for a schema's ids
+pub ids_unmade : (error : Error) (contents : Option (List ℕ)) (schema : Schema) → IsOutOfMemory error
+    → AppendsBeginning contents contents (message_bytes (schema_message schema))
+    × IsRefusal (IsTooLong contents contents (schema_message schema)) error
+ids_unmade error contents schema refused = (
+  begins_nothing contents (message_bytes (schema_message schema)),
+  memory_refused (IsTooLong contents contents (schema_message schema)) error refused,
+)
+
+-- the metadata of a schema that is written
+pub schema_metadata : (schema : Schema) (ids : IdsList) (bytes : List ℕ) → ids ≡ default_ids schema.fields
+    → (may_write schema ids ≡ true) × (fits_limit (schema_written schema ids) ≡ true) × (bytes ≡ (schema_written schema ids).metadata)
+    → (fits_limit (schema_message schema) ≡ true) × (bytes ≡ (schema_message schema).metadata)
+schema_metadata schema ids bytes same written =
+    subst (λ (i : IdsList). (fits_limit (schema_written schema i) ≡ true) × (bytes ≡ (schema_written schema i).metadata)) same
+    (written.1, written.2)
+
+-- it has few bytes
+pub schema_prefix : (schema : Schema) (bytes : List ℕ)
+    → (fits_limit (schema_message schema) ≡ true) × (bytes ≡ (schema_message schema).metadata)
+    → prefix_size + length bytes ≤ most_metadata
+schema_prefix schema bytes written =
+    subst (λ (all : List ℕ). prefix_size + length all ≤ most_metadata) (sym written.1)
+    (prefix_fits (schema_message schema).metadata (length (schema_message schema).body) written.0)
 
 -- a schema's message was written, or a beginning of it
 pub schema_put : {A : Type 0} (result : Result A Error) (old new : Option (List ℕ)) (schema : Schema) (head : List ℕ)
-    → head ≡ laid (schema_message schema no_ids) → metadata.FitsPrefix (laid (schema_message schema no_ids))
-    → Puts result old new (framed head []) → PutsMessage result old new (schema_written schema no_ids)
+    → (fits_limit (schema_message schema) ≡ true) × (head ≡ (schema_message schema).metadata)
+    → Puts result old new (framed head []) → PutsMessage result old new (schema_message schema)
 unfolding schema_written
-schema_put result old new schema head same prefix written =
-    message_put result old new (schema_written schema no_ids) (fits (schema_written schema no_ids) (lit< tt) prefix)
-    (subst (λ (bytes : List ℕ). Puts result old new (framed bytes [])) same written)
+schema_put result old new schema head written put =
+    message_put result old new (schema_message schema) written.0
+    (subst (λ (bytes : List ℕ). Puts result old new (framed bytes [])) written.1 put)
 
 -- ---- a stream
 
@@ -194,12 +220,12 @@ abbrev pub message_for : Batch → Written
 message_for batch = int32_message (batch_slots (stored_cells batch))
 
 -- the schema's message alone
-pub first_wrote : (old new : Option (List ℕ)) (schema : Schema) → (fits_limit (schema_written schema no_ids) ≡ true)
-    × Appends old new (message_bytes (schema_written schema no_ids)) → Wrote old new (messages_for schema [])
+pub first_wrote : (old new : Option (List ℕ)) (schema : Schema) → (fits_limit (schema_message schema) ≡ true)
+    × Appends old new (message_bytes (schema_message schema)) → Wrote old new (messages_for schema [])
 unfolding int32_messages
 first_wrote old new schema here = (
   ap (λ (a : Bool). a && true) here.0,
-  subst (λ (bytes : List ℕ). Appends old new bytes) (sym (append-nil (message_bytes (schema_written schema no_ids)))) here.1,
+  subst (λ (bytes : List ℕ). Appends old new bytes) (sym (append-nil (message_bytes (schema_message schema)))) here.1,
 )
 
 -- more batches
@@ -207,7 +233,7 @@ messages_append : (schema : Schema) (xs ys : List Batch)
     → messages_for schema (xs ++ ys) ≡ messages_for schema xs ++ map int32_message (map batch_slots (map stored_cells ys))
 unfolding int32_messages
 messages_append schema xs ys =
-    ap (λ (messages : List Written). schema_written schema no_ids ∷ messages)
+    ap (λ (messages : List Written). schema_message schema ∷ messages)
     (ap (λ (cells : _). map int32_message (map batch_slots cells)) (map-append stored_cells xs ys)
     ∙ ap (λ (slots : _). map int32_message slots) (map-append batch_slots (map stored_cells xs) (map stored_cells ys))
     ∙ map-append int32_message (map batch_slots (map stored_cells xs)) (map batch_slots (map stored_cells ys)))
@@ -244,10 +270,10 @@ batch_stopped error old between new schema batches i batch inside here before re
 
 -- the schema of a stream is refused
 pub schema_stopped : (error : Error) (old new : Option (List ℕ)) (schema : Schema) (batches : List Batch)
-    → AppendsBeginning old new (message_bytes (schema_written schema no_ids)) × IsRefusal (IsTooLong old new (schema_written schema no_ids)) error
+    → AppendsBeginning old new (message_bytes (schema_message schema)) × IsRefusal (IsTooLong old new (schema_message schema)) error
     → AppendsBeginning old new (bytes_of_stream (messages_for schema batches))
     × IsRefusal (StopsAtTooLong old new (messages_for schema batches)) error
 unfolding int32_messages
 schema_stopped error old new schema batches refused =
-    stream_refused error old old new (messages_for schema batches) [] (schema_written schema no_ids)
+    stream_refused error old old new (messages_for schema batches) [] (schema_message schema)
     (map int32_message (map batch_slots (map stored_cells batches))) refl (refl, appends_nothing old) refused

@@ -9,6 +9,7 @@ use Rattle.std.specs.Io.KnownBytes.{Appends}
 use Rattle.std.proofs.lemmas.Grind.{flat_map-append}
 use Rattle.std.proofs.lemmas.Bool.{ltb-true, ltb-false}
 use Rattle.std.proofs.lemmas.List.{append-nil, length-drop, length-append, length-map, map-append, take-append-le, drop-append-le}
+use Rattle.std.proofs.lemmas.List.{drop-replicate, take-replicate}
 use Rattle.nested_arrays.specs.Slots.{Slot}
 use Rattle.tables_stream.specs.Int32Written.{bits_of, bitmap_bytes, value_bytes, int32_buffers}
 use Rattle.ipc_format_written.specs.Buffers.{null_count, validity_bytes}
@@ -16,9 +17,9 @@ use Rattle.ipc_format_written.specs.WrittenMessages.{padded_buffer, body_bytes}
 use Rattle.tables_stream.specs.Cells.{slot_of}
 use Rattle.columnar_memory.specs.Error.{IsIo}
 use Rattle.columnar_memory.specs.declared.Error.{Error}
-use Rattle.tables_stream.specs.Devices.{AppendsBeginning, Puts}
-use Rattle.tables_stream.proofs.Appending.{appends_both, begins_first, begins_behind, begins_same}
-use Rattle.tables_stream.proofs.Appending.{puts_behind, puts_same, puts_first, refused_same, append-empty}
+use Rattle.ipc_format_streams.specs.Devices.{AppendsBeginning, Puts}
+use Rattle.ipc_format_streams.proofs.Appending.{appends_both, begins_first, begins_behind, begins_same}
+use Rattle.ipc_format_streams.proofs.Appending.{puts_behind, puts_same, puts_first, refused_same, append-empty}
 use Rattle.tables_stream.proofs.Slices.{part_size, parts_joined}
 
 -- the slots of some cells of a column
@@ -237,3 +238,12 @@ pub validity_refused : (error : Error) (old new : Option (List ℕ)) (slots : Li
 validity_refused error old new slots rows size some refused =
     puts_first error old new (padded_buffer (validity_bytes slots)) (padded_buffer (flat_map value_bytes slots) ++ [])
     (refused_same error old new _ _ (ap padded_buffer (validity_is slots rows size some)) refused)
+
+-- the zeros of a block of 64 that stand behind n bytes
+pub zeros_behind : (n : ℕ) → 0 < n % 64
+    → take {A = ℕ} (64 - n % 64) (drop (n % 64) (replicate 64 0)) ≡ replicate ((64 - n % 64) % 64) 0
+zeros_behind n some =
+    let rest : ℕ = 64 - n % 64 in
+    let size : rest ≡ (64 - n % 64) % 64 = omega arith in
+    ap (λ (bytes : List ℕ). take rest bytes) (drop-replicate (n % 64) 64 0) ∙ take-replicate rest rest 0 (omega arith)
+    ∙ ap (λ k. replicate {A = ℕ} k 0) size

@@ -1,31 +1,28 @@
 -- Where the buffers of columns lie, and their bytes.
-use Rattle.std.proofs.Common.{◌≡◌, ◌∙◌, ℕ, zero, suc, ◌+◌, ◌-◌, ◌*◌, ◌/◌, ◌%◌, ◌≤◌, ◌<◌, ℤ, Bool, true, false, List, [], ◌∷◌, ◌++◌, length}
+use Rattle.std.proofs.Common.{◌≡◌, ◌∙◌, ℕ, zero, suc, ◌+◌, ◌-◌, ◌*◌, ◌%◌, ◌≤◌, ◌<◌, ◌^◌, ℤ, Bool, true, false, List, [], ◌∷◌, ◌++◌, length}
 use Rattle.std.proofs.Common.{take, drop, map, get_or, refl, ap, ap₂, sym, arith, subst, replicate, nat_lt, if◌then◌else◌, append_assoc, add-zero}
 use Rattle.std.proofs.Common.{add_assoc}
 use Rattle.std.specs.Prelude.{Option, slice_range}
-use Rattle.std.specs.Int.{next_multiple_of, div_ceil}
+use Rattle.std.specs.Int.{w64, next_multiple_of, div_ceil, cast_signed, cast_unsigned}
 use Rattle.std.specs.List.{flat_map}
 use Rattle.std.specs.Io.KnownBytes.{Appends}
 use Rattle.std.proofs.lemmas.Grind.{flat_map-append, take_at_read}
+use Rattle.std.proofs.lemmas.Int.{of_z-to_z}
 use Rattle.std.proofs.lemmas.List.{append-nil, length-append, length-replicate, length-map, map-append, take-append-drop}
 use Rattle.columnar_memory.specs.Error.{IsIo}
 use Rattle.columnar_memory.specs.declared.Error.{Error}
-use Rattle.ipc_format.specs.Objects.{elements}
 use Rattle.nested_arrays.specs.Slots.{Slot}
-use Rattle.ipc_format_grammar.specs.SchemaObjects.{structs_object}
 use Rattle.ipc_format_written.specs.Buffers.{null_count, validity_bytes}
-use Rattle.tables_stream.specs.Int32Written.{bitmap_bytes, value_bytes, int32_buffers}
+use Rattle.tables_stream.specs.Int32Written.{bitmap_bytes, value_bytes, int32_buffers, validity_size, buffers_of}
 use Rattle.ipc_format_written.specs.WrittenMessages.{padded_buffer}
 use Rattle.ipc_format_written.specs.WrittenMessages.{buffer_places, body_bytes}
 use Rattle.tables_stream.specs.Int32Written.{nodes_of}
 use Rattle.ipc_format_written.specs.WrittenStreams.{rows_of_slots}
-use Rattle.tables_metadata.specs.Writing.{structs_of}
 use Rattle.tables_stream.specs.Cells.{slot_of}
 use Rattle.tables_stream.specs.Batches.{window_cells, rows_of_cells}
-use Rattle.tables_stream.specs.Structs.{struct_bytes, validity_size, buffers_of}
 use Rattle.tables_stream.specs.Tables.{batch_slots}
-use Rattle.tables_stream.specs.Devices.{AppendsBeginning}
-use Rattle.tables_stream.proofs.Appending.{appends_both, begins_first, begins_behind, begins_same}
+use Rattle.ipc_format_streams.specs.Devices.{AppendsBeginning}
+use Rattle.ipc_format_streams.proofs.Appending.{appends_both, begins_first, begins_behind, begins_same}
 use Rattle.tables_stream.proofs.Padded.{slots_between, slots_size, bitmap_size, values_size}
 use Rattle.tables_stream.proofs.Slices.{part_size}
 
@@ -45,14 +42,8 @@ slots_more columns start rows i column inside here =
 
 -- the node of one more column
 pub nodes_more : (columns : List (List Slot)) (column : List Slot) →
-    flat_map struct_bytes (nodes_of (columns ++ column ∷ [])) ≡ flat_map struct_bytes (nodes_of columns)
-    ++ struct_bytes (length column, null_count column)
-nodes_more columns column =
-    ap (λ (nodes : List (ℕ × ℕ)). flat_map struct_bytes nodes)
-    (map-append (λ (c : List Slot). (length c, null_count c)) columns (column ∷ []))
-    ∙ flat_map-append struct_bytes (nodes_of columns) ((length column, null_count column) ∷ [])
-    ∙ ap (λ (bytes : List ℕ). flat_map struct_bytes (nodes_of columns) ++ bytes)
-    (append-nil (struct_bytes (length column, null_count column)))
+    nodes_of (columns ++ column ∷ []) ≡ nodes_of columns ++ (length column, null_count column) ∷ []
+nodes_more columns column = map-append (λ (c : List Slot). (length c, null_count c)) columns (column ∷ [])
 
 -- the buffers of one more column
 pub buffers_more : (columns : List (List Slot)) (column : List Slot) →
@@ -93,20 +84,20 @@ validity_length column rows size =
     ∙ ap (λ n. if nat_lt 0 (null_count column) then n else 0) (bitmap_size (length column) column (omega arith)
     ∙ ap (λ n. div_ceil n 8) size)
 
--- two structs by equal numbers
-two_structs : (a b c d e f h k : ℕ) → a ≡ e → b ≡ f → c ≡ h → d ≡ k →
-    struct_bytes (a, b) ++ (struct_bytes (c, d) ++ []) ≡ struct_bytes (e, f) ++ struct_bytes (h, k)
-two_structs a b c d e f h k first second third fourth =
-    ap₂ (λ m n. struct_bytes (m, n) ++ (struct_bytes (c, d) ++ [])) first second
-    ∙ ap (λ (bytes : List ℕ). struct_bytes (e, f) ++ bytes) (append-nil (struct_bytes (c, d))
-    ∙ ap₂ (λ m n. struct_bytes (m, n)) third fourth)
+-- two pairs of equal numbers behind others
+two_pairs : (before : List (ℕ × ℕ)) (a b c d e f h k : ℕ) → a ≡ e → b ≡ f → c ≡ h → d ≡ k →
+    before ++ (a, b) ∷ (c, d) ∷ [] ≡ (before ++ (e, f) ∷ []) ++ (h, k) ∷ []
+two_pairs before a b c d e f h k first second third fourth =
+    ap₂ (λ m n. before ++ (m, n) ∷ (c, d) ∷ []) first second
+    ∙ ap₂ (λ m n. before ++ (e, f) ∷ (m, n) ∷ []) third fourth
+    ∙ sym (append_assoc before ((e, f) ∷ []) ((h, k) ∷ []))
 
 -- the places of one more column's buffers
 pub places_more : (columns : List (List Slot)) (column : List Slot) (offset rows : ℕ) → length column ≡ rows →
     length (flat_map value_bytes column) ≡ 4 * rows → offset ≡ length (body_bytes (buffers_of columns)) →
-    flat_map struct_bytes (buffer_places 0 (buffers_of (columns ++ column ∷ [])))
-    ≡ flat_map struct_bytes (buffer_places 0 (buffers_of columns)) ++ struct_bytes (offset, validity_size rows (null_count column))
-    ++ struct_bytes (offset + next_multiple_of (validity_size rows (null_count column)) 64, 4 * rows)
+    buffer_places 0 (buffers_of (columns ++ column ∷ []))
+    ≡ (buffer_places 0 (buffers_of columns) ++ (offset, validity_size rows (null_count column)) ∷ [])
+    ++ (offset + next_multiple_of (validity_size rows (null_count column)) 64, 4 * rows) ∷ []
 places_more columns column offset rows size values at =
     let before = buffers_of columns in
     let start : ℕ = 0 + length (body_bytes before) in
@@ -117,14 +108,10 @@ places_more columns column offset rows size values at =
     let third : start + length (padded_buffer (validity_bytes column))
     ≡ offset + next_multiple_of (validity_size rows (null_count column)) 64 =
     ap₂ (λ m n. m + n) first padded in
-    ap (λ (buffers : List (List ℕ)). flat_map struct_bytes (buffer_places 0 buffers)) (buffers_more columns column)
-    ∙ ap (λ (places : List (ℕ × ℕ)). flat_map struct_bytes places) (places_append 0 before (int32_buffers column))
-    ∙ flat_map-append struct_bytes (buffer_places 0 before) (buffer_places start (int32_buffers column))
-    ∙ ap (λ (bytes : List ℕ). flat_map struct_bytes (buffer_places 0 before) ++ bytes)
-    (two_structs start (length (validity_bytes column)) (start + length (padded_buffer (validity_bytes column)))
-    (length (flat_map value_bytes column)) _ _ _ _ first second third values)
-    ∙ sym (append_assoc (flat_map struct_bytes (buffer_places 0 before)) (struct_bytes (offset, validity_size rows (null_count column)))
-    (struct_bytes (offset + next_multiple_of (validity_size rows (null_count column)) 64, 4 * rows)))
+    ap (λ (buffers : List (List ℕ)). buffer_places 0 buffers) (buffers_more columns column)
+    ∙ places_append 0 before (int32_buffers column)
+    ∙ two_pairs (buffer_places 0 before) start (length (validity_bytes column)) (start + length (padded_buffer (validity_bytes column)))
+    (length (flat_map value_bytes column)) _ _ _ _ first second third values
 
 -- the bytes of one more column
 pub bytes_more : (columns : List (List Slot)) (column : List Slot) →
@@ -151,30 +138,33 @@ body_more columns column offset rows size values at =
     ∙ ap₂ (λ m n. m + n) (sym at) both
     ∙ sym (add_assoc offset (next_multiple_of (validity_size rows (null_count column)) 64) (next_multiple_of (4 * rows) 64))
 
--- a struct has 16 bytes
-structs_size : (structs : List (ℕ × ℕ)) → length (flat_map struct_bytes structs) ≡ 16 * length structs
-unfolding struct_bytes
-structs_size [] = refl
-structs_size (pair ∷ structs) =
-    let rest : length (flat_map struct_bytes structs) ≡ 16 * length structs = structs_size structs in
-    length-append (struct_bytes pair) (flat_map struct_bytes structs) ∙ omega arith
+-- ---- what is added
 
--- structs by their bytes
-pub structs_are : (content : List ℕ) (structs : List (ℕ × ℕ)) → content ≡ flat_map struct_bytes structs →
-    structs_of content ≡ structs_object structs
-unfolding struct_bytes
-structs_are content structs same =
-    let size : length content ≡ 16 * length structs = ap length same ∙ structs_size structs in
-    let count : length content / 16 ≡ length structs = omega arith in
-    ap₂ (λ n (bytes : List ℕ). elements n bytes) count same
+-- one more value that is seen as a pair of numbers
+pub pair_more : {A : Type 0} (view : A → ℕ × ℕ) (old new : List A) (x : A) (pair : ℕ × ℕ) → new ≡ old ++ x ∷ [] → view x ≡ pair →
+    map view new ≡ map view old ++ pair ∷ []
+pair_more view old new x pair pushed is =
+    ap (map view) pushed ∙ map-append view old (x ∷ []) ∙ ap (λ (p : ℕ × ℕ). map view old ++ p ∷ []) is
+
+-- a number that is written as signed is read as it was
+number_kept : (n : ℕ) (a : ℤ) → n < 2 ^ 64 → a ≡ cast_signed w64 n → cast_unsigned w64 (cast_signed w64 (cast_unsigned w64 a)) ≡ n
+number_kept n a fits same =
+    let once : cast_unsigned w64 a ≡ n = ap (cast_unsigned w64) same ∙ of_z-to_z w64 n fits in
+    ap (λ k. cast_unsigned w64 (cast_signed w64 k)) once ∙ of_z-to_z w64 n fits
+
+-- and so are two of them
+pub pair_kept : (m n : ℕ) (a b : ℤ) → m < 2 ^ 64 → n < 2 ^ 64 → a ≡ cast_signed w64 m → b ≡ cast_signed w64 n →
+    ◌≡◌ {A = ℕ × ℕ} (cast_unsigned w64 (cast_signed w64 (cast_unsigned w64 a)), cast_unsigned w64 (cast_signed w64 (cast_unsigned w64 b))) (m, n)
+pair_kept m n a b first second same other =
+    ap₂ (λ (i : ℕ) (j : ℕ). (i, j)) (number_kept m a first same) (number_kept n b second other)
 
 -- ---- a batch
 
 -- some columns are laid out: their nodes, their buffers' places, their counts of nulls, and where the body ends
-abbrev pub IsLaid : List (List Slot) → List ℕ → List ℕ → List ℕ → ℕ → Type 0
+abbrev pub IsLaid : List (List Slot) → List (ℕ × ℕ) → List (ℕ × ℕ) → List ℕ → ℕ → Type 0
 IsLaid columns nodes buffers null_counts end =
-    (nodes ≡ flat_map struct_bytes (nodes_of columns))
-    × (buffers ≡ flat_map struct_bytes (buffer_places 0 (buffers_of columns)))
+    (nodes ≡ nodes_of columns)
+    × (buffers ≡ buffer_places 0 (buffers_of columns))
     × (null_counts ≡ map null_count columns)
     × (end ≡ length (body_bytes (buffers_of columns)))
     × (end % 64 ≡ 0)
@@ -185,21 +175,21 @@ aligned offset a b end before same = omega arith
 
 -- one more list of slots is laid out
 slots_laid : (columns : List (List Slot)) (column : List Slot) (rows nulls offset end : ℕ)
-    (nodes buffers null_counts more_nodes more_buffers more_counts : List ℕ) →
+    (nodes buffers : List (ℕ × ℕ)) (null_counts : List ℕ) (more_nodes more_buffers : List (ℕ × ℕ)) (more_counts : List ℕ) →
     length column ≡ rows → length (flat_map value_bytes column) ≡ 4 * rows → nulls ≡ null_count column →
-    IsLaid columns nodes buffers null_counts offset → more_nodes ≡ nodes ++ struct_bytes (rows, nulls) →
-    more_buffers ≡ buffers ++ struct_bytes (offset, validity_size rows nulls)
-    ++ struct_bytes (offset + next_multiple_of (validity_size rows nulls) 64, 4 * rows) →
+    IsLaid columns nodes buffers null_counts offset → more_nodes ≡ nodes ++ (rows, nulls) ∷ [] →
+    more_buffers ≡ (buffers ++ (offset, validity_size rows nulls) ∷ [])
+    ++ (offset + next_multiple_of (validity_size rows nulls) 64, 4 * rows) ∷ [] →
     more_counts ≡ null_counts ++ nulls ∷ [] →
     end ≡ offset + next_multiple_of (validity_size rows nulls) 64 + next_multiple_of (4 * rows) 64 →
     IsLaid (columns ++ column ∷ []) more_nodes more_buffers more_counts end
 slots_laid columns column rows nulls offset end nodes buffers null_counts more_nodes more_buffers more_counts size values count before node
     places counts body = (
-      node ∙ ap₂ (λ (bytes : List ℕ) (pair : ℕ × ℕ). bytes ++ struct_bytes pair) before.0 (ap₂ (λ (m : ℕ) (n : ℕ). (m, n)) (sym size) count)
+      node ∙ ap₂ (λ (pairs : List (ℕ × ℕ)) (pair : ℕ × ℕ). pairs ++ pair ∷ []) before.0 (ap₂ (λ (m : ℕ) (n : ℕ). (m, n)) (sym size) count)
           ∙ sym (nodes_more columns column),
       places
-          ∙ ap₂ (λ (bytes : List ℕ) (n : ℕ). bytes ++ struct_bytes (offset, validity_size rows n)
-          ++ struct_bytes (offset + next_multiple_of (validity_size rows n) 64, 4 * rows)) before.1 count
+          ∙ ap₂ (λ (pairs : List (ℕ × ℕ)) (n : ℕ). (pairs ++ (offset, validity_size rows n) ∷ [])
+          ++ (offset + next_multiple_of (validity_size rows n) 64, 4 * rows) ∷ []) before.1 count
           ∙ sym (places_more columns column offset rows size values before.3),
       counts ∙ ap₂ (λ (ns : List ℕ) (n : ℕ). ns ++ n ∷ []) before.2 count ∙ sym (map-append null_count columns (column ∷ [])),
       body ∙ ap (λ n. offset + next_multiple_of (validity_size rows n) 64 + next_multiple_of (4 * rows) 64) count
@@ -209,13 +199,13 @@ slots_laid columns column rows nulls offset end nodes buffers null_counts more_n
 
 -- one more column is laid out
 pub column_laid : (columns : List (List (Option ℤ))) (start rows i : ℕ) (column : List (Option ℤ)) (nulls offset end : ℕ)
-    (nodes buffers null_counts more_nodes more_buffers more_counts : List ℕ) →
+    (nodes buffers : List (ℕ × ℕ)) (null_counts : List ℕ) (more_nodes more_buffers : List (ℕ × ℕ)) (more_counts : List ℕ) →
     i < length columns → get_or columns i column ≡ column → start + rows ≤ length column →
     nulls ≡ null_count (slots_between column start (start + rows)) →
     IsLaid (batch_slots (window_cells start rows (take i columns))) nodes buffers null_counts offset →
-    more_nodes ≡ nodes ++ struct_bytes (rows, nulls) →
-    more_buffers ≡ buffers ++ struct_bytes (offset, validity_size rows nulls)
-    ++ struct_bytes (offset + next_multiple_of (validity_size rows nulls) 64, 4 * rows) →
+    more_nodes ≡ nodes ++ (rows, nulls) ∷ [] →
+    more_buffers ≡ (buffers ++ (offset, validity_size rows nulls) ∷ [])
+    ++ (offset + next_multiple_of (validity_size rows nulls) 64, 4 * rows) ∷ [] →
     more_counts ≡ null_counts ++ nulls ∷ [] →
     end ≡ offset + next_multiple_of (validity_size rows nulls) 64 + next_multiple_of (4 * rows) 64 →
     IsLaid (batch_slots (window_cells start rows (take (i + 1) columns))) more_nodes more_buffers more_counts end

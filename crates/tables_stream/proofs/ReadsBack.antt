@@ -17,7 +17,7 @@ use Rattle.ipc_format_column_laws.specs.Batches.{fit_fields}
 use Rattle.ipc_format_column_laws.proofs.Texts.{schemas_read_have_texts}
 use Rattle.ipc_format_stream_laws.specs.Tables.{AreBatches}
 use Rattle.ipc_format_stream_laws.proofs.StreamTables.{int32_tables_read_back}
-use Rattle.tables_metadata.specs.Int32Schemas.{IsInt32Field}
+use Rattle.tables_stream.specs.Int32Schemas.{IsInt32Field}
 use Rattle.tables_stream.specs.Batches.{rows_of_cells}
 use Rattle.tables_stream.specs.Cuts.{cut_of}
 use Rattle.tables_stream.specs.Int32.{first_schema}

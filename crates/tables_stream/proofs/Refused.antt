@@ -1,52 +1,46 @@
 -- Why something isn't written, from the parts of it to the whole.
-use Rattle.std.proofs.Common.{◌≡◌, ℕ, ◌+◌, ◌≤◌, ◌<◌, Bool, true, false, ◌&&◌, List, length, refl, rules, arith, subst, sym}
-use Rattle.std.specs.Prelude.{Option, nat_lt, nat_le}
-use Rattle.columnar_memory.specs.Error.{IsIo}
+use Rattle.std.proofs.Common.{◌≡◌, ◌∙◌, ℕ, ◌+◌, ◌≤◌, ◌<◌, Bool, true, false, List, [], ◌∷◌, length, map, refl, rules, arith, subst, sym, ap, ap₂}
+use Rattle.std.specs.Prelude.{Option, Err, ◌||◌, nat_lt, nat_le}
+use Rattle.std.specs.List.{All, list_any}
+use Rattle.std.proofs.lemmas.Bool.{and_from, and_left, and_parts, leb-true, true≢false}
+use Rattle.std.proofs.lemmas.List.Elements.{All-head, All-tail}
+use denote.Hole.Carrier
+use Rattle.columnar_memory.specs.Error.{IsIo, IsOutOfMemory}
+use Rattle.columnar_memory.specs.declared.DataType.TheOpen as layer
+use Rattle.columnar_memory.specs.declared.DataType.TheViews.{roll-DataType}
+use Rattle.columnar_memory.specs.declared.DataType.TheFolds.{fold-roll-DataType, fold-roll-Field}
+use Rattle.columnar_memory.specs.declared.DataType.TheVariants as types
 use Rattle.columnar_memory.specs.declared.Error.{Error}
 use Rattle.columnar_memory.specs.declared.Error.TheVariants as errors
+use Rattle.columnar_memory.specs.declared.Field.{Field}
 use Rattle.columnar_memory.specs.declared.Schema.{Schema}
-use Rattle.ipc_format.specs.Schemas.{no_ids}
-use Rattle.ipc_format.specs.WrittenMessages.{Written, body_limit, most_metadata, prefix_size, fits_limit, schema_written}
-use Rattle.tables_metadata.specs.Int32Schemas.{IsInt32Schema}
-use Rattle.tables_metadata.specs.Writing as metadata
-use Rattle.tables_stream.specs.Devices.{IsNamed}
-use Rattle.tables_stream.specs.Faults.{fault_of}
+use Rattle.ipc_format.specs.Objects.{Object, laid}
+use Rattle.ipc_format_written.specs.Ids.{default_ids}
+use Rattle.ipc_format_written.specs.WrittenMessages.{Written, body_limit, most_metadata, prefix_size, fits_limit}
+use Rattle.ipc_format_message_writing.specs.MessageWriting as metadata
+use Rattle.ipc_format_schema_writing.specs.Floats.{float_step, in_type, in_field}
+use Rattle.ipc_format_schema_writing.specs.Writing.{WritesSchema, may_write}
+use Rattle.ipc_format_stream_laws.proofs.Int32Schemas.{AreInt32, writable_int32, default_ids_fit_fields}
+use Rattle.ipc_format_streams.specs.Devices.{IsNamed}
+use Rattle.ipc_format_streams.proofs.Appending.{appends_nothing}
+use Rattle.tables_stream.specs.Int32Schemas.{IsInt32Schema, IsInt32Field}
+use Rattle.tables_faults.specs.Faults.{fault_of}
+use Rattle.tables_stream.specs.Int32Written.{schema_message}
 use Rattle.tables_stream.specs.Refusals.{IsLayoutRefusal, IsRefusal, IsTooLong, IsWriteError, IsWriteFault}
-use Rattle.tables_stream.proofs.Appending.{appends_nothing}
 
 -- ---- limits
 
-both_true : (a b : Bool) → a ≡ true → b ≡ true → (a && b) ≡ true
-both_true true true first second = refl
-both_true true false first second = second
-both_true false b first second = absurd cc
-
-second_false : (a b : Bool) → b ≡ false → (a && b) ≡ false
-second_false true b second = second
-second_false false b second = refl
-
-first_false : (a b : Bool) → a ≡ false → (a && b) ≡ false
-first_false true b first = absurd cc
-first_false false b first = refl
-
--- a message within both limits fits
-pub fits : (message : Written) → length message.body < body_limit → metadata.FitsPrefix message.metadata → fits_limit message ≡ true
-fits message body prefix =
-    let first : nat_lt (length message.body) body_limit ≡ true = search (rules, body) in
-    let second : nat_le (prefix_size + length message.metadata) most_metadata ≡ true = search (rules, prefix) in
-    both_true _ _ first second
-
--- a message whose body is past its limit doesn't
+-- a message whose body is past its limit doesn't fit
 long_body : (message : Written) → body_limit ≤ length message.body → fits_limit message ≡ false
 long_body message body =
     let first : nat_lt (length message.body) body_limit ≡ false = search (rules, body) in
-    first_false _ (nat_le (prefix_size + length message.metadata) most_metadata) first
+    and_left _ (nat_le (prefix_size + length message.metadata) most_metadata) first
 
--- nor one whose metadata is
-long_metadata : (message : Written) → most_metadata < prefix_size + length message.metadata → fits_limit message ≡ false
-long_metadata message prefix =
-    let second : nat_le (prefix_size + length message.metadata) most_metadata ≡ false = search (rules, prefix) in
-    second_false (nat_lt (length message.body) body_limit) _ second
+-- the metadata of a message that fits has few bytes
+pub prefix_fits : (bytes : List ℕ) (body_length : ℕ) → metadata.fits bytes body_length ≡ true → prefix_size + length bytes ≤ most_metadata
+prefix_fits bytes body_length fits =
+    leb-true (prefix_size + length bytes) most_metadata
+    (and_parts (nat_lt body_length body_limit) (nat_le (prefix_size + length bytes) most_metadata) fits).1
 
 -- ---- a layout
 
@@ -75,30 +69,69 @@ body_refused (errors.OutOfSpec what) contents message refused = absurd refused
 body_refused (errors.External from what) contents message refused = absurd refused
 body_refused (errors.Io what) contents message refused = absurd refused
 
--- metadata that isn't laid keeps its message from being written
-pub metadata_refused : (error : Error) (contents : Option (List ℕ)) (message : Written) → metadata.IsRefusal error message.metadata
-    → IsRefusal (IsTooLong contents contents message) error
-metadata_refused errors.Overflow contents message refused = (long_metadata message refused, appends_nothing contents)
-metadata_refused errors.OutOfMemory contents message refused = tt
-metadata_refused (errors.NotYetImplemented what) contents message refused = absurd refused
-metadata_refused (errors.InvalidArgumentError what) contents message refused = absurd refused
-metadata_refused (errors.ExternalFormat what) contents message refused = absurd refused
-metadata_refused (errors.OutOfSpec what) contents message refused = absurd refused
-metadata_refused (errors.External from what) contents message refused = absurd refused
-metadata_refused (errors.Io what) contents message refused = absurd refused
+-- metadata that isn't written keeps its message from being written
+pub metadata_refused : (error : Error) (contents : Option (List ℕ)) (written : Written) (object : Object) (body_length : ℕ)
+    → laid object ≡ written.metadata → body_length ≡ length written.body → metadata.WritesMessage (Err error) object body_length
+    → IsRefusal (IsTooLong contents contents written) error
+metadata_refused errors.Overflow contents written object body_length same size refused =
+    (ap₂ (λ (bytes : List ℕ) n. metadata.fits bytes n) (sym same) (sym size) ∙ refused, appends_nothing contents)
+metadata_refused errors.OutOfMemory contents written object body_length same size refused = tt
+metadata_refused (errors.NotYetImplemented what) contents written object body_length same size refused = absurd refused
+metadata_refused (errors.InvalidArgumentError what) contents written object body_length same size refused = absurd refused
+metadata_refused (errors.ExternalFormat what) contents written object body_length same size refused = absurd refused
+metadata_refused (errors.OutOfSpec what) contents written object body_length same size refused = absurd refused
+metadata_refused (errors.External from what) contents written object body_length same size refused = absurd refused
+metadata_refused (errors.Io what) contents written object body_length same size refused = absurd refused
 
--- the metadata of a supported schema that isn't laid
-pub schema_refused : (error : Error) (contents : Option (List ℕ)) (schema : Schema) → IsInt32Schema schema → metadata.IsSchemaRefusal error schema
-    → IsRefusal (IsTooLong contents contents (schema_written schema no_ids)) error
-unfolding schema_written
-schema_refused errors.Overflow contents schema int32 refused = (long_metadata (schema_written schema no_ids) refused, appends_nothing contents)
+-- ---- a schema
+
+in_int32 : in_type types.Int32 ≡ false
+unfolding roll-DataType denote.Hole.Carrier.roll
+in_int32 = fold-roll-DataType Bool Bool float_step (λ field. field.data_type) layer.Int32
+
+in_field_of : (field : Field) → in_field field ≡ in_type field.data_type
+in_field_of field = fold-roll-Field Bool Bool float_step (λ field. field.data_type)
+    (record { name = field.name; data_type = field.data_type; is_nullable = field.is_nullable; metadata = field.metadata })
+
+-- no float stands in fields of integers
+no_floats : (fields : List Field) → All IsInt32Field fields → list_any (λ here. here) (map in_field fields) ≡ false
+no_floats [] all = refl
+no_floats (field ∷ fields) all =
+    let here : in_field field ≡ false = in_field_of field ∙ ap in_type ((All-head IsInt32Field field fields all).0) ∙ in_int32 in
+    ap₂ (λ (a b : Bool). a || b) here (no_floats fields (All-tail IsInt32Field field fields all))
+
+-- such fields have no dictionaries, and a schema of them is written
+may_write_int32 : (schema : Schema) → IsInt32Schema schema → may_write schema (default_ids schema.fields) ≡ true
+may_write_int32 schema int32 =
+    let all : AreInt32 schema.fields =
+    λ (k : ℕ) (d : Field) (inside : k < length schema.fields). (int32.1 k d inside).0 in
+    and_from _ _ (writable_int32 schema all) (default_ids_fit_fields schema.fields all)
+
+-- the metadata of such a schema that isn't written
+pub schema_refused : (error : Error) (contents : Option (List ℕ)) (schema : Schema) → IsInt32Schema schema
+    → WritesSchema (Err error) schema (default_ids schema.fields)
+    → IsRefusal (IsTooLong contents contents (schema_message schema)) error
+schema_refused errors.Overflow contents schema int32 refused = (refused.1, appends_nothing contents)
 schema_refused errors.OutOfMemory contents schema int32 refused = tt
-schema_refused (errors.NotYetImplemented what) contents schema int32 refused = absurd (refused int32)
-schema_refused (errors.InvalidArgumentError what) contents schema int32 refused = absurd refused
+schema_refused (errors.NotYetImplemented what) contents schema int32 refused =
+    absurd (true≢false (sym refused ∙ no_floats schema.fields int32.1))
+schema_refused (errors.InvalidArgumentError what) contents schema int32 refused =
+    absurd (true≢false (sym (may_write_int32 schema int32) ∙ refused.1))
 schema_refused (errors.ExternalFormat what) contents schema int32 refused = absurd refused
 schema_refused (errors.OutOfSpec what) contents schema int32 refused = absurd refused
 schema_refused (errors.External from what) contents schema int32 refused = absurd refused
 schema_refused (errors.Io what) contents schema int32 refused = absurd refused
+
+-- want of memory
+pub memory_refused : (too_long : Type 0) (error : Error) → IsOutOfMemory error → IsRefusal too_long error
+memory_refused too_long errors.OutOfMemory refused = tt
+memory_refused too_long errors.Overflow refused = absurd refused
+memory_refused too_long (errors.Io what) refused = absurd refused
+memory_refused too_long (errors.NotYetImplemented what) refused = absurd refused
+memory_refused too_long (errors.InvalidArgumentError what) refused = absurd refused
+memory_refused too_long (errors.ExternalFormat what) refused = absurd refused
+memory_refused too_long (errors.OutOfSpec what) refused = absurd refused
+memory_refused too_long (errors.External from what) refused = absurd refused
 
 -- a device's refusal
 pub io_refused : (too_long : Type 0) (error : Error) → IsIo error → IsRefusal too_long error

@@ -28,7 +28,7 @@ use Rattle.ipc_format_columns.specs.Columns.{Source, Validity, slot_by, slots_by
 use Rattle.ipc_format_columns.specs.Tables.{agree_in_length}
 use Rattle.ipc_format_columns.specs.Values.{element_bytes, value_at}
 use Rattle.ipc_format_column_laws.specs.Batches.{fit_fields}
-use Rattle.tables_metadata.specs.Int32Schemas.{IsInt32Field}
+use Rattle.tables_stream.specs.Int32Schemas.{IsInt32Field}
 use Rattle.tables_stream.specs.Batches.{window_cells, rows_of_cells}
 use Rattle.tables_stream.specs.Cells.{slot_of}
 use Rattle.tables_stream.specs.Cuts.{cut_of}

@@ -24,11 +24,11 @@ use Rattle.ipc_format_columns.specs.Framing.{Framed, Stream, Next, first_of, mes
 use Rattle.ipc_format_columns.specs.Dictionaries.{Layout}
 use Rattle.ipc_format_columns.specs.Tables.{stream, Contents, batches_of, batches_in, schema_of, stream_entry, layout_of, contents_of, table_of}
 use Rattle.ipc_format.specs.Reading.{◌>>=◌, guard}
-use Rattle.tables_metadata.specs.Int32Schemas.{IsInt32Schema, IsInt32Field}
+use Rattle.tables_stream.specs.Int32Schemas.{IsInt32Schema, IsInt32Field}
 use Rattle.tables_stream.specs.Supported.{IsSupported, schema_found}
-use Rattle.tables_stream.specs.declared.fault.Fault.{Fault}
-use Rattle.tables_stream.specs.declared.fault.Fault.TheVariants as faults
-use Rattle.tables_stream.specs.Faults.{fault_of}
+use Rattle.tables_faults.specs.declared.fault.Fault.{Fault}
+use Rattle.tables_faults.specs.declared.fault.Fault.TheVariants as faults
+use Rattle.tables_faults.specs.Faults.{fault_of}
 use Rattle.tables_stream.specs.Tables.{Stored, as_table, batch_slots, row_count}
 use Rattle.tables_stream.specs.Int32.{first_schema, fitting, int32_layout, stream_batches, first_from}
 use Rattle.tables_stream.specs.Reading.{ReadsSchema, ReadsBatches, ReadsStream, HasOtherSchema}

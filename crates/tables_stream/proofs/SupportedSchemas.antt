@@ -13,7 +13,7 @@ use Rattle.ipc_format_metadata.specs.declared.ipc_schema.IpcField.TheFolds.{fold
 use denote.Hole.Carrier
 use Rattle.ipc_format_metadata.specs.SchemaViews.{schema_view}
 use Rattle.ipc_format_metadata.specs.declared.ipc_schema.IpcSchema.{IpcSchema}
-use Rattle.tables_metadata.specs.Int32Schemas.{IsInt32Schema}
+use Rattle.tables_stream.specs.Int32Schemas.{IsInt32Schema}
 use Rattle.tables_stream.specs.Supported.{field_found, IsSupported, HasNoDictionary}
 
 -- the ids of a field are its own and those of the fields below it
@@ -67,7 +67,15 @@ match_ids (field ∷ fields) (here ∷ beside) e =
     let others = match_ids fields beside (ap others_of e) in
     (ap suc others.0, All-cons HasNoDictionary here beside (has_none here (ap (first_of (ids None no_ids)) e)) others.1)
 
--- ---- the test
+-- ---- the tests
+
+-- where the first of two tests holds, the second decides
+pub second_decides : {P Q : Type 0} (a b : Bool) → a ≡ true → (IsTrue a ↔ P) → (IsTrue b ↔ Q) → (IsTrue b ↔ (P × Q))
+second_decides a b is p q = (λ t. (p.0 is, q.0 t), λ both. q.1 both.1)
+
+-- where the first of two tests fails, both fail
+pub first_fails : {P Q : Type 0} (a : Bool) → a ≡ false → (IsTrue a ↔ P) → (IsTrue a ↔ (P × Q))
+first_fails a is p = (λ t. absurd cc, λ both. p.1 both.0)
 
 pub all_supported : (schema : Schema) (ipc_schema : IpcSchema) (test : Bool) → ipc_schema.is_little_endian ≡ true → IsInt32Schema schema
     → length ipc_schema.fields ≡ length schema.fields → (IsTrue test ↔ All HasNoDictionary ipc_schema.fields)

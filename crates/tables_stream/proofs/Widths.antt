@@ -22,8 +22,8 @@ use Rattle.tables_stream.specs.Int32Values.{int32_slots}
 use Rattle.columnar_memory.specs.declared.Error.{Error}
 use Rattle.ipc_format.specs.WrittenMessages.{Written, fits_limit}
 use Rattle.ipc_format.specs.WrittenStreams.{stream_bytes}
-use Rattle.tables_stream.specs.Devices.{AppendsBeginning}
-use Rattle.tables_stream.specs.Faults.{fault_of}
+use Rattle.ipc_format_streams.specs.Devices.{AppendsBeginning}
+use Rattle.tables_faults.specs.Faults.{fault_of}
 use Rattle.tables_stream.specs.Int32Written.{int32_messages}
 use Rattle.tables_stream.specs.Refusals.{bytes_of_stream, StopsAtTooLong, IsWriteError, IsWriteFault}
 use Rattle.tables_stream.specs.Tables.{Stored, IsInt32Table, batch_slots, stored_cells, table_messages, table_bytes}

@@ -8,7 +8,7 @@ use Rattle.columnar_memory.specs.declared.PrimitiveType.TheVariants as kinds
 use Rattle.nested_arrays.specs.Slots.{Slot, null, number}
 use Rattle.ipc_format_columns.specs.Columns as format
 use Rattle.ipc_format.specs.Messages.{V5}
-use Rattle.tables_metadata.specs.Views.{batch_view}
+use Rattle.ipc_format_messages.specs.WholeMessages.{batch_parts_view}
 use Rattle.std.specs.Borrow.{Bor}
 use Rattle.tables_stream.specs.declared.parts.BatchBytes.{BatchBytes}
 
@@ -21,7 +21,7 @@ slot_of (Some n) = number kinds.Int32 n
 abbrev pub batch_of : BatchBytes → format.Source
 batch_of bytes = record {
   metadata = bytes.metadata.now;
-  vectors = batch_view bytes.batch;
+  vectors = batch_parts_view bytes.batch;
   version = V5;
   is_little_endian = true;
   room = bytes.body.now;

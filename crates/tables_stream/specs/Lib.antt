@@ -1,8 +1,6 @@
-pub mod Texts
-pub mod Devices
 pub mod Refusals
+pub mod Int32Schemas
 pub mod Supported
-pub mod Frames
 pub mod Batches
 pub mod Tables
 pub mod Int32Values
@@ -12,5 +10,3 @@ pub mod Cuts
 pub mod Int32
 pub mod Steps
 pub mod Reading
-pub mod Faults
-pub mod Structs

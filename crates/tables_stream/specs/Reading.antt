@@ -9,9 +9,9 @@ use Rattle.ipc_format.specs.Messages.{Version, record_batch}
 use Rattle.ipc_format.specs.Framing.{Next, nothing_whole, truncated_from, EndsInLaterMessage}
 use Rattle.ipc_format.specs.Refusals.{message_there, next_after, compression_in, HasFloat, HasCompression, HasTooManyRows, IsUnfinished}
 use Rattle.ipc_format.specs.Tables.{stream, batches_in, table_of}
-use Rattle.tables_metadata.specs.Int32Schemas.{IsInt32Schema}
-use Rattle.tables_stream.specs.declared.fault.Fault.{Fault}
-use Rattle.tables_stream.specs.declared.fault.Fault.TheVariants as faults
+use Rattle.tables_stream.specs.Int32Schemas.{IsInt32Schema}
+use Rattle.tables_faults.specs.declared.fault.Fault.{Fault}
+use Rattle.tables_faults.specs.declared.fault.Fault.TheVariants as faults
 use Rattle.tables_stream.specs.declared.reading.Form.{Form}
 use Rattle.tables_stream.specs.declared.reading.Form.TheVariants as forms
 use Rattle.tables_stream.specs.Supported.{IsSupported, schema_found}

@@ -6,10 +6,10 @@ use Rattle.columnar_memory.specs.declared.Error.{Error}
 use Rattle.columnar_memory.specs.declared.Error.TheVariants as errors
 use Rattle.ipc_format.specs.WrittenMessages.{Written, message_bytes, body_limit, fits_limit, end_mark}
 use Rattle.ipc_format.specs.WrittenStreams.{bytes_of_messages}
-use Rattle.tables_stream.specs.Devices.{AppendsBeginning}
+use Rattle.ipc_format_streams.specs.Devices.{AppendsBeginning}
 use Rattle.tables_stream.specs.Tables.{Stored, table_messages, table_bytes}
-use Rattle.tables_stream.specs.declared.fault.Fault.{Fault}
-use Rattle.tables_stream.specs.declared.fault.Fault.TheVariants as faults
+use Rattle.tables_faults.specs.declared.fault.Fault.{Fault}
+use Rattle.tables_faults.specs.declared.fault.Fault.TheVariants as faults
 
 -- why no buffer ends at this place of a body: it is past the limit of bodies, or memory ran out
 abbrev pub IsLayoutRefusal : ℕ → Error → Type 0

@@ -5,7 +5,7 @@ use Rattle.columnar_memory.specs.declared.Schema.{Schema}
 use Rattle.ipc_format.specs.Schemas.{FieldIn, SchemaIn, ids, no_ids, ids_of}
 use Rattle.ipc_format_metadata.specs.declared.ipc_schema.IpcField.{IpcField}
 use Rattle.ipc_format_metadata.specs.declared.ipc_schema.IpcField.TheViews.{out-IpcField}
-use Rattle.tables_metadata.specs.Int32Schemas.{IsInt32Schema}
+use Rattle.tables_stream.specs.Int32Schemas.{IsInt32Schema}
 
 -- a field without a dictionary
 abbrev pub field_found : Field → FieldIn

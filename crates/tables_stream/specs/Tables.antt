@@ -11,7 +11,7 @@ use Rattle.ipc_format.specs.WrittenStreams.{Batch, batch_of_slots, stream_messag
 use Rattle.ipc_format_round_trip.specs.Schemas.{HasTexts}
 use Rattle.ipc_format_column_laws.specs.Batches.{fit_fields}
 use Rattle.ipc_format_stream_laws.specs.Tables.{ReadsAs}
-use Rattle.tables_metadata.specs.Int32Schemas.{IsInt32Schema}
+use Rattle.tables_stream.specs.Int32Schemas.{IsInt32Schema}
 use Rattle.tables_stream.specs.Cells.{slot_of}
 use Rattle.tables_stream.specs.Batches.{window_cells, rows_of_cells}
 use Rattle.tables_stream.specs.declared.batches.Batch as code

@@ -5,16 +5,16 @@ ghost use Rattle.columnar_memory.specs.Results.{OrOutOfMemory};
 ghost use Rattle.nested_arrays.specs.Slots.{window};
 ghost use Rattle.ipc_format_columns.specs.Columns as format;
 ghost use Rattle.tables_stream.specs.Int32Values as int32;
-ghost use Rattle.tables_metadata.specs.Views.{node_view};
+ghost use Rattle.ipc_format_messages.specs.MessageViews.{node_view};
 ghost use Rattle.tables_stream.specs.Cells.{slot_of, batch_of, bits_of, Reads};
 
 use crate::column::Column;
 use crate::parts::BatchBytes;
 use columnar_memory::{Bitmap, Buffer, Error, Result};
 use ipc_format::flatbuffers::window;
+use ipc_format::messages::FieldNode;
 use std::alloc::{AllocError, Global};
 use std::result;
-use tables_metadata::{FieldNode, buffer_at, node_at};
 
 /// The cells of column `k` of a batch, where each column is a 32-bit integer: it has node `k` and the buffers `2 * k` (validity) and
 /// `2 * k + 1` (values).
@@ -25,10 +25,7 @@ use tables_metadata::{FieldNode, buffer_at, node_at};
 pub fn int32_cells(alloc: Global, bytes: &BatchBytes<'_>, k: usize) -> Result<Column>
     ensures { Reads (map slot_of) result (int32.int32_slots (batch_of bytes.now) k (2 * k)) }
 {
-    if k >= bytes.batch.nodes.count {
-        return Err(Error::OutOfSpec("MissingMessageNodes"));
-    }
-    let Some(node) = node_at(bytes.metadata, &bytes.batch.nodes, k) else {
+    let Some(node) = bytes.node(k) else {
         return Err(Error::OutOfSpec("MissingMessageNodes"));
     };
     let Ok(count) = usize::try_from(node.length) else {
@@ -75,7 +72,7 @@ fn taken<'a>(bytes: &BatchBytes<'a>, k: usize, needed: usize) -> Option<&'a [u8]
     ensures value { option_copied result ≡ format.buffer_at (batch_of bytes.now) k needed }
     ensures size { IfSome result (λ part. length part.now ≡ needed) }
 {
-    let buffer = buffer_at(bytes.metadata, &bytes.batch.buffers, k)?;
+    let buffer = bytes.buffer(k)?;
     let offset = usize::try_from(buffer.offset).ok()?;
     let length = usize::try_from(buffer.length).ok()?;
     if length < needed {

@@ -7,16 +7,11 @@ mod batches;
 mod column;
 mod columns;
 mod cuts;
-mod fault;
-mod framing;
-mod output;
 mod parts;
 mod reading;
 mod supported;
 mod table;
 mod writing;
 
-pub use fault::{Fault, SealBar};
-pub use output::{Faults, put, refusal};
 pub use reading::Form;
 pub use table::Table;

@@ -4,27 +4,23 @@ ghost use Rattle.ipc_format.specs.Views.{table_of};
 ghost use Rattle.tables_stream.specs.Cells as cells;
 ghost use Rattle.tables_stream.specs.Cells.{Reads};
 ghost use Rattle.tables_stream.specs.Batches.{rows_of_cells, is_as_long};
-ghost use Rattle.tables_stream.specs.Frames.{GoesOnFrom};
 ghost use Rattle.tables_stream.specs.Tables.{batch_slots, stored_cells};
 ghost use Rattle.tables_stream.specs.Int32.{int32_columns, agreeing, int32_batch, step_at};
 ghost use Rattle.ipc_format_metadata.specs.Reading as schemas;
 ghost use Rattle.ipc_format_columns.specs.Refusals.{next_after};
 ghost use Rattle.tables_stream.specs.Reading.{ReadsSchema, IsCompressed, IsCompressedThere};
-ghost use Rattle.tables_stream.specs.Steps.{step_view};
+ghost use Rattle.tables_stream.specs.Steps.{step_view, GoesOnFrom};
 
 use crate::batches::Batch;
 use crate::column::Column;
 use crate::columns::int32_cells;
-use crate::fault::Fault;
-use crate::framing::{NextMessage, next_at};
 use crate::parts::BatchBytes;
 use crate::supported::is_supported;
 use columnar_memory::{Error, Result, Schema};
-use ipc_format::flatbuffers::Table;
-use ipc_format::schema_in;
+use ipc_format::messages::{MessageHeaderRef, RecordBatchRef, record_batch_in, version_in};
+use ipc_format::{Framed, NextMessage, next_at, schema_in};
 use std::alloc::Global;
 use std::rc::Rc;
-use tables_metadata::{Header, lengths_sum, record_batch_in, version_in};
 
 /// How a table's bytes stand: in Arrow's file format or its streaming format.
 #[derive(Clone, Copy, Debug, PartialEq, Eq)]
@@ -46,13 +42,13 @@ pub fn first_schema(alloc: Global, bytes: &[u8]) -> Result<(Schema, usize)>
     let Some(NextMessage::Message(framed, after)) = next_at(bytes, 0) else {
         return Err(Error::OutOfSpec("MissingSchema"));
     };
-    let Header::Schema(table) = framed.header else {
+    let MessageHeaderRef::Schema(header) = framed.header else {
         return Err(Error::OutOfSpec("UnexpectedMessageType"));
     };
     if version_in(framed.metadata).is_none() {
         return Err(Error::OutOfSpec("InvalidFlatbufferVersion"));
     }
-    let (schema, ipc_schema) = schema_in(alloc, framed.metadata, &table)?;
+    let (schema, ipc_schema) = schema_in(alloc, framed.metadata, &header.table.place)?;
     if !is_supported(&schema, &ipc_schema) {
         return Err(Error::NotYetImplemented("schemas of other columns"));
     }
@@ -86,43 +82,53 @@ pub fn next_batch(alloc: Global, bytes: &[u8], place: usize, width: usize) -> Re
         Some(NextMessage::Message(framed, after)) => (framed, after),
     };
     match framed.header {
-        Header::Schema(_) => Err(Error::OutOfSpec("UnexpectedMessageType")),
+        MessageHeaderRef::Schema(_) => Err(Error::OutOfSpec("UnexpectedMessageType")),
         // No field has a dictionary, so no id is known.
-        Header::DictionaryBatch(_) => Err(Error::OutOfSpec("InvalidId")),
-        Header::RecordBatch(table) => {
-            let batch = batch_of(alloc, framed.metadata, &table, framed.body, width)?;
+        MessageHeaderRef::DictionaryBatch(_) => Err(Error::OutOfSpec("InvalidId")),
+        MessageHeaderRef::RecordBatch(header) => {
+            let batch = message_rows(alloc, &framed, &header, width)?;
             Ok(Next::Rows(batch, after))
         }
     }
 }
 
-/// The rows of a record batch.
-#[tactic(auto, using(crate::proofs::Rows::rows_of_window, crate::proofs::Rows::whole_window), unfolding(crate::specs::Int32::int32_batch))]
-fn batch_of(
+/// The rows of a message whose header is a record batch.
+fn message_rows(
     alloc: Global,
-    metadata: &[u8],
-    table: &Table,
-    body: &[u8],
+    framed: &Framed<'_>,
+    header: &RecordBatchRef<'_>,
     width: usize,
 ) -> Result<Batch>
-    ensures { schemas.Reads (λ batch. batch_slots (stored_cells batch)) (IsCompressed metadata.now (table_of table.now)) result
-        (int32_batch width metadata.now (table_of table.now) body.now) }
+    requires { header.now.table.bytes.now ≡ framed.now.metadata.now }
+    ensures { schemas.Reads (λ batch. batch_slots (stored_cells batch))
+        (IsCompressed framed.now.metadata.now (table_of header.now.table.place)) result
+        (int32_batch width framed.now.metadata.now (table_of header.now.table.place) framed.now.body.now) }
 {
-    let Some(batch) = record_batch_in(metadata, table) else {
+    batch_of(alloc, header, framed.body, width)
+}
+
+/// The rows of a record batch.
+#[tactic(auto, using(crate::proofs::Rows::rows_of_window, crate::proofs::Rows::whole_window), unfolding(crate::specs::Int32::int32_batch))]
+fn batch_of(alloc: Global, header: &RecordBatchRef<'_>, body: &[u8], width: usize) -> Result<Batch>
+    ensures { schemas.Reads (λ batch. batch_slots (stored_cells batch))
+        (IsCompressed header.now.table.bytes.now (table_of header.now.table.place)) result
+        (int32_batch width header.now.table.bytes.now (table_of header.now.table.place) body.now) }
+{
+    let Some(batch) = record_batch_in(header) else {
         return Err(Error::OutOfSpec("InvalidFlatbufferRecordBatches"));
     };
     if batch.is_compressed {
         return Err(Error::NotYetImplemented("compressed batches"));
     }
-    match lengths_sum(metadata, &batch.buffers) {
-        Some(sum) if sum <= body.len() as u64 => {}
-        _ => return Err(Error::OutOfSpec("InvalidBuffersLength")),
-    }
     let bytes = BatchBytes {
-        metadata,
+        metadata: header.table.bytes,
         batch,
         body,
     };
+    match bytes.lengths_sum() {
+        Some(sum) if sum <= body.len() as u64 => {}
+        _ => return Err(Error::OutOfSpec("InvalidBuffersLength")),
+    }
     let (columns, rows) = columns_of(alloc, &bytes, width)?;
     let columns = Rc::new(alloc, columns)?;
     Ok(Batch {

@@ -4,22 +4,22 @@ ghost use Rattle.nested_arrays.specs.Tables.{part};
 ghost use Rattle.tables_stream.specs.Cuts.{cut_of};
 ghost use Rattle.tables_stream.specs.Refusals.{WritesStream};
 ghost use Rattle.tables_stream.specs.Tables.{row_count, as_table, table_bytes, ReadAsTable};
-ghost use Rattle.tables_metadata.specs.Int32Schemas.{IsInt32Schema};
+ghost use Rattle.tables_stream.specs.Int32Schemas.{IsInt32Schema};
 ghost use Rattle.ipc_format.specs.Messages.{Version};
 ghost use Rattle.ipc_format_round_trip.specs.Schemas.{HasTexts};
 ghost use Rattle.tables_stream.specs.Reading.{ReadsTable, ReadsBatches};
-ghost use Rattle.tables_stream.specs.declared.fault.Fault.TheVariants.{Memory};
+ghost use Rattle.tables_faults.specs.declared.fault.Fault.TheVariants.{Memory};
 
 use crate::batches::Batch;
 use crate::cuts::cut_batches;
-use crate::fault::Fault;
-use crate::output::Faults;
 use crate::reading::{Form, Next, first_schema, next_batch};
 use crate::writing::write_table;
 use columnar_memory::{Error, Schema};
+use ipc_format::Faults;
 use std::alloc::Global;
 use std::io::Write;
 use std::marker::Model;
+use tables_faults::Fault;
 
 /// A schema, and rows of 32-bit integers and nulls under it, batch by batch. Batches are shared between a table and its cuts.
 #[derive(Debug, Drop)]
@@ -50,6 +50,7 @@ impl Model for Table {
 impl Table {
     /// The table of an Arrow stream (Arrow IPC, "IPC streaming format"), with the batches as they stand there, empty ones too.
     ///
+    /// # Errors
     /// - `Ipc(OutOfSpec)`: the bytes break a rule of the format.
     /// - `Ipc(NotYetImplemented)`: a file, a column of another type, custom metadata, or a compressed batch.
     /// - `Unfinished`: the stream ends within the first four bytes of a message after the first, where its end mark may be missing.
@@ -91,6 +92,7 @@ impl Table {
     /// The `length` rows from `offset` on, with no cell copied: a window of each batch that has one of these rows, in order.
     /// `in_range` tests whether there are so many.
     ///
+    /// # Errors
     /// - `Memory`: there was no memory.
     pub fn cut(&self, alloc: Global, offset: usize, length: usize) -> Result<Table, Fault>
         requires { offset + length ≤ row_count self.now }

@@ -1,9 +1,8 @@
 //! Streams from tables (Arrow IPC, "IPC streaming format"): the schema, a record batch message for each batch, and the end mark.
-ghost use Rattle.std.specs.Prelude.{◌≡◌, ◌+◌, ◌-◌, ◌*◌, ◌%◌, ◌≤◌, ◌<◌, ◌^◌, ◌++◌, [], length, map, replicate, OnOk, IfOk, IfErr, slice_range};
+ghost use Rattle.std.specs.Prelude.{◌≡◌, ◌+◌, ◌-◌, ◌*◌, ◌%◌, ◌≤◌, ◌<◌, ◌^◌, ◌++◌, ◌∷◌, [], length, map, replicate, OnOk, IfOk, IfErr, slice_range};
 ghost use Rattle.columnar_memory.specs.declared.Error.TheVariants.{OutOfMemory};
-ghost use Rattle.tables_metadata.specs.Int32Schemas.{IsInt32Schema};
-ghost use Rattle.tables_metadata.specs.Writing.{FitsPrefix};
-ghost use Rattle.tables_stream.specs.Devices.{Puts};
+ghost use Rattle.tables_stream.specs.Int32Schemas.{IsInt32Schema};
+ghost use Rattle.ipc_format_streams.specs.Devices.{Puts};
 ghost use Rattle.tables_stream.specs.Refusals.{IsLayoutRefusal, PutsMessage, PutsStream, WritesMessages};
 ghost use Rattle.std.specs.Int.{next_multiple_of};
 ghost use Rattle.std.specs.List.{flat_map};
@@ -11,17 +10,19 @@ ghost use Rattle.ipc_format_written.specs.Buffers as buffers_format;
 ghost use Rattle.tables_stream.specs.Int32Written as int32_written;
 ghost use Rattle.ipc_format_written.specs.WrittenMessages as messages_format;
 ghost use Rattle.tables_stream.specs.Cells.{slot_of};
-ghost use Rattle.ipc_format.specs.Schemas.{no_ids};
-ghost use Rattle.tables_stream.specs.Structs.{struct_bytes, validity_size, buffers_of};
+ghost use Rattle.ipc_format_message_writing.specs.MessageWriting.{node_pair, buffer_pair};
+ghost use Rattle.tables_stream.specs.Int32Written.{validity_size, buffers_of};
 ghost use Rattle.tables_stream.specs.Tables.{stored_cells, batch_slots};
 
 use crate::batches::Batch;
 use crate::column::Column;
-use crate::output::{Faults, put, refusal};
 use columnar_memory::{Error, Result, Schema};
+use ipc_format::messages::{Buffer, FieldNode};
+use ipc_format::{
+    Faults, default_ipc_fields, put, record_batch_to_bytes, refusal, schema_to_bytes,
+};
 use std::alloc::Global;
 use std::io::Write;
-use tables_metadata::{record_batch_message, schema_message};
 
 /// Before each message's length.
 const MARKER: [u8; 4] = [0xff; 4];
@@ -82,15 +83,16 @@ fn put_stream<W: Write>(
 /// Writes the message of a schema.
 fn put_schema<W: Write>(alloc: Global, writer: &mut W, schema: &Schema) -> Result<()>
     requires { IsInt32Schema schema.now }
-    ensures { PutsMessage result (W.contents writer.old) (W.contents writer.new) (messages_format.schema_written schema.now no_ids) }
+    ensures { PutsMessage result (W.contents writer.old) (W.contents writer.new) (int32_written.schema_message schema.now) }
 {
-    let metadata = schema_message(alloc, schema)?;
+    let ids = default_ipc_fields(alloc, schema.fields.as_slice())?;
+    let metadata = schema_to_bytes(alloc, schema, &ids)?;
     put_metadata(writer, &metadata)
 }
 
 /// Writes a message's marker, its length and its metadata.
 fn put_metadata<W: Write>(writer: &mut W, metadata: &[u8]) -> Result<()>
-    requires { FitsPrefix metadata.now }
+    requires { messages_format.prefix_size + length metadata.now ≤ messages_format.most_metadata }
     ensures { Puts result (W.contents writer.old) (W.contents writer.new) (messages_format.framed metadata.now []) }
 {
     let length = metadata.len() as u32;
@@ -106,7 +108,7 @@ fn put_batch<W: Write>(alloc: Global, writer: &mut W, batch: &Batch) -> Result<(
 {
     let layout = layout_of(alloc, batch)?;
     let rows = batch.rows as u64;
-    let metadata = record_batch_message(
+    let metadata = record_batch_to_bytes(
         alloc,
         rows,
         &layout.nodes,
@@ -117,27 +119,26 @@ fn put_batch<W: Write>(alloc: Global, writer: &mut W, batch: &Batch) -> Result<(
     put_body(writer, batch, &layout.null_counts)
 }
 
-/// What a batch's metadata says: the bytes of its nodes and of its buffers' places, and how long the body is; and how many cells of
-/// each column are null.
+/// What a batch's metadata says: its nodes, the places of its buffers, and how long the body is; and how many cells of each column are
+/// null.
 #[derive(Drop)]
 struct Layout {
-    nodes: Vec<u8>,
-    buffers: Vec<u8>,
+    nodes: Vec<FieldNode>,
+    buffers: Vec<Buffer>,
     null_counts: Vec<usize>,
     body_length: u64,
 }
 
 /// How a batch is laid out.
 fn layout_of(alloc: Global, batch: &Batch) -> Result<Layout>
-    ensures nodes { IfOk result (λ layout. layout.nodes.items ≡
-        flat_map struct_bytes (int32_written.nodes_of (batch_slots (stored_cells batch.now)))) }
-    ensures buffers { IfOk result (λ layout. layout.buffers.items ≡
-        flat_map struct_bytes (messages_format.buffer_places 0 (buffers_of (batch_slots (stored_cells batch.now))))) }
+    ensures nodes { IfOk result (λ layout. map node_pair layout.nodes.items ≡
+        int32_written.nodes_of (batch_slots (stored_cells batch.now))) }
+    ensures buffers { IfOk result (λ layout. map buffer_pair layout.buffers.items ≡
+        messages_format.buffer_places 0 (buffers_of (batch_slots (stored_cells batch.now)))) }
     ensures nulls { IfOk result (λ layout. layout.null_counts.items ≡
         map buffers_format.null_count (batch_slots (stored_cells batch.now))) }
     ensures body { IfOk result (λ layout. layout.body_length ≡
         length (messages_format.body_bytes (buffers_of (batch_slots (stored_cells batch.now))))) }
-    ensures limit { IfOk result (λ layout. layout.body_length < messages_format.body_limit) }
     ensures refused { IfErr result (IsLayoutRefusal (length (messages_format.body_bytes (buffers_of (batch_slots (stored_cells batch.now)))))) }
 {
     let mut nodes = Vec::new(alloc);
@@ -191,26 +192,25 @@ fn put_column<W: Write>(
 
 /// Adds a column's node and its two buffers, which begin at `offset` of the body, and answers where they end.
 fn lay_column(
-    nodes: &mut Vec<u8>,
-    buffers: &mut Vec<u8>,
+    nodes: &mut Vec<FieldNode>,
+    buffers: &mut Vec<Buffer>,
     offset: u64,
     count: usize,
     nulls: usize,
 ) -> Result<u64>
     requires { offset % 64 ≡ 0 }
-    ensures nodes { OnOk result (nodes.new.items ≡ nodes.old.items ++ struct_bytes (count, nulls)) }
-    ensures buffers { OnOk result (buffers.new.items ≡ buffers.old.items
-        ++ struct_bytes (offset, validity_size count nulls)
-        ++ struct_bytes (offset + next_multiple_of (validity_size count nulls) 64, 4 * count)) }
+    ensures nodes { OnOk result (map node_pair nodes.new.items ≡ map node_pair nodes.old.items ++ (count, nulls) ∷ []) }
+    ensures buffers { OnOk result (map buffer_pair buffers.new.items ≡ (map buffer_pair buffers.old.items
+        ++ (offset, validity_size count nulls) ∷ [])
+        ++ (offset + next_multiple_of (validity_size count nulls) 64, 4 * count) ∷ []) }
     ensures end { IfOk result (λ end. end ≡
         offset + next_multiple_of (validity_size count nulls) 64 + next_multiple_of (4 * count) 64) }
-    ensures limit { IfOk result (λ end. end < messages_format.body_limit) }
     ensures refused { IfErr result (IsLayoutRefusal
         (offset + next_multiple_of (validity_size count nulls) 64 + next_multiple_of (4 * count) 64)) }
 {
     let count = count as u64;
     let nulls = nulls as u64;
-    lay_struct(nodes, count, nulls)?;
+    add_node(nodes, count, nulls)?;
     let validity_length = if nulls > 0 { count.div_ceil(8) } else { 0 };
     let values = lay_buffer(buffers, offset, validity_length)?;
     let Some(values_length) = count.checked_mul(4) else {
@@ -220,14 +220,13 @@ fn lay_column(
 }
 
 /// Adds a buffer's place and length, and answers where the next buffer begins.
-fn lay_buffer(buffers: &mut Vec<u8>, offset: u64, length: u64) -> Result<u64>
+fn lay_buffer(buffers: &mut Vec<Buffer>, offset: u64, length: u64) -> Result<u64>
     requires { offset % 64 ≡ 0 }
-    ensures place { OnOk result (buffers.new.items ≡ buffers.old.items ++ struct_bytes (offset, length)) }
+    ensures place { OnOk result (map buffer_pair buffers.new.items ≡ map buffer_pair buffers.old.items ++ (offset, length) ∷ []) }
     ensures end { IfOk result (λ end. end ≡ offset + next_multiple_of length 64) }
-    ensures limit { IfOk result (λ end. end < messages_format.body_limit) }
     ensures refused { IfErr result (IsLayoutRefusal (offset + next_multiple_of length 64)) }
 {
-    lay_struct(buffers, offset, length)?;
+    add_buffer(buffers, offset, length)?;
     let end = offset
         .checked_add(length)
         .and_then(|end| end.checked_next_multiple_of(64));
@@ -237,19 +236,30 @@ fn lay_buffer(buffers: &mut Vec<u8>, offset: u64, length: u64) -> Result<u64>
     }
 }
 
-/// Adds a struct of two numbers.
-#[tactic(auto, unfolding(crate::specs::Structs::struct_bytes))]
-fn lay_struct(bytes: &mut Vec<u8>, first: u64, second: u64) -> Result<()>
-    ensures written { OnOk result (bytes.new.items ≡ bytes.old.items ++ struct_bytes (first, second)) }
+/// Adds the node of a column of `count` cells, of which `nulls` are null.
+fn add_node(nodes: &mut Vec<FieldNode>, count: u64, nulls: u64) -> Result<()>
+    ensures added { OnOk result (map node_pair nodes.new.items ≡ map node_pair nodes.old.items ++ (count, nulls) ∷ []) }
     ensures refused { IfErr result (λ error. error ≡ OutOfMemory) }
 {
-    bytes.extend_from_slice(&first.to_le_bytes())?;
-    bytes.extend_from_slice(&second.to_le_bytes())?;
+    let length = count.cast_signed();
+    let null_count = nulls.cast_signed();
+    nodes.push(FieldNode { length, null_count })?;
+    Ok(())
+}
+
+/// Adds a buffer of `size` bytes that begins at `begin` of the body.
+fn add_buffer(buffers: &mut Vec<Buffer>, begin: u64, size: u64) -> Result<()>
+    ensures added { OnOk result (map buffer_pair buffers.new.items ≡ map buffer_pair buffers.old.items ++ (begin, size) ∷ []) }
+    ensures refused { IfErr result (λ error. error ≡ OutOfMemory) }
+{
+    let offset = begin.cast_signed();
+    let length = size.cast_signed();
+    buffers.push(Buffer { offset, length })?;
     Ok(())
 }
 
 /// Writes zeros after a buffer of `length` bytes.
-#[tactic(auto, using(crate::proofs::Appending::appends_nothing))]
+#[tactic(auto, using(ipc_format_streams::proofs::Appending::appends_nothing))]
 fn put_padding<W: Write>(writer: &mut W, length: usize) -> Result<()>
     ensures { Puts result (W.contents writer.old) (W.contents writer.new) (replicate ((64 - length % 64) % 64) 0) }
 {

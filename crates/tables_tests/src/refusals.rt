@@ -1,3 +1,4 @@
+use crate::calling::head;
 use crate::samples::EXAMPLE;
 use columnar_memory::Error;
 use std::alloc::Global;
@@ -88,6 +89,17 @@ fn writes_a_stream_where_there_is_room(rt: HostRuntime) -> Result<(), Fault> {
     let mut device = Device::new(rt.alloc(), 496, true);
     table.write_stream(rt.alloc(), &mut device)?;
     assert!(rt; device.bytes.as_slice() == EXAMPLE.as_slice());
+    Ok(())
+}
+
+#[test]
+fn writes_the_first_rows(rt: HostRuntime) -> Result<(), Fault> {
+    let table = table_of(rt.alloc())?;
+    for (count, rows) in [(0, 0), (1, 1), (2, 2), (3, 2)] {
+        let bytes = head(rt.alloc(), &table, count)?;
+        let read = Table::read(rt.alloc(), Form::Stream, &bytes)?;
+        assert_eq!(rt; read.rows(), rows);
+    }
     Ok(())
 }
 

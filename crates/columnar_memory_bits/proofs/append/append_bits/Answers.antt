@@ -1,9 +1,9 @@
-use Rattle.std.proofs.Common.{◌≡◌, ◌∙◌, ◌++◌, ◌+◌, ◌-◌, ◌*◌, ◌%◌, ◌≤◌, ℕ, Bool, List, ap, arith, rules, refl, length, vec_len}
+use Rattle.std.proofs.Common.{◌≡◌, ◌∙◌, ◌++◌, ◌+◌, ◌-◌, ◌%◌, ◌≤◌, ℕ, Bool, List, ap, arith, rules, refl, length, vec_len}
 use Rattle.columnar_memory_bits.specs.Bits.{bit, bit_at, bits_of}
 use Rattle.columnar_memory_bits.specs.Appends.{AppendsBits}
 use Rattle.columnar_memory_bits.specs.Words.{word}
 use Rattle.columnar_memory_bits.proofs.Words.{word_small}
-use Rattle.columnar_memory_bits.proofs.Appends.{appends_at, appends_none, appends_then, appends_bits, appended_on_ok, appended_bits, appended_window}
+use Rattle.columnar_memory_bits.proofs.Appends.{appends_at, appends_none, appends_rest, appends_bits, appended_on_ok, appended_bits, appended_window}
 use Rattle.columnar_memory_bits.proofs.append.append_bits.Goals as goal
 use Rattle.columnar_memory_bits.proofs.append.append_bits.Goals.{After-extend_bits, then-held-gt0+else-done-len, else-held-gt0}
 
@@ -49,19 +49,11 @@ begun c = elim c.if-held-gt0.branch [
 
 pub returns-clause-ok : goal.returns-clause-ok
 returns-clause-ok c =
-    let old = c.args.to.now.items in
-    let mid = c.if-held-gt0.to.items in
-    let new = c.extend_bits.new.to.items in
     let done = c.if-held-gt0.done in
-    let f : ℕ → Bool = λ i. bit_at c.args.bytes.now (c.args.offset + i) in
-    let g : ℕ → Bool = λ i. bit_at c.args.bytes.now (c.args.offset + done + i) in
     let first = begun c in
-    let count : length mid ≡ vec_len c.if-held-gt0.to = search rules in
-    let place : 8 * vec_len c.if-held-gt0.to ≡ c.args.held + done = omega (arith, first.0.counted, first.1) in
-    let rest = c.args.len - done in
-    let two = appends_at mid new g (8 * vec_len c.if-held-gt0.to) (c.args.held + done) rest rest place refl c.extend_bits.ensures.added in
-    let all = appends_then old mid new c.args.held f g done rest first.0 two
-    (λ i h. let same : c.args.offset + done + i ≡ c.args.offset + (done + i) = omega arith in ap (bit_at c.args.bytes.now) same) in
-    let whole : done + rest ≡ c.args.len = omega (arith, first.2) in
-    appended_on_ok c.extend_bits.result old new c.args.bytes.now c.args.held c.args.offset c.args.len c.extend_bits.ensures.ok
-    (appends_at old new f c.args.held c.args.held (done + rest) c.args.len refl whole all)
+    let count : length c.if-held-gt0.to.items ≡ vec_len c.if-held-gt0.to = search rules in
+    appended_on_ok c.extend_bits.result c.args.to.now.items c.extend_bits.new.to.items c.args.bytes.now c.args.held c.args.offset c.args.len
+    c.extend_bits.ensures.ok (appends_rest c.args.to.now.items c.if-held-gt0.to.items c.extend_bits.new.to.items
+    (λ i. bit_at c.args.bytes.now (c.args.offset + i)) (λ i. bit_at c.args.bytes.now (c.args.offset + done + i)) c.args.held done c.args.len
+    (vec_len c.if-held-gt0.to) first.0 first.1 first.2 count c.extend_bits.ensures.added
+    (λ i h. let same : c.args.offset + done + i ≡ c.args.offset + (done + i) = omega arith in ap (bit_at c.args.bytes.now) same))

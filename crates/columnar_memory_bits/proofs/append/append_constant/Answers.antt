@@ -1,7 +1,7 @@
-use Rattle.std.proofs.Common.{◌≡◌, ◌+◌, ◌-◌, ◌*◌, ◌%◌, ◌<◌, ◌≤◌, ℕ, Bool, List, arith, rules, refl, length, vec_len}
+use Rattle.std.proofs.Common.{◌≡◌, ◌+◌, ◌-◌, ◌%◌, ◌<◌, ◌≤◌, ℕ, Bool, List, arith, rules, refl, length, vec_len}
 use Rattle.columnar_memory_bits.specs.Bits.{bit}
 use Rattle.columnar_memory_bits.specs.Appends.{AppendsBits}
-use Rattle.columnar_memory_bits.proofs.Appends.{appends_at, appends_none, appends_then, appends_constant, appended_constant, constant_on_ok}
+use Rattle.columnar_memory_bits.proofs.Appends.{appends_at, appends_none, appends_rest, appends_constant, appended_constant, constant_on_ok}
 use Rattle.columnar_memory_bits.proofs.append.append_constant.Goals as goal
 use Rattle.columnar_memory_bits.proofs.append.append_constant.Goals.{After-extend_constant, then-held-gt0+else-done-len, else-held-gt0}
 
@@ -39,17 +39,9 @@ begun c = elim c.if-held-gt0.branch [
 
 pub returns-clause-ok : goal.returns-clause-ok
 returns-clause-ok c =
-    let old = c.args.to.now.items in
-    let mid = c.if-held-gt0.to.items in
-    let new = c.extend_constant.new.to.items in
-    let done = c.if-held-gt0.done in
-    let f : ℕ → Bool = λ _. c.args.value in
     let first = begun c in
-    let count : length mid ≡ vec_len c.if-held-gt0.to = search rules in
-    let place : 8 * vec_len c.if-held-gt0.to ≡ c.args.held + done = omega (arith, first.0.counted, first.1) in
-    let rest = c.args.len - done in
-    let two = appends_at mid new f (8 * vec_len c.if-held-gt0.to) (c.args.held + done) rest rest place refl c.extend_constant.ensures.added in
-    let all = appends_then old mid new c.args.held f f done rest first.0 two (λ i h. refl) in
-    let whole : done + rest ≡ c.args.len = omega (arith, first.2) in
-    constant_on_ok c.extend_constant.result old new c.args.held c.args.len c.args.value c.extend_constant.ensures.ok
-    (appends_at old new f c.args.held c.args.held (done + rest) c.args.len refl whole all)
+    let count : length c.if-held-gt0.to.items ≡ vec_len c.if-held-gt0.to = search rules in
+    constant_on_ok c.extend_constant.result c.args.to.now.items c.extend_constant.new.to.items c.args.held c.args.len c.args.value
+    c.extend_constant.ensures.ok (appends_rest c.args.to.now.items c.if-held-gt0.to.items c.extend_constant.new.to.items (λ _. c.args.value)
+    (λ _. c.args.value) c.args.held c.if-held-gt0.done c.args.len (vec_len c.if-held-gt0.to) first.0 first.1 first.2 count
+    c.extend_constant.ensures.added (λ i h. refl))

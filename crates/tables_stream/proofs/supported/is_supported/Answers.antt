@@ -1,6 +1,6 @@
 use Rattle.std.proofs.Common.{rules, ◌≡◌, true, length}
 use Rattle.std.specs.Prelude.{◌↔◌, IsTrue, All}
-use Rattle.tables_metadata.specs.Int32Schemas.{IsInt32Schema}
+use Rattle.tables_stream.specs.Int32Schemas.{IsInt32Schema}
 use Rattle.tables_stream.specs.Supported.{HasNoDictionary}
 use Rattle.tables_stream.proofs.SupportedSchemas.{all_supported, other_length}
 use Rattle.tables_stream.proofs.supported.is_supported.Goals as goal

@@ -1,5 +1,6 @@
 -- One more column.
-use Rattle.std.proofs.Common.{◌≡◌, ◌+◌, ◌<◌, ◌≤◌, length, get_or, rules}
+use Rattle.std.proofs.Common.{◌≡◌, ◌+◌, ◌<◌, ◌≤◌, length, get_or, map, rules}
+use Rattle.ipc_format_message_writing.specs.MessageWriting.{node_pair, buffer_pair}
 use Rattle.tables_stream.proofs.Placed.{column_laid, body_over}
 use Rattle.tables_stream.proofs.Refused.{layout_more}
 use Rattle.tables_stream.proofs.writing.layout_of.Goals as goal
@@ -13,13 +14,11 @@ loop-column-preserved c =
     let here : get_or columns i column ≡ column = search rules in
     let inside : i < length columns = search rules in
     let within : batch.start + batch.rows ≤ length column = search rules in
-    let before = c.loop-column.invariant in
-    let laid = column_laid columns batch.start batch.rows i column c.null_count-nulls.result c.loop-column.body_length c.in_ok-body_length.body_length
-    c.loop-column.nodes.items c.loop-column.buffers.items c.loop-column.null_counts.items
-    c.lay_column.new.nodes.items c.lay_column.new.buffers.items c.push.new.self.items
-    inside here within c.null_count-nulls.ensures.value (before.0, before.1, before.2, before.3, before.4)
-    c.in_ok-body_length.ensures.nodes c.in_ok-body_length.ensures.buffers c.in_ok-push.ensures.items c.in_ok-body_length.ensures.end in
-    (laid.0, laid.1, laid.2, laid.3, laid.4, c.in_ok-body_length.ensures.limit)
+    column_laid columns batch.start batch.rows i column c.null_count-nulls.result c.loop-column.body_length c.in_ok-body_length.body_length
+    (map node_pair c.loop-column.nodes.items) (map buffer_pair c.loop-column.buffers.items) c.loop-column.null_counts.items
+    (map node_pair c.lay_column.new.nodes.items) (map buffer_pair c.lay_column.new.buffers.items) c.push.new.self.items
+    inside here within c.null_count-nulls.ensures.value c.loop-column.invariant
+    c.in_ok-body_length.ensures.nodes c.in_ok-body_length.ensures.buffers c.in_ok-push.ensures.items c.in_ok-body_length.ensures.end
 
 pub returns-in_err-body_length-clause-refused : goal.returns-in_err-body_length-clause-refused
 returns-in_err-body_length-clause-refused c =

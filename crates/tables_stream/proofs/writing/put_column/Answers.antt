@@ -7,7 +7,7 @@ use Rattle.nested_arrays.specs.Slots.{Slot}
 use Rattle.ipc_format_written.specs.Buffers.{null_count}
 use Rattle.ipc_format_written.specs.WrittenMessages.{padded_buffer}
 use Rattle.tables_stream.specs.Int32Written.{bitmap_bytes, value_bytes}
-use Rattle.tables_stream.specs.Devices.{Puts}
+use Rattle.ipc_format_streams.specs.Devices.{Puts}
 use Rattle.tables_stream.proofs.Padded.{slots_between, slots_size, column_put, values_put, validity_refused}
 use Rattle.tables_stream.proofs.writing.put_column.Goals as goal
 use Rattle.tables_stream.proofs.writing.put_column.Goals.{then-nulls-gt0+in_ok-put_validity, else-nulls-gt0}

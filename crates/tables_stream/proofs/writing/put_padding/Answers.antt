@@ -1,6 +1,7 @@
 -- The zeros that are written.
 use Rattle.std.proofs.Common.{arith}
-use Rattle.tables_stream.proofs.Appending.{puts_same, zeros_behind}
+use Rattle.ipc_format_streams.proofs.Appending.{puts_same}
+use Rattle.tables_stream.proofs.Padded.{zeros_behind}
 use Rattle.tables_stream.proofs.writing.put_padding.Goals as goal
 
 pub returns : goal.returns

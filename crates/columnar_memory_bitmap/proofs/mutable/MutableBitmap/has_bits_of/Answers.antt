@@ -1,15 +1,9 @@
-use Rattle.std.proofs.Common.{◌≡◌, ◌∙◌, true, false, sym}
-use Rattle.std.proofs.lemmas.Bool.{false≢true}
 use Rattle.columnar_memory_bits.specs.Bits.{bit_at}
-use Rattle.columnar_memory_bitmap.proofs.SameWords.{other_lengths}
+use Rattle.columnar_memory_bitmap.proofs.SameWords.{false_of_lengths}
 use Rattle.columnar_memory_bitmap.proofs.mutable.MutableBitmap.has_bits_of.Goals as goal
 
 pub returns-then-self-other : goal.returns-then-self-other
 returns-then-self-other c =
     let a = c.self.inside in
-    let b = c.other.inside in (
-      λ (said : false ≡ true). absurd (false≢true said),
-      λ (same : c.args.self.now ≡ c.args.other.now).
-          absurd (other_lengths (bit_at a.buffer.items) (bit_at b.buffer.items) 0 0 a.len b.len c.if-self-other.true
-          (c.self.view_is ∙ same ∙ sym c.other.view_is)),
-    )
+    let b = c.other.inside in
+    false_of_lengths (bit_at a.buffer.items) (bit_at b.buffer.items) 0 0 a.len b.len _ _ c.if-self-other.true c.self.view_is c.other.view_is

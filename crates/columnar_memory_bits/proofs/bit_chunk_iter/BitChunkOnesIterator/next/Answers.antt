@@ -3,10 +3,8 @@ use Rattle.std.specs.Int.{w64, trailing_zeros}
 use Rattle.columnar_memory_bits.specs.Words.{set_places}
 use Rattle.columnar_memory_bits.proofs.Places.{places_next, places_end, places_zero, places_none}
 use Rattle.columnar_memory_bits.proofs.bit_chunk_iter.BitChunkOnesIterator.next.Goals as goal
-use Rattle.columnar_memory_bits.proofs.bit_chunk_iter.BitChunkOnesIterator.next.Goals.{
-  then-left-eq0-via-then-left-eq0,
-  then-left-eq0-via-else-left-eq0+then-place-self,
-}
+use Rattle.columnar_memory_bits.proofs.bit_chunk_iter.BitChunkOnesIterator.next.Goals.{then-left-eq0-via-then-left-eq0}
+use Rattle.columnar_memory_bits.proofs.bit_chunk_iter.BitChunkOnesIterator.next.Goals.{then-left-eq0-via-else-left-eq0+then-place-self}
 
 pub returns-then-left-eq0-clause-steps : goal.returns-then-left-eq0-clause-steps
 returns-then-left-eq0-clause-steps g c =

@@ -1,15 +1,12 @@
-use Rattle.std.proofs.Common.{◌∙◌, ap, true, false}
-use Rattle.std.specs.Prelude.{Some}
-use Rattle.flat_arrays_values.specs.Flat.{marks_of}
-use Rattle.flat_arrays_values.proofs.Marks.{slot-get, null-get}
+use Rattle.std.proofs.Common.{◌≤◌, length, arith}
+use Rattle.flat_arrays_values.specs.Flat.{slots_of}
+use Rattle.flat_arrays_values.proofs.Marks.{slot_past, slot_there}
 use Rattle.flat_arrays_values.proofs.boolean.BooleanArray.get.Goals as goal
 
-pub returns-then-is_valid : goal.returns-then-is_valid
-returns-then-is_valid c =
-    let array = c.args.self.now in
-    slot-get array.values (marks_of array) c.args.i c.value.result true c.value.ensures (c.is_valid.ensures ∙ ap Some c.if-is_valid.true)
+pub returns-then-i-len : goal.returns-then-i-len
+returns-then-i-len c = slot_there (slots_of c.args.self.now) c.args.i c.slot.result c.slot.ensures
 
-pub returns-else-is_valid : goal.returns-else-is_valid
-returns-else-is_valid c =
-    let array = c.args.self.now in
-    null-get array.values (marks_of array) c.args.i c.requires (c.is_valid.ensures ∙ ap Some c.if-is_valid.false)
+pub returns-else-i-len : goal.returns-else-i-len
+returns-else-i-len c =
+    let past : length c.args.self.now.values ≤ c.args.i = omega (arith, c.len.ensures.value) in
+    slot_past c.args.self.now c.args.i c.len.ensures.whole.masked past

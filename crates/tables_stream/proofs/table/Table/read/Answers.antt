@@ -1,6 +1,6 @@
 use Rattle.std.proofs.Common.{rules}
 use Rattle.std.specs.Prelude.{Ok, Err}
-use Rattle.tables_stream.specs.Faults.{fault_of}
+use Rattle.tables_faults.specs.Faults.{fault_of}
 use Rattle.tables_stream.specs.Reading.{ReadsSchema, ReadsStream}
 use Rattle.tables_stream.proofs.StreamTables.{first_error, first_then}
 use Rattle.tables_stream.proofs.ReadsBack.{read_has_texts}

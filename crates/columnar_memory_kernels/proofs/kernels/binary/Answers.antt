@@ -1,0 +1,17 @@
+use Rattle.std.proofs.Common.{◌≡◌, ◌∙◌, ◌-◌, ◌*◌, min, length, ap, rules}
+use Rattle.columnar_memory_bits.specs.Words.{word_at}
+use Rattle.columnar_memory_kernels.specs.Kernels.{part}
+use Rattle.columnar_memory_kernels.proofs.Wordwise.{part_is_word, words_answered}
+use Rattle.columnar_memory_kernels.proofs.kernels.binary.Goals as goal
+
+pub returns : goal.returns
+returns g c =
+    let left = c.args.lhs.now in
+    let right = c.args.rhs.now in
+    let n = c.len-len.result in
+    let size : n ≡ length left = c.len-len.ensures ∙ ap length c.of-left.ensures in
+    words_answered _ (λ k y. g.F.Fn.post c.args.op (word_at 64 left k, (word_at 64 right k, tt)) y) n left _ c.from_u8_vec.result size
+    c.in_ok-answered_words.ensures.answers c.from_u8_vec.ensures
+    (λ k y h. let count = min 64 (n - 64 * k) in
+    let said : g.F.Fn.post c.args.op (part left (64 * k) count, (part right (64 * k) count, tt)) y = search rules in
+    rw (part_is_word left n k size, part_is_word right n k (size ∙ c.requires.lengths)) at said)

@@ -1,0 +1,47 @@
+use Rattle.std.proofs.Common.{◌≡◌, ◌∙◌, ◌+◌, ◌-◌, ◌*◌, ◌/◌, ℕ, min, ap, sym, subst, arith}
+use Rattle.columnar_memory_bits.specs.Bits.{bits_of}
+use Rattle.columnar_memory_kernels.proofs.Wordwise.{IsAnswered, packed_none, none_answered, next_answered, all_answered, last_answered}
+use Rattle.columnar_memory_kernels.proofs.words.answered_words.Goals as goal
+use Rattle.columnar_memory_kernels.proofs.words.answered_words.Goals.{then-rest-gt0+in_ok-append_word-2, else-rest-gt0}
+
+pub loop-k-init : goal.loop-k-init
+loop-k-init g c = record { packed = packed_none c.new-out.result.items c.new-out.ensures.items; answered = none_answered _ }
+
+pub answer-requires : goal.answer-requires
+answer-requires g c = c.requires _ _ (omega arith) (omega arith)
+
+pub answer-last-requires : goal.answer-last-requires
+answer-last-requires g c = c.requires _ _ (omega arith) (omega arith)
+
+pub loop-k-preserved : goal.loop-k-preserved
+loop-k-preserved g c =
+    let k = c.loop-k.k in
+    let next : 64 * k + 64 ≡ 64 * (k + 1) = omega arith in
+    let whole : 64 ≡ min 64 (c.args.len - 64 * k) = omega arith in
+    let here = subst (λ count. g.F.Fn.post c.args.answer (64 * k, (count, tt)) c.answer.result) whole c.answer.ensures in
+    record {
+      packed = rw next at c.in_ok-append_word.ensures.packed;
+      answered = next_answered (λ j y. g.F.Fn.post c.args.answer (64 * j, (min 64 (c.args.len - 64 * j), tt)) y) k c.answer.result _ _
+          c.loop-k.invariant.answered here (ap (bits_of c.append_word.new.to.items 0) (sym next) ∙ c.in_ok-append_word.ensures.ok);
+    }
+
+pub returns-clause-answers : goal.returns-clause-answers
+returns-clause-answers g c =
+    let words = c.args.len / 64 in
+    let rest = c.args.len - 64 * words in
+    let last : c.loop-k.k ≡ words = omega arith in
+    let answers : ℕ → ℕ → Type 0 = λ j y. g.F.Fn.post c.args.answer (64 * j, (min 64 (c.args.len - 64 * j), tt)) y in
+    let so_far : IsAnswered answers words (bits_of c.loop-k.out.items 0 (64 * words)) =
+    subst (λ n. IsAnswered answers n (bits_of c.loop-k.out.items 0 (64 * n))) last c.loop-k.invariant.answered in
+    elim c.if-rest-gt0.branch [
+      | then-rest-gt0+in_ok-append_word-2 w ↦
+          (let part : rest ≡ min 64 (c.args.len - 64 * words) = omega arith in
+          let here = subst (λ count. g.F.Fn.post c.args.answer (64 * words, (count, tt)) w.answer-last.result) part w.answer-last.ensures in
+          let whole : c.args.len ≡ 64 * words + rest = omega arith in
+          rw w.out-is (last_answered answers words rest w.answer-last.result c.args.len (bits_of c.loop-k.out.items 0 (64 * words)) _ so_far here
+          (omega arith) (omega arith) whole (ap (bits_of w.append_word-then-rest-gt0.new.to.items 0) whole ∙ w.in_ok-append_word-2.ensures.ok)))
+      | else-rest-gt0 w ↦
+          (let whole : c.args.len ≡ 64 * words = omega arith in
+          rw w.out-is (all_answered answers words c.args.len _ (subst (λ n. IsAnswered answers words (bits_of c.loop-k.out.items 0 n))
+          (sym whole) so_far) whole))
+    ]

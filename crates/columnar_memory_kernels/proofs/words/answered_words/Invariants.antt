@@ -1,0 +1,10 @@
+use Rattle.std.proofs.Common.{◌*◌, ◌-◌, min}
+use Rattle.columnar_memory_bits.specs.Bits.{bits_of, IsPacked}
+use Rattle.columnar_memory_kernels.proofs.Wordwise.{IsAnswered}
+use Rattle.columnar_memory_kernels.proofs.words.answered_words.Given as goal
+
+abbrev pub invariant-loop-k : goal.invariant-loop-k
+invariant-loop-k g l = record {
+  packed : IsPacked l.out.items (64 * l.k);
+  answered : IsAnswered (λ k y. g.F.Fn.post l.answer (64 * k, (min 64 (l.len - 64 * k), tt)) y) l.k (bits_of l.out.items 0 (64 * l.k));
+}

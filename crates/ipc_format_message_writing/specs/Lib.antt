@@ -1,0 +1,2 @@
+pub mod MessageWriting
+pub mod FooterWriting

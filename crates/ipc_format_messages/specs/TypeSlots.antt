@@ -1,0 +1,115 @@
+-- What the slots of a field's type and of the types' tables give, each by itself (Schema.fbs, union Type and its tables).
+use Rattle.std.specs.Prelude.{ℕ, zero, suc, ℤ, pos, Bool, true, false, List, Option, Some, None}
+use Rattle.std.specs.Int.{w8, w16, w32}
+use Rattle.columnar_memory.specs.declared.TimeUnit.{TimeUnit}
+use Rattle.columnar_memory.specs.declared.UnionMode.{UnionMode}
+use Rattle.columnar_memory.specs.declared.IntervalUnit.{IntervalUnit}
+use Rattle.columnar_memory.specs.declared.IntervalUnit.TheVariants as intervals
+use Rattle.ipc_format_flatbuffers.specs.Reading.{◌>>=◌}
+use Rattle.ipc_format_flatbuffers.specs.FlatBuffers.{number_field, signed_field}
+use Rattle.ipc_format_grammar.specs.Types.{Tag, tag_of, mode_of}
+use Rattle.ipc_format_metadata.specs.Leaves.{unit_in}
+use Rattle.ipc_format_messages.specs.MessageSlots.{TableIn, table_in}
+use Rattle.ipc_format_messages.specs.SchemaSlots.{text_in, truth_in}
+
+-- a type: its kind, and its own table
+pub record TypeIn : Type 0 where
+  pub kind : Tag
+  pub table : TableIn
+
+-- the type of a tag, by its table
+abbrev pub type_of : ℕ → TableIn → Option TypeIn
+type_of number table = do
+  kind ← tag_of number
+  Some (record { kind = kind; table = table })
+
+abbrev pub type_if : ℕ → Option TableIn → Option (Option TypeIn)
+type_if number None = Some None
+type_if number (Some table) = do
+  found ← type_of number table
+  Some (Some found)
+
+-- ---- Field: 2 and 3 type
+
+abbrev pub field_type : TableIn → Option (Option TypeIn)
+field_type field = do
+  number ← number_field w8 field.bytes field.table 2 0
+  table ← table_in field 3
+  type_if number table
+
+-- ---- Decimal: 0 precision, 1 scale, 2 how many bits
+
+abbrev pub int_in : TableIn → ℕ → ℕ → Option ℤ
+int_in from slot absent = signed_field w32 from.bytes from.table slot (pos absent)
+
+abbrev pub decimal_precision : TableIn → Option ℤ
+decimal_precision decimal = int_in decimal 0 0
+
+abbrev pub decimal_scale : TableIn → Option ℤ
+decimal_scale decimal = int_in decimal 1 0
+
+abbrev pub decimal_bit_width : TableIn → Option ℤ
+decimal_bit_width decimal = int_in decimal 2 128
+
+-- ---- Date: 0 unit (whether it is the day)
+
+abbrev pub is_day_of : ℤ → Option Bool
+is_day_of (pos zero) = Some true
+is_day_of (pos (suc zero)) = Some false
+is_day_of _ = None
+
+abbrev pub date_is_day : TableIn → Option Bool
+date_is_day date = do
+  number ← signed_field w16 date.bytes date.table 0 (pos 1)
+  is_day_of number
+
+-- ---- Time: 0 unit, 1 how many bits
+
+abbrev pub time_unit : TableIn → Option TimeUnit
+time_unit time = unit_in time.bytes time.table 1
+
+abbrev pub time_bit_width : TableIn → Option ℤ
+time_bit_width time = int_in time 1 32
+
+-- ---- Timestamp: 0 unit, 1 time zone
+
+abbrev pub timestamp_unit : TableIn → Option TimeUnit
+timestamp_unit timestamp = unit_in timestamp.bytes timestamp.table 0
+
+abbrev pub timestamp_timezone : TableIn → Option (Option (List ℕ))
+timestamp_timezone timestamp = text_in timestamp 1
+
+-- ---- Interval: 0 unit
+
+abbrev pub interval_unit_of : ℤ → Option IntervalUnit
+interval_unit_of (pos zero) = Some intervals.YearMonth
+interval_unit_of (pos (suc zero)) = Some intervals.DayTime
+interval_unit_of (pos (suc (suc zero))) = Some intervals.MonthDayNano
+interval_unit_of _ = None
+
+abbrev pub interval_unit : TableIn → Option IntervalUnit
+interval_unit interval = do
+  number ← signed_field w16 interval.bytes interval.table 0 (pos 0)
+  interval_unit_of number
+
+-- ---- Union: 0 mode
+
+abbrev pub union_mode : TableIn → Option UnionMode
+union_mode union = do
+  number ← signed_field w16 union.bytes union.table 0 (pos 0)
+  mode_of number
+
+-- ---- FixedSizeBinary: 0 byte width; FixedSizeList: 0 list size
+
+abbrev pub fixed_size : TableIn → Option ℤ
+fixed_size from = int_in from 0 0
+
+-- ---- Map: 0 whether the keys are sorted
+
+abbrev pub map_keys_sorted : TableIn → Option Bool
+map_keys_sorted map = truth_in map 0
+
+-- ---- Duration: 0 unit
+
+abbrev pub duration_unit : TableIn → Option TimeUnit
+duration_unit duration = unit_in duration.bytes duration.table 1

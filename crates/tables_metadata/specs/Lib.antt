@@ -1,4 +1,0 @@
-pub mod Views
-pub mod Lengths
-pub mod Int32Schemas
-pub mod Writing
