@@ -1,4 +1,2 @@
-pub mod Added
 pub mod Along
-pub mod Marked
 pub mod Popped

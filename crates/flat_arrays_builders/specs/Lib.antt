@@ -1,4 +1,1 @@
-pub mod Changes
-pub mod Growth
-pub mod GrowthLaws
 pub mod SlotsEqual

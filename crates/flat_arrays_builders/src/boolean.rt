@@ -5,14 +5,14 @@ ghost use Rattle.columnar_memory.specs.Results.{OrOutOfMemory};
 ghost use Rattle.columnar_memory.specs.declared.PhysicalType.TheVariants as layouts;
 ghost use Rattle.flat_arrays_values.specs.Flat.{cut, flat, marks_of, slots_of, IsFlat, IsMaskOf};
 ghost use Rattle.flat_arrays_values.specs.Results.{IsChecked};
-ghost use Rattle.flat_arrays_builders.specs.Growth.{grown, with_slots};
-ghost use Rattle.flat_arrays_builders.specs.Changes.{Changes, Pops};
+ghost use Rattle.flat_arrays_masks.specs.Growth.{grown, with_slots};
+ghost use Rattle.flat_arrays_masks.specs.Changes.{Changes, Pops};
 
-use crate::marks::{
+use columnar_memory::{DataType, Error, MutableBitmap, PhysicalType, Result};
+use flat_arrays_masks::{
     freeze_mask, is_mask_of, mark_at, push_mark, reserve_marks, shrink_marks, truncate_bits,
     truncate_mask,
 };
-use columnar_memory::{DataType, Error, MutableBitmap, PhysicalType, Result};
 use flat_arrays_values::BooleanArray;
 use std::alloc::Global;
 use std::marker::Model;
@@ -207,7 +207,7 @@ impl MutableBooleanArray {
     }
 
     /// Adds a value and its mark at the end.
-    #[tactic(auto, using(crate::proofs::Marked::cut_back, crate::proofs::Marked::masked))]
+    #[tactic(auto, using(flat_arrays_masks::proofs::Marked::cut_back, flat_arrays_masks::proofs::Marked::masked))]
     pub(crate) fn push_marked(&mut self, value: bool, mark: bool) -> Result<()>
         ensures { Changes result self.old self.new (grown self.old (value ∷ []) (mark ∷ [])) }
     {

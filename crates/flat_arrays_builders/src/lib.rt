@@ -9,8 +9,6 @@ mod boolean_from;
 mod boolean_set;
 mod equality;
 mod iterate;
-mod laws;
-mod marks;
 mod names;
 mod primitive;
 mod primitive_extend;
@@ -18,7 +16,6 @@ mod primitive_from;
 mod primitive_set;
 
 pub use boolean::MutableBooleanArray;
-pub use laws::{a_grown_list_has_the_slots_of_both, added_slots_come_behind_the_others};
 pub use names::{
     DaysMsVec, Int8Vec, Int16Vec, Int32Vec, Int64Vec, Int128Vec, Int256Vec, MonthsDaysNsVec,
     UInt8Vec, UInt16Vec, UInt32Vec, UInt64Vec,

@@ -6,13 +6,13 @@ ghost use Rattle.columnar_memory.specs.Results.{OrOutOfMemory};
 ghost use Rattle.columnar_memory.specs.declared.PhysicalType.TheVariants as layouts;
 ghost use Rattle.flat_arrays_values.specs.Flat.{cut, flat, marks_of, slots_of, IsFlat, IsMaskOf};
 ghost use Rattle.flat_arrays_values.specs.Results.{ForZero, IsChecked};
-ghost use Rattle.flat_arrays_builders.specs.Growth.{grown, with_slots};
-ghost use Rattle.flat_arrays_builders.specs.Changes.{Changes, Pops};
+ghost use Rattle.flat_arrays_masks.specs.Growth.{grown, with_slots};
+ghost use Rattle.flat_arrays_masks.specs.Changes.{Changes, Pops};
 
-use crate::marks::{
+use columnar_memory::{Buffer, DataType, Error, MutableBitmap, NativeType, Result};
+use flat_arrays_masks::{
     freeze_mask, is_mask_of, mark_at, push_mark, reserve_marks, shrink_marks, truncate_mask,
 };
-use columnar_memory::{Buffer, DataType, Error, MutableBitmap, NativeType, Result};
 use flat_arrays_values::PrimitiveArray;
 use std::alloc::Global;
 use std::marker::Model;
@@ -216,7 +216,7 @@ impl<T: NativeType> MutablePrimitiveArray<T> {
     }
 
     /// Adds a value and its mark at the end.
-    #[tactic(auto, using(crate::proofs::Marked::cut_back, crate::proofs::Marked::masked))]
+    #[tactic(auto, using(flat_arrays_masks::proofs::Marked::cut_back, flat_arrays_masks::proofs::Marked::masked))]
     pub(crate) fn push_marked(&mut self, value: T, mark: bool) -> Result<()>
         ensures { Changes result self.old self.new (grown self.old (value ∷ []) (mark ∷ [])) }
     {

@@ -7,11 +7,11 @@ ghost use Rattle.columnar_memory.specs.Results.{OrOutOfMemory};
 ghost use Rattle.flat_arrays_values.specs.Flat.{flat, of_slots};
 ghost use Rattle.flat_arrays_values.specs.Results.{ForZero};
 
-use crate::marks::{freeze_mask, mask_into_mut};
 use crate::primitive::MutablePrimitiveArray;
 use columnar_memory::{DataType, NativeType, Result};
 use either::Either;
 use flat_arrays_access::IntoMut;
+use flat_arrays_masks::{freeze_mask, mask_into_mut};
 use flat_arrays_values::PrimitiveArray;
 use std::alloc::Global;
 

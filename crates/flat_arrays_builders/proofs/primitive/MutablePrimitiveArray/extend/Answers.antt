@@ -1,8 +1,8 @@
 use Rattle.std.proofs.Common.{◌∙◌}
 use Rattle.std.proofs.lemmas.Result.{err_from_is_err_and}
-use Rattle.flat_arrays_builders.specs.Growth.{with_slots}
+use Rattle.flat_arrays_masks.specs.Growth.{with_slots}
 use Rattle.flat_arrays_builders.proofs.Along.{ended, stopped}
-use Rattle.flat_arrays_builders.proofs.Marked.{grown_nothing, slot_added}
+use Rattle.flat_arrays_masks.proofs.Marked.{grown_nothing, slot_added}
 use Rattle.flat_arrays_builders.proofs.primitive.MutablePrimitiveArray.extend.Goals as goal
 
 pub loop-slot-init : goal.loop-slot-init
@@ -20,9 +20,9 @@ returns-in_err-push_marked g c =
     let loop = c.loop-slot in
     let old = c.args.self.now in
     let stop =
-    stopped g.I.Iterator.next_gives (with_slots c.default-zero.result old) c.args.slots given.result loop.yielded loop.slot-iterator c.in-Some.slot c.next.new.self
-    loop.self c.push_marked.new.self c.in_err-push_marked.field-0.0 given.ensures.into_iter_gives loop.yielded_by c.in-Some.ensures.steps
-    loop.invariant c.in_err-push_marked.ensures in
+    stopped g.I.Iterator.next_gives (with_slots c.default-zero.result old) c.args.slots given.result loop.yielded loop.slot-iterator c.in-Some.slot
+    c.next.new.self loop.self c.push_marked.new.self c.in_err-push_marked.field-0.0 given.ensures.into_iter_gives loop.yielded_by
+    c.in-Some.ensures.steps loop.invariant c.in_err-push_marked.ensures in
     rw (p.1, p.2) (c.default-zero.result, g.met.T.NativeType.default_law c.default-zero.result c.default-zero.ensures, stop)
 
 pub returns : goal.returns
@@ -31,6 +31,6 @@ returns g c =
     let loop = c.loop-slot in
     let old = c.args.self.now in
     let whole =
-    ended g.I.Iterator.next_gives (with_slots c.default-zero.result old) c.args.slots given.result loop.yielded loop.slot-iterator c.next.new.self loop.self
-    given.ensures.into_iter_gives loop.yielded_by c.in-None.ensures.steps loop.invariant in
+    ended g.I.Iterator.next_gives (with_slots c.default-zero.result old) c.args.slots given.result loop.yielded loop.slot-iterator c.next.new.self
+    loop.self given.ensures.into_iter_gives loop.yielded_by c.in-None.ensures.steps loop.invariant in
     (c.default-zero.result, g.met.T.NativeType.default_law c.default-zero.result c.default-zero.ensures, whole)

@@ -1,5 +1,5 @@
 -- Marks of lists that grow and change.
-use Rattle.std.proofs.Common.{◌≡◌, ◌∙◌, ℕ, zero, suc, ◌+◌, ◌<◌, ◌≤◌, ◌⊎◌, inl, inr, Bool, true, false, not, List, [], ◌∷◌, ◌++◌, length, map, take}
+use Rattle.std.proofs.Common.{◌≡◌, ◌∙◌, ℕ, zero, suc, ◌+◌, ◌<◌, ◌⊎◌, inl, inr, Bool, true, false, not, List, [], ◌∷◌, ◌++◌, length, map}
 use Rattle.std.proofs.Common.{replicate, refl, ap, ap₂, sym, subst, arith}
 use Rattle.std.proofs.lemmas.List.{length-append, length-replicate, length-map, length-set}
 use Rattle.std.proofs.lemmas.List.{map-append, append_assoc, append-nil, replicate-append-replicate}
@@ -11,7 +11,7 @@ use Rattle.columnar_memory.specs.Bits.{unset_count}
 use Rattle.columnar_memory_bits.proofs.Counts.{unset_count_append}
 use Rattle.flat_arrays_values.proofs.Marks.{all_set}
 use Rattle.flat_arrays_values.specs.Flat.{Flat, flat, IsMaskOf}
-use Rattle.flat_arrays_builders.specs.Growth.{grown, with_mark, with_marks, with_slots, with_values}
+use Rattle.flat_arrays_masks.specs.Growth.{grown, with_mark, with_marks, with_slots, with_values}
 use mathlib.Core.Bool.{true≢false}
 
 no-mask : (n : ℕ) → IsMaskOf n None

@@ -6,8 +6,8 @@ ghost use Rattle.columnar_memory.specs.Results.{OrOutOfMemory};
 ghost use Rattle.flat_arrays_values.specs.Flat.{cut_mask, marks, IsMaskOf};
 ghost use Rattle.either.specs.Either.{MatchEither};
 ghost use Rattle.flat_arrays_values.specs.Results.{AppliesTo};
-ghost use Rattle.flat_arrays_builders.specs.Growth.{with_mark, with_marks};
-ghost use Rattle.flat_arrays_builders.specs.Changes.{Changes};
+ghost use Rattle.flat_arrays_masks.specs.Growth.{with_mark, with_marks};
+ghost use Rattle.flat_arrays_masks.specs.Changes.{Changes};
 
 use columnar_memory::{Bitmap, MutableBitmap, Result};
 use either::Either;
@@ -15,7 +15,7 @@ use std::alloc::Global;
 use std::mem;
 
 /// Whether a mask, if there is one, has `len` marks.
-pub(crate) fn is_mask_of(validity: &Option<MutableBitmap>, len: usize) -> bool
+pub fn is_mask_of(validity: &Option<MutableBitmap>, len: usize) -> bool
     ensures { IsTrue result ↔ IsMaskOf len validity.now }
 {
     match validity {
@@ -26,7 +26,7 @@ pub(crate) fn is_mask_of(validity: &Option<MutableBitmap>, len: usize) -> bool
 
 /// The mark at a place.
 #[tactic(auto, using(flat_arrays_values::proofs::Marks::mask_lemmas))]
-pub(crate) fn mark_at(validity: &Option<MutableBitmap>, i: usize) -> bool
+pub fn mark_at(validity: &Option<MutableBitmap>, i: usize) -> bool
     requires { ForSome validity.now (λ mask. i < length mask) }
     ensures { (n : ℕ) → i < n → slice_get (marks n validity.now) i ≡ Some result }
 {
@@ -37,7 +37,7 @@ pub(crate) fn mark_at(validity: &Option<MutableBitmap>, i: usize) -> bool
 }
 
 /// Drops the bits from `len` on.
-pub(crate) fn truncate_bits(bits: &mut MutableBitmap, len: usize)
+pub fn truncate_bits(bits: &mut MutableBitmap, len: usize)
     requires { len ≤ length bits.old }
     ensures { bits.new ≡ take len bits.old }
 {
@@ -48,7 +48,7 @@ pub(crate) fn truncate_bits(bits: &mut MutableBitmap, len: usize)
 }
 
 /// Drops the marks from `len` on, if there is a mask.
-pub(crate) fn truncate_mask(validity: &mut Option<MutableBitmap>, len: usize)
+pub fn truncate_mask(validity: &mut Option<MutableBitmap>, len: usize)
     requires { ForSome validity.old (λ mask. len ≤ length mask) }
     ensures { validity.new ≡ cut_mask validity.old 0 len }
 {
@@ -61,7 +61,7 @@ pub(crate) fn truncate_mask(validity: &mut Option<MutableBitmap>, len: usize)
 ///
 /// # Errors
 /// `OutOfMemory`: the mark, or the mask that it makes, found no memory.
-pub(crate) fn push_mark(
+pub fn push_mark(
     alloc: Global,
     validity: &mut Option<MutableBitmap>,
     held: usize,
@@ -86,7 +86,7 @@ pub(crate) fn push_mark(
 ///
 /// # Errors
 /// `OutOfMemory`: the mask that it makes found no memory.
-pub(crate) fn set_mark(
+pub fn set_mark(
     alloc: Global,
     validity: &mut Option<MutableBitmap>,
     held: usize,
@@ -114,7 +114,7 @@ pub(crate) fn set_mark(
 ///
 /// # Errors
 /// `OutOfMemory`: the room found no memory.
-pub(crate) fn reserve_marks(validity: &mut Option<MutableBitmap>, additional: usize) -> Result<()>
+pub fn reserve_marks(validity: &mut Option<MutableBitmap>, additional: usize) -> Result<()>
     ensures { Changes result validity.old validity.new validity.old }
 {
     match validity {
@@ -124,7 +124,7 @@ pub(crate) fn reserve_marks(validity: &mut Option<MutableBitmap>, additional: us
 }
 
 /// Gives back memory that no mark needs, as far as the allocator takes it.
-pub(crate) fn shrink_marks(validity: &mut Option<MutableBitmap>)
+pub fn shrink_marks(validity: &mut Option<MutableBitmap>)
     ensures { validity.new ≡ validity.old }
 {
     if let Some(mask) = validity {
@@ -136,7 +136,7 @@ pub(crate) fn shrink_marks(validity: &mut Option<MutableBitmap>)
 ///
 /// # Errors
 /// `OutOfMemory`: the count of owners found no memory.
-pub(crate) fn freeze_mask(validity: Option<MutableBitmap>) -> Result<Option<Bitmap>>
+pub fn freeze_mask(validity: Option<MutableBitmap>) -> Result<Option<Bitmap>>
     ensures { OrOutOfMemory result (λ mask. mask ≡ validity) }
 {
     match validity {
@@ -150,7 +150,7 @@ pub(crate) fn freeze_mask(validity: Option<MutableBitmap>) -> Result<Option<Bitm
 /// # Errors
 /// `OutOfMemory`: the marks, or the mask that they make, found no memory.
 #[tactic(auto, using(crate::proofs::Marked::counted))]
-pub(crate) fn extend_constant_marks(
+pub fn extend_constant_marks(
     alloc: Global,
     validity: &mut Option<MutableBitmap>,
     held: usize,
@@ -177,7 +177,7 @@ pub(crate) fn extend_constant_marks(
 /// # Errors
 /// `OutOfMemory`: the marks, or the mask that they make, found no memory.
 #[tactic(auto, using(crate::proofs::Marked::counted))]
-pub(crate) fn extend_marks(
+pub fn extend_marks(
     alloc: Global,
     validity: &mut Option<MutableBitmap>,
     held: usize,
@@ -207,7 +207,7 @@ pub(crate) fn extend_marks(
 ///
 /// # Errors
 /// `OutOfMemory`: the growth found no memory.
-pub(crate) fn append(bits: &mut MutableBitmap, more: &MutableBitmap) -> Result<()>
+pub fn append(bits: &mut MutableBitmap, more: &MutableBitmap) -> Result<()>
     ensures { Changes result bits.old bits.new (bits.old ++ more.now) }
 {
     bits.extend_from_slice(more.as_slice(), 0, more.len())
@@ -215,7 +215,7 @@ pub(crate) fn append(bits: &mut MutableBitmap, more: &MutableBitmap) -> Result<(
 
 /// Replaces a mask, if there is one, by what a function gives for it, which has as many marks.
 #[tactic(auto, using(flat_arrays_values::proofs::Marks::applied))]
-pub(crate) fn apply_to_mask<F: FnOnce(MutableBitmap) -> MutableBitmap + Drop>(
+pub fn apply_to_mask<F: FnOnce(MutableBitmap) -> MutableBitmap + Drop>(
     validity: &mut Option<MutableBitmap>,
     f: F,
 )
@@ -230,9 +230,7 @@ pub(crate) fn apply_to_mask<F: FnOnce(MutableBitmap) -> MutableBitmap + Drop>(
 }
 
 /// The marks to change, on the right, where the mask is its own or there is none; else the mask. Takes no memory.
-pub(crate) fn mask_into_mut(
-    validity: Option<Bitmap>,
-) -> Either<Option<Bitmap>, Option<MutableBitmap>>
+pub fn mask_into_mut(validity: Option<Bitmap>) -> Either<Option<Bitmap>, Option<MutableBitmap>>
     ensures { MatchEither result (λ mask. mask ≡ validity) (λ mask. mask ≡ validity) }
 {
     let Some(mask) = validity else {

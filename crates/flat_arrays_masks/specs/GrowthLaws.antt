@@ -1,7 +1,7 @@
 -- What holds of every list that grows, and of its slots.
 use Rattle.std.specs.Prelude.{◌≡◌, List, ◌++◌, length, map, Bool, Option}
 use Rattle.std.specs.List.{zip}
-use Rattle.flat_arrays_builders.specs.Growth.{grown, with_slots}
+use Rattle.flat_arrays_masks.specs.Growth.{grown, with_slots}
 use Rattle.flat_arrays_values.specs.Flat.{Flat, slot_of, slots_of, IsMaskOf}
 
 -- the slots of a list that has grown are its slots and then those of the values and marks that came

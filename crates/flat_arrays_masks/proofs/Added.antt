@@ -1,12 +1,12 @@
 -- Slots of lists that grow.
-use Rattle.std.proofs.Common.{◌≡◌, ◌∙◌, ℕ, ◌+◌, ◌<◌, ◌⊎◌, inl, inr, Bool, true, false, List, [], ◌∷◌, ◌++◌, length, map, replicate, refl, ap, ap₂, sym, arith}
+use Rattle.std.proofs.Common.{◌≡◌, ◌∙◌, ℕ, ◌+◌, ◌<◌, ◌⊎◌, inl, inr, Bool, true, List, [], ◌∷◌, ◌++◌, length, map, replicate, refl, ap, sym, arith}
 use Rattle.std.proofs.lemmas.List.{length-append, length-replicate, length-map, map-append, replicate-append-replicate}
 use Rattle.std.specs.List.{zip}
 use Rattle.std.specs.Prelude.{Option, Some, None, is_some, unwrap_or}
 use Rattle.columnar_memory.specs.Bits.{unset_count}
 use Rattle.flat_arrays_values.specs.Flat.{Flat, marks, slot_of, slots_of, IsMaskOf}
-use Rattle.flat_arrays_builders.specs.Growth.{grown, with_marks, with_slots}
-use Rattle.flat_arrays_builders.proofs.Marked.{all-true, made, none_or_some, unmade}
+use Rattle.flat_arrays_masks.specs.Growth.{grown, with_marks, with_slots}
+use Rattle.flat_arrays_masks.proofs.Marked.{all-true, made, none_or_some, unmade}
 
 marks-grow : (n m : ℕ) (validity : Option (List Bool)) (bits : List Bool) → length bits ≡ m
     → marks (n + m) (with_marks n validity bits) ≡ marks n validity ++ bits

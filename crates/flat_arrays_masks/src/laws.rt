@@ -1,5 +1,5 @@
 //! Laws of lists that grow.
-ghost use Rattle.flat_arrays_builders.specs.GrowthLaws.{AddedSlots, GrownSlots};
+ghost use Rattle.flat_arrays_masks.specs.GrowthLaws.{AddedSlots, GrownSlots};
 
 /// The slots of a list that has grown are its slots and then those of the values and marks that came.
 #[tactic(auto, using(crate::proofs::Added::grown_slots))]

@@ -1,7 +1,7 @@
 use Rattle.std.proofs.Common.{◌∙◌, ◌≤◌, ap, sym, take, length, arith}
 use Rattle.columnar_memory_bits.specs.Bits.{bit_at}
 use Rattle.columnar_memory_bits.proofs.Windows.{take_window}
-use Rattle.flat_arrays_builders.proofs.marks.truncate_bits.Goals as goal
+use Rattle.flat_arrays_masks.proofs.marks.truncate_bits.Goals as goal
 
 pub returns : goal.returns
 returns c =
