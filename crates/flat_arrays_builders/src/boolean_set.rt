@@ -1,0 +1,85 @@
+//! Changed parts of builders of boolean arrays.
+ghost use Rattle.std.specs.Prelude.{◌≡◌, ◌<◌, Bool, List, length, false};
+ghost use Rattle.std.specs.Option.{ForSome};
+ghost use Rattle.columnar_memory.specs.Layouts.{physical_type};
+ghost use Rattle.columnar_memory.specs.declared.PhysicalType.TheVariants as layouts;
+ghost use Rattle.flat_arrays_values.specs.Flat.{flat, IsMaskOf};
+ghost use Rattle.flat_arrays_values.specs.Results.{AppliesTo};
+ghost use Rattle.flat_arrays_masks.specs.Growth.{with_slot};
+ghost use Rattle.flat_arrays_masks.specs.Changes.{Changes};
+
+use crate::boolean::MutableBooleanArray;
+use columnar_memory::{DataType, MutableBitmap, Result};
+use flat_arrays_masks::{apply_to_mask, set_mark};
+use std::mem;
+
+impl MutableBooleanArray {
+    /// Replaces the slot at a place. A null stores false, and the first one makes the mask.
+    ///
+    /// # Errors
+    /// `OutOfMemory`: the mask found no memory.
+    #[tactic(auto, using(flat_arrays_masks::proofs::Marked::masked))]
+    pub fn set(&mut self, i: usize, slot: Option<bool>) -> Result<()>
+        requires { i < length self.old.values }
+        ensures { Changes result self.old self.new (with_slot false self.old i slot) }
+    {
+        let alloc = self.values.allocator();
+        let held = self.values.len();
+        set_mark(alloc, &mut self.validity, held, i, slot.is_some())?;
+        self.values.set(i, slot.unwrap_or(false));
+        Ok(())
+    }
+
+    /// Replaces the values by as many others.
+    pub fn set_values(&mut self, values: MutableBitmap)
+        requires { length values ≡ length self.old.values }
+        ensures { self.new ≡ flat self.old.data_type values self.old.validity }
+    {
+        self.values = values;
+    }
+
+    /// Replaces the mask.
+    pub fn set_validity(&mut self, validity: Option<MutableBitmap>)
+        requires { IsMaskOf (length self.old.values) validity }
+        ensures { self.new ≡ flat self.old.data_type self.old.values validity }
+    {
+        self.validity = validity;
+    }
+
+    /// The same slots under another data type whose arrays store booleans.
+    pub fn to(self, data_type: DataType) -> Self
+        requires { physical_type data_type ≡ layouts.Boolean }
+        ensures { result ≡ flat data_type self.values self.validity }
+    {
+        let MutableBooleanArray {
+            data_type: _,
+            values,
+            validity,
+        } = self;
+        MutableBooleanArray {
+            data_type,
+            values,
+            validity,
+        }
+    }
+
+    /// Replaces the values by what a function gives for them, as many.
+    pub fn apply_values<F: FnOnce(MutableBitmap) -> MutableBitmap + Drop>(&mut self, f: F)
+        requires callable { F.pre f self.old.values }
+        requires keeps { (made : List Bool) → F.post f self.old.values made → length made ≡ length self.old.values }
+        ensures { (made : List Bool) × F.post f self.old.values made × (self.new ≡ flat self.old.data_type made self.old.validity) }
+    {
+        let alloc = self.values.allocator();
+        self.values = f(mem::replace(&mut self.values, MutableBitmap::new(alloc)));
+    }
+
+    /// Replaces the mask, if there is one, by what a function gives for it, which has as many marks.
+    pub fn apply_validity<F: FnOnce(MutableBitmap) -> MutableBitmap + Drop>(&mut self, f: F)
+        requires callable { ForSome self.old.validity (F.pre f) }
+        requires keeps { ForSome self.old.validity (λ mask. (made : List Bool) → F.post f mask made → length made ≡ length mask) }
+        ensures applied { AppliesTo (F.post f) self.old.validity self.new.validity }
+        ensures rest { self.new ≡ flat self.old.data_type self.old.values self.new.validity }
+    {
+        apply_to_mask(&mut self.validity, f);
+    }
+}
