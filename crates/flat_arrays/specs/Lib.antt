@@ -12,5 +12,9 @@ pub use Rattle.flat_arrays_bytes.specs.Equal
 pub use Rattle.flat_arrays_bytes.specs.Fits
 pub use Rattle.flat_arrays_bytes.specs.Laws
 pub use Rattle.flat_arrays_bytes.specs.Texts
+pub use Rattle.flat_arrays_masks.specs.Changes
+pub use Rattle.flat_arrays_masks.specs.Growth
+pub use Rattle.flat_arrays_masks.specs.GrowthLaws
+pub use Rattle.flat_arrays_builders.specs.SlotsEqual
 pub use Rattle.flat_arrays_byte_builders.specs.Growing
-pub use Rattle.flat_arrays_byte_builders.specs.GrowthLaws
+pub use Rattle.flat_arrays_byte_builders.specs.PushLaws

@@ -1,9 +1,13 @@
-//! Flat arrays under one name: arrays of numbers, booleans, byte strings and texts, which a contract sees as a data type, stored values
-//! and a mask.
+//! Flat arrays under one name: arrays of numbers, booleans, byte strings and texts, and their builders, which a contract sees as a data
+//! type, stored values and a mask.
 #![tactic(auto)]
 
 pub use flat_arrays_access::{
     ArrayAccessor, ArrayValuesIter, IntoMut, a_walk_gives_each_slot_once,
+};
+pub use flat_arrays_builders::{
+    DaysMsVec, Int8Vec, Int16Vec, Int32Vec, Int64Vec, Int128Vec, Int256Vec, MonthsDaysNsVec,
+    MutableBooleanArray, MutablePrimitiveArray, UInt8Vec, UInt16Vec, UInt32Vec, UInt64Vec,
 };
 pub use flat_arrays_byte_builders::{
     ByteBuilder, MutableBinaryArray, MutableBinaryValuesArray, MutableUtf8Array,
@@ -13,6 +17,9 @@ pub use flat_arrays_bytes::{
     BinaryArray, BinaryValueIter, Utf8Array, Utf8ValuesIter,
     a_cut_of_a_cut_of_byte_strings_is_one_cut, a_cut_of_byte_strings_has_a_range_of_the_slots,
     a_walk_over_byte_strings_begins_with_all_slots,
+};
+pub use flat_arrays_masks::{
+    a_grown_list_has_the_slots_of_both, added_slots_come_behind_the_others,
 };
 pub use flat_arrays_values::{
     BooleanArray, DaysMsArray, Int8Array, Int16Array, Int32Array, Int64Array, Int128Array,

@@ -6,7 +6,7 @@ use Rattle.flat_arrays_bytes.proofs.Slots.{length_slots}
 use Rattle.flat_arrays_bytes.specs.ByteStrings.{ByteStrings, len_of, slots_of}
 use Rattle.flat_arrays_byte_builders.proofs.Growth.{IsFilled-with_slot, len_of-with_slot, slots_of-first_slots, slots_of-with_slot}
 use Rattle.flat_arrays_byte_builders.specs.Growing.{IsFilled, with_slot, without_last}
-use Rattle.flat_arrays_byte_builders.specs.GrowthLaws.{PushesAdd}
+use Rattle.flat_arrays_byte_builders.specs.PushLaws.{PushesAdd}
 
 undone : (a : ByteStrings) (slot : Option (List ℕ)) → IsFilled a → slots_of (without_last (with_slot a slot)) ≡ slots_of a
 undone a slot h =

@@ -1,5 +1,5 @@
 //! Laws of builders of byte strings and texts.
-ghost use Rattle.flat_arrays_byte_builders.specs.GrowthLaws.{PushesAdd};
+ghost use Rattle.flat_arrays_byte_builders.specs.PushLaws.{PushesAdd};
 
 /// A push adds its slot behind the others, and taking the last slot off undoes it.
 #[tactic(auto, using(crate::proofs::Undone::pushes_add))]
