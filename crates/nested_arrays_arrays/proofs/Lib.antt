@@ -1,0 +1,3 @@
+pub mod CutMasks
+pub mod CutNodes
+pub mod OffsetLists

@@ -1,0 +1,31 @@
+-- The column of an array of any type, and which width its offsets have.
+use Rattle.std.specs.Prelude.{◌≡◌, true}
+use Rattle.columnar_memory.specs.Layouts.{physical_type}
+use Rattle.columnar_memory.specs.Spans.{Spans, offsets_of}
+use Rattle.columnar_memory.specs.declared.PhysicalType.{PhysicalType}
+use Rattle.columnar_memory.specs.declared.PhysicalType.TheVariants as physical
+use Rattle.nested_arrays.specs.SoundColumns.{is_sound}
+use Rattle.nested_arrays.specs.StoredColumns.{Column, nulls, lists}
+use Rattle.nested_arrays_arrays.specs.declared.any.Node.{Node}
+use Rattle.nested_arrays_arrays.specs.declared.any.Node.TheVariants as variant
+use Rattle.nested_arrays_arrays.specs.declared.offsets.ListOffsets.{ListOffsets}
+use Rattle.nested_arrays_arrays.specs.declared.offsets.ListOffsets.TheVariants as width
+use Rattle.nested_arrays_arrays.specs.Widths.{spans_in, layout_of}
+
+abbrev pub column_of : Node → Column
+column_of (variant.Null data_type n) = nulls data_type n
+column_of (variant.List node) = lists node.data_type node.validity (offsets_of (spans_in node.offsets)) node.values.value
+column_of (variant.FixedSizeList array) = array
+column_of (variant.Struct array) = array
+column_of (variant.Map array) = array
+column_of (variant.Union array) = array
+
+-- the offsets of lists are as wide as their type says
+abbrev pub FitsWidth : Node → Type 0
+FitsWidth (variant.List node) = physical_type node.data_type ≡ layout_of node.offsets
+FitsWidth _ = Unit {0}
+
+-- an array of any type is sound at every depth
+pub record IsWhole (node : Node) : Type 0 where
+  pub sound : is_sound (column_of node) ≡ true
+  pub fits : FitsWidth node

@@ -1,0 +1,4 @@
+pub mod AnyColumns
+pub mod Answers
+pub mod Sizes
+pub mod Widths

@@ -1,0 +1,121 @@
+//! Arrays of any type.
+ghost use Rattle.std.specs.Prelude.{◌≡◌, ◌+◌, ◌≤◌, true};
+ghost use Rattle.nested_arrays.specs.SoundColumns.{is_sound};
+ghost use Rattle.nested_arrays.specs.StoredColumns.{column_len, column_type, cut};
+
+use crate::fixed_lists::FixedSizeListArray;
+use crate::maps::MapArray;
+use crate::masks::slice_mask;
+use crate::offsets::ListOffsets;
+use crate::records::StructArray;
+use crate::unions::UnionArray;
+use columnar_memory::{Bitmap, DataType};
+use std::marker::Model;
+
+/// An array, by how it lies in memory.
+#[cycle(arrays)]
+#[derive(Drop)]
+pub enum Node {
+    Null(DataType, usize),
+    List(ListNode),
+    FixedSizeList(FixedSizeListArray),
+    Struct(StructArray),
+    Map(MapArray),
+    Union(UnionArray),
+}
+
+/// Lists of any length, one after another in a child.
+#[cycle(arrays)]
+#[derive(Drop)]
+pub struct ListNode {
+    pub data_type: DataType,
+    pub offsets: ListOffsets,
+    pub values: Box<AnyArray>,
+    pub validity: Option<Bitmap>,
+}
+
+/// An array of any type, which a contract sees as the column that it stores. It is sound at every depth.
+#[cycle(arrays)]
+#[derive(Drop)]
+pub struct AnyArray {
+    pub node: Node,
+}
+
+impl Model for AnyArray {
+    ghost use Rattle.std.specs.Prelude.{◌+◌, ◌*◌};
+    ghost use Rattle.nested_arrays.specs.StoredColumns.{Column, column_size};
+    ghost use Rattle.nested_arrays.specs.ColumnCodes.{column_code};
+
+    ghost Value = { Column };
+
+    ghost coded = { column_code };
+
+    ghost use Rattle.nested_arrays_arrays.specs.AnyColumns.{column_of, IsWhole};
+
+    ghost view = { λ it. column_of it.node };
+
+    ghost invariant = { λ it. IsWhole it.node };
+
+    ghost size = { λ c. 2 * column_size c + 1 };
+
+    ghost use Rattle.nested_arrays_arrays.specs.Sizes.{node_is_deep};
+
+    ghost size_decreases = { λ a h. node_is_deep a.node };
+}
+
+impl AnyArray {
+    /// How many slots there are.
+    #[cycle(counting)]
+    #[tactic(auto, using(crate::proofs::OffsetLists::spans_count))]
+    pub fn len(&self) -> usize
+        ensures { result ≡ column_len self.now }
+    {
+        match &self.node {
+            Node::Null(_, length) => *length,
+            Node::List(node) => node.offsets.lists(),
+            Node::FixedSizeList(array) => array.len(),
+            Node::Struct(array) => array.len(),
+            Node::Map(array) => array.len(),
+            Node::Union(array) => array.len(),
+        }
+    }
+
+    pub fn data_type(&self) -> &DataType
+        ensures { result.now ≡ column_type self.now }
+    {
+        match &self.node {
+            Node::Null(data_type, _) => data_type,
+            Node::List(node) => &node.data_type,
+            Node::FixedSizeList(array) => array.data_type(),
+            Node::Struct(array) => array.data_type(),
+            Node::Map(array) => array.data_type(),
+            Node::Union(array) => array.data_type(),
+        }
+    }
+
+    /// Hands to a proof that an array is sound at every depth.
+    pub fn whole(&self)
+        ensures { is_sound self.now ≡ true }
+    {
+        let _node = &self.node;
+    }
+
+    /// Narrows this to the `count` slots from `offset` on, with no copy.
+    #[cycle(cutting)]
+    pub fn slice(&mut self, offset: usize, count: usize)
+        requires { offset + count ≤ column_len self.old }
+        ensures { self.new ≡ cut self.old offset count }
+    {
+        match &mut self.node {
+            Node::Null(_, length) => *length = count,
+            Node::List(node) => {
+                slice_mask(&mut node.validity, offset, count);
+                node.offsets.slice(offset, count);
+            }
+            Node::FixedSizeList(array) => array.slice(offset, count),
+            Node::Struct(array) => array.slice(offset, count),
+            Node::Map(array) => array.slice(offset, count),
+            Node::Union(array) => array.slice(offset, count),
+        }
+    }
+}

@@ -1,0 +1,17 @@
+//! Arrays of any type.
+#![tactic(auto)]
+
+mod any;
+mod fixed_lists;
+mod maps;
+mod masks;
+mod offsets;
+mod records;
+mod unions;
+
+pub use any::{AnyArray, ListNode, Node};
+pub use fixed_lists::FixedSizeListArray;
+pub use maps::MapArray;
+pub use offsets::ListOffsets;
+pub use records::StructArray;
+pub use unions::UnionArray;

@@ -1,0 +1,38 @@
+//! Offsets of lists.
+ghost use Rattle.std.specs.Prelude.{◌≡◌, ◌+◌, ◌≤◌, length};
+ghost use Rattle.columnar_memory.specs.Spans.{spans_between};
+ghost use Rattle.nested_arrays_arrays.specs.Widths.{spans_in, layout_of};
+
+use crate::masks::slice_offsets;
+use columnar_memory::OffsetsBuffer;
+
+/// The offsets of lists, of 32 or of 64 bits.
+#[derive(Drop)]
+pub enum ListOffsets {
+    Small(OffsetsBuffer<i32>),
+    Large(OffsetsBuffer<i64>),
+}
+
+impl ListOffsets {
+    /// How many lists there are.
+    pub(crate) fn lists(&self) -> usize
+        ensures { result ≡ length (spans_in self.now).lengths }
+    {
+        match self {
+            ListOffsets::Small(offsets) => offsets.len_proxy(),
+            ListOffsets::Large(offsets) => offsets.len_proxy(),
+        }
+    }
+
+    /// Narrows this to the offsets of the `count` lists from `offset` on.
+    pub(crate) fn slice(&mut self, offset: usize, count: usize)
+        requires { offset + count ≤ length (spans_in self.old).lengths }
+        ensures spans { spans_in self.new ≡ spans_between (spans_in self.old) offset count }
+        ensures width { layout_of self.new ≡ layout_of self.old }
+    {
+        match self {
+            ListOffsets::Small(offsets) => slice_offsets(offsets, offset, count),
+            ListOffsets::Large(offsets) => slice_offsets(offsets, offset, count),
+        }
+    }
+}

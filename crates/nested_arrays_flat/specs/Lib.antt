@@ -1,0 +1,4 @@
+pub mod Checked
+pub mod FlatColumns
+pub mod Primitives
+pub mod Taken
