@@ -4,7 +4,7 @@ use Rattle.std.specs.Prelude.{ℤ, Bool, true, Option, Some, None, ◌==◌, ◌
 use Rattle.std.specs.List.{list_all}
 use Rattle.columnar_memory.specs.Window.{window}
 use Rattle.nested_arrays.specs.Kinds.{is_signed}
-use Rattle.nested_arrays_arrays.proofs.CutMasks.{cut_window}
+use Rattle.nested_arrays_flat.proofs.CutMasks.{cut_window}
 use Rattle.std.proofs.lemmas.Bool.{and_parts, eqb-true}
 use Rattle.std.proofs.lemmas.List.{length-map}
 use Rattle.columnar_memory.specs.declared.DataType.{DataType}

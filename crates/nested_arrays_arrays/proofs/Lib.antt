@@ -1,3 +1,5 @@
-pub mod CutMasks
 pub mod CutNodes
+pub mod FlatCuts
+pub mod ListParts
 pub mod OffsetLists
+pub mod StructParts

@@ -1,8 +1,9 @@
 -- Offsets as spans, and as a list of numbers.
-use Rattle.std.proofs.Common.{◌≡◌, ℕ, zero, suc, ◌+◌, ◌-◌, ◌≤◌, ◌<◌, List, [], ◌∷◌, length, take, drop, get_or, sum, refl, sym, ap, ◌∙◌, arith, true}
+use Rattle.std.proofs.Common.{◌≡◌, ℕ, zero, suc, ◌+◌, ◌-◌, ◌≤◌, ◌<◌, List, [], ◌∷◌, length, take, drop, get_or, sum, refl, sym, ap, subst, ◌∙◌, arith, true}
 use Rattle.std.specs.Prelude.{Bool, ◌&&◌, nat_le, slice_range}
 use Rattle.std.specs.List.{list_all}
-use Rattle.std.proofs.lemmas.Bool.{and_from, le-leb}
+use Rattle.std.proofs.lemmas.Bool.{and_from, and_parts, le-leb, leb-true}
+use Rattle.nested_arrays.proofs.Conditions.{holds_from}
 use Rattle.std.proofs.lemmas.List.Sums.{sum_by-cons}
 use Rattle.columnar_memory.specs.Spans.{Spans, ends_from, offsets_of, offset_at, last_of, spans_between}
 use Rattle.nested_arrays.specs.SoundColumns.{holds_below, rises_at, are_offsets}
@@ -55,3 +56,56 @@ cut_offsets s o n within =
 -- lists by offsets are as many as spans
 pub spans_count : (s : Spans) → length (offsets_of s) - 1 ≡ length s.lengths
 spans_count s = omega (arith, length-offsets_of s)
+
+-- ---- soundness
+
+sum-take-suc : (i : ℕ) (xs : List ℕ) → sum (take i xs) ≤ sum (take (suc i) xs)
+sum-take-suc zero xs = omega arith
+sum-take-suc (suc i) [] = omega arith
+sum-take-suc (suc i) (x ∷ xs) = omega (arith, sum-take-suc i xs, sum-cons x (take i xs), sum-cons x (take (suc i) xs))
+
+sum-take-le : (i : ℕ) (xs : List ℕ) → sum (take i xs) ≤ sum (take (i + 1) xs)
+sum-take-le i xs =
+    let one : suc i ≡ i + 1 = omega arith in
+    subst (λ (k : ℕ). sum (take i xs) ≤ sum (take k xs)) one (sum-take-suc i xs)
+
+rises : (before : ℕ) (lengths : List ℕ) → holds_below (length lengths) (rises_at (before ∷ ends_from before lengths)) ≡ true
+rises before lengths = holds_from (length lengths) (rises_at (before ∷ ends_from before lengths)) (λ i small.
+    let s : Spans = record { start = before; lengths = lengths } in
+    let here = get_or-offsets_of s i (omega arith) in
+    let next = get_or-offsets_of s (i + 1) (omega arith) in
+    le-leb (get_or (offsets_of s) i 0) (get_or (offsets_of s) (i + 1) 0) (omega (arith, here, next, sum-take-le i lengths)))
+
+ends_within : (before : ℕ) (lengths : List ℕ) (limit : ℕ) → before + sum lengths ≤ limit
+    → list_all (λ offset. nat_le offset limit) (ends_from before lengths) ≡ true
+ends_within before [] limit h = refl
+ends_within before (l ∷ ls) limit h =
+    and_from (nat_le (before + l) limit) (list_all (λ offset. nat_le offset limit) (ends_from (before + l) ls))
+    (le-leb (before + l) limit (omega (arith, h, sum-cons l ls))) (ends_within (before + l) ls limit (omega (arith, h, sum-cons l ls)))
+
+-- spans that end within a limit have offsets within it
+pub spans_are_offsets : (s : Spans) (limit : ℕ) → last_of s ≤ limit → are_offsets (offsets_of s) limit ≡ true
+spans_are_offsets s limit h =
+    let count : length (offsets_of s) - 1 ≡ length s.lengths = spans_count s in
+    and_from (nat_le 1 (length (offsets_of s)) && holds_below (length (offsets_of s) - 1) (rises_at (offsets_of s)))
+    (list_all (λ offset. nat_le offset limit) (offsets_of s))
+    (and_from (nat_le 1 (length (offsets_of s))) (holds_below (length (offsets_of s) - 1) (rises_at (offsets_of s)))
+    (le-leb 1 (length (offsets_of s)) (omega (arith, length-offsets_of s)))
+    (ap (λ n. holds_below n (rises_at (offsets_of s))) count ∙ rises s.start s.lengths))
+    (and_from (nat_le s.start limit) (list_all (λ offset. nat_le offset limit) (ends_from s.start s.lengths))
+    (le-leb s.start limit (omega (arith, h))) (ends_within s.start s.lengths limit h))
+
+last_within : (before : ℕ) (lengths : List ℕ) (limit : ℕ) → before ≤ limit
+    → list_all (λ offset. nat_le offset limit) (ends_from before lengths) ≡ true → before + sum lengths ≤ limit
+last_within before [] limit le h = omega (arith, le)
+last_within before (l ∷ ls) limit le h =
+    let parts = and_parts (nat_le (before + l) limit) (list_all (λ offset. nat_le offset limit) (ends_from (before + l) ls)) h in
+    omega (arith, last_within (before + l) ls limit (leb-true (before + l) limit parts.0) parts.1, sum-cons l ls)
+
+-- offsets within a limit are of spans that end within it
+pub offsets_end_within : (s : Spans) (limit : ℕ) → are_offsets (offsets_of s) limit ≡ true → last_of s ≤ limit
+offsets_end_within s limit h =
+    let all = and_parts (nat_le 1 (length (offsets_of s)) && holds_below (length (offsets_of s) - 1) (rises_at (offsets_of s)))
+    (list_all (λ offset. nat_le offset limit) (offsets_of s)) h in
+    let parts = and_parts (nat_le s.start limit) (list_all (λ offset. nat_le offset limit) (ends_from s.start s.lengths)) all.1 in
+    last_within s.start s.lengths limit (leb-true s.start limit parts.0) parts.1

@@ -1,10 +1,20 @@
 -- What calls of arrays answer.
 use Rattle.std.specs.Prelude.{◌≡◌, true, Result, MatchResult}
-use Rattle.columnar_memory.specs.declared.Error.{Error}
 use Rattle.columnar_memory.specs.Error.{IsOutOfSpec}
+use Rattle.columnar_memory.specs.Layouts.{physical_type}
+use Rattle.columnar_memory.specs.declared.Error.{Error}
+use Rattle.columnar_memory.specs.declared.PhysicalType.{PhysicalType}
 use Rattle.nested_arrays.specs.SoundColumns.{is_sound}
-use Rattle.nested_arrays.specs.StoredColumns.{Column}
+use Rattle.nested_arrays.specs.StoredColumns.{Column, column_type}
 
 -- the array of these parts, if they are those of an array, or a refusal
 abbrev pub IsChecked : Column → Result Column Error → Type 0
 IsChecked parts r = MatchResult r (λ a. (a ≡ parts) × (is_sound parts ≡ true)) (λ e. IsOutOfSpec e × ¬ (is_sound parts ≡ true))
+
+-- parts of an array that lies in memory so
+abbrev pub LiesAs : PhysicalType → Column → Type 0
+LiesAs layout parts = (is_sound parts ≡ true) × (physical_type (column_type parts) ≡ layout)
+
+-- the array of these parts, if they are those of an array that lies in memory so, or a refusal
+abbrev pub IsCheckedAs : PhysicalType → Column → Result Column Error → Type 0
+IsCheckedAs layout parts r = MatchResult r (λ a. (a ≡ parts) × LiesAs layout parts) (λ e. IsOutOfSpec e × ¬ LiesAs layout parts)

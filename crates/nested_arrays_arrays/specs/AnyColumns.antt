@@ -5,7 +5,7 @@ use Rattle.columnar_memory.specs.Spans.{Spans, offsets_of}
 use Rattle.columnar_memory.specs.declared.PhysicalType.{PhysicalType}
 use Rattle.columnar_memory.specs.declared.PhysicalType.TheVariants as physical
 use Rattle.nested_arrays.specs.SoundColumns.{is_sound}
-use Rattle.nested_arrays.specs.StoredColumns.{Column, nulls, lists}
+use Rattle.nested_arrays.specs.StoredColumns.{Column, lists}
 use Rattle.nested_arrays_arrays.specs.declared.any.Node.{Node}
 use Rattle.nested_arrays_arrays.specs.declared.any.Node.TheVariants as variant
 use Rattle.nested_arrays_arrays.specs.declared.offsets.ListOffsets.{ListOffsets}
@@ -13,7 +13,7 @@ use Rattle.nested_arrays_arrays.specs.declared.offsets.ListOffsets.TheVariants a
 use Rattle.nested_arrays_arrays.specs.Widths.{spans_in, layout_of}
 
 abbrev pub column_of : Node → Column
-column_of (variant.Null data_type n) = nulls data_type n
+column_of (variant.Flat array) = array
 column_of (variant.List node) = lists node.data_type node.validity (offsets_of (spans_in node.offsets)) node.values.value
 column_of (variant.FixedSizeList array) = array
 column_of (variant.Struct array) = array

@@ -1,4 +1,7 @@
 pub mod AnyColumns
 pub mod Answers
+pub mod Entries
+pub mod FlatNodes
+pub mod Lengths
 pub mod Sizes
 pub mod Widths

@@ -12,7 +12,7 @@ use denote.Param.Weighed.{most}
 
 -- no child is deeper than its array
 pub node_is_deep : (node : Node) → max (deep-Node node) 0 ≤ 2 * column_size (column_of node) + 1
-node_is_deep (variant.Null data_type n) = omega arith
+node_is_deep (variant.Flat array) = omega arith
 node_is_deep (variant.List node) = omega arith
 node_is_deep (variant.FixedSizeList array) = omega arith
 node_is_deep (variant.Struct array) = omega arith

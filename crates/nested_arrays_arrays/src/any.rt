@@ -4,19 +4,20 @@ ghost use Rattle.nested_arrays.specs.SoundColumns.{is_sound};
 ghost use Rattle.nested_arrays.specs.StoredColumns.{column_len, column_type, cut};
 
 use crate::fixed_lists::FixedSizeListArray;
+use crate::flats::FlatArray;
 use crate::maps::MapArray;
-use crate::masks::slice_mask;
 use crate::offsets::ListOffsets;
 use crate::records::StructArray;
 use crate::unions::UnionArray;
 use columnar_memory::{Bitmap, DataType};
+use nested_arrays_flat::slice_mask;
 use std::marker::Model;
 
 /// An array, by how it lies in memory.
 #[cycle(arrays)]
 #[derive(Drop)]
 pub enum Node {
-    Null(DataType, usize),
+    Flat(FlatArray),
     List(ListNode),
     FixedSizeList(FixedSizeListArray),
     Struct(StructArray),
@@ -71,7 +72,7 @@ impl AnyArray {
         ensures { result ≡ column_len self.now }
     {
         match &self.node {
-            Node::Null(_, length) => *length,
+            Node::Flat(array) => array.len(),
             Node::List(node) => node.offsets.lists(),
             Node::FixedSizeList(array) => array.len(),
             Node::Struct(array) => array.len(),
@@ -84,7 +85,7 @@ impl AnyArray {
         ensures { result.now ≡ column_type self.now }
     {
         match &self.node {
-            Node::Null(data_type, _) => data_type,
+            Node::Flat(array) => array.data_type(),
             Node::List(node) => &node.data_type,
             Node::FixedSizeList(array) => array.data_type(),
             Node::Struct(array) => array.data_type(),
@@ -107,7 +108,7 @@ impl AnyArray {
         ensures { self.new ≡ cut self.old offset count }
     {
         match &mut self.node {
-            Node::Null(_, length) => *length = count,
+            Node::Flat(array) => array.slice(offset, count),
             Node::List(node) => {
                 slice_mask(&mut node.validity, offset, count);
                 node.offsets.slice(offset, count);

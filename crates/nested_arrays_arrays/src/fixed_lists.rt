@@ -1,11 +1,14 @@
 //! Lists of one size.
 ghost use Rattle.std.specs.Prelude.{◌≡◌, ◌+◌, ◌≤◌, true};
-ghost use Rattle.nested_arrays.specs.SoundColumns.{is_sound};
-ghost use Rattle.nested_arrays.specs.StoredColumns.{column_len, column_type, cut};
+ghost use Rattle.nested_arrays.specs.SoundColumns.{has_fixed_item_type};
+ghost use Rattle.nested_arrays.specs.StoredColumns.{column_len, column_type, cut, fixed_lists, type_layer};
+ghost use Rattle.nested_arrays_arrays.specs.Answers.{IsChecked};
+ghost use Rattle.nested_arrays_arrays.specs.Lengths.{size_of};
 
 use crate::any::AnyArray;
-use crate::masks::slice_mask;
-use columnar_memory::{Bitmap, DataType};
+use crate::masks::fits;
+use columnar_memory::{Bitmap, DataType, Error, Result};
+use nested_arrays_flat::slice_mask;
 use std::marker::Model;
 
 /// Lists of one size, one after another in a child (Arrow columnar format, "Fixed-Size List Layout"). A contract sees the column that it stores.
@@ -38,7 +41,59 @@ impl Model for FixedSizeListArray {
     ghost size_decreases = { λ a h. omega arith };
 }
 
+/// How many items each list has by a data type, none where it is no type of lists of one size.
+fn size_of(data_type: &DataType) -> usize
+    ensures { result ≡ size_of data_type.now }
+{
+    match data_type.to_logical_type() {
+        DataType::FixedSizeList(_, size) => *size,
+        _ => 0,
+    }
+}
+
+/// Whether lists of a data type have items of another, so many each.
+fn has_items(data_type: &DataType, size: usize, item_type: &DataType) -> bool
+    ensures { result ≡ has_fixed_item_type (type_layer data_type.now) size item_type.now }
+{
+    match data_type.to_logical_type() {
+        DataType::FixedSizeList(item, stored) => *stored == size && item.get().data_type == *item_type,
+        _ => false,
+    }
+}
+
 impl FixedSizeListArray {
+    /// The array of a data type, its items one list after another, and a mask. Takes no memory.
+    ///
+    /// # Errors
+    /// `OutOfSpec`: the data type is no list of one size, of one item at least, its items have another type, they are no whole number of lists,
+    /// or the mask has another length.
+    #[tactic(auto, using(crate::proofs::StructParts::fixed_whole, crate::proofs::StructParts::fixed_parts))]
+    pub fn try_new(
+        data_type: DataType,
+        values: Box<AnyArray>,
+        validity: Option<Bitmap>,
+    ) -> Result<Self>
+        ensures { IsChecked (fixed_lists data_type validity (size_of data_type) values.value) result }
+    {
+        values.whole();
+        let size = size_of(&data_type);
+        if !has_items(&data_type, size, values.data_type()) {
+            return Err(Error::OutOfSpec("items that are not those of lists of the data type"));
+        }
+        if size == 0 || values.len() % size != 0 {
+            return Err(Error::OutOfSpec("items that are no whole number of lists"));
+        }
+        if !fits(&validity, values.len() / size) {
+            return Err(Error::OutOfSpec("a mask of another length than the lists"));
+        }
+        Ok(FixedSizeListArray {
+            data_type,
+            size,
+            values,
+            validity,
+        })
+    }
+
     /// How many slots there are.
     #[cycle(counting)]
     #[tactic(auto, using(crate::proofs::CutNodes::fixed_size))]

@@ -2,7 +2,9 @@
 #![tactic(auto)]
 
 mod any;
+mod children;
 mod fixed_lists;
+mod flats;
 mod maps;
 mod masks;
 mod offsets;
@@ -11,6 +13,7 @@ mod unions;
 
 pub use any::{AnyArray, ListNode, Node};
 pub use fixed_lists::FixedSizeListArray;
+pub use flats::{FlatArray, FlatNode};
 pub use maps::MapArray;
 pub use offsets::ListOffsets;
 pub use records::StructArray;

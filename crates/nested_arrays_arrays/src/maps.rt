@@ -1,10 +1,17 @@
 //! Maps.
-ghost use Rattle.std.specs.Prelude.{◌≡◌, ◌+◌, ◌≤◌, true};
-ghost use Rattle.nested_arrays.specs.StoredColumns.{column_len, column_type, cut};
+ghost use Rattle.std.specs.Prelude.{◌≡◌, ◌+◌, ◌≤◌, ◌↔◌, IsTrue, true};
+ghost use Rattle.columnar_memory.specs.Spans.{offsets_of};
+ghost use Rattle.columnar_memory.specs.declared.DataType.TheViews.{out-DataType};
+ghost use Rattle.columnar_memory.specs.declared.PhysicalType.TheVariants as physical;
+ghost use Rattle.nested_arrays.specs.SoundColumns.{is_entry};
+ghost use Rattle.nested_arrays.specs.StoredColumns.{column_len, column_type, cut, lists, type_layer};
+ghost use Rattle.nested_arrays_arrays.specs.Answers.{IsCheckedAs, LiesAs};
+ghost use Rattle.nested_arrays_arrays.specs.Entries.{has_entry_type};
 
 use crate::any::AnyArray;
-use crate::masks::{slice_mask, slice_offsets};
-use columnar_memory::{Bitmap, DataType, OffsetsBuffer};
+use crate::masks::{fits, last_of};
+use columnar_memory::{Bitmap, DataType, Error, OffsetsBuffer, Result};
+use nested_arrays_flat::{slice_mask, slice_offsets};
 use std::marker::Model;
 
 /// Maps, each a list of entries, structs of a key and a value, one after another in a child (Arrow columnar format, "Map"). A contract sees
@@ -42,7 +49,71 @@ impl Model for MapArray {
     ghost size_decreases = { λ a h. omega arith };
 }
 
+/// Whether maps of a data type have entries of another, structs of a key and a value.
+fn has_entries(data_type: &DataType, entry_type: &DataType) -> bool
+    ensures { result ≡ has_entry_type (type_layer data_type.now) entry_type.now }
+{
+    match data_type.to_logical_type() {
+        DataType::Map(entry, _) => entry.get().data_type == *entry_type && is_entry(entry_type),
+        _ => false,
+    }
+}
+
+/// Whether a data type is a struct of two, with no extension around it.
+fn is_entry(data_type: &DataType) -> bool
+    ensures { result ≡ is_entry (out-DataType data_type.now) }
+{
+    match data_type {
+        DataType::Struct(fields) => fields.len() == 2,
+        _ => false,
+    }
+}
+
+/// Whether parts are those of an array of maps.
+#[tactic(auto, using(crate::proofs::ListParts::map_whole, crate::proofs::ListParts::map_parts))]
+fn are_maps(
+    data_type: &DataType,
+    offsets: &OffsetsBuffer<i32>,
+    field: &AnyArray,
+    validity: &Option<Bitmap>,
+) -> bool
+    ensures { IsTrue result ↔ LiesAs physical.Map (lists data_type.now validity.now (offsets_of offsets.now) field.now) }
+{
+    field.whole();
+    if !has_entries(data_type, field.data_type()) {
+        return false;
+    }
+    if last_of(offsets) > field.len() {
+        return false;
+    }
+    fits(validity, offsets.len_proxy())
+}
+
 impl MapArray {
+    /// The array of a data type, offsets, entries one map after another, and a mask. Takes no memory.
+    ///
+    /// # Errors
+    /// `OutOfSpec`: the data type is no map, its entries have another type or are no structs of a key and a value, the last offset is past the
+    /// entries, or the mask has another length.
+    pub fn try_new(
+        data_type: DataType,
+        offsets: OffsetsBuffer<i32>,
+        field: Box<AnyArray>,
+        validity: Option<Bitmap>,
+    ) -> Result<Self>
+        ensures { IsCheckedAs physical.Map (lists data_type validity (offsets_of offsets) field.value) result }
+    {
+        if !are_maps(&data_type, &offsets, &field, &validity) {
+            return Err(Error::OutOfSpec("a type, offsets, entries and a mask that make no array of maps"));
+        }
+        Ok(MapArray {
+            data_type,
+            offsets,
+            field,
+            validity,
+        })
+    }
+
     /// How many slots there are.
     #[tactic(auto, using(crate::proofs::OffsetLists::spans_count))]
     pub fn len(&self) -> usize

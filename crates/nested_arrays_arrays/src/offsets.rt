@@ -3,8 +3,8 @@ ghost use Rattle.std.specs.Prelude.{◌≡◌, ◌+◌, ◌≤◌, length};
 ghost use Rattle.columnar_memory.specs.Spans.{spans_between};
 ghost use Rattle.nested_arrays_arrays.specs.Widths.{spans_in, layout_of};
 
-use crate::masks::slice_offsets;
 use columnar_memory::OffsetsBuffer;
+use nested_arrays_flat::slice_offsets;
 
 /// The offsets of lists, of 32 or of 64 bits.
 #[derive(Drop)]

@@ -3,10 +3,13 @@ ghost use Rattle.std.specs.Prelude.{◌≡◌, ◌+◌, ◌≤◌, true, map, Al
 ghost use Rattle.nested_arrays.specs.SoundColumns.{is_sound};
 ghost use Rattle.nested_arrays.specs.StoredColumns.{column_len, column_type, cut, records, in_columns};
 ghost use Rattle.nested_arrays_arrays.specs.Answers.{IsChecked};
+ghost use Rattle.nested_arrays_arrays.specs.Lengths.{struct_len};
 
 use crate::any::AnyArray;
-use crate::masks::slice_mask;
-use columnar_memory::{Bitmap, DataType};
+use crate::children::{are_fields_of, are_whole, have_len};
+use crate::masks::fits;
+use columnar_memory::{Bitmap, DataType, Error, Result};
+use nested_arrays_flat::slice_mask;
 use std::marker::Model;
 
 /// Structs (Arrow columnar format, "Struct Layout").
@@ -40,7 +43,49 @@ impl Model for StructArray {
     ghost size_decreases = { λ a h. children_are_deep a.values.items };
 }
 
+/// How many slots the first of the children of a struct has.
+fn first_len(values: &[AnyArray]) -> usize
+    ensures { result ≡ struct_len values.now }
+{
+    match values.split_first() {
+        Some((value, _)) => value.len(),
+        None => 0,
+    }
+}
+
 impl StructArray {
+    /// The array of a data type, a child for each of its fields and a mask, as long as the first child. Takes no memory.
+    ///
+    /// # Errors
+    /// `OutOfSpec`: the data type is no struct with fields, the children have not their types, one each, or are not equally long, or the mask
+    /// has another length.
+    #[tactic(auto, using(crate::proofs::StructParts::struct_whole, crate::proofs::StructParts::struct_parts))]
+    pub fn try_new(
+        data_type: DataType,
+        values: Vec<AnyArray>,
+        validity: Option<Bitmap>,
+    ) -> Result<Self>
+        ensures { IsChecked (records data_type validity (struct_len values.items) (in_columns values.items)) result }
+    {
+        are_whole(&values);
+        let length = first_len(&values);
+        if !are_fields_of(&data_type, &values) {
+            return Err(Error::OutOfSpec("children that are not those of a struct of the data type"));
+        }
+        if !have_len(&values, length) {
+            return Err(Error::OutOfSpec("children of different lengths"));
+        }
+        if !fits(&validity, length) {
+            return Err(Error::OutOfSpec("a mask of another length than the children"));
+        }
+        Ok(StructArray {
+            data_type,
+            values,
+            validity,
+            length,
+        })
+    }
+
     /// How many slots there are.
     pub fn len(&self) -> usize
         ensures { result ≡ column_len self.now }

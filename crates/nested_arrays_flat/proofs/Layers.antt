@@ -1,6 +1,6 @@
 -- A type's layout is that of its layer, once its extensions are taken off.
 use Rattle.std.proofs.Common.{◌≡◌, ◌∙◌, refl, sym, ap, subst, Bool, true, false}
-use Rattle.std.specs.Prelude.{◌×◌, List, ℕ, Option, unwrap_or}
+use Rattle.std.specs.Prelude.{List, ℕ, Option, unwrap_or}
 use Rattle.columnar_memory.specs.declared.DataType.{DataType, map-DataType}
 use Rattle.columnar_memory.specs.declared.DataType.TheOpen as layer
 use Rattle.columnar_memory.specs.declared.DataType.TheViews.{out-DataType, roll-DataType, out-roll-DataType}
@@ -62,9 +62,10 @@ plain_lies x plain =
 
 roll_lies : (y : layer.DataType-F D F) → Lies (roll-DataType (plain_layer y))
 roll_lies (layer.Extension name inner metadata) =
-    let x = layer.Extension name inner.0 metadata in
-    (physical_roll x ∙ inner.1.0 ∙ ap layer_layout (sym (layer_within name inner.0 metadata)),
-    ap is_extension (layer_within name inner.0 metadata) ∙ inner.1.1)
+    let x = layer.Extension name inner.0 metadata in (
+      physical_roll x ∙ inner.1.0 ∙ ap layer_layout (sym (layer_within name inner.0 metadata)),
+      ap is_extension (layer_within name inner.0 metadata) ∙ inner.1.1,
+    )
 roll_lies y = plain_lies (plain_layer y) refl
 
 -- a type lies in memory as its layer does, which is no extension

@@ -3,6 +3,7 @@ use Rattle.std.proofs.Common.{◌≡◌, ◌∙◌, refl, sym, true, false}
 use Rattle.std.specs.Prelude.{◌↔◌}
 use Rattle.columnar_memory.specs.declared.DataType.{DataType}
 use Rattle.columnar_memory.specs.declared.DataType.TheOpen as layer
+use Rattle.columnar_memory.specs.declared.IntervalUnit.TheVariants as intervals
 use Rattle.columnar_memory.specs.declared.PhysicalType.TheVariants as physical
 use Rattle.columnar_memory.specs.Layouts.{physical_type}
 use Rattle.nested_arrays.specs.SoundColumns.{is_null_type}
@@ -12,6 +13,9 @@ use Rattle.nested_arrays_flat.proofs.Layers.{Layer, is_extension, layer_layout, 
 layer_of_nulls : (x : Layer) → is_extension x ≡ false → layer_layout x ≡ physical.Null → is_null_type x ≡ true
 layer_of_nulls layer.Null plain is = refl
 layer_of_nulls (layer.Extension name inner metadata) plain is = absurd cc
+layer_of_nulls (layer.Interval intervals.YearMonth) plain is = absurd cc
+layer_of_nulls (layer.Interval intervals.DayTime) plain is = absurd cc
+layer_of_nulls (layer.Interval intervals.MonthDayNano) plain is = absurd cc
 layer_of_nulls _ plain is = absurd cc
 
 layout_of_nulls : (x : Layer) → is_null_type x ≡ true → layer_layout x ≡ physical.Null

@@ -1,9 +1,9 @@
 -- The columns of flat arrays are sound, and what is cut out of an array is cut out of its column.
 use Rattle.std.proofs.Common.{◌≡◌, ℕ, zero, suc, ◌+◌, ◌-◌, ◌≤◌, ℤ, true, refl, ap, ◌∙◌, sym, arith, List, [], ◌∷◌, map, take, drop, length}
-use Rattle.std.specs.Prelude.{◌×◌, Bool, false, nat_le, ◌&&◌, ◌==◌, Option, Some, None, option_map}
+use Rattle.std.specs.Prelude.{Bool, false, nat_le, ◌&&◌, ◌==◌, Option, Some, None, unwrap_or}
 use Rattle.std.specs.List.{list_all}
 use Rattle.std.specs.Option.{ForSome}
-use Rattle.std.proofs.lemmas.Bool.{and_from, and_parts, both_ways, eq-eqb}
+use Rattle.std.proofs.lemmas.Bool.{and_from, and_parts, both_ways, eq-eqb, eqb-true}
 use Rattle.std.proofs.lemmas.List.{length-map, take-map, drop-map}
 use Rattle.columnar_memory.specs.Window.{window}
 use Rattle.columnar_memory.specs.Layouts.{physical_type}
@@ -12,15 +12,19 @@ use Rattle.columnar_memory.specs.declared.PhysicalType.TheVariants as physical
 use Rattle.columnar_memory.specs.declared.PrimitiveType.{PrimitiveType}
 use Rattle.columnar_memory.specs.declared.PrimitiveType.TheVariants as kinds
 use Rattle.columnar_memory.specs.Numbers.{Numbers, one, two, three, first_number}
-use Rattle.flat_arrays.specs.Flat as arrays
-use Rattle.flat_arrays.specs.Flat.{Flat, IsFlat, IsMaskOf}
+use Rattle.flat_arrays_values.specs.Flat as arrays
+use Rattle.flat_arrays_values.specs.Flat.{Flat, IsFlat, IsMaskOf}
 use Rattle.nested_arrays.specs.Kinds.{in_kind, is_signed, same_kind, numbers_of_kind}
 use Rattle.nested_arrays.specs.SoundColumns.{mask_fits, is_stored_as, has_size, is_sound}
-use Rattle.nested_arrays.proofs.Conditions.{parts_of_4}
+use Rattle.nested_arrays.proofs.Conditions.{parts_of_3, parts_of_4}
 use Rattle.nested_arrays_flat.proofs.Layers.{Layer}
 use Rattle.nested_arrays.specs.StoredColumns as StoredColumns
 use Rattle.nested_arrays.specs.StoredColumns.{Stored, Column, cut_list, cut_mask, cut_stored, stored_len, cut, numbers, pairs, triples}
 use Rattle.nested_arrays.specs.StoredColumns.{column_len, type_layer}
+use Rattle.nested_arrays_flat.proofs.ColumnParts.{is_flat}
+use Rattle.nested_arrays_flat.specs.Primitives.{column_of}
+use Rattle.nested_arrays_flat.specs.declared.primitive.PrimitiveNode.{PrimitiveNode}
+use Rattle.nested_arrays_flat.specs.declared.primitive.PrimitiveNode.TheVariants as variant
 use Rattle.nested_arrays_flat.specs.FlatColumns.{is_native, pair_of, triple_of, stored_numbers, primitive_column, boolean_column}
 
 -- n elements from place o on are a window
@@ -64,7 +68,7 @@ primitive_cut kind number a o n = λ j. StoredColumns.flat a.data_type (cut_mask
     ((ap (stored_numbers kind) (window-map number a.values o n) ∙ cut_numbers kind (map number a.values) o n) j)
 
 pub boolean_cut : (a : Flat Bool) (o n : ℕ) → boolean_column (arrays.cut a o n) ≡ cut (boolean_column a) o n
-boolean_cut a o n = λ j. StoredColumns.flat a.data_type (cut_masks a.validity o n j) (StoredColumns.bits (window-cut_list a.values o n (~ j)))
+boolean_cut a o n = λ j. StoredColumns.flat a.data_type (cut_masks a.validity o n j) (StoredColumns.bits (sym (window-cut_list a.values o n) j))
 
 -- ---- soundness
 
@@ -92,10 +96,10 @@ whole_number : (kind : PrimitiveType) → same_kind kind kinds.DaysMs ≡ false 
     → (n : Numbers) → is_native kind n ≡ true → in_kind kind (first_number n) ≡ true
 whole_number kind days months (one z) h = h
 whole_number kind days months (two a b) h =
-    absurd (both_ways (and_parts (same_kind kind kinds.DaysMs) (is_signed 32 a)
-    (and_parts (same_kind kind kinds.DaysMs && is_signed 32 a) (is_signed 32 b) h).0).0 days)
+    absurd (both_ways (same_kind kind kinds.DaysMs) days (parts_of_3 (same_kind kind kinds.DaysMs) (is_signed 32 a) (is_signed 32 b) h).0)
 whole_number kind days months (three a b c) h =
-    absurd (both_ways (parts_of_4 (same_kind kind kinds.MonthDayNano) (is_signed 32 a) (is_signed 32 b) (is_signed 64 c) h).0 months)
+    absurd (both_ways (same_kind kind kinds.MonthDayNano) months
+    (parts_of_4 (same_kind kind kinds.MonthDayNano) (is_signed 32 a) (is_signed 32 b) (is_signed 64 c) h).0)
 
 pair_number : (n : Numbers) → is_native kinds.DaysMs n ≡ true → (is_signed 32 (pair_of n).0 && is_signed 32 (pair_of n).1) ≡ true
 pair_number (one z) h = absurd cc
@@ -168,7 +172,14 @@ primitive_len kind number a = stored_numbers_len kind (map number a.values) ∙ 
 
 masked : (mask : Option (List Bool)) (n : ℕ) → IsMaskOf n mask → mask_fits mask n ≡ true
 masked None n h = refl
-masked (Some marks) n h = eq-eqb (length marks) n h
+masked (Some marks) n h = eq-eqb (length marks) n (h marks refl)
+
+-- such a mask is of so many marks
+pub masked_from : (mask : Option (List Bool)) (n : ℕ) → mask_fits mask n ≡ true → IsMaskOf n mask
+masked_from None n h = λ marks some. absurd cc
+masked_from (Some marks) n h = λ other some.
+    let same : marks ≡ other = ap (λ o. unwrap_or o marks) some in
+    ap length (sym same) ∙ eqb-true (length marks) n h
 
 list_all-map : {A B : Type 0} (q : B → Bool) (f : A → B) (xs : List A) → list_all (λ x. q (f x)) xs ≡ true → list_all q (map f xs) ≡ true
 list_all-map q f [] h = refl
@@ -188,3 +199,34 @@ primitive_sound kind number a some fits each =
     (and_from (is_stored_as (physical_type a.data_type) stored) (has_size (type_layer a.data_type) stored)
     (ap (λ layout. is_stored_as layout stored) fits.fits ∙ here) (sized (type_layer a.data_type) kind (map number a.values)))
     (ap (mask_fits a.validity) (primitive_len kind number a) ∙ long)
+
+-- numbers of any kind are stored flat
+pub numbers_flat : (node : PrimitiveNode) → is_flat (column_of node) ≡ true
+numbers_flat (variant.Int8 array) = refl
+numbers_flat (variant.Int16 array) = refl
+numbers_flat (variant.Int32 array) = refl
+numbers_flat (variant.Int64 array) = refl
+numbers_flat (variant.Int128 array) = refl
+numbers_flat (variant.Int256 array) = refl
+numbers_flat (variant.UInt8 array) = refl
+numbers_flat (variant.UInt16 array) = refl
+numbers_flat (variant.UInt32 array) = refl
+numbers_flat (variant.UInt64 array) = refl
+numbers_flat (variant.DaysMs array) = refl
+numbers_flat (variant.MonthsDaysNs array) = refl
+
+-- ---- booleans
+
+sized_bits : (x : Layer) (values : List Bool) → has_size x (StoredColumns.bits values) ≡ true
+sized_bits (layer.FixedSizeBinary size) values = refl
+sized_bits _ values = refl
+
+-- an array of booleans has a sound column
+pub boolean_sound : (a : Flat Bool) → IsFlat physical.Boolean a → is_sound (boolean_column a) ≡ true
+boolean_sound a fits =
+    let stored = StoredColumns.bits a.values in
+    let t = a.data_type in
+    and_from (is_stored_as (physical_type t) stored && has_size (type_layer t) stored) (mask_fits a.validity (stored_len stored))
+    (and_from (is_stored_as (physical_type t) stored) (has_size (type_layer t) stored)
+    (ap (λ layout. is_stored_as layout stored) fits.fits) (sized_bits (type_layer t) a.values))
+    (masked a.validity (length a.values) fits.masked)

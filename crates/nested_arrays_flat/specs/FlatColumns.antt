@@ -1,13 +1,17 @@
 -- The columns that flat arrays store (Arrow columnar format, "Fixed-size Primitive Layout", "Variable-size Binary Layout").
-use Rattle.std.specs.Prelude.{ℤ, Bool, false, ◌&&◌, List, map}
+use Rattle.std.specs.Prelude.{ℕ, ℤ, Bool, false, ◌&&◌, List, map, Option}
+use Rattle.columnar_memory.specs.declared.DataType.{DataType}
+use Rattle.columnar_memory.specs.declared.DataType.TheOpen as layer
+use Rattle.columnar_memory.specs.declared.Field.{Field}
 use Rattle.columnar_memory.specs.declared.PrimitiveType.{PrimitiveType}
 use Rattle.columnar_memory.specs.declared.PrimitiveType.TheVariants as kinds
 use Rattle.columnar_memory.specs.Numbers.{Numbers, one, two, three, first_number, second_number, third_number}
 use Rattle.columnar_memory.specs.Spans.{offsets_of}
-use Rattle.flat_arrays.specs.Flat.{Flat}
-use Rattle.flat_arrays.specs.ByteStrings.{ByteStrings}
+use Rattle.flat_arrays_values.specs.Flat.{Flat}
+use Rattle.flat_arrays_bytes.specs.ByteStrings.{ByteStrings}
 use Rattle.nested_arrays.specs.Kinds.{in_kind, is_signed, same_kind}
 use Rattle.nested_arrays.specs.StoredColumns.{Column, Stored, flat, bits, numbers, pairs, triples, texts, byte_strings}
+use Rattle.nested_arrays.specs.StoredColumns.{fixed_bytes, type_layer}
 
 -- a kind has such a value
 abbrev pub is_native : PrimitiveType → Numbers → Bool
@@ -43,3 +47,15 @@ text_column array = flat array.data_type array.validity (texts (offsets_of array
 -- the column of an array of byte strings
 abbrev pub binary_column : ByteStrings → Column
 binary_column array = flat array.data_type array.validity (byte_strings (offsets_of array.offsets) array.bytes)
+
+-- the column of an array of byte strings of one size
+abbrev pub fixed_column : DataType → ℕ → List ℕ → Option (List Bool) → Column
+fixed_column data_type size bytes mask = flat data_type mask (fixed_bytes size bytes)
+
+abbrev pub layer_width : layer.DataType-F DataType Field → ℕ
+layer_width (layer.FixedSizeBinary size) = size
+layer_width _ = 0
+
+-- the size of the byte strings of a type, and none of another type
+abbrev pub byte_width : DataType → ℕ
+byte_width data_type = layer_width (type_layer data_type)

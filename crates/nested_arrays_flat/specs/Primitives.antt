@@ -5,7 +5,7 @@ use Rattle.columnar_memory.specs.declared.PrimitiveType.{PrimitiveType}
 use Rattle.columnar_memory.specs.declared.PrimitiveType.TheVariants as kinds
 use Rattle.columnar_memory.specs.Layouts.{physical_type}
 use Rattle.columnar_memory.specs.Numbers.{Numbers, one, two, three}
-use Rattle.flat_arrays.specs.Flat.{Flat}
+use Rattle.flat_arrays_values.specs.Flat.{Flat}
 use Rattle.nested_arrays.specs.StoredColumns.{Column, column_type}
 use Rattle.nested_arrays_flat.specs.FlatColumns.{primitive_column}
 use Rattle.nested_arrays_flat.specs.declared.primitive.PrimitiveNode.{PrimitiveNode}

@@ -7,6 +7,7 @@ ghost use Rattle.nested_arrays.specs.StoredColumns.{column_len, column_type, cut
 ghost use Rattle.nested_arrays_flat.specs.Checked.{IsChecked};
 
 use columnar_memory::{DataType, Error, PhysicalType, Result};
+use std::alloc::AllocError;
 use std::marker::Model;
 
 /// Nulls alone, which take no memory (Arrow columnar format, "Null Layout"). A contract sees the column that it stores.
@@ -54,6 +55,22 @@ impl NullArray {
         NullArray { data_type, length }
     }
 
+    /// No slots.
+    pub fn new_empty(data_type: DataType) -> Self
+        requires { is_sound (nulls data_type 0) ≡ true }
+        ensures { result ≡ nulls data_type 0 }
+    {
+        NullArray::new(data_type, 0)
+    }
+
+    /// So many nulls, as `new` makes them.
+    pub fn new_null(data_type: DataType, length: usize) -> Self
+        requires { is_sound (nulls data_type length) ≡ true }
+        ensures { result ≡ nulls data_type length }
+    {
+        NullArray::new(data_type, length)
+    }
+
     /// How many slots there are.
     pub fn len(&self) -> usize
         ensures { result ≡ column_len self.now }
@@ -97,5 +114,17 @@ impl NullArray {
         let mut array = self;
         array.slice(offset, count);
         array
+    }
+}
+
+impl Clone for NullArray {
+    ghost is_clone = { λ array copy. copy ≡ array };
+
+    /// Copies the data type.
+    fn clone(&self) -> std::result::Result<Self, AllocError> {
+        Ok(NullArray {
+            data_type: self.data_type.clone()?,
+            length: self.length,
+        })
     }
 }

@@ -1,15 +1,19 @@
 //! Arrays of numbers of any kind.
-ghost use Rattle.std.specs.Prelude.{◌≡◌, ◌+◌, ◌≤◌, true, option_copied};
-ghost use Rattle.columnar_memory.specs.Numbers.{Numbers};
-ghost use Rattle.flat_arrays.specs.Flat.{Flat};
+ghost use Rattle.std.specs.Prelude.{◌≡◌, ◌+◌, ◌<◌, ◌≤◌, ◌↔◌, IsTrue, MatchResult, option_copied, true};
+ghost use Rattle.columnar_memory.specs.declared.PhysicalType.TheVariants as physical;
+ghost use Rattle.flat_arrays_values.specs.Flat.{flat, IsFlat};
 ghost use Rattle.nested_arrays.specs.SoundColumns.{is_sound, mask_fits};
-ghost use Rattle.nested_arrays.specs.StoredColumns.{column_len, column_type, cut};
+ghost use Rattle.nested_arrays.specs.StoredColumns.{column_len, column_type, cut, is_valid_at};
+ghost use Rattle.nested_arrays_flat.specs.ColumnMasks.{column_mask, unset_in, with_mask, ReplacesMask};
 ghost use Rattle.nested_arrays_flat.specs.FlatColumns.{primitive_column};
-ghost use Rattle.nested_arrays_flat.specs.Taken.{Takes};
+ghost use Rattle.nested_arrays_flat.specs.Taken.{ArePartsOf, IsLeft, Shows, Takes};
 
-use crate::ranges::read_each;
-use columnar_memory::{Bitmap, DataType, NativeType, days_ms, i256, months_days_ns};
-use flat_arrays::PrimitiveArray;
+use crate::masks::{is_mask_of, mark_at, unset_marks};
+use columnar_memory::{
+    Bitmap, Buffer, DataType, Error, NativeType, Result, days_ms, i256, months_days_ns,
+};
+use flat_arrays_values::PrimitiveArray;
+use std::alloc::AllocError;
 use std::marker::Model;
 
 /// An array of numbers, by their kind.
@@ -73,6 +77,26 @@ impl Model for AnyPrimitive {
 }
 
 impl AnyPrimitive {
+    /// An array of numbers as one of any kind. Takes no memory.
+    pub fn from_array<T: PrimitiveKind>(array: PrimitiveArray<T>) -> Self
+        ensures { result ≡ primitive_column T.PRIMITIVE T.numbers array }
+    {
+        let (data_type, values, validity) = array.into_inner();
+        T::wrap(data_type, values, validity)
+    }
+
+    /// The array itself, or this where its values are of another kind. Takes no memory.
+    pub fn into_array<T: PrimitiveKind>(self) -> std::result::Result<PrimitiveArray<T>, Self>
+        ensures { Takes T.PRIMITIVE T.numbers self result }
+    {
+        match T::unwrap(self) {
+            Ok((data_type, values, validity)) => Ok(PrimitiveArray::new(
+                data_type, values, validity,
+            )),
+            Err(any) => Err(any),
+        }
+    }
+
     /// How many slots there are.
     #[tactic(auto, using(crate::proofs::SoundFlats::primitive_len))]
     pub fn len(&self) -> usize
@@ -81,10 +105,39 @@ impl AnyPrimitive {
         with_array!(&self.node, array => array.len())
     }
 
+    pub fn is_empty(&self) -> bool
+        ensures { IsTrue result ↔ (column_len self.now ≡ 0) }
+    {
+        self.len() == 0
+    }
+
     pub fn data_type(&self) -> &DataType
         ensures { result.now ≡ column_type self.now }
     {
         with_array!(&self.node, array => array.data_type())
+    }
+
+    /// The mask, where there is one: a bit is set where its slot is not null.
+    pub fn validity(&self) -> Option<&Bitmap>
+        ensures { option_copied result ≡ column_mask self.now }
+    {
+        with_array!(&self.node, array => array.validity())
+    }
+
+    /// Whether the slot at a place has a value.
+    pub fn is_valid(&self, i: usize) -> bool
+        requires { i < column_len self.now }
+        ensures { result ≡ is_valid_at (column_mask self.now) i }
+    {
+        self.whole();
+        mark_at(self.validity(), i)
+    }
+
+    /// How many slots are null.
+    pub fn null_count(&self) -> usize
+        ensures { result ≡ unset_in (column_mask self.now) }
+    {
+        unset_marks(self.validity())
     }
 
     /// Hands to a proof what holds of every such array.
@@ -95,40 +148,102 @@ impl AnyPrimitive {
     }
 
     /// Narrows this to the `count` slots from `offset` on, with no copy.
-    #[tactic(auto, using(crate::proofs::SoundFlats::primitive_len, crate::proofs::SoundFlats::primitive_cut))]
     pub fn slice(&mut self, offset: usize, count: usize)
         requires { offset + count ≤ column_len self.old }
         ensures { self.new ≡ cut self.old offset count }
     {
-        with_array!(&mut self.node, array => array.slice(offset, count))
+        with_array!(&mut self.node, array => slice_numbers(array, offset, count))
+    }
+
+    /// The `count` slots from `offset` on, in the same memory.
+    pub fn sliced(self, offset: usize, count: usize) -> Self
+        requires { offset + count ≤ column_len self }
+        ensures { result ≡ cut self offset count }
+    {
+        let mut array = self;
+        array.slice(offset, count);
+        array
+    }
+
+    /// Replaces the mask.
+    ///
+    /// # Errors
+    /// `InvalidArgumentError`: the mask has another length than the array, which is as it was.
+    pub fn set_validity(&mut self, validity: Option<Bitmap>) -> Result<()>
+        ensures { ReplacesMask self.old validity self.new result }
+    {
+        if !is_mask_of(&validity, self.len()) {
+            return Err(Error::InvalidArgumentError("a mask of another length than the array"));
+        }
+        self.replace_mask(validity);
+        Ok(())
+    }
+
+    /// Replaces the mask by one of the array's length.
+    fn replace_mask(&mut self, validity: Option<Bitmap>)
+        requires { mask_fits validity (column_len self.old) ≡ true }
+        ensures { self.new ≡ with_mask self.old validity }
+    {
+        with_array!(&mut self.node, array => mask_numbers(array, validity))
     }
 }
 
-/// A value of which arrays store numbers.
+/// Narrows an array of numbers to the `count` slots from `offset` on.
+#[tactic(auto, using(crate::proofs::SoundFlats::primitive_len, crate::proofs::SoundFlats::primitive_cut))]
+fn slice_numbers<T: NativeType>(array: &mut PrimitiveArray<T>, offset: usize, count: usize)
+    requires { offset + count ≤ column_len (primitive_column T.PRIMITIVE T.numbers array.old) }
+    ensures { primitive_column T.PRIMITIVE T.numbers array.new ≡ cut (primitive_column T.PRIMITIVE T.numbers array.old) offset count }
+{
+    array.slice(offset, count);
+}
+
+/// Replaces the mask of an array of numbers by one of its length.
+#[tactic(auto, using(crate::proofs::SoundFlats::primitive_len, crate::proofs::SoundFlats::masked_from))]
+fn mask_numbers<T: NativeType>(array: &mut PrimitiveArray<T>, validity: Option<Bitmap>)
+    requires { mask_fits validity (column_len (primitive_column T.PRIMITIVE T.numbers array.old)) ≡ true }
+    ensures { primitive_column T.PRIMITIVE T.numbers array.new ≡ with_mask (primitive_column T.PRIMITIVE T.numbers array.old) validity }
+{
+    array.set_validity(validity);
+}
+
+impl Clone for AnyPrimitive {
+    ghost is_clone = { λ array copy. copy ≡ array };
+
+    /// Shares the values and the marks, and copies the data type.
+    fn clone(&self) -> std::result::Result<Self, AllocError> {
+        let node = match &self.node {
+            PrimitiveNode::Int8(array) => PrimitiveNode::Int8(array.clone()?),
+            PrimitiveNode::Int16(array) => PrimitiveNode::Int16(array.clone()?),
+            PrimitiveNode::Int32(array) => PrimitiveNode::Int32(array.clone()?),
+            PrimitiveNode::Int64(array) => PrimitiveNode::Int64(array.clone()?),
+            PrimitiveNode::Int128(array) => PrimitiveNode::Int128(array.clone()?),
+            PrimitiveNode::Int256(array) => PrimitiveNode::Int256(array.clone()?),
+            PrimitiveNode::UInt8(array) => PrimitiveNode::UInt8(array.clone()?),
+            PrimitiveNode::UInt16(array) => PrimitiveNode::UInt16(array.clone()?),
+            PrimitiveNode::UInt32(array) => PrimitiveNode::UInt32(array.clone()?),
+            PrimitiveNode::UInt64(array) => PrimitiveNode::UInt64(array.clone()?),
+            PrimitiveNode::DaysMs(array) => PrimitiveNode::DaysMs(array.clone()?),
+            PrimitiveNode::MonthsDaysNs(array) => PrimitiveNode::MonthsDaysNs(array.clone()?),
+        };
+        Ok(AnyPrimitive { node })
+    }
+}
+
+/// A value of which arrays store numbers: the parts of such an array are those of one of any kind.
 pub trait PrimitiveKind: NativeType {
-    /// The array among those of any kind. Takes no memory.
-    fn wrap(array: PrimitiveArray<Self>) -> AnyPrimitive
-        ensures { result ≡ primitive_column Self.PRIMITIVE Self.numbers array };
+    /// The array of parts that fit among those of any kind. Takes no memory.
+    fn wrap(data_type: DataType, values: Buffer<Self>, validity: Option<Bitmap>) -> AnyPrimitive
+        requires { IsFlat (physical.Primitive Self.PRIMITIVE) (flat data_type values validity) }
+        ensures { result ≡ primitive_column Self.PRIMITIVE Self.numbers (flat data_type values validity) };
 
-    /// The array itself, or what was given where its values are of another kind. Takes no memory.
-    fn unwrap(any: AnyPrimitive) -> Result<PrimitiveArray<Self>, AnyPrimitive>
-        ensures { Takes Self.PRIMITIVE Self.numbers any result };
+    /// The data type, the values and the mask, or what was given where the values are of another kind. Takes no memory.
+    fn unwrap(any: AnyPrimitive) -> std::result::Result<Parts<Self>, AnyPrimitive>
+        ensures { MatchResult result (λ parts. ArePartsOf Self.PRIMITIVE Self.numbers any parts.0 parts.1 parts.2) (IsLeft Self.PRIMITIVE any) };
+
+    /// The stored values, those under nulls too, or none where the values are of another kind.
+    fn values(any: &AnyPrimitive) -> Option<&Buffer<Self>>
+        ensures { Shows Self.PRIMITIVE Self.numbers any.now (option_copied result) };
 }
 
-impl PrimitiveKind for i32 {
-    #[tactic(auto, using(crate::proofs::SoundFlats::primitive_sound))]
-    fn wrap(array: PrimitiveArray<i32>) -> AnyPrimitive {
-        let _length = array.len();
-        read_each(array.values().as_slice());
-        AnyPrimitive {
-            node: PrimitiveNode::Int32(array),
-        }
-    }
-
-    fn unwrap(any: AnyPrimitive) -> Result<PrimitiveArray<i32>, AnyPrimitive> {
-        match any.node {
-            PrimitiveNode::Int32(array) => Ok(array),
-            node => Err(AnyPrimitive { node }),
-        }
-    }
-}
+/// A data type, stored values and a mask.
+pub type Parts<T> = (DataType, Buffer<T>, Option<Bitmap>);

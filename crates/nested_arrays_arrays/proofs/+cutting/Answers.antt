@@ -10,8 +10,8 @@ use Rattle.nested_arrays_arrays.proofs.CutNodes.{sparse_children, sparse_cut, de
 use Rattle.nested_arrays_arrays.proofs.CutNodes.{size_over, within_over, length-over, get_or-any}
 use Rattle.nested_arrays_arrays.proofs.+cutting.Goals as goal
 
-pub any::AnyArray::slice-slice-requires : goal.any::AnyArray::slice-slice-requires
-any::AnyArray::slice-slice-requires t c =
+pub any::AnyArray::slice-slice-requires-in-List : goal.any::AnyArray::slice-slice-requires-in-List
+any::AnyArray::slice-slice-requires-in-List t c =
     spans_within _ _ _ _ _ _ _ (ap column_of (sym c.in-List.is) ∙ c.self.view_is) c.requires
 
 pub any::AnyArray::slice-slice-requires-in-FixedSizeList : goal.any::AnyArray::slice-slice-requires-in-FixedSizeList
@@ -23,10 +23,10 @@ any::AnyArray::slice-slice-requires-in-FixedSizeList t c =
 
 pub any::AnyArray::slice-returns : goal.any::AnyArray::slice-returns
 any::AnyArray::slice-returns t c = elim c.match-self.branch [
-  goal.any::AnyArray::slice-in-Null w ↦ ap (λ i. column_of i.node) w.self-inside-is
-      ∙ ap (λ col. cut col c.args.offset c.args.count) (ap column_of (sym w.in-Null.is) ∙ c.self.view_is)
+  goal.any::AnyArray::slice-in-Flat w ↦ ap (λ i. column_of i.node) w.self-inside-is ∙ w.slice.ensures
+      ∙ ap (λ col. cut col c.args.offset c.args.count) (ap column_of (sym w.in-Flat.is) ∙ c.self.view_is)
   | goal.any::AnyArray::slice-in-List w ↦ ap (λ i. column_of i.node) w.self-inside-is
-      ∙ lists_cut _ _ _ _ _ _ _ _ _ (ap column_of (sym w.in-List.is) ∙ c.self.view_is) w.slice_mask.ensures w.slice.ensures.spans
+      ∙ lists_cut _ _ _ _ _ _ _ _ _ (ap column_of (sym w.in-List.is) ∙ c.self.view_is) w.slice_mask.ensures w.slice-in-List.ensures.spans
       (spans_within _ _ _ _ _ _ _ (ap column_of (sym w.in-List.is) ∙ c.self.view_is) c.requires)
   | goal.any::AnyArray::slice-in-FixedSizeList w ↦ ap (λ i. column_of i.node) w.self-inside-is ∙ w.slice-in-FixedSizeList.ensures
       ∙ ap (λ col. cut col c.args.offset c.args.count) (ap column_of (sym w.in-FixedSizeList.is) ∙ c.self.view_is)
@@ -43,9 +43,9 @@ any::AnyArray::slice-invariant_of-self t c = record {
   sound = sound_after c.args.self.now _ c.args.offset c.args.count (ap is_sound (sym c.self.view_is) ∙ c.self.invariant.sound) c.requires
       (any::AnyArray::slice-returns t c);
   fits = elim c.match-self.branch [
-    goal.any::AnyArray::slice-in-Null w ↦ fits_at _ _ (ap (λ i. i.node) w.self-inside-is) tt
+    goal.any::AnyArray::slice-in-Flat w ↦ fits_at _ _ (ap (λ i. i.node) w.self-inside-is) tt
     | goal.any::AnyArray::slice-in-List w ↦ fits_at _ _ (ap (λ i. i.node) w.self-inside-is)
-        (fits_from _ _ w.in-List.is c.self.invariant.fits ∙ sym w.slice.ensures.width)
+        (fits_from _ _ w.in-List.is c.self.invariant.fits ∙ sym w.slice-in-List.ensures.width)
     | goal.any::AnyArray::slice-in-FixedSizeList w ↦ fits_at _ _ (ap (λ i. i.node) w.self-inside-is) tt
     | goal.any::AnyArray::slice-in-Struct w ↦ fits_at _ _ (ap (λ i. i.node) w.self-inside-is) tt
     | goal.any::AnyArray::slice-in-Map w ↦ fits_at _ _ (ap (λ i. i.node) w.self-inside-is) tt
