@@ -1,6 +1,6 @@
 //! Lists of one size.
 ghost use Rattle.std.specs.Prelude.{◌≡◌, ◌+◌, ◌≤◌, true};
-ghost use Rattle.nested_arrays.specs.SoundColumns.{has_fixed_item_type};
+ghost use Rattle.nested_arrays.specs.SoundColumns.{is_sound, has_fixed_item_type};
 ghost use Rattle.nested_arrays.specs.StoredColumns.{column_len, column_type, cut, fixed_lists, type_layer};
 ghost use Rattle.nested_arrays_arrays.specs.Answers.{IsChecked};
 ghost use Rattle.nested_arrays_arrays.specs.Lengths.{size_of};
@@ -107,6 +107,13 @@ impl FixedSizeListArray {
         ensures { result.now ≡ column_type self.now }
     {
         &self.data_type
+    }
+
+    /// Hands to a proof what holds of every such array.
+    pub fn whole(&self)
+        ensures { is_sound self.now ≡ true }
+    {
+        let _field = &self.size;
     }
 
     /// Narrows this to the `count` slots from `offset` on, with no copy.

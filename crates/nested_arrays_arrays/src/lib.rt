@@ -5,6 +5,7 @@ mod any;
 mod children;
 mod fixed_lists;
 mod flats;
+mod from;
 mod maps;
 mod masks;
 mod offsets;

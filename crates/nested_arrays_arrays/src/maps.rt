@@ -128,6 +128,13 @@ impl MapArray {
         &self.data_type
     }
 
+    /// Hands to a proof what holds of every such array.
+    pub fn whole(&self)
+        ensures { LiesAs physical.Map self.now }
+    {
+        let _field = &self.offsets;
+    }
+
     /// Narrows this to the `count` slots from `offset` on, with no copy.
     pub fn slice(&mut self, offset: usize, count: usize)
         requires { offset + count ≤ column_len self.old }

@@ -99,6 +99,13 @@ impl StructArray {
         &self.data_type
     }
 
+    /// Hands to a proof what holds of every such array.
+    pub fn whole(&self)
+        ensures { is_sound self.now ≡ true }
+    {
+        let _field = &self.length;
+    }
+
     /// Narrows this to the `count` slots from `offset` on, with no copy.
     #[cycle(cutting)]
     pub fn slice(&mut self, offset: usize, count: usize)

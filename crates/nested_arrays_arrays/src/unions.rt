@@ -1,5 +1,6 @@
 //! Unions.
-ghost use Rattle.std.specs.Prelude.{◌≡◌, ◌+◌, ◌≤◌, length};
+ghost use Rattle.std.specs.Prelude.{◌≡◌, true, ◌+◌, ◌≤◌, length};
+ghost use Rattle.nested_arrays.specs.SoundColumns.{is_sound};
 ghost use Rattle.nested_arrays.specs.StoredColumns.{column_len, column_type, cut};
 
 use crate::any::AnyArray;
@@ -51,6 +52,13 @@ impl UnionArray {
         ensures { result.now ≡ column_type self.now }
     {
         &self.data_type
+    }
+
+    /// Hands to a proof what holds of every such array.
+    pub fn whole(&self)
+        ensures { is_sound self.now ≡ true }
+    {
+        let _field = &self.types;
     }
 
     /// Narrows this to the `count` slots from `offset` on, with no copy.
