@@ -1,0 +1,124 @@
+//! Lists of any length.
+ghost use Rattle.std.specs.Prelude.{◌≡◌, ◌+◌, ◌≤◌, ◌↔◌, IsTrue, true};
+ghost use Rattle.columnar_memory.specs.Spans.{offsets_of};
+ghost use Rattle.nested_arrays.specs.StoredColumns.{column_len, column_type, cut, lists, type_layer};
+ghost use Rattle.nested_arrays_arrays.specs.Answers.{IsCheckedAs, LiesAs};
+ghost use Rattle.nested_arrays_arrays.specs.Entries.{has_list_item_type, list_layout};
+
+use crate::any::AnyArray;
+use crate::masks::{fits, last_of};
+use columnar_memory::{Bitmap, DataType, Error, Offset, OffsetsBuffer, Result};
+use nested_arrays_flat::{slice_mask, slice_offsets};
+use std::marker::Model;
+
+/// Lists of any length, one after another in a child, with offsets of one width (Arrow columnar format, "Variable-size List Layout"). A
+/// contract sees the column that it stores.
+#[derive(Drop)]
+pub struct ListArray<O: Offset> {
+    pub(crate) data_type: DataType,
+    pub(crate) offsets: OffsetsBuffer<O>,
+    pub(crate) values: Box<AnyArray>,
+    pub(crate) validity: Option<Bitmap>,
+}
+
+impl<O: Offset> Model for ListArray<O> {
+    ghost use Rattle.columnar_memory.specs.Spans.{offsets_of};
+    ghost use Rattle.nested_arrays.specs.ColumnCodes.{column_code};
+    ghost use Rattle.nested_arrays.specs.StoredColumns.{Column, lists};
+    ghost use Rattle.nested_arrays_arrays.specs.Answers.{LiesAs};
+    ghost use Rattle.nested_arrays_arrays.specs.Entries.{list_layout};
+
+    ghost Value = { Column };
+
+    ghost coded = { column_code };
+
+    ghost view = { λ it. lists it.data_type it.validity (offsets_of it.offsets) it.values.value };
+
+    ghost invariant = { λ it. LiesAs (list_layout O.IS_LARGE) (lists it.data_type it.validity (offsets_of it.offsets) it.values.value) };
+}
+
+/// Whether lists of a data type, with offsets of this width, have items of another.
+fn has_items<O: Offset>(data_type: &DataType, item_type: &DataType) -> bool
+    ensures { result ≡ has_list_item_type O.IS_LARGE (type_layer data_type.now) item_type.now }
+{
+    match data_type.to_logical_type() {
+        DataType::List(item) => !O::IS_LARGE && item.get().data_type == *item_type,
+        DataType::LargeList(item) => O::IS_LARGE && item.get().data_type == *item_type,
+        _ => false,
+    }
+}
+
+/// Whether parts are those of an array of lists.
+fn are_lists<O: Offset>(
+    data_type: &DataType,
+    offsets: &OffsetsBuffer<O>,
+    values: &AnyArray,
+    validity: &Option<Bitmap>,
+) -> bool
+    ensures { IsTrue result ↔ LiesAs (list_layout O.IS_LARGE) (lists data_type.now validity.now (offsets_of offsets.now) values.now) }
+{
+    values.whole();
+    if !has_items::<O>(data_type, values.data_type()) {
+        return false;
+    }
+    if last_of(offsets) > values.len() {
+        return false;
+    }
+    fits(validity, offsets.len_proxy())
+}
+
+impl<O: Offset> ListArray<O> {
+    /// The array of a data type, offsets, items one list after another, and a mask. Takes no memory.
+    ///
+    /// # Errors
+    /// `OutOfSpec`: arrays of the data type are not of lists with such offsets, the items have another type, the last offset is past them, or
+    /// the mask has another length.
+    pub fn try_new(
+        data_type: DataType,
+        offsets: OffsetsBuffer<O>,
+        values: Box<AnyArray>,
+        validity: Option<Bitmap>,
+    ) -> Result<Self>
+        ensures { IsCheckedAs (list_layout O.IS_LARGE) (lists data_type validity (offsets_of offsets) values.value) result }
+    {
+        if !are_lists(&data_type, &offsets, &values, &validity) {
+            return Err(Error::OutOfSpec("a type, offsets, items and a mask that make no array of lists"));
+        }
+        Ok(ListArray {
+            data_type,
+            offsets,
+            values,
+            validity,
+        })
+    }
+
+    /// How many slots there are.
+    #[tactic(auto, using(crate::proofs::OffsetLists::spans_count))]
+    pub fn len(&self) -> usize
+        ensures { result ≡ column_len self.now }
+    {
+        self.offsets.len_proxy()
+    }
+
+    pub fn data_type(&self) -> &DataType
+        ensures { result.now ≡ column_type self.now }
+    {
+        &self.data_type
+    }
+
+    /// Hands to a proof what holds of every such array.
+    pub fn whole(&self)
+        ensures { LiesAs (list_layout O.IS_LARGE) self.now }
+    {
+        let _field = &self.offsets;
+    }
+
+    /// Narrows this to the `count` slots from `offset` on, with no copy.
+    pub fn slice(&mut self, offset: usize, count: usize)
+        requires { offset + count ≤ column_len self.old }
+        ensures { self.new ≡ cut self.old offset count }
+    {
+        slice_mask(&mut self.validity, offset, count);
+        slice_offsets(&mut self.offsets, offset, count);
+    }
+}
