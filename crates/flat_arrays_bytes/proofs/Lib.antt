@@ -1,4 +1,5 @@
 pub mod Cuts
+pub mod Gathered
 pub mod Nulls
 pub mod Places
 pub mod Ranges

@@ -1,8 +1,9 @@
 -- What an array of byte strings or texts stores (Arrow columnar format, "Variable-size Binary Layout", "Validity bitmaps"), and its slots.
 use Rattle.std.specs.Prelude.{ℕ, Bool, true, false, Option, Some, None, List, []}
-use Rattle.std.specs.Prelude.{◌∷◌, length, map, take, drop, replicate, option_map, if◌then◌else◌, refl}
+use Rattle.std.specs.Prelude.{◌∷◌, ◌==◌, length, map, take, drop, replicate, option_map, if◌then◌else◌, is_some, unwrap_or, refl}
 use Rattle.std.specs.Coded.{Coded, code_by, coded×, coded_bool, coded_list, coded_option, coded_ℕ}
-use Rattle.std.specs.List.{zip}
+use Rattle.std.specs.List.{concat, zip}
+use Rattle.columnar_memory.specs.Bits.{unset_count}
 use Rattle.columnar_memory.specs.Spans.{Spans, spans_between}
 use Rattle.columnar_memory.specs.Window.{window}
 use Rattle.columnar_memory_schema.specs.contracts.data_type.DataType as data_type
@@ -74,3 +75,23 @@ with_mask a mask = byte_strings a.data_type a.offsets a.bytes mask
 -- so many nulls, each of which stores no bytes
 abbrev pub nulls : DataType → ℕ → ByteStrings
 nulls data_type n = byte_strings data_type (record { start = 0; lengths = replicate n 0 }) [] (Some (replicate n false))
+
+-- where byte strings stand that follow one another from 0 on
+abbrev pub packed : List (List ℕ) → Spans
+packed values = record { start = 0; lengths = map length values }
+
+-- the array of these byte strings, one after another
+abbrev pub of_values : DataType → List (List ℕ) → ByteStrings
+of_values data_type values = byte_strings data_type (packed values) (concat values) None
+
+-- what an array stores for a slot: no bytes for a null
+abbrev pub stored_for : Option (List ℕ) → List ℕ
+stored_for slot = unwrap_or slot []
+
+-- these marks as a mask, or no mask where each is true
+abbrev pub mask_of : List Bool → Option (List Bool)
+mask_of bits = if unset_count bits == 0 then None else Some bits
+
+-- the array of these slots, one after another
+abbrev pub of_slots : DataType → List (Option (List ℕ)) → ByteStrings
+of_slots data_type slots = with_mask (of_values data_type (map stored_for slots)) (mask_of (map is_some slots))

@@ -1,6 +1,6 @@
 -- Whether arrays are equal: their types and their slots, whatever is stored under a null or around the values.
 use Rattle.std.specs.Prelude.{◌≡◌, ℕ, Bool, Option, List}
-use Rattle.std.proofs.Common.{refl, ap}
+use Rattle.std.proofs.Common.{ap}
 use Rattle.std.specs.Bool.{Decides}
 use Rattle.std.specs.Cmp.{IsEquivalence, IsPartialEquivalence, partial_equiv_from_equiv}
 use Rattle.std.specs.Coded.{Coded, coded×, coded_list, coded_option, coded_ℕ}

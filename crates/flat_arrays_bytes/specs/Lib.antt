@@ -1,5 +1,6 @@
 pub mod ByteStrings
 pub mod ByteWalks
+pub mod Collected
 pub mod Equal
 pub mod Fits
 pub mod Laws

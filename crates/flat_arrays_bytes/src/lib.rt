@@ -4,14 +4,18 @@
 
 mod access;
 mod binary;
+mod binary_from;
 mod clones;
 mod column;
+mod gather;
 mod iterators;
 mod laws;
 mod texts;
 mod utf8;
+mod utf8_from;
 
 pub use binary::BinaryArray;
+pub use gather::{AsBytes, AsText};
 pub use iterators::{BinaryValueIter, Utf8ValuesIter};
 pub use laws::{
     a_cut_of_a_cut_of_byte_strings_is_one_cut, a_cut_of_byte_strings_has_a_range_of_the_slots,
