@@ -1,6 +1,6 @@
 -- Byte strings that are put one after another.
-use Rattle.std.proofs.Common.{◌≡◌, ◌∙◌, ℕ, ◌+◌, ◌≤◌, ◌<◌, Bool, true, false, List, [], ◌∷◌, ◌++◌, length, map, sum, drop, refl, ap, ap₂, sym, arith}
-use Rattle.std.proofs.Common.{Bor, append-nil, length-append, subst}
+use Rattle.std.proofs.Common.{◌≡◌, ◌∙◌, ℕ, ◌+◌, ◌≤◌, ◌<◌, Bool, true, false, List, [], ◌∷◌, ◌++◌, length, map, sum}
+use Rattle.std.proofs.Common.{drop, refl, ap, ap₂, sym, arith, Bor, append-nil, length-append, subst}
 use Rattle.std.proofs.Math.Seq.{drop-append_seam, take-append_seam}
 use Rattle.std.proofs.iter.runs.Made.{run_of_exit, run_of_turn}
 use Rattle.std.proofs.lemmas.List.{length-map, map-append}
@@ -139,7 +139,8 @@ made_of_slots view data_type greatest yielded items offsets bytes mask validity 
 
 -- ---- runs
 
-module _ {S A : Type 0} (steps : S → Option A → S → Type 0) (from it : S) (is : it ≡ from) (items : List A) (t : S) (ran : Yields steps it items t) where
+module _ {S A : Type 0} (steps : S → Option A → S → Type 0) (from it : S) (is : it ≡ from) (items : List A) (t : S)
+    (ran : Yields steps it items t) where
   -- a walk that came to its end made this array of all items
   collected : (make : List A → ByteStrings) (greatest : ℕ) (a parts : ByteStrings) (u : S) → steps t None u → a ≡ parts
       → last_of parts.offsets ≤ greatest → ((ys : List A) → ys ≡ items → parts ≡ make ys)
@@ -191,9 +192,9 @@ module _ {S A : Type 0} (view : A → List ℕ) (data_type : DataType) (greatest
     pub values_refused : (u : S) (x : A) (value : List ℕ) (e : Error) → steps t (Some x) u → value ≡ view x → Stopped greatest offsets value e
         → IsOutOfMemory e ⊎ (IsOverflow e × SomeRun steps from (λ p. greatest < last_of (of_values data_type (map view p.items)).offsets))
     values_refused u x value e step stored (inl refused) = inl refused
-    values_refused u x value e step stored (inr over) = inr (
+    values_refused u x v e step stored (inr over) = inr (
       over.0,
-      overflowed steps from it is items t ran (λ ys. of_values data_type (map view ys)) view greatest offsets value x u step (λ ys. refl) h.spans stored
+      overflowed steps from it is items t ran (λ ys. of_values data_type (map view ys)) view greatest offsets v x u step (λ ys. refl) h.spans stored
           over.1,
     )
 
@@ -249,7 +250,8 @@ module _ {S R A : Type 0} {steps : S → Option A → S → Type 0} {source : R 
       let all : fold add 0 (rest q.0.from) ≡ fold add 0 xs = ap (fold add 0) (ap rest q.1 ∙ is) in
       omega (arith, same, less, all, lengths_fold stored 0 p.items, lengths_fold stored 0 xs)
 
-  module _ (make : List A → ByteStrings) (stored : A → List ℕ) (spans : (ys : List A) → (make ys).offsets ≡ packed (map stored ys)) (greatest : ℕ) where
+  module _ (make : List A → ByteStrings) (stored : A → List ℕ) (spans : (ys : List A) → (make ys).offsets ≡ packed (map stored ys))
+      (greatest : ℕ) where
     passed : (e : Error) → IsOutOfMemory e ⊎ (IsOverflow e × SomeRun steps copied (λ p. greatest < last_of (make p.items).offsets))
         → IsOutOfMemory e ⊎ (IsOverflow e × (greatest < last_of (make xs).offsets))
     passed e (inl refused) = inl refused
@@ -273,5 +275,6 @@ module _ {S R A : Type 0} {steps : S → Option (Option A) → S → Type 0} {so
   pub slots_of_slice : (view : A → List ℕ) (data_type : DataType) (greatest : ℕ) (r : Result ByteStrings Error)
       → CollectsAlong steps greatest (λ ys. of_slots data_type (map (option_map view) ys)) copied r
       → IsCollected greatest (of_slots data_type (map (option_map view) xs)) r
-  slots_of_slice view data_type greatest = of_all rest it copied xs is order runs (λ ys. of_slots data_type (map (option_map view) ys)) (stored_by view)
+  slots_of_slice view data_type greatest =
+      of_all rest it copied xs is order runs (λ ys. of_slots data_type (map (option_map view) ys)) (stored_by view)
       (λ ys. ap packed (map-map stored_for (option_map view) ys)) greatest

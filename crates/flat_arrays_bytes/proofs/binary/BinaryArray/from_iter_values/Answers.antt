@@ -19,13 +19,16 @@ from_gathered-requires-clause-within g c =
 pub returns-in_err-push_value : goal.returns-in_err-push_value
 returns-in_err-push_value g c =
     let p = err_from_is_err_and c.from_residual-in_err-push_value.result c.from_residual-in_err-push_value.ensures.1 in
-    rw (p.1, p.2) (values_refused g.T.AsBytes.bytes (binary_type g.O.Offset.IS_LARGE) g.O.Index.greatest c.loop-value.offsets c.loop-value.bytes.items g.I.Iterator.next_gives
+    rw (p.1, p.2) (values_refused g.T.AsBytes.bytes (binary_type g.O.Offset.IS_LARGE) g.O.Index.greatest c.loop-value.offsets
+    c.loop-value.bytes.items g.I.Iterator.next_gives
     c.args.values c.into_iter-value-iterator.result c.into_iter-value-iterator.ensures.into_iter_gives c.loop-value.yielded
     c.loop-value.value-iterator c.loop-value.yielded_by c.loop-value.invariant.gathered c.next.new.self
     c.in-Some.value c.as_slice.result.now c.in_err-push_value.field-0.0 c.in-Some.ensures.steps c.as_slice.ensures c.in_err-push_value.ensures)
 
 pub returns : goal.returns
 returns g c =
-    values_collected g.T.AsBytes.bytes (binary_type g.O.Offset.IS_LARGE) g.O.Index.greatest c.loop-value.offsets c.loop-value.bytes.items g.I.Iterator.next_gives
+    values_collected g.T.AsBytes.bytes (binary_type g.O.Offset.IS_LARGE) g.O.Index.greatest c.loop-value.offsets c.loop-value.bytes.items
+    g.I.Iterator.next_gives
     c.args.values c.into_iter-value-iterator.result c.into_iter-value-iterator.ensures.into_iter_gives c.loop-value.yielded
-    c.loop-value.value-iterator c.loop-value.yielded_by c.loop-value.invariant.gathered c.next.new.self c.from_gathered.result c.in-None.ensures.steps c.from_gathered.ensures
+    c.loop-value.value-iterator c.loop-value.yielded_by c.loop-value.invariant.gathered c.next.new.self c.from_gathered.result
+    c.in-None.ensures.steps c.from_gathered.ensures

@@ -7,9 +7,11 @@ use Rattle.flat_arrays_bytes.proofs.utf8.Utf8Array.from_iter_values.Goals as goa
 pub loop-value-preserved : goal.loop-value-preserved
 loop-value-preserved g c = record {
   gathered = gathered_more g.T.AsText.text g.O.Index.greatest c.loop-value.yielded c.in-Some.value c.bytes_of.result.now c.loop-value.bytes.items
-      c.push_value.new.values.items c.loop-value.offsets c.push_value.new.offsets (c.bytes_of.ensures.value ∙ c.as_str.ensures) c.loop-value.invariant.gathered
+      c.push_value.new.values.items c.loop-value.offsets c.push_value.new.offsets (c.bytes_of.ensures.value ∙ c.as_str.ensures)
+      c.loop-value.invariant.gathered
       c.in_ok-push_value.ensures;
-  texts = texts_more g.T.AsText.text c.loop-value.yielded c.in-Some.value c.bytes_of.result.now (c.bytes_of.ensures.value ∙ c.as_str.ensures) c.bytes_of.ensures.text c.loop-value.invariant.texts;
+  texts = texts_more g.T.AsText.text c.loop-value.yielded c.in-Some.value c.bytes_of.result.now (c.bytes_of.ensures.value ∙ c.as_str.ensures)
+      c.bytes_of.ensures.text c.loop-value.invariant.texts;
 }
 
 pub from_gathered-requires-clause-within : goal.from_gathered-requires-clause-within
@@ -25,13 +27,17 @@ from_gathered-requires-clause-texts g c =
 pub returns-in_err-push_value : goal.returns-in_err-push_value
 returns-in_err-push_value g c =
     let p = err_from_is_err_and c.from_residual-in_err-push_value.result c.from_residual-in_err-push_value.ensures.1 in
-    rw (p.1, p.2) (values_refused g.T.AsText.text (text_type g.O.Offset.IS_LARGE) g.O.Index.greatest c.loop-value.offsets c.loop-value.bytes.items g.I.Iterator.next_gives
+    rw (p.1, p.2) (values_refused g.T.AsText.text (text_type g.O.Offset.IS_LARGE) g.O.Index.greatest c.loop-value.offsets c.loop-value.bytes.items
+    g.I.Iterator.next_gives
     c.args.values c.into_iter-value-iterator.result c.into_iter-value-iterator.ensures.into_iter_gives c.loop-value.yielded
     c.loop-value.value-iterator c.loop-value.yielded_by c.loop-value.invariant.gathered c.next.new.self
-    c.in-Some.value c.bytes_of.result.now c.in_err-push_value.field-0.0 c.in-Some.ensures.steps (c.bytes_of.ensures.value ∙ c.as_str.ensures) c.in_err-push_value.ensures)
+    c.in-Some.value c.bytes_of.result.now c.in_err-push_value.field-0.0 c.in-Some.ensures.steps (c.bytes_of.ensures.value ∙ c.as_str.ensures)
+    c.in_err-push_value.ensures)
 
 pub returns : goal.returns
 returns g c =
-    values_collected g.T.AsText.text (text_type g.O.Offset.IS_LARGE) g.O.Index.greatest c.loop-value.offsets c.loop-value.bytes.items g.I.Iterator.next_gives
+    values_collected g.T.AsText.text (text_type g.O.Offset.IS_LARGE) g.O.Index.greatest c.loop-value.offsets c.loop-value.bytes.items
+    g.I.Iterator.next_gives
     c.args.values c.into_iter-value-iterator.result c.into_iter-value-iterator.ensures.into_iter_gives c.loop-value.yielded
-    c.loop-value.value-iterator c.loop-value.yielded_by c.loop-value.invariant.gathered c.next.new.self c.from_gathered.result c.in-None.ensures.steps c.from_gathered.ensures
+    c.loop-value.value-iterator c.loop-value.yielded_by c.loop-value.invariant.gathered c.next.new.self c.from_gathered.result
+    c.in-None.ensures.steps c.from_gathered.ensures
