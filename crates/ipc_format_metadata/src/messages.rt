@@ -145,8 +145,7 @@ pub fn deserialize_schema(alloc: Global, metadata: &[u8]) -> Result<(Schema, Ipc
     deserialize_schema_counted(alloc, metadata, &mut Steps::new())
 }
 
-/// As [`deserialize_schema`]: each Field table that is visited is a step, counted exactly where there is a schema, and no more are
-/// visited than the message has bytes.
+/// As [`deserialize_schema`]: each Field table that is visited is a step, counted exactly where there is a schema.
 ///
 /// # Errors
 /// As [`deserialize_schema`].
