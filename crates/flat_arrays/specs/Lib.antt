@@ -16,5 +16,6 @@ pub use Rattle.flat_arrays_masks.specs.Changes
 pub use Rattle.flat_arrays_masks.specs.Growth
 pub use Rattle.flat_arrays_masks.specs.GrowthLaws
 pub use Rattle.flat_arrays_builders.specs.SlotsEqual
-pub use Rattle.flat_arrays_byte_builders.specs.Growing
-pub use Rattle.flat_arrays_byte_builders.specs.PushLaws
+pub use Rattle.flat_arrays_byte_values_builders.specs.Growing
+pub use Rattle.flat_arrays_byte_values_builders.specs.PushLaws
+pub use Rattle.flat_arrays_byte_builders.specs.ByteSlotsEqual
