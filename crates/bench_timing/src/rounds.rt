@@ -2,7 +2,7 @@ use columnar_memory::Result;
 use std::time::{Clock, Duration, Instant};
 
 /// What is done to be timed, with its data.
-pub(crate) trait Work {
+pub trait Work {
     /// What it makes.
     type Made: Drop;
 
@@ -14,7 +14,7 @@ pub(crate) trait Work {
 
 /// What the rounds of some work took and made.
 #[derive(Drop)]
-pub(crate) struct Timed {
+pub struct Timed {
     /// Of the quickest round.
     pub nanoseconds: u64,
 
@@ -23,7 +23,11 @@ pub(crate) struct Timed {
 }
 
 /// Does some work this many times.
-pub(crate) fn time_rounds<W: Work>(clock: &impl Clock, rounds: u32, work: &W) -> Result<Timed> {
+///
+/// # Errors
+/// `Io`: the clock failed.
+/// Else what the work answers.
+pub fn time_rounds<W: Work>(clock: &impl Clock, rounds: u32, work: &W) -> Result<Timed> {
     let mut least = u64::MAX;
     let mut last = 0;
     for _ in 0..rounds {
