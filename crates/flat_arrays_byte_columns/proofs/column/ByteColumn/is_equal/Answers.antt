@@ -1,5 +1,5 @@
 use Rattle.std.proofs.Common.{◌∙◌, sym}
-use Rattle.flat_arrays_bytes.proofs.column.ByteColumn.is_equal.Goals as goal
+use Rattle.flat_arrays_byte_columns.proofs.column.ByteColumn.is_equal.Goals as goal
 use mathlib.Core.Bool.{true≢false}
 
 pub returns-then-has_type_of : goal.returns-then-has_type_of

@@ -2,8 +2,8 @@
 ghost use Rattle.std.specs.Prelude.{◌↔◌, ◌≤◌, IsTrue, drop, length, sum};
 ghost use Rattle.std.specs.Str.{IsCharBoundary};
 ghost use Rattle.columnar_memory.specs.Spans.{last_of};
-ghost use Rattle.flat_arrays_bytes.specs.ByteStrings.{cut_by};
-ghost use Rattle.flat_arrays_bytes.specs.Texts.{AllTexts, CutsBetweenChars};
+ghost use Rattle.flat_arrays_byte_columns.specs.ByteStrings.{cut_by};
+ghost use Rattle.flat_arrays_byte_columns.specs.Texts.{AllTexts, CutsBetweenChars};
 
 use crate::column::{end_of, start_of};
 use columnar_memory::{Offset, OffsetsBuffer};
@@ -37,7 +37,7 @@ fn cuts_between_chars<O: Offset>(offsets: &OffsetsBuffer<O>, window: &[u8]) -> b
 /// Whether the bytes of each span are UTF-8 by themselves. The bytes from the first offset to the last are tested once, and each offset for
 /// where a character begins: a text that is cut between its characters is cut into texts.
 #[tactic(auto, using(crate::proofs::TextCuts::texts_between))]
-pub(crate) fn are_texts<O: Offset>(offsets: &OffsetsBuffer<O>, bytes: &[u8]) -> bool
+pub fn are_texts<O: Offset>(offsets: &OffsetsBuffer<O>, bytes: &[u8]) -> bool
     requires { last_of offsets.now ≤ length bytes.now }
     ensures { IsTrue result ↔ AllTexts (cut_by offsets.now.lengths (drop offsets.now.start bytes.now)) }
 {

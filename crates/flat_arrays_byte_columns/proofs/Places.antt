@@ -5,8 +5,8 @@ use Rattle.std.specs.Prelude.{Some, slice_get, slice_range}
 use Rattle.std.specs.Str.{IsUtf8}
 use Rattle.columnar_memory_buffer.proofs.Runs.{sum-cons, offset_at-more}
 use Rattle.columnar_memory.specs.Spans.{offset_at}
-use Rattle.flat_arrays_bytes.specs.ByteStrings.{ByteStrings, cut_by, values_of, len_of}
-use Rattle.flat_arrays_bytes.specs.Texts.{AllTexts}
+use Rattle.flat_arrays_byte_columns.specs.ByteStrings.{ByteStrings, cut_by, values_of, len_of}
+use Rattle.flat_arrays_byte_columns.specs.Texts.{AllTexts}
 
 slice_get-cut_by : (ls bytes : List ℕ) (i : ℕ) → i < length ls
     → slice_get (cut_by ls bytes) i ≡ Some (take (get_or ls i 0) (drop (sum (take i ls)) bytes))

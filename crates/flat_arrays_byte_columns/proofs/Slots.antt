@@ -7,9 +7,9 @@ use Rattle.std.specs.Prelude.{Bool, true, false, Option, Some, None, map, replic
 use Rattle.std.specs.List.{zip}
 use Rattle.columnar_memory.specs.Bits.{unset_count}
 use Rattle.columnar_memory.specs.Spans.{offset_at}
-use Rattle.flat_arrays_bytes.proofs.Places.{value_between}
-use Rattle.flat_arrays_bytes.specs.ByteStrings.{ByteStrings, cut_by, len_of, marks, marks_of, slot_of, slots_of, values_of}
-use Rattle.flat_arrays_bytes.specs.Fits.{IsMaskOf}
+use Rattle.flat_arrays_byte_columns.proofs.Places.{value_between}
+use Rattle.flat_arrays_byte_columns.specs.ByteStrings.{ByteStrings, cut_by, len_of, marks, marks_of, slot_of, slots_of, values_of}
+use Rattle.flat_arrays_byte_columns.specs.Fits.{IsMaskOf}
 
 -- where no mask is held, each mark is true
 pub marks_all : (n i : ℕ) → i < n → slice_get (replicate n true) i ≡ Some true

@@ -7,7 +7,7 @@ use Rattle.std.specs.Coded.{Coded, coded×, coded_list, coded_option, coded_ℕ}
 use Rattle.columnar_memory_content.specs.Sameness.{same, same-Decides, same_equivalence}
 use Rattle.columnar_memory_schema.specs.declared.data_type.DataType.{DataType}
 use Rattle.columnar_memory_schema.specs.contracts.data_type.DataType as data_type
-use Rattle.flat_arrays_bytes.specs.ByteStrings.{ByteStrings, slots_of}
+use Rattle.flat_arrays_byte_columns.specs.ByteStrings.{ByteStrings, slots_of}
 
 -- two arrays have one type and the same slots
 pub record AreEqual (a b : ByteStrings) : Type 0 where

@@ -1,7 +1,7 @@
 use Rattle.std.proofs.Common.{◌≤◌, ◌+◌, length, ap, ◌∙◌, arith}
-use Rattle.flat_arrays_bytes.specs.ByteStrings.{cut_mask, len_of}
-use Rattle.flat_arrays_bytes.proofs.Cuts.{held_after, mask_holds}
-use Rattle.flat_arrays_bytes.proofs.column.ByteColumn.slice.Goals as goal
+use Rattle.flat_arrays_byte_columns.specs.ByteStrings.{cut_mask, len_of}
+use Rattle.flat_arrays_byte_columns.proofs.Cuts.{held_after, mask_holds}
+use Rattle.flat_arrays_byte_columns.proofs.column.ByteColumn.slice.Goals as goal
 
 pub cut_of_mask-requires : goal.cut_of_mask-requires
 cut_of_mask-requires g c =

@@ -1,7 +1,7 @@
 use Rattle.std.proofs.Common.{true, ap, ◌∙◌}
 use Rattle.std.specs.Prelude.{Some}
-use Rattle.flat_arrays_bytes.proofs.Slots.{null_at, slot_at}
-use Rattle.flat_arrays_bytes.proofs.column.ByteColumn.get.Goals as goal
+use Rattle.flat_arrays_byte_columns.proofs.Slots.{null_at, slot_at}
+use Rattle.flat_arrays_byte_columns.proofs.column.ByteColumn.get.Goals as goal
 
 pub returns-then-is_valid : goal.returns-then-is_valid
 returns-then-is_valid g c =

@@ -9,11 +9,11 @@ use Rattle.columnar_memory_buffer.proofs.Runs.{sum-cons, offset_at-all, offset_a
 use Rattle.columnar_memory_buffer.proofs.Slices.{offset_at-spans_between, slices_join}
 use Rattle.columnar_memory_buffer.proofs.Windows.{length-window, windows_join}
 use Rattle.columnar_memory_types.specs.declared.kinds.PhysicalType.{PhysicalType}
-use Rattle.flat_arrays_bytes.specs.ByteStrings.{ByteStrings, byte_strings, cut, cut_by, cut_mask, len_of}
-use Rattle.flat_arrays_bytes.specs.ByteStrings.{marks, marks_of, marked_of, slot_of, slots_of, values_of}
-use Rattle.flat_arrays_bytes.specs.Fits.{Fits, HoldsMarks, IsMaskOf}
-use Rattle.flat_arrays_bytes.specs.Laws.{CutsSlots}
-use Rattle.flat_arrays_bytes.specs.Texts.{AllTexts}
+use Rattle.flat_arrays_byte_columns.specs.ByteStrings.{ByteStrings, byte_strings, cut, cut_by, cut_mask, len_of}
+use Rattle.flat_arrays_byte_columns.specs.ByteStrings.{marks, marks_of, marked_of, slot_of, slots_of, values_of}
+use Rattle.flat_arrays_byte_columns.specs.Fits.{Fits, HoldsMarks, IsMaskOf}
+use Rattle.flat_arrays_byte_columns.specs.Laws.{CutsSlots}
+use Rattle.flat_arrays_byte_columns.specs.Texts.{AllTexts}
 
 -- a range is a window
 pub slice_range-window : {X : Type 0} (xs : List X) (o n : ℕ) → slice_range xs o (o + n) ≡ window xs o n

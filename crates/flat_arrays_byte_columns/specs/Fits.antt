@@ -8,8 +8,8 @@ use Rattle.columnar_memory_schema.specs.declared.data_type.DataType.TheVariants 
 use Rattle.columnar_memory_types.specs.declared.error.Error.{Error}
 use Rattle.columnar_memory_types.specs.declared.kinds.PhysicalType.{PhysicalType}
 use Rattle.columnar_memory_types.specs.declared.kinds.PhysicalType.TheVariants as layouts
-use Rattle.flat_arrays_bytes.specs.ByteStrings.{ByteStrings, len_of, values_of}
-use Rattle.flat_arrays_bytes.specs.Texts.{AllTexts}
+use Rattle.flat_arrays_byte_columns.specs.ByteStrings.{ByteStrings, len_of, values_of}
+use Rattle.flat_arrays_byte_columns.specs.Texts.{AllTexts}
 
 -- if there is a mask, it has so many marks
 abbrev pub IsMaskOf : ℕ → Option (List Bool) → Type 0

@@ -1,6 +1,6 @@
 use Rattle.std.proofs.Common.{refl, subst, arith}
-use Rattle.flat_arrays_bytes.specs.Fits.{IsMaskOf}
-use Rattle.flat_arrays_bytes.proofs.column.ByteColumn.try_new.Goals as goal
+use Rattle.flat_arrays_byte_columns.specs.Fits.{IsMaskOf}
+use Rattle.flat_arrays_byte_columns.proofs.column.ByteColumn.try_new.Goals as goal
 
 pub returns : goal.returns
 returns g c = (

@@ -5,9 +5,9 @@ ghost use Rattle.columnar_memory.specs.Bits.{unset_count};
 ghost use Rattle.columnar_memory.specs.Layouts.{physical_type};
 ghost use Rattle.columnar_memory.specs.Results.{OrOutOfMemory};
 ghost use Rattle.columnar_memory.specs.Spans.{last_of, no_spans};
-ghost use Rattle.flat_arrays_bytes.specs.ByteStrings.{byte_strings, cut, cut_mask, len_of, marks_of, nulls, slots_of, values_of, with_mask};
-ghost use Rattle.flat_arrays_bytes.specs.Equal.{AreEqual};
-ghost use Rattle.flat_arrays_bytes.specs.Fits.{HoldsMarks, IsChecked, Fits, IsMaskOf, KeepsLength};
+ghost use Rattle.flat_arrays_byte_columns.specs.ByteStrings.{byte_strings, cut, cut_mask, len_of, marks_of, nulls, slots_of, values_of, with_mask};
+ghost use Rattle.flat_arrays_byte_columns.specs.Equal.{AreEqual};
+ghost use Rattle.flat_arrays_byte_columns.specs.Fits.{HoldsMarks, IsChecked, Fits, IsMaskOf, KeepsLength};
 
 use columnar_memory::{
     Bitmap, Buffer, DataType, Error, Index, Offset, Offsets, OffsetsBuffer, PhysicalType, Result,
@@ -15,9 +15,10 @@ use columnar_memory::{
 use std::alloc::Global;
 use std::marker::Model;
 
-/// Byte strings, each between two neighbouring offsets, a data type, and a validity mark for each where a mask is held.
+/// Byte strings, each between two neighbouring offsets, a data type, and a validity mark for each where a mask is held (Arrow columnar
+/// format, "Variable-size Binary Layout", "Validity bitmaps"). A contract sees just these parts. A cut shares the memory.
 #[derive(Drop)]
-pub(crate) struct ByteColumn<O: Offset> {
+pub struct ByteColumn<O: Offset> {
     data_type: DataType,
     offsets: OffsetsBuffer<O>,
     values: Buffer<u8>,
@@ -27,8 +28,8 @@ pub(crate) struct ByteColumn<O: Offset> {
 impl<O: Offset> Model for ByteColumn<O> {
     ghost use Rattle.std.specs.Prelude.{◌≤◌, length};
     ghost use Rattle.columnar_memory.specs.Spans.{last_of};
-    ghost use Rattle.flat_arrays_bytes.specs.ByteStrings.{ByteStrings, byte_strings, byte_strings_code};
-    ghost use Rattle.flat_arrays_bytes.specs.Fits.{IsMaskOf};
+    ghost use Rattle.flat_arrays_byte_columns.specs.ByteStrings.{ByteStrings, byte_strings, byte_strings_code};
+    ghost use Rattle.flat_arrays_byte_columns.specs.Fits.{IsMaskOf};
 
     ghost Value = { ByteStrings };
 
@@ -98,7 +99,7 @@ impl<O: Offset> ByteColumn<O> {
     ///
     /// # Errors
     /// `OutOfSpec`: the data type is not laid out so, the mask has another length, or the last offset is past the bytes.
-    pub(crate) fn try_new(
+    pub fn try_new(
         layout: PhysicalType,
         data_type: DataType,
         offsets: OffsetsBuffer<O>,
@@ -124,8 +125,8 @@ impl<O: Offset> ByteColumn<O> {
         })
     }
 
-    /// The column of parts that fit.
-    pub(crate) fn new(
+    /// The column of parts that fit: the mask is as long as the column, and the last offset is within the bytes. Takes no memory.
+    pub fn new(
         data_type: DataType,
         offsets: OffsetsBuffer<O>,
         values: Buffer<u8>,
@@ -144,7 +145,10 @@ impl<O: Offset> ByteColumn<O> {
     }
 
     /// No slots.
-    pub(crate) fn new_empty(alloc: Global, data_type: DataType) -> Result<Self>
+    ///
+    /// # Errors
+    /// `OutOfMemory`: the offsets or the count of owners found no memory.
+    pub fn new_empty(alloc: Global, data_type: DataType) -> Result<Self>
         ensures { OrOutOfMemory result (λ a. a ≡ byte_strings data_type no_spans [] None) }
     {
         Ok(ByteColumn {
@@ -156,7 +160,10 @@ impl<O: Offset> ByteColumn<O> {
     }
 
     /// So many nulls, each of which stores no bytes.
-    pub(crate) fn new_null(alloc: Global, data_type: DataType, count: usize) -> Result<Self>
+    ///
+    /// # Errors
+    /// `OutOfMemory`: the offsets, the mask or a count of owners found no memory.
+    pub fn new_null(alloc: Global, data_type: DataType, count: usize) -> Result<Self>
         ensures { OrOutOfMemory result (λ a. a ≡ nulls data_type count) }
     {
         Ok(ByteColumn {
@@ -167,32 +174,37 @@ impl<O: Offset> ByteColumn<O> {
         })
     }
 
-    pub(crate) fn len(&self) -> usize
+    /// How many slots there are.
+    pub fn len(&self) -> usize
         ensures value { result ≡ len_of self.now }
         ensures masked { IsMaskOf (len_of self.now) self.now.validity }
     {
         self.offsets.len_proxy()
     }
 
-    pub(crate) fn data_type(&self) -> &DataType
+    /// The data type of the slots.
+    pub fn data_type(&self) -> &DataType
         ensures { result.now ≡ self.now.data_type }
     {
         &self.data_type
     }
 
-    pub(crate) fn offsets(&self) -> &OffsetsBuffer<O>
+    /// The offsets: the byte string of a slot stands between two neighbouring ones.
+    pub fn offsets(&self) -> &OffsetsBuffer<O>
         ensures { result.now ≡ self.now.offsets }
     {
         &self.offsets
     }
 
-    pub(crate) fn values(&self) -> &Buffer<u8>
+    /// The bytes, also those that stand before the first offset or behind the last.
+    pub fn values(&self) -> &Buffer<u8>
         ensures { result.now ≡ self.now.bytes }
     {
         &self.values
     }
 
-    pub(crate) fn validity(&self) -> Option<&Bitmap>
+    /// The mask, where there is one: a bit is set where its slot is not null.
+    pub fn validity(&self) -> Option<&Bitmap>
         ensures { option_copied result ≡ self.now.validity }
     {
         self.validity.as_ref()
@@ -200,7 +212,7 @@ impl<O: Offset> ByteColumn<O> {
 
     /// The stored byte string of a slot, under a null too.
     #[tactic(auto, using(crate::proofs::Places::value_between))]
-    pub(crate) fn value(&self, index: usize) -> &[u8]
+    pub fn value(&self, index: usize) -> &[u8]
         requires { index < len_of self.now }
         ensures { slice_get (values_of self.now) index ≡ Some result.now }
     {
@@ -210,7 +222,7 @@ impl<O: Offset> ByteColumn<O> {
 
     /// Whether the mark of a slot is true.
     #[tactic(auto, using(crate::proofs::Slots::marks_all))]
-    pub(crate) fn is_valid(&self, index: usize) -> bool
+    pub fn is_valid(&self, index: usize) -> bool
         requires { index < len_of self.now }
         ensures { slice_get (marks_of self.now) index ≡ Some result }
     {
@@ -221,7 +233,7 @@ impl<O: Offset> ByteColumn<O> {
     }
 
     /// The slot at a place: its byte string, or none where it is null.
-    pub(crate) fn get(&self, index: usize) -> Option<&[u8]>
+    pub fn get(&self, index: usize) -> Option<&[u8]>
         requires { index < len_of self.now }
         ensures { slice_get (slots_of self.now) index ≡ Some (option_copied result) }
     {
@@ -234,7 +246,7 @@ impl<O: Offset> ByteColumn<O> {
 
     /// How many marks are false.
     #[tactic(auto, using(crate::proofs::Slots::none_unset))]
-    pub(crate) fn null_count(&self) -> usize
+    pub fn null_count(&self) -> usize
         ensures { result ≡ unset_count (marks_of self.now) }
     {
         match &self.validity {
@@ -244,7 +256,7 @@ impl<O: Offset> ByteColumn<O> {
     }
 
     /// Narrows this to `count` slots from `offset` on, with no copy.
-    pub(crate) fn slice(&mut self, offset: usize, count: usize)
+    pub fn slice(&mut self, offset: usize, count: usize)
         requires { offset + count ≤ len_of self.old }
         ensures { self.new ≡ cut self.old offset count }
     {
@@ -254,7 +266,7 @@ impl<O: Offset> ByteColumn<O> {
     }
 
     /// Puts another mask in place of the one that is held, or none.
-    pub(crate) fn set_validity(&mut self, validity: Option<Bitmap>)
+    pub fn set_validity(&mut self, validity: Option<Bitmap>)
         requires { IsMaskOf (len_of self.old) validity }
         ensures { self.new ≡ with_mask self.old validity }
     {
@@ -262,7 +274,7 @@ impl<O: Offset> ByteColumn<O> {
     }
 
     /// Gives the mask, where there is one, to a function that gives one of the same length back.
-    pub(crate) fn apply_validity<F: FnOnce(Bitmap) -> Bitmap + Drop>(&mut self, f: F)
+    pub fn apply_validity<F: FnOnce(Bitmap) -> Bitmap + Drop>(&mut self, f: F)
         requires callable { ForSome self.old.validity (F.pre f) }
         requires keeps_length { KeepsLength (F.post f) self.old.validity }
         ensures { MatchOption self.old.validity (self.new ≡ self.old)
@@ -298,14 +310,14 @@ impl<O: Offset> ByteColumn<O> {
     }
 
     /// Whether another column has the same data type and the same slots.
-    pub(crate) fn is_equal(&self, other: &Self) -> bool
+    pub fn is_equal(&self, other: &Self) -> bool
         ensures { IsTrue result ↔ AreEqual self.now other.now }
     {
         self.has_type_of(other) && self.has_slots_of(other)
     }
 
     /// The data type, the offsets, the bytes and the mask.
-    pub(crate) fn into_inner(self) -> (DataType, OffsetsBuffer<O>, Buffer<u8>, Option<Bitmap>)
+    pub fn into_inner(self) -> (DataType, OffsetsBuffer<O>, Buffer<u8>, Option<Bitmap>)
         ensures { self ≡ byte_strings result.0 result.1 result.2 result.3 }
     {
         let ByteColumn {

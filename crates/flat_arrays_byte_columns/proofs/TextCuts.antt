@@ -7,9 +7,9 @@ use Rattle.std.specs.Prelude.{◌↔◌, slice_range}
 use Rattle.columnar_memory.specs.Spans.{Spans, last_of}
 use Rattle.std.specs.Str.{IsUtf8, IsCharBoundary}
 use Rattle.columnar_memory_buffer.proofs.Runs.{sum-cons}
-use Rattle.flat_arrays_bytes.proofs.Cuts.{slice_range-window}
-use Rattle.flat_arrays_bytes.specs.ByteStrings.{cut_by}
-use Rattle.flat_arrays_bytes.specs.Texts.{AllTexts, CutsBetweenChars}
+use Rattle.flat_arrays_byte_columns.proofs.Cuts.{slice_range-window}
+use Rattle.flat_arrays_byte_columns.specs.ByteStrings.{cut_by}
+use Rattle.flat_arrays_byte_columns.specs.Texts.{AllTexts, CutsBetweenChars}
 
 -- what is left behind the first span has the length of the others
 length-rest : (l : ℕ) (ls bytes : List ℕ) → length bytes ≡ sum (l ∷ ls) → length (drop l bytes) ≡ sum ls
