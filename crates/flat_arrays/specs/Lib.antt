@@ -6,12 +6,12 @@ pub use Rattle.flat_arrays_values.specs.FlatLaws
 pub use Rattle.flat_arrays_values.specs.Iteration
 pub use Rattle.flat_arrays_values.specs.Results
 pub use Rattle.flat_arrays_values.specs.SlotWalks
-pub use Rattle.flat_arrays_bytes.specs.ByteStrings
+pub use Rattle.flat_arrays_byte_columns.specs.ByteStrings
+pub use Rattle.flat_arrays_byte_columns.specs.Equal
+pub use Rattle.flat_arrays_byte_columns.specs.Fits
+pub use Rattle.flat_arrays_byte_columns.specs.Laws
+pub use Rattle.flat_arrays_byte_columns.specs.Texts
 pub use Rattle.flat_arrays_bytes.specs.ByteWalks
-pub use Rattle.flat_arrays_bytes.specs.Equal
-pub use Rattle.flat_arrays_bytes.specs.Fits
-pub use Rattle.flat_arrays_bytes.specs.Laws
-pub use Rattle.flat_arrays_bytes.specs.Texts
 pub use Rattle.flat_arrays_masks.specs.Changes
 pub use Rattle.flat_arrays_masks.specs.Growth
 pub use Rattle.flat_arrays_masks.specs.GrowthLaws

@@ -12,11 +12,11 @@ use Rattle.columnar_memory.specs.Growth.{IsGrowthFault}
 use Rattle.columnar_memory.specs.Spans.{Spans, extended, first_spans, last_of, offset_at, shortened}
 use Rattle.columnar_memory_types.specs.declared.error.Error.{Error}
 use Rattle.columnar_memory_types.specs.declared.kinds.PhysicalType.{PhysicalType}
-use Rattle.flat_arrays_bytes.proofs.Cuts.{slots_of-cut, values_of-cut}
+use Rattle.flat_arrays_byte_columns.proofs.Cuts.{slots_of-cut, values_of-cut}
 use Rattle.flat_arrays_bytes.proofs.Ranges.{range_all, range_last}
-use Rattle.flat_arrays_bytes.proofs.Slots.{length_slots, length_values}
-use Rattle.flat_arrays_bytes.specs.ByteStrings.{ByteStrings, cut, cut_by, len_of, marks, marks_of, slot_of, slots_of, values_of}
-use Rattle.flat_arrays_bytes.specs.Fits.{Fits, IsMaskOf}
+use Rattle.flat_arrays_byte_columns.proofs.Slots.{length_slots, length_values}
+use Rattle.flat_arrays_byte_columns.specs.ByteStrings.{ByteStrings, cut, cut_by, len_of, marks, marks_of, slot_of, slots_of, values_of}
+use Rattle.flat_arrays_byte_columns.specs.Fits.{Fits, IsMaskOf}
 use Rattle.flat_arrays_masks.proofs.Marked.{all-true, made, none_or_some, unmade}
 use Rattle.flat_arrays_masks.specs.Growth.{with_marks}
 use Rattle.flat_arrays_byte_values_builders.specs.Growing.{IsFilled, first_slots, joined, pushed, trimmed, with_slot, with_slots, without_last}

@@ -12,8 +12,8 @@ use Rattle.columnar_memory.specs.Spans.{Spans}
 use Rattle.columnar_memory_types.specs.declared.error.Error.{Error}
 use Rattle.columnar_memory_types.specs.declared.error.Error.TheVariants.{NotYetImplemented, InvalidArgumentError, ExternalFormat, OutOfSpec}
 use Rattle.columnar_memory_types.specs.declared.error.Error.TheVariants.{External, Io, Overflow, OutOfMemory}
-use Rattle.flat_arrays_bytes.specs.ByteStrings.{ByteStrings, byte_strings, cut_mask, marks}
-use Rattle.flat_arrays_bytes.specs.Fits.{IsMaskOf}
+use Rattle.flat_arrays_byte_columns.specs.ByteStrings.{ByteStrings, byte_strings, cut_mask, marks}
+use Rattle.flat_arrays_byte_columns.specs.Fits.{IsMaskOf}
 use Rattle.flat_arrays_masks.specs.Growth.{with_marks}
 use Rattle.flat_arrays_byte_values_builders.proofs.Growth.{mask_of-grown}
 use Rattle.flat_arrays_values.specs.Flat as flat

@@ -3,8 +3,8 @@ ghost use Rattle.std.specs.Prelude.{◌≡◌, ◌+◌, ◌<◌, ◌≤◌, ◌�
 ghost use Rattle.std.specs.Option.{ForSome};
 ghost use Rattle.columnar_memory.specs.Error.{IsOutOfMemory};
 ghost use Rattle.columnar_memory.specs.Spans.{last_of};
-ghost use Rattle.flat_arrays_bytes.specs.ByteStrings.{cut_mask, len_of, marks, with_mask};
-ghost use Rattle.flat_arrays_bytes.specs.Fits.{IsMaskOf};
+ghost use Rattle.flat_arrays_byte_columns.specs.ByteStrings.{cut_mask, len_of, marks, with_mask};
+ghost use Rattle.flat_arrays_byte_columns.specs.Fits.{IsMaskOf};
 ghost use Rattle.flat_arrays_masks.specs.Growth.{with_marks};
 ghost use Rattle.flat_arrays_values.specs.Results.{AppliesTo};
 ghost use Rattle.flat_arrays_byte_values_builders.specs.Growing.{Grows, IsFilled, joined};

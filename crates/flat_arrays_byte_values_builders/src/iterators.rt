@@ -2,8 +2,8 @@
 ghost use Rattle.std.specs.Prelude.{◌≡◌, ◌<◌, Some, length, slice_get, IfSome};
 ghost use Rattle.std.specs.Iterator.{UpTo, YieldsFirstBy, YieldsLastBy, item_count};
 ghost use Rattle.std.specs.Iterator.SizeHint.{IsWithinCount};
-ghost use Rattle.flat_arrays_bytes.specs.ByteStrings.{len_of, values_of};
-ghost use Rattle.flat_arrays_bytes.specs.Texts.{AllTexts};
+ghost use Rattle.flat_arrays_byte_columns.specs.ByteStrings.{len_of, values_of};
+ghost use Rattle.flat_arrays_byte_columns.specs.Texts.{AllTexts};
 
 use crate::ByteBuilder;
 use columnar_memory::Offset;
@@ -21,7 +21,7 @@ pub struct MutableBinaryValuesIter<'a, O: Offset> {
 
 impl<'a, O: Offset> Model for MutableBinaryValuesIter<'a, O> {
     ghost use Rattle.std.specs.Prelude.{◌≤◌, ℕ, List, slice_range};
-    ghost use Rattle.flat_arrays_bytes.specs.ByteStrings.{len_of, values_of};
+    ghost use Rattle.flat_arrays_byte_columns.specs.ByteStrings.{len_of, values_of};
 
     ghost Value = { List (List ℕ) };
 
@@ -60,7 +60,7 @@ impl<'a, O: Offset> Iterator for MutableBinaryValuesIter<'a, O> {
         Some(value)
     }
 
-    #[tactic(auto, using(flat_arrays_bytes::proofs::Ranges::range_len, flat_arrays_bytes::proofs::Slots::length_values))]
+    #[tactic(auto, using(flat_arrays_bytes::proofs::Ranges::range_len, flat_arrays_byte_columns::proofs::Slots::length_values))]
     fn size_hint(&self) -> (usize, Option<usize>)
         ensures lower { IsWithinCount result.0 (item_count (λ left. left) self.now) }
         ensures upper { IfSome result.1 (UpTo (item_count (λ left. left) self.now)) }
@@ -88,7 +88,7 @@ impl<'a, O: Offset> DoubleEndedIterator for MutableBinaryValuesIter<'a, O> {
 impl<'a, O: Offset> FusedIterator for MutableBinaryValuesIter<'a, O> {}
 
 /// The stored text at a place.
-#[tactic(auto, using(flat_arrays_bytes::proofs::Places::text_among))]
+#[tactic(auto, using(flat_arrays_byte_columns::proofs::Places::text_among))]
 fn text_at<O: Offset>(builder: &ByteBuilder<O>, index: usize) -> &str
     requires inside { index < len_of builder.now }
     requires texts { AllTexts (values_of builder.now) }
@@ -108,8 +108,8 @@ pub struct MutableUtf8ValuesIter<'a, O: Offset> {
 
 impl<'a, O: Offset> Model for MutableUtf8ValuesIter<'a, O> {
     ghost use Rattle.std.specs.Prelude.{◌≤◌, ℕ, List, slice_range};
-    ghost use Rattle.flat_arrays_bytes.specs.ByteStrings.{len_of, values_of};
-    ghost use Rattle.flat_arrays_bytes.specs.Texts.{AllTexts};
+    ghost use Rattle.flat_arrays_byte_columns.specs.ByteStrings.{len_of, values_of};
+    ghost use Rattle.flat_arrays_byte_columns.specs.Texts.{AllTexts};
 
     ghost Value = { List (List ℕ) };
 
@@ -149,7 +149,7 @@ impl<'a, O: Offset> Iterator for MutableUtf8ValuesIter<'a, O> {
         Some(value)
     }
 
-    #[tactic(auto, using(flat_arrays_bytes::proofs::Ranges::range_len, flat_arrays_bytes::proofs::Slots::length_values))]
+    #[tactic(auto, using(flat_arrays_bytes::proofs::Ranges::range_len, flat_arrays_byte_columns::proofs::Slots::length_values))]
     fn size_hint(&self) -> (usize, Option<usize>)
         ensures lower { IsWithinCount result.0 (item_count (λ left. left) self.now) }
         ensures upper { IfSome result.1 (UpTo (item_count (λ left. left) self.now)) }
