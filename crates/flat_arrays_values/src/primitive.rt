@@ -279,7 +279,7 @@ impl<T: NativeType> PrimitiveArray<T> {
             → length made.items ≡ length self.old.values }
         ensures { MatchResult result
             (λ _. (copy : Vec T Global) × (made : Vec T Global) × (copy.items ≡ self.old.values) × F.post f copy made
-                × (self.new ≡ flat self.old.data_type made.items self.old.validity))
+            × (self.new ≡ flat self.old.data_type made.items self.old.validity))
             (λ e. IsOutOfMemory e × (self.new ≡ self.old)) }
     {
         let copy = Vec::from_slice(self.values.allocator(), self.values.as_slice())?;
