@@ -2,7 +2,7 @@
 ghost use Rattle.std.specs.Prelude.{◌+◌, ◌*◌, ◌^◌, ◌≤◌, ◌<◌, length, IfOk};
 
 use crate::data::{bitmap_checksum, bytes_checksum, noise, noise_bitmap};
-use crate::work::Work;
+use bench_timing::Work;
 use columnar_memory::{Bitmap, Error, MutableBitmap, Result, SlicesIterator, and, count_zeros};
 use std::alloc::Global;
 

@@ -1,8 +1,8 @@
 use crate::bits::{And, CountZeros, ExtendFromSlice, Slices};
 use crate::data::{noise_bitmap, runs_bitmap};
 use crate::values::{FromIter, OffsetsFromLengths, ZippedSum};
-use crate::work::{Timed, time_rounds};
-use columnar_memory::{Error, Result};
+use bench_timing::{Named, Timed, time_rounds};
+use columnar_memory::Result;
 use std::rt::Clock;
 
 /// A job that is timed.
@@ -48,8 +48,8 @@ pub(crate) const JOBS: [Job; 9] = [
     Job::ZipValidity,
 ];
 
-impl Job {
-    pub(crate) fn name(self) -> &'static str {
+impl Named for Job {
+    fn name(&self) -> &'static str {
         match self {
             Job::AndAligned => "and_aligned",
             Job::AndOffsets => "and_offsets",
@@ -62,20 +62,9 @@ impl Job {
             Job::ZipValidity => "zip_validity",
         }
     }
+}
 
-    /// The job of a name.
-    ///
-    /// # Errors
-    /// `InvalidArgumentError`: no job has this name.
-    pub(crate) fn named(name: &str) -> Result<Job> {
-        for job in JOBS {
-            if job.name() == name {
-                return Ok(job);
-            }
-        }
-        Err(Error::InvalidArgumentError("a name of no job"))
-    }
-
+impl Job {
     /// Does the job at this size some times.
     ///
     /// # Errors

@@ -10,8 +10,8 @@ mod bits;
 mod data;
 mod job;
 mod values;
-mod work;
 
+use bench_timing::{Named, job_named};
 use columnar_memory::{Error, Result};
 use job::{JOBS, Job};
 use std::env;
@@ -31,7 +31,7 @@ fn main(rt: HostRuntime) -> Result<()> {
             let Ok(size) = size.parse::<usize>() else {
                 return Err(Error::InvalidArgumentError("a size that is no number"));
             };
-            show_time(&rt, Job::named(name.as_str())?, size)
+            show_time(&rt, job_named(&JOBS, name.as_str())?, size)
         }
         _ => Err(Error::InvalidArgumentError("other words than a job and a size")),
     }

@@ -1,6 +1,6 @@
 //! Work on bits beside values, and on offsets.
 use crate::data::{bitmap_checksum, booleans, lengths, noise_bitmap, values};
-use crate::work::Work;
+use bench_timing::Work;
 use columnar_memory::{Bitmap, Offsets, Result, ZipValidity};
 use std::alloc::Global;
 

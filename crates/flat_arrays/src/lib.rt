@@ -9,9 +9,10 @@ pub use flat_arrays_builders::{
     DaysMsVec, Int8Vec, Int16Vec, Int32Vec, Int64Vec, Int128Vec, Int256Vec, MonthsDaysNsVec,
     MutableBooleanArray, MutablePrimitiveArray, UInt8Vec, UInt16Vec, UInt32Vec, UInt64Vec,
 };
-pub use flat_arrays_byte_builders::{
-    ByteBuilder, MutableBinaryArray, MutableBinaryValuesArray, MutableUtf8Array,
-    MutableUtf8ValuesArray, a_push_adds_one_slot,
+pub use flat_arrays_byte_builders::{MutableBinaryArray, MutableUtf8Array};
+pub use flat_arrays_byte_values_builders::{
+    ByteBuilder, MutableBinaryValuesArray, MutableBinaryValuesIter, MutableUtf8ValuesArray,
+    MutableUtf8ValuesIter, a_push_adds_one_slot, joined_slots_stand_behind_the_others,
 };
 pub use flat_arrays_bytes::{
     BinaryArray, BinaryValueIter, Utf8Array, Utf8ValuesIter,

@@ -1,3 +1,1 @@
-pub mod Growth
-pub mod Kept
-pub mod Undone
+pub mod Taken

@@ -1,15 +1,16 @@
-ghost use Rattle.std.specs.Prelude.{◌≡◌, None, [], option_map, IfErr};
-ghost use Rattle.std.specs.Option.{option_copied};
+ghost use Rattle.std.specs.Prelude.{◌≡◌, Bool, List, None, [], length, option_map, IfErr};
+ghost use Rattle.std.specs.Option.{ForSome, option_copied};
 ghost use Rattle.columnar_memory.specs.Error.{IsOutOfMemory};
 ghost use Rattle.columnar_memory.specs.Layouts.{physical_type};
 ghost use Rattle.columnar_memory.specs.Results.{OrOutOfMemory};
 ghost use Rattle.columnar_memory.specs.Spans.{no_spans};
-ghost use Rattle.flat_arrays_bytes.specs.ByteStrings.{byte_strings, with_mask};
-ghost use Rattle.flat_arrays_bytes.specs.Fits.{IsBinary, binary_layout, binary_type};
-ghost use Rattle.flat_arrays_byte_builders.specs.Growing.{Grows, IsTaken, IsGrown, OrUnchanged, Pops, frozen_mask, with_slot};
+ghost use Rattle.flat_arrays_byte_columns.specs.ByteStrings.{byte_strings, len_of, with_mask};
+ghost use Rattle.flat_arrays_byte_columns.specs.Fits.{IsBinary, IsMaskOf, binary_layout, binary_type};
+ghost use Rattle.flat_arrays_values.specs.Results.{AppliesTo};
+ghost use Rattle.flat_arrays_byte_values_builders.specs.Growing.{Grows, IsTaken, IsGrown, OrUnchanged, Pops, frozen_mask, with_slot};
 
-use crate::builder::{ByteBuilder, binary_layout_of};
 use columnar_memory::{DataType, MutableBitmap, Offset, Offsets, Result};
+use flat_arrays_byte_values_builders::{ByteBuilder, binary_layout_of};
 use flat_arrays_bytes::BinaryArray;
 use std::alloc::Global;
 use std::marker::Model;
@@ -20,14 +21,14 @@ use std::rc::Rc;
 /// bytes, of which none stand behind the last byte string, and the mask, which is made at the first null.
 #[derive(Drop)]
 pub struct MutableBinaryArray<O: Offset> {
-    builder: ByteBuilder<O>,
+    pub(crate) builder: ByteBuilder<O>,
 }
 
 impl<O: Offset> Model for MutableBinaryArray<O> {
     ghost use Rattle.std.specs.Prelude.{◌≡◌};
-    ghost use Rattle.flat_arrays_bytes.specs.ByteStrings.{ByteStrings, byte_strings_code};
+    ghost use Rattle.flat_arrays_byte_columns.specs.ByteStrings.{ByteStrings, byte_strings_code};
     ghost use Rattle.columnar_memory.specs.Layouts.{physical_type};
-    ghost use Rattle.flat_arrays_bytes.specs.Fits.{binary_layout};
+    ghost use Rattle.flat_arrays_byte_columns.specs.Fits.{binary_layout};
 
     ghost Value = { ByteStrings };
 
@@ -106,6 +107,24 @@ impl<O: Offset> MutableBinaryArray<O> {
         ensures err { IfErr result IsOutOfMemory }
     {
         self.builder.reserve(additional, additional_values)
+    }
+
+    /// Replaces the mask.
+    pub fn set_validity(&mut self, validity: Option<MutableBitmap>)
+        requires { IsMaskOf (len_of self.old) validity }
+        ensures { self.new ≡ with_mask self.old validity }
+    {
+        self.builder.set_validity(validity);
+    }
+
+    /// Replaces the mask, if there is one, by what a function gives for it, which has as many marks.
+    pub fn apply_validity<F: FnOnce(MutableBitmap) -> MutableBitmap + Drop>(&mut self, f: F)
+        requires callable { ForSome self.old.validity (F.pre f) }
+        requires keeps { ForSome self.old.validity (λ mask. (made : List Bool) → F.post f mask made → length made ≡ length mask) }
+        ensures applied { AppliesTo (F.post f) self.old.validity self.new.validity }
+        ensures rest { self.new ≡ with_mask self.old self.new.validity }
+    {
+        self.builder.apply_validity(f);
     }
 
     /// Gives memory back that no slot needs.
@@ -188,7 +207,7 @@ impl<O: Offset> MutableBinaryArray<O> {
     pub fn into_arc(self) -> Result<Rc<BinaryArray<O>>>
         ensures { OrOutOfMemory result (λ a. a.value ≡ with_mask self (frozen_mask self.validity)) }
     {
-        let alloc = self.builder.allocator();
+        let alloc = *self.builder.values().allocator();
         Ok(Rc::new(alloc, self.freeze()?)?)
     }
 }

@@ -1,17 +1,14 @@
-//! Builders of arrays of byte strings and of texts: values of any length, pushed one behind another, with validity marks (Arrow columnar
-//! format, "Variable-size Binary Layout").
+//! Builders of arrays of byte strings and of texts any of which may be null: values of any length, pushed one behind another, with validity
+//! marks (Arrow columnar format, "Variable-size Binary Layout").
 #![tactic(auto)]
 
 mod binary;
-mod binary_values;
-mod builder;
-mod laws;
+mod binary_extend;
+mod equality;
+mod into_mut;
+mod iterate;
 mod utf8;
-mod utf8_values;
+mod utf8_extend;
 
 pub use binary::MutableBinaryArray;
-pub use binary_values::MutableBinaryValuesArray;
-pub use builder::ByteBuilder;
-pub use laws::a_push_adds_one_slot;
 pub use utf8::MutableUtf8Array;
-pub use utf8_values::MutableUtf8ValuesArray;

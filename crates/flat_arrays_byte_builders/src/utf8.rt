@@ -1,16 +1,17 @@
-ghost use Rattle.std.specs.Prelude.{◌≡◌, ◌<◌, None, Some, slice_get, [], option_map, IfErr};
-ghost use Rattle.std.specs.Option.{option_copied};
+ghost use Rattle.std.specs.Prelude.{◌≡◌, ◌<◌, Bool, List, None, Some, slice_get, [], length, option_map, IfErr};
+ghost use Rattle.std.specs.Option.{ForSome, option_copied};
 ghost use Rattle.std.specs.String.{string_bytes};
 ghost use Rattle.columnar_memory.specs.Error.{IsOutOfMemory};
 ghost use Rattle.columnar_memory.specs.Layouts.{physical_type};
 ghost use Rattle.columnar_memory.specs.Results.{OrOutOfMemory};
 ghost use Rattle.columnar_memory.specs.Spans.{no_spans};
-ghost use Rattle.flat_arrays_bytes.specs.ByteStrings.{byte_strings, len_of, values_of, with_mask};
-ghost use Rattle.flat_arrays_bytes.specs.Fits.{IsText, text_layout, text_type};
-ghost use Rattle.flat_arrays_byte_builders.specs.Growing.{Grows, IsTaken, IsGrown, OrUnchanged, Pops, frozen_mask, with_slot};
+ghost use Rattle.flat_arrays_byte_columns.specs.ByteStrings.{byte_strings, len_of, values_of, with_mask};
+ghost use Rattle.flat_arrays_byte_columns.specs.Fits.{IsMaskOf, IsText, text_layout, text_type};
+ghost use Rattle.flat_arrays_values.specs.Results.{AppliesTo};
+ghost use Rattle.flat_arrays_byte_values_builders.specs.Growing.{Grows, IsTaken, IsGrown, OrUnchanged, Pops, frozen_mask, with_slot};
 
-use crate::builder::{ByteBuilder, text_layout_of};
 use columnar_memory::{DataType, Error, MutableBitmap, Offset, Offsets, Result};
+use flat_arrays_byte_values_builders::{ByteBuilder, text_layout_of};
 use flat_arrays_bytes::Utf8Array;
 use std::alloc::Global;
 use std::marker::Model;
@@ -22,15 +23,15 @@ use std::str::from_utf8_unchecked;
 /// bytes, of which none stand behind the last text, and the mask, which is made at the first null.
 #[derive(Drop)]
 pub struct MutableUtf8Array<O: Offset> {
-    builder: ByteBuilder<O>,
+    pub(crate) builder: ByteBuilder<O>,
 }
 
 impl<O: Offset> Model for MutableUtf8Array<O> {
     ghost use Rattle.std.specs.Prelude.{◌≡◌};
-    ghost use Rattle.flat_arrays_bytes.specs.ByteStrings.{ByteStrings, byte_strings_code, values_of};
+    ghost use Rattle.flat_arrays_byte_columns.specs.ByteStrings.{ByteStrings, byte_strings_code, values_of};
     ghost use Rattle.columnar_memory.specs.Layouts.{physical_type};
-    ghost use Rattle.flat_arrays_bytes.specs.Fits.{text_layout};
-    ghost use Rattle.flat_arrays_bytes.specs.Texts.{AllTexts};
+    ghost use Rattle.flat_arrays_byte_columns.specs.Fits.{text_layout};
+    ghost use Rattle.flat_arrays_byte_columns.specs.Texts.{AllTexts};
 
     ghost Value = { ByteStrings };
 
@@ -77,8 +78,8 @@ impl<O: Offset> MutableUtf8Array<O> {
     /// The builder that goes on behind these parts. Takes no memory, and cuts the bytes behind the last text.
     ///
     /// # Errors
-    /// `OutOfSpec`: arrays of the data type do not store texts with such offsets, the mask is not as long as the offsets tell, or
-    /// the last offset is past the bytes.
+    /// `OutOfSpec`: arrays of the data type do not store texts with such offsets, the mask is not as long as the offsets tell, the last
+    /// offset is past the bytes, or a text is not UTF-8 by itself.
     pub fn try_new(
         data_type: DataType,
         offsets: Offsets<O>,
@@ -104,7 +105,7 @@ impl<O: Offset> MutableUtf8Array<O> {
     }
 
     /// The stored text at a place, also where the slot is null.
-    #[tactic(auto, using(flat_arrays_bytes::proofs::Places::text_among))]
+    #[tactic(auto, using(flat_arrays_byte_columns::proofs::Places::text_among))]
     pub fn value(&self, index: usize) -> &str
         requires { index < len_of self.now }
         ensures { slice_get (values_of self.now) index ≡ Some result.now }
@@ -122,6 +123,24 @@ impl<O: Offset> MutableUtf8Array<O> {
         ensures err { IfErr result IsOutOfMemory }
     {
         self.builder.reserve(additional, additional_values)
+    }
+
+    /// Replaces the mask.
+    pub fn set_validity(&mut self, validity: Option<MutableBitmap>)
+        requires { IsMaskOf (len_of self.old) validity }
+        ensures { self.new ≡ with_mask self.old validity }
+    {
+        self.builder.set_validity(validity);
+    }
+
+    /// Replaces the mask, if there is one, by what a function gives for it, which has as many marks.
+    pub fn apply_validity<F: FnOnce(MutableBitmap) -> MutableBitmap + Drop>(&mut self, f: F)
+        requires callable { ForSome self.old.validity (F.pre f) }
+        requires keeps { ForSome self.old.validity (λ mask. (made : List Bool) → F.post f mask made → length made ≡ length mask) }
+        ensures applied { AppliesTo (F.post f) self.old.validity self.new.validity }
+        ensures rest { self.new ≡ with_mask self.old self.new.validity }
+    {
+        self.builder.apply_validity(f);
     }
 
     /// Gives memory back that no slot needs.
@@ -207,7 +226,7 @@ impl<O: Offset> MutableUtf8Array<O> {
     pub fn into_arc(self) -> Result<Rc<Utf8Array<O>>>
         ensures { OrOutOfMemory result (λ a. a.value ≡ with_mask self (frozen_mask self.validity)) }
     {
-        let alloc = self.builder.allocator();
+        let alloc = *self.builder.values().allocator();
         Ok(Rc::new(alloc, self.freeze()?)?)
     }
 }

@@ -6,9 +6,9 @@ use Rattle.std.specs.Prelude.{Bool, false, replicate}
 use Rattle.columnar_memory_buffer.proofs.Runs.{sum-cons}
 use Rattle.columnar_memory_schema.specs.Layouts.{physical_type}
 use Rattle.columnar_memory_schema.specs.declared.data_type.DataType.{DataType}
-use Rattle.flat_arrays_bytes.specs.ByteStrings.{cut_by, nulls}
-use Rattle.flat_arrays_bytes.specs.Fits.{IsText, text_layout}
-use Rattle.flat_arrays_bytes.specs.Texts.{AllTexts}
+use Rattle.flat_arrays_byte_columns.specs.ByteStrings.{cut_by, nulls}
+use Rattle.flat_arrays_byte_columns.specs.Fits.{IsText, text_layout}
+use Rattle.flat_arrays_byte_columns.specs.Texts.{AllTexts}
 
 sum-zeros : (n : ℕ) → sum (replicate n 0) ≡ 0
 sum-zeros zero = omega arith

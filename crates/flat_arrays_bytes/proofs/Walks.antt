@@ -9,10 +9,10 @@ use Rattle.columnar_memory_bits.specs.declared.zip_validity.ZipValidity.{ZipVali
 use Rattle.columnar_memory_bits.specs.declared.zip_validity.ZipValidity.TheVariants.{Required, Optional}
 use Rattle.flat_arrays_access.specs.Walks.{slots_left, IsEven}
 use Rattle.flat_arrays_access.proofs.Walks.{all_there}
-use Rattle.flat_arrays_bytes.specs.ByteStrings.{len_of, marks, slot_of, values_of}
+use Rattle.flat_arrays_byte_columns.specs.ByteStrings.{len_of, marks, slot_of, values_of}
 use Rattle.flat_arrays_bytes.specs.ByteWalks.{StandsBeforeSlots}
-use Rattle.flat_arrays_bytes.specs.Fits.{IsMaskOf}
-use Rattle.flat_arrays_bytes.proofs.Slots.{length_values, none_unset}
+use Rattle.flat_arrays_byte_columns.specs.Fits.{IsMaskOf}
+use Rattle.flat_arrays_byte_columns.proofs.Slots.{length_values, none_unset}
 
 module _ {T : Type 0} where
   -- the walk has these slots left, and as many marks as values

@@ -1,6 +1,2 @@
-pub mod ByteStrings
 pub mod ByteWalks
-pub mod Equal
-pub mod Fits
-pub mod Laws
-pub mod Texts
+pub mod Collected

@@ -2,7 +2,7 @@
 ghost use Rattle.std.specs.Prelude.{◌≡◌, Some, length, IfSome};
 ghost use Rattle.std.specs.Iterator.{UpTo, YieldsFirstBy, YieldsLastBy, item_count};
 ghost use Rattle.std.specs.Iterator.SizeHint.{IsWithinCount};
-ghost use Rattle.flat_arrays_bytes.specs.ByteStrings.{values_of};
+ghost use Rattle.flat_arrays_byte_columns.specs.ByteStrings.{values_of};
 
 use crate::{BinaryArray, Utf8Array};
 use columnar_memory::Offset;
@@ -19,7 +19,7 @@ pub struct BinaryValueIter<'a, O: Offset> {
 
 impl<'a, O: Offset> Model for BinaryValueIter<'a, O> {
     ghost use Rattle.std.specs.Prelude.{◌≤◌, ℕ, List, slice_range};
-    ghost use Rattle.flat_arrays_bytes.specs.ByteStrings.{len_of, values_of};
+    ghost use Rattle.flat_arrays_byte_columns.specs.ByteStrings.{len_of, values_of};
 
     ghost Value = { List (List ℕ) };
 
@@ -58,7 +58,7 @@ impl<'a, O: Offset> Iterator for BinaryValueIter<'a, O> {
         Some(value)
     }
 
-    #[tactic(auto, using(crate::proofs::Ranges::range_len, crate::proofs::Slots::length_values))]
+    #[tactic(auto, using(crate::proofs::Ranges::range_len, flat_arrays_byte_columns::proofs::Slots::length_values))]
     fn size_hint(&self) -> (usize, Option<usize>)
         ensures lower { IsWithinCount result.0 (item_count (λ left. left) self.now) }
         ensures upper { IfSome result.1 (UpTo (item_count (λ left. left) self.now)) }
@@ -95,7 +95,7 @@ pub struct Utf8ValuesIter<'a, O: Offset> {
 
 impl<'a, O: Offset> Model for Utf8ValuesIter<'a, O> {
     ghost use Rattle.std.specs.Prelude.{◌≤◌, ℕ, List, slice_range};
-    ghost use Rattle.flat_arrays_bytes.specs.ByteStrings.{len_of, values_of};
+    ghost use Rattle.flat_arrays_byte_columns.specs.ByteStrings.{len_of, values_of};
 
     ghost Value = { List (List ℕ) };
 
@@ -134,7 +134,7 @@ impl<'a, O: Offset> Iterator for Utf8ValuesIter<'a, O> {
         Some(value)
     }
 
-    #[tactic(auto, using(crate::proofs::Ranges::range_len, crate::proofs::Slots::length_values))]
+    #[tactic(auto, using(crate::proofs::Ranges::range_len, flat_arrays_byte_columns::proofs::Slots::length_values))]
     fn size_hint(&self) -> (usize, Option<usize>)
         ensures lower { IsWithinCount result.0 (item_count (λ left. left) self.now) }
         ensures upper { IfSome result.1 (UpTo (item_count (λ left. left) self.now)) }

@@ -15,3 +15,15 @@ fn offsets_stay_within_the_bytes(rt: HostRuntime) -> Result<(), Fail> {
     assert!(rt; matches!(past, Err(Error::OutOfSpec(_))));
     Ok(())
 }
+
+#[test]
+fn slots_are_gathered(rt: HostRuntime) -> Result<(), Fail> {
+    let array: BinaryArray<i32> = BinaryArray::from(
+        rt.alloc(),
+        &[Some(&[1, 2][..]), None, Some(&[3][..])],
+    )?;
+    assert!(rt; array.values().as_slice() == [1u8, 2, 3].as_slice());
+    assert!(rt; array.offsets().as_slice() == [0i32, 2, 2, 3].as_slice());
+    assert!(rt; array.is_valid(0) && array.is_null(1) && array.is_valid(2));
+    Ok(())
+}

@@ -1,5 +1,5 @@
 -- Marks and slots place by place.
-use Rattle.std.proofs.Common.{◌≡◌, ◌∙◌, ℕ, zero, suc, ◌+◌, ◌-◌, ◌<◌, ◌≤◌, Bool, true, false, not, List, [], ◌∷◌, length, map, take, drop, replicate}
+use Rattle.std.proofs.Common.{◌≡◌, ◌∙◌, ℕ, zero, suc, ◌+◌, ◌-◌, ◌<◌, ◌≤◌, Bool, true, false, List, [], ◌∷◌, length, map, take, drop, replicate}
 use Rattle.std.proofs.Common.{refl, ap, ap₂, sym, arith, rules}
 use Rattle.std.specs.Prelude.{Option, Some, None, is_some, unwrap_or, slice_get, slice_range}
 use Rattle.std.specs.List.{zip}

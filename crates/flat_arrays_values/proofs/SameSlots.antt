@@ -1,6 +1,6 @@
 -- Slots compared place by place.
 use Rattle.std.proofs.Common.{◌≡◌, ◌∙◌, ℕ, zero, suc, ◌+◌, ◌≤◌, Bool, false, List, [], ◌∷◌, length, take, drop, refl, ap, ap₂, sym, rules, arith}
-use Rattle.std.specs.Prelude.{Option, slice_get, option_to_list}
+use Rattle.std.specs.Prelude.{slice_get, option_to_list}
 use Rattle.std.specs.Bool.{Decides}
 use Rattle.flat_arrays_values.specs.Flat.{Flat, slots_of}
 use Rattle.flat_arrays_values.specs.FlatEqual.{AreEqual}

@@ -1,6 +1,6 @@
 -- What a flat array is: a data type, the values that it stores, and where a slot may be null a mask (Arrow columnar format, "Fixed-size
 -- Primitive Layout", "Validity bitmaps").
-use Rattle.std.specs.Prelude.{◌≡◌, ℕ, Bool, true, false, not, List, [], ◌∷◌, length, map, replicate, Option, Some, None, option_map, unwrap_or}
+use Rattle.std.specs.Prelude.{◌≡◌, ℕ, Bool, true, false, List, length, map, replicate, Option, Some, None, option_map, unwrap_or}
 use Rattle.std.specs.Prelude.{is_some, if◌then◌else◌, ◌==◌}
 use Rattle.std.specs.List.{zip}
 use Rattle.std.specs.Option.{ForSome}

@@ -1,10 +1,9 @@
 -- Iterators over the slots of arrays.
-use Rattle.std.specs.Prelude.{◌≡◌, Bool, List, map, Option, Some}
-use Rattle.std.specs.List.{zip}
+use Rattle.std.specs.Prelude.{◌≡◌, Bool, List}
 use Rattle.columnar_memory.specs.Bits.{unset_count}
 use Rattle.columnar_memory.specs.declared.ZipValidity.{ZipValidity}
 use Rattle.columnar_memory.specs.declared.ZipValidity.TheVariants.{Required, Optional}
-use Rattle.flat_arrays_values.specs.Flat.{Flat, marks_of, slot_of}
+use Rattle.flat_arrays_values.specs.Flat.{Flat, marks_of}
 
 -- The iterator stands before an array's values and marks, or before the values alone, where each mark is true.
 abbrev pub StandsBefore : {T V I B : Type 0} → (I → List V) → (B → List Bool) → Flat V → ZipValidity T I B → Type 0

@@ -1,6 +1,9 @@
-ghost use Rattle.std.specs.Prelude.{◌≡◌, ◌+◌, ◌<◌, ◌≤◌, [], not, length, slice_get, option_copied, unwrap_or, ◌↔◌, IsTrue, Some, None, Bool, List};
+ghost use Rattle.std.specs.Prelude.{◌≡◌, ◌+◌, ◌<◌, ◌≤◌, [], not, length, slice_get, option_copied, unwrap_or, ◌↔◌, IsTrue, Some, None, Bool, List, MatchResult};
 ghost use Rattle.std.specs.Option.{ForSome};
+ghost use Rattle.std.specs.declared.alloc.Global.{Global};
+ghost use Rattle.std.specs.declared.vec.Vec.{Vec};
 ghost use Rattle.columnar_memory.specs.Bits.{unset_count};
+ghost use Rattle.columnar_memory.specs.Error.{IsOutOfMemory};
 ghost use Rattle.columnar_memory.specs.Layouts.{physical_type};
 ghost use Rattle.columnar_memory.specs.declared.PhysicalType.TheVariants as layouts;
 ghost use Rattle.flat_arrays_values.specs.Flat.{flat, cut, marks_of, slots_of, IsFlat, IsMaskOf};
@@ -264,5 +267,23 @@ impl<T: NativeType> PrimitiveArray<T> {
         ensures rest { self.new ≡ flat self.old.data_type self.old.values self.new.validity }
     {
         apply_to_mask(&mut self.validity, f);
+    }
+
+    /// Replaces the values by what a function makes of a copy of them, as many.
+    ///
+    /// # Errors
+    /// `OutOfMemory`: the copy or the count of owners found no memory. The array is as it was.
+    pub fn apply_values_mut<F: FnOnce(Vec<T>) -> Vec<T> + Drop>(&mut self, f: F) -> Result<()>
+        requires callable { (copy : Vec T Global) → copy.items ≡ self.old.values → F.pre f copy }
+        requires keeps { (copy made : Vec T Global) → copy.items ≡ self.old.values → F.post f copy made
+            → length made.items ≡ length self.old.values }
+        ensures { MatchResult result
+            (λ _. (copy : Vec T Global) × (made : Vec T Global) × (copy.items ≡ self.old.values) × F.post f copy made
+            × (self.new ≡ flat self.old.data_type made.items self.old.validity))
+            (λ e. IsOutOfMemory e × (self.new ≡ self.old)) }
+    {
+        let copy = Vec::from_slice(self.values.allocator(), self.values.as_slice())?;
+        self.values = Buffer::from_vec(f(copy))?;
+        Ok(())
     }
 }

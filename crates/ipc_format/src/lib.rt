@@ -1,4 +1,4 @@
-//! Arrow's IPC format: FlatBuffers as Arrow's metadata uses them, messages and schemas in metadata, streams of messages, and the
+//! Arrow's IPC format: FlatBuffers as Arrow's metadata uses them, messages and schemas in metadata and as values, streams of messages, and the
 //! definitions of the format.
 #![tactic(auto)]
 
@@ -13,3 +13,5 @@ pub use ipc_format_metadata::{
 };
 pub use ipc_format_schema_writing::{default_ipc_fields, normalised, schema_to_bytes};
 pub use ipc_format_streams::{Counting, Faults, Frame, Framed, NextMessage, next_at, put, refusal};
+pub use ipc_format_values as values;
+pub use ipc_format_values::serialize_schema;

@@ -1,8 +1,8 @@
 use crate::data::Data;
+use bench_timing::{Named, Work};
 use columnar_memory::{Error, Result};
 use ipc_format::{deserialize_schema, schema_to_bytes};
 use std::alloc::Global;
-use std::time::{Clock, Duration, Instant};
 
 /// A job that is timed.
 #[derive(Clone, Copy)]
@@ -19,38 +19,17 @@ pub(crate) enum Job {
 
 pub(crate) const JOBS: [Job; 3] = [Job::Read, Job::Write, Job::Copy];
 
-/// What the rounds of a job took and made.
-#[derive(Drop)]
-pub(crate) struct Timed {
-    /// Of the quickest round.
-    pub nanoseconds: u64,
-
-    /// How many bytes the metadata has.
-    pub size: usize,
-}
-
-impl Job {
-    pub(crate) fn name(self) -> &'static str {
+impl Named for Job {
+    fn name(&self) -> &'static str {
         match self {
             Job::Read => "read",
             Job::Write => "write",
             Job::Copy => "copy",
         }
     }
+}
 
-    /// The job of a name.
-    ///
-    /// # Errors
-    /// `InvalidArgumentError`: no job has this name.
-    pub(crate) fn named(name: &str) -> Result<Job> {
-        for job in JOBS {
-            if job.name() == name {
-                return Ok(job);
-            }
-        }
-        Err(Error::InvalidArgumentError("a name of no job"))
-    }
-
+impl Job {
     /// Does the job once, lets go of what it made, and answers how many bytes the metadata has.
     ///
     /// # Errors
@@ -73,34 +52,25 @@ impl Job {
             }
         }
     }
-
-    /// Does the job some times.
-    ///
-    /// # Errors
-    /// `Io`: the clock failed.
-    /// `OutOfMemory`: what the job makes found no memory.
-    pub(crate) fn time<R: Clock + AllocGlobal>(
-        self,
-        rt: &R,
-        data: &Data,
-        rounds: u32,
-    ) -> Result<Timed> {
-        let mut least = u64::MAX;
-        let mut size = 0;
-        for _ in 0..rounds {
-            let start = Instant::now(rt)?;
-            size = self.make(rt.alloc(), data)?;
-            least = least.min(nanoseconds_of(start.elapsed(rt)?));
-        }
-        Ok(Timed {
-            nanoseconds: least,
-            size,
-        })
-    }
 }
 
-fn nanoseconds_of(time: Duration) -> u64 {
-    time.as_secs()
-        .saturating_mul(1_000_000_000)
-        .saturating_add(u64::from(time.subsec_nanos()))
+/// A job with its data.
+#[derive(Drop)]
+pub(crate) struct JobOn {
+    pub job: Job,
+    pub alloc: Global,
+    pub data: Data,
+}
+
+impl Work for JobOn {
+    type Made = usize;
+
+    /// The number of bytes of the metadata.
+    fn make(&self) -> Result<usize> {
+        self.job.make(self.alloc, &self.data)
+    }
+
+    fn checksum(made: &usize) -> u64 {
+        *made as u64
+    }
 }

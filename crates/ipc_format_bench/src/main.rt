@@ -9,9 +9,10 @@
 mod data;
 mod job;
 
+use bench_timing::{Named, job_named, time_rounds};
 use columnar_memory::{Error, Result};
 use data::Data;
-use job::{JOBS, Job};
+use job::{JOBS, Job, JobOn};
 use std::env;
 use std::rt::Clock;
 
@@ -29,7 +30,7 @@ fn main(rt: HostRuntime) -> Result<()> {
             let Ok(fields) = fields.parse::<usize>() else {
                 return Err(Error::InvalidArgumentError("a number of fields that is no number"));
             };
-            show_time(&rt, Job::named(name.as_str())?, fields)
+            show_time(&rt, job_named(&JOBS, name.as_str())?, fields)
         }
         _ => Err(Error::InvalidArgumentError("other words than a job and a number of fields")),
     }
@@ -45,8 +46,9 @@ fn show_sizes<R: Clock + AllocGlobal + Print>(rt: &R) -> Result<()> {
 }
 
 fn show_time<R: Clock + AllocGlobal + Print>(rt: &R, job: Job, fields: usize) -> Result<()> {
-    let data = Data::of(rt.alloc(), fields)?;
-    let timed = job.time(rt, &data, ROUNDS)?;
-    println!(rt; "{} {} {}", job.name(), timed.nanoseconds, timed.size)?;
+    let alloc = rt.alloc();
+    let data = Data::of(alloc, fields)?;
+    let timed = time_rounds(rt, ROUNDS, &JobOn { job, alloc, data })?;
+    println!(rt; "{} {} {}", job.name(), timed.nanoseconds, timed.checksum)?;
     Ok(())
 }

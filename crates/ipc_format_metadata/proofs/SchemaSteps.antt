@@ -12,6 +12,7 @@ use Rattle.ipc_format_grammar.specs.Writable.{is_writable}
 use Rattle.ipc_format_metadata.specs.Reading.{Refuses}
 use Rattle.ipc_format_metadata.specs.Steps.{FieldsIn, FloatInMessage, schema_message_in, apart, fields_in}
 use Rattle.ipc_format_metadata.specs.Steps.{order_in, tables_in, schema_of, schema_table_in, FloatAmong, FloatInSchema}
+use Rattle.ipc_format_metadata.specs.Steps.{visits_left, visits_left_in_message}
 use Rattle.ipc_format_metadata.proofs.Options.{refuses-first}
 use Rattle.ipc_format_metadata.proofs.TypeReads.{child-of, below}
 
@@ -67,6 +68,10 @@ pub schema-fields : (bytes : List ℕ) (table : Table) (l : Bool) (v : Vector) �
     (λ found. metadata_in bytes table 2 >>= made l found))
 schema-fields bytes table l v o e = schema-by bytes table ∙ rw (o, e) refl
 
+pub visits-are-left : (bytes : List ℕ) (table : Table) (v : Vector) (found : FieldsIn × ℕ) → tables_in bytes table ≡ Some v
+    → fields_in (field_in None bytes 64) bytes v (length bytes) ≡ Some found → visits_left bytes table ≡ Some found.1
+visits-are-left bytes table v found t f = rw (t, f) refl
+
 pub float-in-schema : (bytes : List ℕ) (schema : Table) (v : Vector) → tables_in bytes schema ≡ Some v → FloatAmong bytes v → FloatInSchema bytes
     schema
 float-in-schema bytes schema v e float =
@@ -120,6 +125,9 @@ schema-unwritten bytes table found e w = rw (e, w) refl
 
 pub message-schema : (bytes : List ℕ) (table : Table) → schema_table_in bytes ≡ Some table → schema_message_in bytes ≡ schema_in bytes table
 message-schema bytes table e = rw e refl
+
+pub message-visits : (bytes : List ℕ) (table : Table) → schema_table_in bytes ≡ Some table → visits_left_in_message bytes ≡ visits_left bytes table
+message-visits bytes table e = rw e refl
 
 pub float-in-message : (bytes : List ℕ) (table : Table) → schema_table_in bytes ≡ Some table → FloatInSchema bytes table → FloatInMessage bytes
 float-in-message bytes table e float = rw e float

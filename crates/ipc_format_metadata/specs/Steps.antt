@@ -1,5 +1,5 @@
 -- Fields and schemas in the order in which they are read: the definitions of the format, step by step.
-use Rattle.std.specs.Prelude.{ℕ, ◌<◌, Bool, List, Option, Some, None, IsSomeAnd, nat_le, pos}
+use Rattle.std.specs.Prelude.{ℕ, ◌<◌, Bool, List, length, Option, Some, None, IsSomeAnd, nat_le, pos}
 use Rattle.std.specs.Int.{w8, w16}
 use Rattle.columnar_memory.specs.declared.DataType.{DataType}
 use Rattle.columnar_memory.specs.declared.Field.{Field}
@@ -17,7 +17,7 @@ use Rattle.ipc_format_flatbuffers.specs.FlatBuffers.{
 }
 use Rattle.ipc_format_grammar.specs.Messages as message
 use Rattle.ipc_format_grammar.specs.Types.{tag_of}
-use Rattle.ipc_format_grammar.specs.Schemas.{FieldIn, TypeIn, SchemaIn, IdsList, Visits, type_in, each_of, fields_of}
+use Rattle.ipc_format_grammar.specs.Schemas.{FieldIn, TypeIn, SchemaIn, IdsList, Visits, type_in, field_in, each_of, fields_of}
 use Rattle.ipc_format_grammar.specs.Schemas.{ids_of, ids, no_ids, ids_then, metadata_in, extended, encoded_by, is_little_of}
 use Rattle.ipc_format_grammar.specs.SchemaGrammar as grammar
 use Rattle.ipc_format_columns.specs.Refusals.{field_at_path, field_of_schema, IsFloat}
@@ -132,6 +132,13 @@ tables_in bytes table = do
   found ← vector_field bytes table 1 4
   found
 
+-- how many Field tables may still be visited when a schema's fields are read, of as many as the message has bytes
+abbrev pub visits_left : List ℕ → Table → Option ℕ
+visits_left bytes table = do
+  vector ← tables_in bytes table
+  found ← fields_in (field_in None bytes 64) bytes vector (length bytes)
+  Some found.1
+
 -- the Schema table of a message
 abbrev pub schema_of : message.Header → Option Table
 schema_of (message.schema table) = Some table
@@ -147,6 +154,12 @@ abbrev pub schema_message_in : List ℕ → Option SchemaIn
 schema_message_in bytes = do
   table ← schema_table_in bytes
   grammar.schema_in bytes table
+
+-- the same, of the schema of a message
+abbrev pub visits_left_in_message : List ℕ → Option ℕ
+visits_left_in_message bytes = do
+  table ← schema_table_in bytes
+  visits_left bytes table
 
 -- a float field stands in the schema of a message
 abbrev pub FloatInMessage : List ℕ → Type 0

@@ -1,6 +1,4 @@
-//! The metadata of Arrow's messages: schemas of every type, read by FlatBuffers address.
-//!
-//! Each function gives what the definition of the format gives (`ipc_format_grammar/specs`).
+//! Schemas of every type from the metadata of Arrow's messages, by FlatBuffers address: what the definitions of `ipc_format_grammar` give.
 #![tactic(auto)]
 
 mod ipc_schema;

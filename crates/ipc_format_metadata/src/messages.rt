@@ -1,5 +1,5 @@
 //! The schema that the metadata of a message gives (Schema.fbs, Message.fbs).
-ghost use Rattle.std.specs.Prelude.{◌≡◌, IfSome, ◌+◌, ◌*◌, ◌≤◌, length, None};
+ghost use Rattle.std.specs.Prelude.{◌≡◌, IfOk, IfSome, IsSomeAnd, ◌+◌, ◌*◌, ◌≤◌, length, None};
 ghost use Rattle.std.specs.Option.{option_map};
 ghost use Rattle.ipc_format_grammar.specs.Schemas as format;
 ghost use Rattle.ipc_format_grammar.specs.SchemaGrammar as grammar;
@@ -61,6 +61,8 @@ pub fn any_schema_in(
     ensures value { Reads schema_view (steps.FloatInSchema bytes.now (table_of table.now)) result
         (format.any_schema_in None bytes.now (table_of table.now)) }
     ensures visits { visits.new.count ≤ visits.old.count + length bytes.now }
+    ensures used { IfOk result (λ _. IsSomeAnd (steps.visits_left bytes.now (table_of table.now))
+        (λ left. visits.new.count + left ≡ visits.old.count + length bytes.now)) }
 {
     let Some(is_little_endian) = order_in(bytes, table) else {
         return Err(Error::OutOfSpec(OutOfSpecKind::InvalidFlatbufferSchema.name()));
@@ -108,7 +110,7 @@ pub fn schema_in(alloc: Global, bytes: &[u8], table: &Table) -> Result<(Schema, 
     schema_in_counted(alloc, bytes, table, &mut Steps::new())
 }
 
-/// As [`schema_in`]: each Field table that is visited is a step.
+/// As [`schema_in`]: each Field table that is visited is a step, counted exactly where there is a schema.
 ///
 /// # Errors
 /// As [`schema_in`].
@@ -121,6 +123,8 @@ pub fn schema_in_counted(
     ensures value { Reads schema_view (steps.FloatInSchema bytes.now (table_of table.now)) result
         (grammar.schema_in bytes.now (table_of table.now)) }
     ensures visits { visits.new.count ≤ visits.old.count + length bytes.now }
+    ensures used { IfOk result (λ _. IsSomeAnd (steps.visits_left bytes.now (table_of table.now))
+        (λ left. visits.new.count + left ≡ visits.old.count + length bytes.now)) }
 {
     let (schema, ipc_schema) = any_schema_in(alloc, bytes, table, visits)?;
     if !can_write(&schema) {
@@ -141,7 +145,7 @@ pub fn deserialize_schema(alloc: Global, metadata: &[u8]) -> Result<(Schema, Ipc
     deserialize_schema_counted(alloc, metadata, &mut Steps::new())
 }
 
-/// As [`deserialize_schema`]: each Field table that is visited is a step, and no more are visited than the message has bytes.
+/// As [`deserialize_schema`]: each Field table that is visited is a step, counted exactly where there is a schema.
 ///
 /// # Errors
 /// As [`deserialize_schema`].
@@ -152,6 +156,8 @@ pub fn deserialize_schema_counted(
 ) -> Result<(Schema, IpcSchema)>
     ensures value { Reads schema_view (steps.FloatInMessage metadata.now) result (steps.schema_message_in metadata.now) }
     ensures visits { visits.new.count ≤ visits.old.count + length metadata.now }
+    ensures used { IfOk result (λ _. IsSomeAnd (steps.visits_left_in_message metadata.now)
+        (λ left. visits.new.count + left ≡ visits.old.count + length metadata.now)) }
 {
     let Some(table) = schema_table(metadata) else {
         return Err(Error::OutOfSpec(OutOfSpecKind::MissingSchema.name()));

@@ -193,7 +193,7 @@ fn field_in(
 ) -> Result<FieldRead>
     ensures value { Reads field_view (steps.FloatBelow bytes.now (table_of table.now)) result
         (format.field_in None bytes.now levels (table_of table.now) left) }
-    ensures visits { MatchResult result (λ read. visits.new.count + read.left ≤ visits.old.count + left)
+    ensures visits { MatchResult result (λ read. visits.new.count + read.left ≡ visits.old.count + left)
         (λ _. visits.new.count ≤ visits.old.count + left) }
 {
     if levels == 0 {
@@ -222,7 +222,7 @@ fn type_in(
 ) -> Result<TypeRead>
     ensures value { Reads type_view (steps.FloatBelow bytes.now (table_of field.now)) result
         (steps.type_found (format.field_in None bytes.now levels) bytes.now (table_of field.now) left) }
-    ensures visits { MatchResult result (λ read. visits.new.count + read.left ≤ visits.old.count + left)
+    ensures visits { MatchResult result (λ read. visits.new.count + read.left ≡ visits.old.count + left)
         (λ _. visits.new.count ≤ visits.old.count + left) }
 {
     if is_float(bytes, field) {
@@ -267,7 +267,7 @@ pub fn each_in(
     requires in_message { vector.now.place + vector.now.count * 4 ≤ length bytes.now }
     ensures value { Reads fields_view (steps.FloatAmong bytes.now (vector_of vector.now)) result
         (steps.fields_in (format.field_in None bytes.now levels) bytes.now (vector_of vector.now) left) }
-    ensures visits { MatchResult result (λ read. visits.new.count + read.left ≤ visits.old.count + left)
+    ensures visits { MatchResult result (λ read. visits.new.count + read.left ≡ visits.old.count + left)
         (λ _. visits.new.count ≤ visits.old.count + left) }
 {
     let mut fields = Items::new(alloc);

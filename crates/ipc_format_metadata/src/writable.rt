@@ -31,8 +31,7 @@ struct Report {
     shape: Shape,
 }
 
-/// Whether a schema is one that is written and read: each type is allowed, fields nest at most 64 deep, and at most 65,536 have
-/// dictionaries.
+/// Whether a schema is one that is written and read: each type is allowed, fields nest at most 64 deep, and at most 65,536 have dictionaries.
 #[tactic(auto, unfolding(ipc_format_grammar::specs::Writable::is_writable))]
 pub fn can_write(schema: &Schema) -> bool
     ensures { result ≡ writable.is_writable schema.now }
@@ -228,8 +227,7 @@ fn are_distinct(ids: &[i32]) -> bool
     true
 }
 
-/// What is asked of a type.
-// match table: an arm for each kind of the 35 types.
+// match table: what is asked of each kind of the 35 types.
 #[cycle(reports)]
 fn report_of(data_type: &DataType) -> Report
     ensures { report_view result ≡ capped (writable.report_of data_type.now) }

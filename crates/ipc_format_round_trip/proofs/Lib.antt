@@ -10,3 +10,4 @@ pub mod Ordered
 pub mod FieldClaims
 pub mod Inductions
 pub mod SchemaMessages
+pub mod Footers

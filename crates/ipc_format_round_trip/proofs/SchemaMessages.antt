@@ -71,7 +71,7 @@ map-same f g h [] = refl
 map-same f g h (x ∷ xs) = λ i. h x i ∷ map-same f g h xs i
 
 -- the fields of a schema
-fields_back : (fields : List Field) (below : IdsList) → list_all (λ (child : Report). child.is_allowed) (reports_of fields) ≡ true
+pub fields_back : (fields : List Field) (below : IdsList) → list_all (λ (child : Report). child.is_allowed) (reports_of fields) ≡ true
     → are_true (map has_texts fields) ≡ true → FitIdsList below
     → ChildrenBack (objects_of (map field_object fields) below) (map normalised_field fields) (reports_of fields)
     (each_ids (map ids_of_field fields) below)
@@ -98,16 +98,16 @@ fields_back fields below allowed texts fit =
 
 -- ---- the schema's table
 
-abbrev schema_fields : Schema → IdsList → Fields
+abbrev pub schema_fields : Schema → IdsList → Fields
 schema_fields schema below = number_then w16 0 (refers_then (references (objects_of (map field_object schema.fields) below))
     (refers_if (metadata_object schema.metadata) (absent_then no_field)))
 
 -- a schema that is asked for is allowed, nests at most 64 deep
-record Asked (schema : Schema) : Type 0 where
-  allowed : list_all (λ (child : Report). child.is_allowed) (reports_of schema.fields) ≡ true
-  shallow : deepest (reports_of schema.fields) ≤ 64
+pub record Asked (schema : Schema) : Type 0 where
+  pub allowed : list_all (λ (child : Report). child.is_allowed) (reports_of schema.fields) ≡ true
+  pub shallow : deepest (reports_of schema.fields) ≤ 64
 
-asked : (schema : Schema) → is_writable schema ≡ true → Asked schema
+pub asked : (schema : Schema) → is_writable schema ≡ true → Asked schema
 unfolding is_writable
 asked schema e =
     let first = both (list_all (λ (child : Report). child.is_allowed) (reports_of schema.fields) && nat_le
@@ -116,7 +116,7 @@ asked schema e =
     (nat_le (deepest (reports_of schema.fields)) 64) first.0 in
     record { allowed = second.0; shallow = leb-true (deepest (reports_of schema.fields)) 64 second.1 }
 
-schema_reads : (bytes : List ℕ) (found : Table) (schema : Schema) (below : IdsList)
+pub schema_reads : (bytes : List ℕ) (found : Table) (schema : Schema) (below : IdsList)
     (h : ChildrenBack (objects_of (map field_object schema.fields) below) (map normalised_field schema.fields) (reports_of schema.fields)
     (ids_read schema below))
     → deepest (reports_of schema.fields) ≤ 64 → h.visits ≤ length bytes → is_writable (normalised schema) ≡ true
@@ -138,7 +138,7 @@ schema_small : (objects : Objects) (metadata : Option Object)
 schema_small objects None = record { vtable_size = omega arith; table_size = omega arith }
 schema_small objects (Some object) = record { vtable_size = omega arith; table_size = omega arith }
 
-schema_fits : (schema : Schema) (below : IdsList) → FitsObjects (objects_of (map field_object schema.fields) below)
+pub schema_fits : (schema : Schema) (below : IdsList) → FitsObjects (objects_of (map field_object schema.fields) below)
     → are_texts schema.metadata ≡ true → Fits (table (schema_fields schema below))
 schema_fits schema below fits texts = record {
   here = schema_small (objects_of (map field_object schema.fields) below) (metadata_object schema.metadata);
@@ -152,7 +152,7 @@ schema_fits schema below fits texts = record {
   };
 }
 
-message_longer : (piece : Piece) → length piece.bytes ≤ length (message_bytes piece)
+pub message_longer : (piece : Piece) → length piece.bytes ≤ length (message_bytes piece)
 unfolding message_bytes
 message_longer piece = omega (arith, length-append {A = ℕ})
 

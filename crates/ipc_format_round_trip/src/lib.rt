@@ -1,9 +1,10 @@
-//! What is written as a message reads back: theorems over all messages of a kind.
+//! What is written as a message, or as a file's footer, reads back: theorems over all messages of a kind.
 //!
 //! The statements are in `specs/`. They rest on `ipc_format_spelling`: what is laid as FlatBuffers reads back.
 #![tactic(auto)]
 
 ghost use Rattle.ipc_format_round_trip.specs.Batches.{RecordBatchesReadBack, DictionaryBatchesReadBack};
+ghost use Rattle.ipc_format_round_trip.specs.Footers.{FootersReadBack};
 ghost use Rattle.ipc_format_round_trip.specs.Schemas.{SchemasReadBack, TablesSchemasReadBack};
 
 /// The metadata that is written for a record batch gives back its version, its body's length, and each of its nodes and buffers, where
@@ -25,4 +26,12 @@ pub fn dictionary_batches_read_back()
 pub fn schemas_read_back()
     ensures all { SchemasReadBack }
     ensures normal { TablesSchemasReadBack }
+{}
+
+/// The footer that is written for a schema and blocks is the footer of a file that ends with it, whatever messages stand before it: the
+/// schema comes back in its one form, with the ids of its dictionaries, and each block with its numbers (Arrow IPC, "IPC File Format").
+/// It holds where the schema's message would read back, the numbers of blocks are signed ones of eight bytes and of four, and the footer
+/// has less than 2^31 bytes.
+pub fn footers_read_back()
+    ensures { FootersReadBack }
 {}

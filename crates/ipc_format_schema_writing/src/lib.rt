@@ -13,6 +13,8 @@ mod pairs;
 mod schemas;
 mod tables;
 
+pub use beside::{Beside, first_beside};
 pub use normal::normalised;
 pub use numbering::default_ipc_fields;
+pub use pairs::Named;
 pub use schemas::{lay_schema, refuse_unwritten, schema_to_bytes};

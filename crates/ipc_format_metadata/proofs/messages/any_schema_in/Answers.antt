@@ -6,7 +6,7 @@ use Rattle.ipc_format_grammar.specs.Schemas.{field_in, metadata_in, any_schema_i
 use Rattle.ipc_format_metadata.specs.ReadViews.{fields_view}
 use Rattle.ipc_format_metadata.specs.Steps.{fields_in, order_in, tables_in, FloatAmong, FloatInSchema}
 use Rattle.ipc_format_metadata.proofs.Options.{refuses-first}
-use Rattle.ipc_format_metadata.proofs.SchemaSteps.{made, schema-no-order, schema-no-tables, schema-fields, float-in-schema}
+use Rattle.ipc_format_metadata.proofs.SchemaSteps.{made, schema-no-order, schema-no-tables, schema-fields, visits-are-left, float-in-schema}
 use Rattle.ipc_format_metadata.proofs.messages.any_schema_in.Goals as goal
 
 pub returns-in_default-clause-value : goal.returns-in_default-clause-value
@@ -57,3 +57,10 @@ returns-clause-value c =
     ∙ ap (λ o. o >>= (λ found. metadata_in c.args.bytes.now (table_of c.args.table.now) 2 >>= made c.in-Some.is_little_endian found))
     c.in_ok-found.ensures.value
     ∙ ap (λ o. o >>= made c.in-Some.is_little_endian (fields_view c.in_ok-found.found)) c.in_ok-metadata.ensures
+
+pub returns-clause-used : goal.returns-clause-used
+returns-clause-used c =
+    let v = vector_of c.in-Some-tables_in.vector in
+    let tables : tables_in c.args.bytes.now (table_of c.args.table.now) ≡ Some v = search rules in
+    rw (visits-are-left c.args.bytes.now (table_of c.args.table.now) v (fields_view c.in_ok-found.found) tables c.in_ok-found.ensures.value)
+    c.in_ok-found.ensures.visits

@@ -5,7 +5,7 @@ use Rattle.ipc_format_grammar.specs.SchemaGrammar.{schema_in}
 use Rattle.ipc_format_metadata.specs.SchemaViews.{schema_view}
 use Rattle.ipc_format_metadata.specs.Steps.{schema_table_in, schema_message_in, FloatInSchema, FloatInMessage}
 use Rattle.ipc_format_metadata.proofs.Options.{reads-up}
-use Rattle.ipc_format_metadata.proofs.SchemaSteps.{message-schema, float-in-message}
+use Rattle.ipc_format_metadata.proofs.SchemaSteps.{message-schema, message-visits, float-in-message}
 use Rattle.ipc_format_metadata.proofs.messages.deserialize_schema_counted.Goals as goal
 
 pub returns-clause-value : goal.returns-clause-value
@@ -15,3 +15,8 @@ returns-clause-value c =
     (schema_in c.args.metadata.now (table_of c.in-Some.table)) (FloatInMessage c.args.metadata.now) (schema_message_in c.args.metadata.now)
     (message-schema c.args.metadata.now (table_of c.in-Some.table) table) (float-in-message c.args.metadata.now (table_of c.in-Some.table) table)
     c.schema_in_counted.ensures.value
+
+pub returns-clause-used : goal.returns-clause-used
+returns-clause-used c =
+    let table : schema_table_in c.args.metadata.now ≡ Some (table_of c.in-Some.table) = search rules in
+    rw (message-visits c.args.metadata.now (table_of c.in-Some.table) table) c.schema_in_counted.ensures.used

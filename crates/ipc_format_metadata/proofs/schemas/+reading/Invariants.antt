@@ -1,4 +1,4 @@
-use Rattle.std.proofs.Common.{◌+◌, ◌*◌, ◌≤◌, map}
+use Rattle.std.proofs.Common.{◌≡◌, ◌+◌, ◌*◌, map}
 use Rattle.std.specs.Prelude.{None}
 use Rattle.ipc_format_grammar.specs.Schemas.{field_in}
 use Rattle.ipc_format_flatbuffers.specs.Views.{vector_of}
@@ -20,5 +20,5 @@ abbrev pub invariant-each_in-loop-k : goal.invariant-each_in-loop-k
 invariant-each_in-loop-k l = record {
   given : FieldsLeft (field_in None l.bytes l.levels) l.bytes (vector_of l.vector)
       (fields_in (field_in None l.bytes l.levels) l.bytes (vector_of l.vector) l.left) l.fields (map ids_view l.below) l.k l.still;
-  visits : l.visits.count + l.still ≤ l.fn.visits.count + l.left;
+  visits : l.visits.count + l.still ≡ l.fn.visits.count + l.left;
 }

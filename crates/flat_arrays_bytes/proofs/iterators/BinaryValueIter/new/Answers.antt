@@ -1,7 +1,7 @@
 use Rattle.std.proofs.Common.{◌∙◌, sym}
-use Rattle.flat_arrays_bytes.specs.ByteStrings.{values_of}
+use Rattle.flat_arrays_byte_columns.specs.ByteStrings.{values_of}
 use Rattle.flat_arrays_bytes.proofs.Ranges.{range_all}
-use Rattle.flat_arrays_bytes.proofs.Slots.{length_values}
+use Rattle.flat_arrays_byte_columns.proofs.Slots.{length_values}
 use Rattle.flat_arrays_bytes.proofs.iterators.BinaryValueIter.new.Goals as goal
 
 pub returns : goal.returns

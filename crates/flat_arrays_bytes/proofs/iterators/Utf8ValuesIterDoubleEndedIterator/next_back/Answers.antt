@@ -1,7 +1,7 @@
 use Rattle.std.proofs.Common.{◌≤◌, length, ◌∙◌, sym, arith}
-use Rattle.flat_arrays_bytes.specs.ByteStrings.{values_of}
+use Rattle.flat_arrays_byte_columns.specs.ByteStrings.{values_of}
 use Rattle.flat_arrays_bytes.proofs.Ranges.{range_last}
-use Rattle.flat_arrays_bytes.proofs.Slots.{length_values}
+use Rattle.flat_arrays_byte_columns.proofs.Slots.{length_values}
 use Rattle.flat_arrays_bytes.proofs.iterators.Utf8ValuesIterDoubleEndedIterator.next_back.Goals as goal
 
 pub returns-clause-steps : goal.returns-clause-steps

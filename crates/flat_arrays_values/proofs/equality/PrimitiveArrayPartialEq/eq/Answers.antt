@@ -1,4 +1,4 @@
-use Rattle.std.proofs.Common.{◌≡◌, ◌∙◌, sym, rules, false, true}
+use Rattle.std.proofs.Common.{◌≡◌, ◌∙◌, sym, rules}
 use Rattle.std.proofs.lemmas.Bool.Decides.{same_from_decides}
 use Rattle.columnar_memory.specs.Equality.{same_type, same_type-Decides}
 use Rattle.flat_arrays_values.specs.FlatEqual.{same_flat, same_flat-Decides}

@@ -1,4 +1,4 @@
-use Rattle.std.proofs.Common.{◌∙◌, ap, true, false}
+use Rattle.std.proofs.Common.{◌∙◌, ap, true}
 use Rattle.std.specs.Prelude.{Some}
 use Rattle.flat_arrays_values.specs.Flat.{marks_of}
 use Rattle.flat_arrays_values.proofs.Marks.{slot-get, null-get}

@@ -1,0 +1,15 @@
+use Rattle.std.proofs.Common.{rules}
+use Rattle.std.proofs.lemmas.Iterator.{YieldsList-from_slice}
+use Rattle.std.proofs.lemmas.Iterator.Consumers.{YieldsList-from_copied}
+use Rattle.std.specs.Prelude.{Some, None, []}
+use Rattle.columnar_memory.specs.Spans.{no_spans}
+use Rattle.flat_arrays_byte_columns.specs.ByteStrings.{byte_strings}
+use Rattle.flat_arrays_byte_columns.specs.Fits.{text_type}
+use Rattle.flat_arrays_byte_values_builders.proofs.Gathered.{gathered}
+use Rattle.flat_arrays_byte_builders.proofs.utf8.MutableUtf8Array.from_slice.Goals as goal
+
+pub returns : goal.returns
+returns g c =
+    let empty = byte_strings (text_type g.O.Offset.IS_LARGE) no_spans [] None in
+    gathered _ (λ value. Some (g.P.AsStr.text value)) g.O.Index.greatest empty c.copied.result c.args.values.now c.from_iter_values.result
+    (YieldsList-from_copied (YieldsList-from_slice c.args.values.now (search rules))) c.from_iter_values.ensures

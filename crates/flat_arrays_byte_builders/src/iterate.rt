@@ -1,0 +1,55 @@
+//! Walks over the values and the slots of builders, from both ends.
+ghost use Rattle.std.specs.Prelude.{◌≡◌, MatchOption, ◌==◌, if◌then◌else◌};
+ghost use Rattle.columnar_memory.specs.Bits.{unset_count};
+ghost use Rattle.flat_arrays_byte_columns.specs.ByteStrings.{values_of};
+ghost use Rattle.flat_arrays_bytes.specs.ByteWalks.{StandsBefore};
+
+use crate::{MutableBinaryArray, MutableUtf8Array};
+use columnar_memory::{BitmapIter, MutableBitmap, Offset, ZipValidity};
+use flat_arrays_byte_values_builders::{MutableBinaryValuesIter, MutableUtf8ValuesIter};
+
+/// Values beside as many marks, where one of them is false.
+fn beside_marks<'a, T, I: Iterator<Item = T>>(
+    values: I,
+    validity: Option<&'a MutableBitmap>,
+) -> ZipValidity<T, I, BitmapIter<'a>>
+    ensures { MatchOption validity.entry (result ≡ ZipValidity.Required values) (λ mask. result ≡ (
+        if unset_count mask.now == 0 then ZipValidity.Required values else ZipValidity.Optional (values, mask.now))) }
+{
+    match validity {
+        Some(mask) if mask.unset_bits() > 0 => ZipValidity::new(values, Some(mask.iter())),
+        _ => ZipValidity::new(values, None),
+    }
+}
+
+impl<O: Offset> MutableBinaryArray<O> {
+    /// The stored byte strings, those under nulls too, from both ends.
+    pub fn values_iter(&self) -> MutableBinaryValuesIter<'_, O>
+        ensures { result ≡ values_of self.now }
+    {
+        MutableBinaryValuesIter::new(&self.builder)
+    }
+
+    /// The slots from both ends: the stored byte strings, and where a slot is null their marks beside them.
+    pub fn iter(&self) -> ZipValidity<&[u8], MutableBinaryValuesIter<'_, O>, BitmapIter<'_>>
+        ensures { StandsBefore self.now result }
+    {
+        beside_marks(self.values_iter(), self.builder.validity())
+    }
+}
+
+impl<O: Offset> MutableUtf8Array<O> {
+    /// The stored texts, those under nulls too, from both ends.
+    pub fn values_iter(&self) -> MutableUtf8ValuesIter<'_, O>
+        ensures { result ≡ values_of self.now }
+    {
+        MutableUtf8ValuesIter::new(&self.builder)
+    }
+
+    /// The slots from both ends: the stored texts, and where a slot is null their marks beside them.
+    pub fn iter(&self) -> ZipValidity<&str, MutableUtf8ValuesIter<'_, O>, BitmapIter<'_>>
+        ensures { StandsBefore self.now result }
+    {
+        beside_marks(self.values_iter(), self.builder.validity())
+    }
+}

@@ -1,0 +1,8 @@
+use Rattle.std.proofs.Common.{map}
+use Rattle.flat_arrays_bytes.proofs.Gathered.{AreGathered}
+use Rattle.flat_arrays_bytes.proofs.binary.BinaryArray.from_iter_values.Given as goal
+
+abbrev pub invariant-loop-value : goal.invariant-loop-value
+invariant-loop-value g l = record {
+  gathered : AreGathered g.O.Index.greatest (map g.T.AsBytes.bytes l.yielded) l.offsets l.bytes.items;
+}

@@ -1,0 +1,2 @@
+mod PairLists
+mod FieldValues

@@ -1,0 +1,3 @@
+pub mod ValueObjects
+pub mod ToldTypes
+pub mod Serializing
