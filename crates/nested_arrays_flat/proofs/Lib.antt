@@ -1,0 +1,9 @@
+pub mod ColumnParts
+pub mod CutMasks
+pub mod FixedWidths
+pub mod InRange
+pub mod Layers
+pub mod NullTypes
+pub mod Offsets
+pub mod SoundFlats
+pub mod SoundStrings

@@ -1,0 +1,10 @@
+-- What calls that check the parts of an array answer.
+use Rattle.std.specs.Prelude.{◌≡◌, true, Result, MatchResult}
+use Rattle.columnar_memory.specs.declared.Error.{Error}
+use Rattle.columnar_memory.specs.Error.{IsOutOfSpec}
+use Rattle.nested_arrays.specs.SoundColumns.{is_sound}
+use Rattle.nested_arrays.specs.StoredColumns.{Column}
+
+-- the array of these parts, if they are those of an array, or a refusal
+abbrev pub IsChecked : Column → Result Column Error → Type 0
+IsChecked parts r = MatchResult r (λ a. (a ≡ parts) × (is_sound parts ≡ true)) (λ e. IsOutOfSpec e × ¬ (is_sound parts ≡ true))

@@ -1,0 +1,5 @@
+pub mod Checked
+pub mod ColumnMasks
+pub mod FlatColumns
+pub mod Primitives
+pub mod Taken

@@ -1,0 +1,130 @@
+//! Arrays of nulls.
+ghost use Rattle.std.specs.Prelude.{◌≡◌, ◌+◌, ◌≤◌, ◌↔◌, IsTrue, true, MatchResult};
+ghost use Rattle.columnar_memory.specs.Layouts.{physical_type};
+ghost use Rattle.columnar_memory.specs.declared.PhysicalType.TheVariants as physical;
+ghost use Rattle.nested_arrays.specs.SoundColumns.{is_sound};
+ghost use Rattle.nested_arrays.specs.StoredColumns.{column_len, column_type, cut, nulls};
+ghost use Rattle.nested_arrays_flat.specs.Checked.{IsChecked};
+
+use columnar_memory::{DataType, Error, PhysicalType, Result};
+use std::alloc::AllocError;
+use std::marker::Model;
+
+/// Nulls alone, which take no memory (Arrow columnar format, "Null Layout"). A contract sees the column that it stores.
+#[derive(Drop)]
+pub struct NullArray {
+    data_type: DataType,
+    length: usize,
+}
+
+impl Model for NullArray {
+    ghost use Rattle.std.specs.Prelude.{◌≡◌, true};
+    ghost use Rattle.nested_arrays.specs.StoredColumns.{Column, nulls};
+    ghost use Rattle.nested_arrays.specs.ColumnCodes.{column_code};
+    ghost use Rattle.nested_arrays.specs.SoundColumns.{is_sound};
+
+    ghost Value = { Column };
+
+    ghost coded = { column_code };
+
+    ghost view = { λ it. nulls it.data_type it.length };
+
+    ghost invariant = { λ it. is_sound (nulls it.data_type it.length) ≡ true };
+}
+
+impl NullArray {
+    /// So many nulls of a data type.
+    ///
+    /// # Errors
+    /// `OutOfSpec`: arrays of the data type are not of nulls alone.
+    #[tactic(auto, using(crate::proofs::NullTypes::null_types))]
+    pub fn try_new(data_type: DataType, length: usize) -> Result<Self>
+        ensures { IsChecked (nulls data_type length) result }
+    {
+        match data_type.to_physical_type() {
+            PhysicalType::Null => Ok(NullArray { data_type, length }),
+            _ => Err(Error::OutOfSpec("a data type whose arrays are not of nulls alone")),
+        }
+    }
+
+    /// The array of parts that fit, as `try_new` tests.
+    pub fn new(data_type: DataType, length: usize) -> Self
+        requires { is_sound (nulls data_type length) ≡ true }
+        ensures { result ≡ nulls data_type length }
+    {
+        NullArray { data_type, length }
+    }
+
+    /// No slots.
+    pub fn new_empty(data_type: DataType) -> Self
+        requires { is_sound (nulls data_type 0) ≡ true }
+        ensures { result ≡ nulls data_type 0 }
+    {
+        NullArray::new(data_type, 0)
+    }
+
+    /// So many nulls, as `new` makes them.
+    pub fn new_null(data_type: DataType, length: usize) -> Self
+        requires { is_sound (nulls data_type length) ≡ true }
+        ensures { result ≡ nulls data_type length }
+    {
+        NullArray::new(data_type, length)
+    }
+
+    /// How many slots there are.
+    pub fn len(&self) -> usize
+        ensures { result ≡ column_len self.now }
+    {
+        self.length
+    }
+
+    pub fn is_empty(&self) -> bool
+        ensures { IsTrue result ↔ (column_len self.now ≡ 0) }
+    {
+        self.length == 0
+    }
+
+    pub fn data_type(&self) -> &DataType
+        ensures { result.now ≡ column_type self.now }
+    {
+        &self.data_type
+    }
+
+    /// Hands to a proof what holds of every such array.
+    pub fn whole(&self)
+        ensures { is_sound self.now ≡ true }
+    {
+        let _length = self.length;
+    }
+
+    /// Narrows this to the `count` slots from `offset` on.
+    pub fn slice(&mut self, offset: usize, count: usize)
+        requires { offset + count ≤ column_len self.old }
+        ensures { self.new ≡ cut self.old offset count }
+    {
+        let _start = offset;
+        self.length = count;
+    }
+
+    /// The `count` slots from `offset` on.
+    pub fn sliced(self, offset: usize, count: usize) -> Self
+        requires { offset + count ≤ column_len self }
+        ensures { result ≡ cut self offset count }
+    {
+        let mut array = self;
+        array.slice(offset, count);
+        array
+    }
+}
+
+impl Clone for NullArray {
+    ghost is_clone = { λ array copy. copy ≡ array };
+
+    /// Copies the data type.
+    fn clone(&self) -> std::result::Result<Self, AllocError> {
+        Ok(NullArray {
+            data_type: self.data_type.clone()?,
+            length: self.length,
+        })
+    }
+}
