@@ -1,5 +1,5 @@
 -- The columns that flat arrays store (Arrow columnar format, "Fixed-size Primitive Layout", "Variable-size Binary Layout").
-use Rattle.std.specs.Prelude.{ℕ, ℤ, Bool, false, ◌&&◌, List, map, Option}
+use Rattle.std.specs.Prelude.{ℕ, ℤ, Bool, ◌&&◌, List, map, Option}
 use Rattle.columnar_memory.specs.declared.DataType.{DataType}
 use Rattle.columnar_memory.specs.declared.DataType.TheOpen as layer
 use Rattle.columnar_memory.specs.declared.Field.{Field}
