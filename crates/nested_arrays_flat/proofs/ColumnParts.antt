@@ -1,8 +1,7 @@
 -- Masks of sound columns, and what cuts and masks keep sound.
-use Rattle.std.proofs.Common.{◌≡◌, ◌∙◌, ℕ, ◌+◌, ◌≤◌, ◌<◌, List, length, true, ap, sym, refl}
-use Rattle.std.specs.Prelude.{Bool, false, ◌&&◌, ◌/◌, ◌-◌, min, Option, Some, None}
+use Rattle.std.proofs.Common.{◌≡◌, ◌∙◌, ℕ, ◌+◌, ◌≤◌, ◌<◌, List, length, true, ap, refl}
+use Rattle.std.specs.Prelude.{Bool, false, ◌&&◌, ◌/◌, ◌-◌, min, Option}
 use Rattle.std.specs.Option.{ForSome}
-use Rattle.std.specs.List.{list_all}
 use Rattle.std.proofs.lemmas.Bool.{and_from, and_parts}
 use Rattle.columnar_memory.specs.Layouts.{physical_type}
 use Rattle.nested_arrays.proofs.Conditions.{parts_of_3, parts_of_4}

@@ -1,5 +1,5 @@
 -- Byte strings of one size: which parts make a sound column of them.
-use Rattle.std.proofs.Common.{◌≡◌, ◌∙◌, ℕ, zero, suc, ◌+◌, ◌-◌, ◌*◌, ◌<◌, ◌≤◌, List, [], length, replicate, Bool, true, false, refl, sym, ap, arith}
+use Rattle.std.proofs.Common.{◌≡◌, ◌∙◌, ℕ, zero, suc, ◌+◌, ◌*◌, ◌<◌, ◌≤◌, List, [], length, replicate, Bool, true, false, refl, sym, ap, arith}
 use Rattle.std.specs.Prelude.{◌&&◌, ◌==◌, ◌/◌, ◌%◌, nat_le, Option, Some, None}
 use Rattle.std.specs.List.{list_all}
 use Rattle.std.proofs.Math.Nat.{mod-eq-sub-mul-div, mul-div-le, mul-div_cancel_left, mul-add, mul-le-mul_left}
@@ -137,7 +137,9 @@ same_size t size content mask h = (fixed_parts t size content mask h).3
 
 -- a byte string lies within the bytes
 pub string_within : (size len i : ℕ) → i < len / size → size * i + size ≤ len
-string_within size len i h = omega (arith, mul-add size i 1, mul-le-mul_left {m = i + 1} {n = len / size} size (omega (arith, h)), mul-div-le len size)
+string_within size len i h =
+    let next : i + 1 ≤ len / size = omega (arith, h) in
+    omega (arith, mul-add size i 1, mul-le-mul_left {m = i + 1} {n = len / size} size next, mul-div-le len size)
 
 -- another mask of the same length
 pub masked_sound : (t : DataType) (size : ℕ) (content : List ℕ) (old mask : Option (List Bool)) → is_sound (fixed_column t size content old) ≡ true

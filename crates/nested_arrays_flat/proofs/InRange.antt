@@ -9,7 +9,6 @@ use Rattle.columnar_memory.specs.declared.PrimitiveType.{PrimitiveType}
 use Rattle.columnar_memory.specs.declared.PrimitiveType.TheVariants as kinds
 use Rattle.columnar_memory.specs.Numbers.{Numbers, one, two, three, IsNative, FitsWide}
 use Rattle.nested_arrays.specs.Kinds.{is_signed, is_unsigned, numbers_of_kind}
-use Rattle.nested_arrays.specs.SoundColumns.{is_byte}
 use Rattle.nested_arrays_flat.specs.FlatColumns.{is_native}
 
 in_signed : (w : Width) (width : ℕ) → width - 1 ≡ hbits w → (z : ℤ) → FitsSigned w z → is_signed width z ≡ true
@@ -50,7 +49,3 @@ native_has_numbers kinds.Float16 n h = absurd h
 native_has_numbers kinds.Float32 n h = absurd h
 native_has_numbers kinds.Float64 n h = absurd h
 native_has_numbers _ n h = refl
-
--- a byte is below 256
-pub byte_in_range : (n : ℕ) → n < 256 → is_byte n ≡ true
-byte_in_range n h = lt-ltb n 256 h

@@ -7,7 +7,7 @@ use Rattle.columnar_memory.specs.declared.DataType.TheViews.{out-DataType, roll-
 use Rattle.columnar_memory.specs.declared.DataType.TheFolds.{ind-DataType, fold-roll-DataType, para-roll-DataType}
 use Rattle.columnar_memory.specs.declared.Field.{Field}
 use Rattle.columnar_memory.specs.declared.PhysicalType.{PhysicalType}
-use Rattle.columnar_memory.specs.Layouts.{stored_step, logical_type, physical_step, physical_type}
+use Rattle.columnar_memory.specs.Layouts.{stored_step, physical_step, physical_type}
 use Rattle.nested_arrays.specs.StoredColumns.{type_layer}
 use denote.Hole.Carrier
 

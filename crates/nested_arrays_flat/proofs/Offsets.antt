@@ -1,11 +1,7 @@
 -- Offsets as spans, and as a list of numbers.
-use Rattle.std.proofs.Common.{◌≡◌, ℕ, zero, suc, ◌+◌, ◌-◌, ◌≤◌, ◌<◌, List, [], ◌∷◌, length, take, drop, get_or, sum, refl, sym, ap, ◌∙◌, arith, true}
-use Rattle.std.specs.Prelude.{Bool, ◌&&◌, nat_le, slice_range}
-use Rattle.std.specs.List.{list_all}
-use Rattle.std.proofs.lemmas.Bool.{and_from, le-leb}
+use Rattle.std.proofs.Common.{◌≡◌, ℕ, zero, suc, ◌+◌, ◌-◌, ◌≤◌, ◌<◌, List, [], ◌∷◌, length, take, drop, get_or, sum, refl, sym, ap, ◌∙◌, arith}
 use Rattle.std.proofs.lemmas.List.Sums.{sum_by-cons}
-use Rattle.columnar_memory.specs.Spans.{Spans, ends_from, offsets_of, offset_at, last_of, spans_between}
-use Rattle.nested_arrays.specs.SoundColumns.{holds_below, rises_at, are_offsets}
+use Rattle.columnar_memory.specs.Spans.{Spans, ends_from, offsets_of, offset_at, spans_between}
 use Rattle.nested_arrays.specs.StoredColumns.{cut_list}
 
 sum-cons : (l : ℕ) (ls : List ℕ) → sum (l ∷ ls) ≡ l + sum ls

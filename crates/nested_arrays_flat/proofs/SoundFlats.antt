@@ -1,8 +1,7 @@
 -- The columns of flat arrays are sound, and what is cut out of an array is cut out of its column.
-use Rattle.std.proofs.Common.{◌≡◌, ℕ, zero, suc, ◌+◌, ◌-◌, ◌≤◌, ℤ, true, refl, ap, ◌∙◌, sym, arith, List, [], ◌∷◌, map, take, drop, length}
-use Rattle.std.specs.Prelude.{Bool, false, nat_le, ◌&&◌, ◌==◌, Option, Some, None, unwrap_or}
+use Rattle.std.proofs.Common.{◌≡◌, ℕ, ℤ, true, refl, ap, ◌∙◌, sym, arith, List, [], ◌∷◌, map, take, drop, length}
+use Rattle.std.specs.Prelude.{Bool, false, nat_le, ◌&&◌, Option, Some, None, unwrap_or}
 use Rattle.std.specs.List.{list_all}
-use Rattle.std.specs.Option.{ForSome}
 use Rattle.std.proofs.lemmas.Bool.{and_from, and_parts, both_ways, eq-eqb, eqb-true}
 use Rattle.std.proofs.lemmas.List.{length-map, take-map, drop-map}
 use Rattle.columnar_memory.specs.Window.{window}
@@ -101,6 +100,10 @@ whole_number kind days months (three a b c) h =
     absurd (both_ways (same_kind kind kinds.MonthDayNano) months
     (parts_of_4 (same_kind kind kinds.MonthDayNano) (is_signed 32 a) (is_signed 32 b) (is_signed 64 c) h).0)
 
+whole_numbers : (kind : PrimitiveType) → same_kind kind kinds.DaysMs ≡ false → same_kind kind kinds.MonthDayNano ≡ false
+    → (values : List Numbers) → list_all (is_native kind) values ≡ true → list_all (in_kind kind) (map first_number values) ≡ true
+whole_numbers kind days months values h = all_mapped (is_native kind) (in_kind kind) first_number values (whole_number kind days months) h
+
 pair_number : (n : Numbers) → is_native kinds.DaysMs n ≡ true → (is_signed 32 (pair_of n).0 && is_signed 32 (pair_of n).1) ≡ true
 pair_number (one z) h = absurd cc
 pair_number (two a b) h = h
@@ -115,16 +118,16 @@ triple_number (three a b c) h = h
 -- values of a kind are stored as arrays of the kind store them
 stored_sound : (kind : PrimitiveType) (values : List Numbers) → nat_le 1 (numbers_of_kind kind) ≡ true
     → list_all (is_native kind) values ≡ true → is_stored_as (physical.Primitive kind) (stored_numbers kind values) ≡ true
-stored_sound kinds.Int8 values some h = all_mapped (is_native kinds.Int8) (in_kind kinds.Int8) first_number values (whole_number kinds.Int8 refl refl) h
-stored_sound kinds.Int16 values some h = all_mapped (is_native kinds.Int16) (in_kind kinds.Int16) first_number values (whole_number kinds.Int16 refl refl) h
-stored_sound kinds.Int32 values some h = all_mapped (is_native kinds.Int32) (in_kind kinds.Int32) first_number values (whole_number kinds.Int32 refl refl) h
-stored_sound kinds.Int64 values some h = all_mapped (is_native kinds.Int64) (in_kind kinds.Int64) first_number values (whole_number kinds.Int64 refl refl) h
-stored_sound kinds.Int128 values some h = all_mapped (is_native kinds.Int128) (in_kind kinds.Int128) first_number values (whole_number kinds.Int128 refl refl) h
-stored_sound kinds.Int256 values some h = all_mapped (is_native kinds.Int256) (in_kind kinds.Int256) first_number values (whole_number kinds.Int256 refl refl) h
-stored_sound kinds.UInt8 values some h = all_mapped (is_native kinds.UInt8) (in_kind kinds.UInt8) first_number values (whole_number kinds.UInt8 refl refl) h
-stored_sound kinds.UInt16 values some h = all_mapped (is_native kinds.UInt16) (in_kind kinds.UInt16) first_number values (whole_number kinds.UInt16 refl refl) h
-stored_sound kinds.UInt32 values some h = all_mapped (is_native kinds.UInt32) (in_kind kinds.UInt32) first_number values (whole_number kinds.UInt32 refl refl) h
-stored_sound kinds.UInt64 values some h = all_mapped (is_native kinds.UInt64) (in_kind kinds.UInt64) first_number values (whole_number kinds.UInt64 refl refl) h
+stored_sound kinds.Int8 values some h = whole_numbers kinds.Int8 refl refl values h
+stored_sound kinds.Int16 values some h = whole_numbers kinds.Int16 refl refl values h
+stored_sound kinds.Int32 values some h = whole_numbers kinds.Int32 refl refl values h
+stored_sound kinds.Int64 values some h = whole_numbers kinds.Int64 refl refl values h
+stored_sound kinds.Int128 values some h = whole_numbers kinds.Int128 refl refl values h
+stored_sound kinds.Int256 values some h = whole_numbers kinds.Int256 refl refl values h
+stored_sound kinds.UInt8 values some h = whole_numbers kinds.UInt8 refl refl values h
+stored_sound kinds.UInt16 values some h = whole_numbers kinds.UInt16 refl refl values h
+stored_sound kinds.UInt32 values some h = whole_numbers kinds.UInt32 refl refl values h
+stored_sound kinds.UInt64 values some h = whole_numbers kinds.UInt64 refl refl values h
 stored_sound kinds.DaysMs values some h = all_mapped (is_native kinds.DaysMs) (λ value. is_signed 32 value.0 && is_signed 32 value.1) pair_of values
     pair_number h
 stored_sound kinds.MonthDayNano values some h = all_mapped (is_native kinds.MonthDayNano)

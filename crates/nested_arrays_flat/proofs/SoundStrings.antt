@@ -1,5 +1,5 @@
 -- The columns of arrays of byte strings and of texts are sound, and what is cut out of an array is cut out of its column.
-use Rattle.std.proofs.Common.{◌≡◌, ℕ, ℤ, pos, zero, suc, ◌+◌, ◌-◌, ◌≤◌, ◌<◌, Bool, true, refl, ap, subst, ◌∙◌, sym, arith, List, [], ◌∷◌, length, get_or, sum}
+use Rattle.std.proofs.Common.{◌≡◌, ℕ, ℤ, pos, ◌+◌, ◌-◌, ◌≤◌, ◌<◌, Bool, true, refl, ap, ◌∙◌, sym, arith, List, [], ◌∷◌, length, get_or, sum}
 use Rattle.std.specs.Prelude.{◌&&◌, ◌≤ℤ◌, false, nat_le, min, Option, Some, None, slice_range, if◌then◌else◌}
 use Rattle.std.specs.List.{list_all}
 use Rattle.std.specs.Str.{is_utf8}
@@ -12,10 +12,10 @@ use Rattle.columnar_memory.specs.declared.DataType.TheOpen as layer
 use Rattle.columnar_memory.specs.declared.PhysicalType.{PhysicalType}
 use Rattle.columnar_memory.specs.declared.PhysicalType.TheVariants as physical
 use Rattle.columnar_memory_buffer.proofs.Runs.{sum-cons, offset_at-more, nonnegative}
-use Rattle.flat_arrays_bytes.proofs.Places.{value_between, text_among}
-use Rattle.flat_arrays_bytes.specs.ByteStrings as arrays
-use Rattle.flat_arrays_bytes.specs.ByteStrings.{ByteStrings, len_of, values_of}
-use Rattle.flat_arrays_bytes.specs.Fits.{Fits, IsBinary, IsMaskOf, IsText, binary_layout, text_layout}
+use Rattle.flat_arrays_byte_columns.proofs.Places.{value_between, text_among}
+use Rattle.flat_arrays_byte_columns.specs.ByteStrings as arrays
+use Rattle.flat_arrays_byte_columns.specs.ByteStrings.{ByteStrings, len_of, values_of}
+use Rattle.flat_arrays_byte_columns.specs.Fits.{IsBinary, IsMaskOf, IsText, binary_layout, text_layout}
 use Rattle.nested_arrays.proofs.Conditions.{holds_from}
 use Rattle.nested_arrays.specs.Kinds.{most_offset}
 use Rattle.nested_arrays.specs.SoundColumns.{are_offsets, are_strings, has_size, holds_below, is_byte, is_sound, is_stored_as, is_text_at}

@@ -1,5 +1,5 @@
 -- The columns that flat arrays store (Arrow columnar format, "Fixed-size Primitive Layout", "Variable-size Binary Layout").
-use Rattle.std.specs.Prelude.{ℕ, ℤ, Bool, false, ◌&&◌, List, map, Option}
+use Rattle.std.specs.Prelude.{ℕ, ℤ, Bool, ◌&&◌, List, map, Option}
 use Rattle.columnar_memory.specs.declared.DataType.{DataType}
 use Rattle.columnar_memory.specs.declared.DataType.TheOpen as layer
 use Rattle.columnar_memory.specs.declared.Field.{Field}
@@ -8,7 +8,7 @@ use Rattle.columnar_memory.specs.declared.PrimitiveType.TheVariants as kinds
 use Rattle.columnar_memory.specs.Numbers.{Numbers, one, two, three, first_number, second_number, third_number}
 use Rattle.columnar_memory.specs.Spans.{offsets_of}
 use Rattle.flat_arrays_values.specs.Flat.{Flat}
-use Rattle.flat_arrays_bytes.specs.ByteStrings.{ByteStrings}
+use Rattle.flat_arrays_byte_columns.specs.ByteStrings.{ByteStrings}
 use Rattle.nested_arrays.specs.Kinds.{in_kind, is_signed, same_kind}
 use Rattle.nested_arrays.specs.StoredColumns.{Column, Stored, flat, bits, numbers, pairs, triples, texts, byte_strings}
 use Rattle.nested_arrays.specs.StoredColumns.{fixed_bytes, type_layer}

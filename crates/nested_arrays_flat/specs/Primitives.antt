@@ -1,12 +1,8 @@
 -- The columns of arrays of numbers of any kind.
-use Rattle.std.specs.Prelude.{◌≡◌, pos, Result, MatchResult}
-use Rattle.columnar_memory.specs.declared.PhysicalType.TheVariants as physical
-use Rattle.columnar_memory.specs.declared.PrimitiveType.{PrimitiveType}
+use Rattle.std.specs.Prelude.{pos}
 use Rattle.columnar_memory.specs.declared.PrimitiveType.TheVariants as kinds
-use Rattle.columnar_memory.specs.Layouts.{physical_type}
-use Rattle.columnar_memory.specs.Numbers.{Numbers, one, two, three}
-use Rattle.flat_arrays_values.specs.Flat.{Flat}
-use Rattle.nested_arrays.specs.StoredColumns.{Column, column_type}
+use Rattle.columnar_memory.specs.Numbers.{one, two, three}
+use Rattle.nested_arrays.specs.StoredColumns.{Column}
 use Rattle.nested_arrays_flat.specs.FlatColumns.{primitive_column}
 use Rattle.nested_arrays_flat.specs.declared.primitive.PrimitiveNode.{PrimitiveNode}
 use Rattle.nested_arrays_flat.specs.declared.primitive.PrimitiveNode.TheVariants as variant

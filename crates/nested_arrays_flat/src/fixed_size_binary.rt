@@ -1,5 +1,6 @@
 //! Arrays of byte strings of one size.
-ghost use Rattle.std.specs.Prelude.{◌≡◌, ◌+◌, ◌*◌, ◌/◌, ◌^◌, ◌<◌, ◌≤◌, ◌↔◌, [], false, length, replicate, true, IsTrue, MatchOption, None, Some, option_copied};
+ghost use Rattle.std.specs.Prelude.{◌≡◌, ◌+◌, ◌*◌, ◌/◌, ◌^◌, ◌<◌, ◌≤◌, [], length, replicate};
+ghost use Rattle.std.specs.Prelude.{false, true, MatchOption, None, Some, option_copied};
 ghost use Rattle.columnar_memory.specs.Results.{OrOutOfMemory};
 ghost use Rattle.nested_arrays.specs.Slots.{bytes, null};
 ghost use Rattle.nested_arrays.specs.SoundColumns.{is_sound, mask_fits};
@@ -46,6 +47,7 @@ impl FixedSizeBinaryArray {
     /// # Errors
     /// `OutOfSpec`: arrays of the data type are not of byte strings of one size, of a byte at least; the bytes are no whole number of such
     /// strings; or the mask is not as long as the array.
+    #[tactic(auto, using(crate::proofs::FixedWidths::parts))]
     pub fn try_new(
         data_type: DataType,
         values: Buffer<u8>,
@@ -53,12 +55,23 @@ impl FixedSizeBinaryArray {
     ) -> Result<Self>
         ensures { IsChecked (fixed_column data_type (byte_width data_type) values validity) result }
     {
-        if !are_parts(&data_type, &values, &validity) {
-            return Err(Error::OutOfSpec(
-                "a type, bytes and a mask that make no array of byte strings of one size",
-            ));
+        read_bytes(values.as_slice());
+        let size = FixedSizeBinaryArray::get_size(&data_type);
+        if size == 0 {
+            return Err(Error::OutOfSpec("a data type whose arrays store other values"));
         }
-        Ok(FixedSizeBinaryArray::new(data_type, values, validity))
+        if values.len() % size != 0 {
+            return Err(Error::OutOfSpec("bytes that are no whole number of strings"));
+        }
+        if !is_mask_of(&validity, values.len() / size) {
+            return Err(Error::OutOfSpec("a mask of another length than the strings"));
+        }
+        Ok(FixedSizeBinaryArray {
+            data_type,
+            size,
+            values,
+            validity,
+        })
     }
 
     /// The array of parts that fit, as `try_new` tests.
@@ -133,12 +146,6 @@ impl FixedSizeBinaryArray {
         ensures { result ≡ column_len self.now }
     {
         self.values.len() / self.size
-    }
-
-    pub fn is_empty(&self) -> bool
-        ensures { IsTrue result ↔ (column_len self.now ≡ 0) }
-    {
-        self.len() == 0
     }
 
     pub fn data_type(&self) -> &DataType
@@ -269,19 +276,6 @@ fn slice_strings(values: &mut Buffer<u8>, size: usize, offset: usize, count: usi
 {
     let _all = values.len();
     values.slice(size * offset, size * count);
-}
-
-/// Whether a type, bytes and a mask are the parts of an array.
-#[tactic(auto, using(crate::proofs::FixedWidths::parts))]
-fn are_parts(data_type: &DataType, values: &Buffer<u8>, validity: &Option<Bitmap>) -> bool
-    ensures { IsTrue result ↔ (is_sound (fixed_column data_type.now (byte_width data_type.now) values.now validity.now) ≡ true) }
-{
-    read_bytes(values.as_slice());
-    let size = FixedSizeBinaryArray::get_size(data_type);
-    if size == 0 || values.len() % size != 0 {
-        return false;
-    }
-    is_mask_of(validity, values.len() / size)
 }
 
 impl Clone for FixedSizeBinaryArray {

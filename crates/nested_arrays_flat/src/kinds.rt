@@ -370,7 +370,8 @@ impl PrimitiveKind for months_days_ns {
     }
 
     fn unwrap(any: AnyPrimitive) -> Result<Parts<months_days_ns>, AnyPrimitive>
-        ensures { MatchResult result (λ parts. ArePartsOf kinds.MonthDayNano (λ x. three x.0 x.1 x.2) any parts.0 parts.1 parts.2) (IsLeft kinds.MonthDayNano any) }
+        ensures { MatchResult result (λ parts. ArePartsOf kinds.MonthDayNano (λ x. three x.0 x.1 x.2) any parts.0 parts.1 parts.2)
+            (IsLeft kinds.MonthDayNano any) }
     {
         match any.node {
             PrimitiveNode::MonthsDaysNs(array) => Ok(array.into_inner()),

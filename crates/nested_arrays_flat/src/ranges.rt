@@ -11,31 +11,13 @@ pub(crate) fn read_each<T: NativeType>(values: &[T])
     ensures { list_all (λ value. is_native T.PRIMITIVE (T.numbers value)) values.now ≡ true }
 {
     for value in values {
-        read_one(value);
+        let _bytes = value.to_le_bytes();
     }
-}
-
-/// Reads a value.
-#[tactic(auto, using(crate::proofs::InRange::native_in_range))]
-fn read_one<T: NativeType>(value: &T)
-    ensures { is_native T.PRIMITIVE (T.numbers value.now) ≡ true }
-{
-    let _bytes = value.to_le_bytes();
 }
 
 /// Reads each byte, by which a proof knows that it is one.
 pub fn read_bytes(bytes: &[u8])
     ensures { list_all is_byte bytes.now ≡ true }
 {
-    for byte in bytes {
-        read_byte(byte);
-    }
-}
-
-/// Reads a byte.
-#[tactic(auto, using(crate::proofs::InRange::byte_in_range))]
-fn read_byte(byte: &u8)
-    ensures { is_byte byte.now ≡ true }
-{
-    let _value = *byte;
+    read_each(bytes);
 }

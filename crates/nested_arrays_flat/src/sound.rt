@@ -1,7 +1,6 @@
 //! What the columns of flat arrays are: sound ones. Each function here reads an array, and hands that to a caller's proof.
-ghost use Rattle.std.specs.Prelude.{◌≡◌, ◌≤◌, true, nat_le};
+ghost use Rattle.std.specs.Prelude.{◌≡◌, ◌≤◌, true};
 ghost use Rattle.columnar_memory.specs.Spans.{last_of};
-ghost use Rattle.nested_arrays.specs.Kinds.{numbers_of_kind};
 ghost use Rattle.nested_arrays.specs.SoundColumns.{is_sound};
 ghost use Rattle.nested_arrays_flat.specs.FlatColumns.{binary_column, boolean_column, primitive_column, text_column};
 
@@ -11,21 +10,13 @@ use flat_arrays_bytes::{BinaryArray, Utf8Array};
 use flat_arrays_values::{BooleanArray, PrimitiveArray};
 
 /// The column of an array of numbers is sound.
-#[tactic(auto, using(crate::proofs::SoundFlats::primitive_sound))]
+#[tactic(auto, using(crate::proofs::SoundFlats::primitive_sound, crate::proofs::InRange::native_has_numbers))]
 pub fn primitive_is_sound<T: NativeType>(array: &PrimitiveArray<T>)
     ensures { is_sound (primitive_column T.PRIMITIVE T.numbers array.now) ≡ true }
 {
-    has_numbers::<T>();
+    let _zero = T::default().to_le_bytes();
     let _slots = array.len();
     read_each(array.values().as_slice());
-}
-
-/// A value has numbers: it is no float.
-#[tactic(auto, using(crate::proofs::InRange::native_has_numbers))]
-fn has_numbers<T: NativeType>()
-    ensures { nat_le 1 (numbers_of_kind T.PRIMITIVE) ≡ true }
-{
-    let _bytes = T::default().to_le_bytes();
 }
 
 /// The column of an array of booleans is sound.
