@@ -1,5 +1,6 @@
 -- What is cut out of a node is cut out of its column.
-use Rattle.std.proofs.Common.{◌≡◌, ℕ, zero, suc, ◌+◌, ◌-◌, ◌<◌, ◌≤◌, get_or, List, [], ◌∷◌, length, map, take, drop, ◌++◌, length-append, refl, sym, ap, subst, ◌∙◌, ◌*◌, arith}
+use Rattle.std.proofs.Common.{◌≡◌, ℕ, zero, suc, ◌+◌, ◌-◌, ◌<◌, ◌≤◌, get_or, List, [], ◌∷◌, length, map, take, drop, ◌++◌, length-append}
+use Rattle.std.proofs.Common.{refl, sym, ap, subst, ◌∙◌, ◌*◌, arith}
 use Rattle.std.specs.Prelude.{ℤ, Bool, true, Option, Some, None, ◌==◌, ◌/◌}
 use Rattle.std.specs.List.{list_all}
 use Rattle.columnar_memory.specs.Window.{window}
@@ -9,11 +10,13 @@ use Rattle.std.proofs.lemmas.Bool.{and_parts, eqb-true}
 use Rattle.std.proofs.lemmas.List.{length-map}
 use Rattle.columnar_memory.specs.declared.DataType.{DataType}
 use Rattle.columnar_memory.specs.Spans.{Spans, offsets_of, spans_between}
-use Rattle.nested_arrays.specs.SoundColumns.{has_field_types, has_child_types, has_places, has_child_at, is_offset, holds_below, have_len, mask_fits, is_sound, are_sound}
+use Rattle.nested_arrays.specs.SoundColumns.{has_field_types, has_child_types, has_places, has_child_at, is_offset, holds_below, have_len}
+use Rattle.nested_arrays.specs.SoundColumns.{mask_fits, is_sound, are_sound}
 use Rattle.nested_arrays.proofs.Conditions.{parts_of_4, parts_of_5}
-use Rattle.nested_arrays.proofs.SoundCuts.{is_sound-cut}
+pub use Rattle.nested_arrays_flat.proofs.ColumnParts.{sound_after}
 use Rattle.nested_arrays.proofs.SoundParts.{fixed_lists_have_a_size}
-use Rattle.nested_arrays.specs.StoredColumns.{Column, column_len, cut, cut_each, column_size, columns_size, cut_mask, lists, fixed_lists, records, unions, in_columns, column_then, type_layer}
+use Rattle.nested_arrays.specs.StoredColumns.{Column, column_len, cut, cut_each, column_size, columns_size, cut_mask, lists, fixed_lists}
+use Rattle.nested_arrays.specs.StoredColumns.{records, unions, in_columns, column_then, type_layer}
 use Rattle.nested_arrays.proofs.CutStored.{pieces_within}
 use Rattle.nested_arrays_arrays.specs.AnyColumns.{FitsWidth}
 use Rattle.nested_arrays_arrays.specs.declared.any.Node.{Node}
@@ -67,10 +70,6 @@ pub records_cut : (c : Column) (data_type : DataType) (mask part : Option (List 
 records_cut c data_type mask part len columns some o n is masked each =
     (λ j. records data_type (masked j) n ((ap in_columns each ∙ cut_columns columns o n) j)) ∙ ap (λ c. cut c o n) is
 
--- a cut of what is sound is sound
-pub sound_after : (c part : Column) (o n : ℕ) → is_sound c ≡ true → o + n ≤ column_len c → part ≡ cut c o n → is_sound part ≡ true
-sound_after c part o n sound within is = ap is_sound is ∙ is_sound-cut c o n sound within
-
 -- the element at the place that a loop over a list has come to is unchanged
 pub get_or-over : {A : Type 0} (f : A → A) (xs : List A) (i : ℕ) (d : A) → i < length xs → get_or (map f (take i xs) ++ drop i xs) i d ≡ get_or xs i d
 get_or-over f [] i d small = absurd (omega arith)
@@ -78,7 +77,8 @@ get_or-over f (x ∷ xs) zero d small = refl
 get_or-over f (x ∷ xs) (suc i) d small = get_or-over f xs i d (omega arith)
 
 -- one of several columns is made of no more columns than all of them
-pub one_size : (columns : List Column) (k : ℕ) (d : Column) → k < length columns → column_size (get_or columns k d) ≤ columns_size (in_columns columns)
+pub one_size : (columns : List Column) (k : ℕ) (d : Column) → k < length columns
+    → column_size (get_or columns k d) ≤ columns_size (in_columns columns)
 one_size [] k d small = absurd (omega arith)
 one_size (column ∷ columns) zero d small = omega arith
 one_size (column ∷ columns) (suc k) d small = omega (arith, one_size columns k d (omega arith))

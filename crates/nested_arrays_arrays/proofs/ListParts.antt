@@ -1,7 +1,7 @@
 -- Lists and maps are sound where their parts are.
-use Rattle.std.proofs.Common.{◌≡◌, ◌∙◌, sym, ap, ◌≤◌, ◌<◌, ◌-◌, ◌^◌, ℕ, List, true, false, Bool, arith, refl, length}
+use Rattle.std.proofs.Common.{◌≡◌, ◌∙◌, sym, ap, ◌≤◌, ◌-◌, ◌^◌, ℕ, List, true, false, Bool, arith, refl, length}
 use Rattle.std.specs.Prelude.{◌&&◌, min, Option, if◌then◌else◌}
-use Rattle.std.proofs.lemmas.Bool.{and_parts, and_from, false≢true}
+use Rattle.std.proofs.lemmas.Bool.{and_from, false≢true}
 use Rattle.columnar_memory.specs.Layouts.{physical_type}
 use Rattle.columnar_memory.specs.Spans.{Spans, offsets_of, last_of}
 use Rattle.columnar_memory.specs.declared.DataType.{DataType}
@@ -13,8 +13,8 @@ use Rattle.nested_arrays.specs.StoredColumns.{Column, column_len, column_type, l
 use Rattle.nested_arrays.proofs.Conditions.{parts_of_4}
 use Rattle.nested_arrays_arrays.specs.Answers.{LiesAs}
 use Rattle.nested_arrays_arrays.specs.Entries.{has_entry_type, has_list_item_type, list_layout}
-use Rattle.nested_arrays_flat.proofs.Layers.{Layer, is_extension, layer_layout, type_lies}
-use Rattle.nested_arrays_arrays.proofs.OffsetLists.{spans_are_offsets, offsets_end_within, spans_count}
+use Rattle.nested_arrays_flat.proofs.Layers.{Layer, layer_layout, type_lies}
+use Rattle.nested_arrays_arrays.proofs.OffsetLists.{spans_sound, offsets_end_within, spans_count}
 
 -- types of maps are those that lie in memory as maps and have items
 map_layer : (x : Layer) (child : DataType) → has_entry_type x child ≡ true → (has_item_type x child ≡ true) × (layer_layout x ≡ physical.Map)
@@ -37,7 +37,7 @@ lists_whole data_type mask s child typed small within masked sound =
     let a = has_item_type (type_layer data_type) (column_type child) in
     let b = are_offsets (offsets_of s) limit in
     and_from (a && b && mask_fits mask (length (offsets_of s) - 1)) (is_sound child)
-    (and_from (a && b) (mask_fits mask (length (offsets_of s) - 1)) (and_from a b typed (spans_are_offsets s limit (omega (arith, small, within))))
+    (and_from (a && b) (mask_fits mask (length (offsets_of s) - 1)) (and_from a b typed (spans_sound s limit (omega (arith, small, within))))
     (ap (mask_fits mask) (spans_count s) ∙ masked)) sound
 
 pub lists_parts : (data_type : DataType) (mask : Option (List Bool)) (s : Spans) (child : Column)

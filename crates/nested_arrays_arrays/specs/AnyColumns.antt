@@ -1,15 +1,11 @@
 -- The column of an array of any type, and which width its offsets have.
 use Rattle.std.specs.Prelude.{◌≡◌, true}
 use Rattle.columnar_memory.specs.Layouts.{physical_type}
-use Rattle.columnar_memory.specs.Spans.{Spans, offsets_of}
-use Rattle.columnar_memory.specs.declared.PhysicalType.{PhysicalType}
-use Rattle.columnar_memory.specs.declared.PhysicalType.TheVariants as physical
+use Rattle.columnar_memory.specs.Spans.{offsets_of}
 use Rattle.nested_arrays.specs.SoundColumns.{is_sound}
 use Rattle.nested_arrays.specs.StoredColumns.{Column, lists}
 use Rattle.nested_arrays_arrays.specs.declared.any.Node.{Node}
 use Rattle.nested_arrays_arrays.specs.declared.any.Node.TheVariants as variant
-use Rattle.nested_arrays_arrays.specs.declared.offsets.ListOffsets.{ListOffsets}
-use Rattle.nested_arrays_arrays.specs.declared.offsets.ListOffsets.TheVariants as width
 use Rattle.nested_arrays_arrays.specs.Widths.{spans_in, layout_of}
 
 abbrev pub column_of : Node → Column

@@ -1,8 +1,7 @@
 -- Each child of an array is made of fewer columns than the array.
-use Rattle.std.specs.Prelude.{ℕ, ◌+◌, ◌*◌, ◌≤◌, max, List, [], ◌∷◌}
+use Rattle.std.specs.Prelude.{◌+◌, ◌*◌, ◌≤◌, max, List}
 use Rattle.std.proofs.Common.{arith}
 use Rattle.nested_arrays.specs.StoredColumns.{Column, column_size, columns_size, in_columns}
-use Rattle.nested_arrays.proofs.ColumnSizes.{sizes_count}
 use Rattle.nested_arrays.proofs.SoundParts.{most_of_columns}
 use Rattle.nested_arrays_arrays.specs.AnyColumns.{column_of}
 use Rattle.nested_arrays_arrays.specs.declared.any.Node.{Node}

@@ -12,7 +12,8 @@ pub(crate) fn have_types(fields: &[Field], arrays: &[AnyArray]) -> bool
 {
     match (fields.split_first(), arrays.split_first()) {
         (None, None) => true,
-        (Some((field, fields)), Some((array, arrays))) => field.data_type == *array.data_type() && have_types(fields, arrays),
+        (Some((field, fields)), Some((array, arrays))) => field.data_type == *array.data_type()
+            && have_types(fields, arrays),
         _ => false,
     }
 }

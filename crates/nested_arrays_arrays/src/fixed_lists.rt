@@ -56,7 +56,8 @@ fn has_items(data_type: &DataType, size: usize, item_type: &DataType) -> bool
     ensures { result ≡ has_fixed_item_type (type_layer data_type.now) size item_type.now }
 {
     match data_type.to_logical_type() {
-        DataType::FixedSizeList(item, stored) => *stored == size && item.get().data_type == *item_type,
+        DataType::FixedSizeList(item, stored) => *stored == size
+            && item.get().data_type == *item_type,
         _ => false,
     }
 }

@@ -82,7 +82,9 @@ impl<O: Offset> ListArray<O> {
         ensures { IsCheckedAs (list_layout O.IS_LARGE) (lists data_type validity (offsets_of offsets) values.value) result }
     {
         if !are_lists(&data_type, &offsets, &values, &validity) {
-            return Err(Error::OutOfSpec("a type, offsets, items and a mask that make no array of lists"));
+            return Err(Error::OutOfSpec(
+                "a type, offsets, items and a mask that make no array of lists",
+            ));
         }
         Ok(ListArray {
             data_type,

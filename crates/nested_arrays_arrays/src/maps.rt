@@ -104,7 +104,9 @@ impl MapArray {
         ensures { IsCheckedAs physical.Map (lists data_type validity (offsets_of offsets) field.value) result }
     {
         if !are_maps(&data_type, &offsets, &field, &validity) {
-            return Err(Error::OutOfSpec("a type, offsets, entries and a mask that make no array of maps"));
+            return Err(Error::OutOfSpec(
+                "a type, offsets, entries and a mask that make no array of maps",
+            ));
         }
         Ok(MapArray {
             data_type,

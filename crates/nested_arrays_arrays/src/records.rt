@@ -70,7 +70,9 @@ impl StructArray {
         are_whole(&values);
         let length = first_len(&values);
         if !are_fields_of(&data_type, &values) {
-            return Err(Error::OutOfSpec("children that are not those of a struct of the data type"));
+            return Err(Error::OutOfSpec(
+                "children that are not those of a struct of the data type",
+            ));
         }
         if !have_len(&values, length) {
             return Err(Error::OutOfSpec("children of different lengths"));

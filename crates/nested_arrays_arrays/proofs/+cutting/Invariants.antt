@@ -1,4 +1,4 @@
-use Rattle.std.proofs.Common.{◌≡◌, ◌+◌, ◌≤◌, ℕ, ◌<◌, length, take, drop, map, ◌++◌, ◌*◌}
+use Rattle.std.proofs.Common.{◌≡◌, ◌+◌, take, drop, map, ◌++◌, ◌*◌}
 use Rattle.nested_arrays.specs.StoredColumns.{column_size, columns_size, in_columns, cut}
 use Rattle.nested_arrays_arrays.proofs.+cutting.Given as goal
 

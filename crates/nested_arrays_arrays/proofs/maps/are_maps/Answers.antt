@@ -1,4 +1,4 @@
-use Rattle.std.proofs.Common.{◌≡◌, ◌∙◌, ap, sym, arith, ◌≤◌, ◌-◌, ◌^◌}
+use Rattle.std.proofs.Common.{◌∙◌, ap, sym, arith, ◌≤◌, ◌-◌, ◌^◌}
 use Rattle.columnar_memory.specs.Spans.{last_of}
 use Rattle.nested_arrays.specs.SoundColumns.{mask_fits}
 use Rattle.nested_arrays.specs.StoredColumns.{column_len, type_layer}
@@ -11,8 +11,9 @@ returns c =
     let small : last_of c.args.offsets.now ≤ 2 ^ 31 - 1 = omega (arith, c.last_of.ensures.value, c.last_of.ensures.bound) in
     let within : last_of c.args.offsets.now ≤ column_len c.args.field.now =
     omega (arith, c.last_of.ensures.value, c.if-last_of-len.false, c.len.ensures) in
-    let masked = c.fits.ensures ∙ ap (mask_fits c.args.validity.now) c.len_proxy.ensures in
-    (λ is. map_whole c.args.data_type.now c.args.validity.now c.args.offsets.now c.args.field.now
-    (ap (has_entry_type (type_layer c.args.data_type.now)) (sym c.data_type.ensures) ∙ sym c.has_entries.ensures ∙ c.if-not-has_entries.false)
-    small within (sym masked ∙ is) c.whole.ensures,
-    λ lies. masked ∙ (map_parts c.args.data_type.now c.args.validity.now c.args.offsets.now c.args.field.now lies).2)
+    let masked = c.fits.ensures ∙ ap (mask_fits c.args.validity.now) c.len_proxy.ensures in (
+      λ is. map_whole c.args.data_type.now c.args.validity.now c.args.offsets.now c.args.field.now
+          (ap (has_entry_type (type_layer c.args.data_type.now)) (sym c.data_type.ensures) ∙ sym c.has_entries.ensures ∙ c.if-not-has_entries.false)
+          small within (sym masked ∙ is) c.whole.ensures,
+      λ lies. masked ∙ (map_parts c.args.data_type.now c.args.validity.now c.args.offsets.now c.args.field.now lies).2,
+    )

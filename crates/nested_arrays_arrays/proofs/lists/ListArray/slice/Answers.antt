@@ -1,4 +1,4 @@
-use Rattle.std.proofs.Common.{◌≡◌, ◌∙◌, ap, sym}
+use Rattle.std.proofs.Common.{◌∙◌, ap, sym}
 use Rattle.nested_arrays.specs.SoundColumns.{is_sound}
 use Rattle.nested_arrays_arrays.proofs.CutNodes.{lists_cut, spans_within, sound_after}
 use Rattle.nested_arrays_arrays.proofs.lists.ListArray.slice.Goals as goal
@@ -11,7 +11,9 @@ returns g c = lists_cut _ _ _ _ _ _ _ _ _ c.self.view_is c.slice_mask.ensures c.
     (spans_within _ _ _ _ _ _ _ c.self.view_is c.requires)
 
 pub invariant_of-self : goal.invariant_of-self
-invariant_of-self g c =
-    (sound_after c.args.self.now _ c.args.offset c.args.count (ap is_sound (sym c.self.view_is) ∙ c.self.invariant.0) c.requires
-    (lists_cut _ _ _ _ _ _ _ _ _ c.self.view_is c.slice_mask.ensures c.slice_offsets.ensures
-    (spans_within _ _ _ _ _ _ _ c.self.view_is c.requires)), c.self.invariant.1)
+invariant_of-self g c = (
+  sound_after c.args.self.now _ c.args.offset c.args.count (ap is_sound (sym c.self.view_is) ∙ c.self.invariant.0) c.requires
+      (lists_cut _ _ _ _ _ _ _ _ _ c.self.view_is c.slice_mask.ensures c.slice_offsets.ensures
+      (spans_within _ _ _ _ _ _ _ c.self.view_is c.requires)),
+  c.self.invariant.1,
+)
