@@ -1,7 +1,0 @@
-//! Tests of builders of byte strings and of texts.
-#![tactic(auto)]
-
-#[cfg(test)]
-mod binary;
-#[cfg(test)]
-mod utf8;
