@@ -1,7 +1,8 @@
 # make demo    builds the proved program as bin/tables and cuts the samples with it
 # make test    the whole gate: every proof from nothing, each test, each program, the must-fail edits
-# make bench   measures bin/tables against cp and plain Rust on a stream of about 250 MB, and on a tenth of it, after the two below
+# make bench   measures bin/tables against cp and plain Rust on a stream of about 250 MB, and on a tenth of it, after the three below
 # make bench-memory   measures jobs of the memory layer against plain Rust
+# make bench-flat   measures jobs of flat arrays and their builders against plain Rust
 # make bench-metadata   measures schemas read from and written as metadata against a copy of its bytes
 # make definitions   runs the definitions of specs/ on worked values, and on laid and damaged inputs against an independent reader
 
@@ -9,9 +10,10 @@ RT ?= rt
 PYTHON ?= python3 -B
 PROGRAM = crates/tables_program
 MEMORY = crates/columnar_memory_bench
+FLAT = crates/flat_arrays_bench
 METADATA = crates/ipc_format_bench
 
-.PHONY: demo test bench bench-memory bench-metadata definitions program memory-program metadata-program clean
+.PHONY: demo test bench bench-memory bench-flat bench-metadata definitions program memory-program flat-program metadata-program clean
 
 # How many inputs `make definitions` compares, and from which seed.
 COUNT ?= 20000
@@ -51,7 +53,7 @@ definitions:
 	$(PYTHON) tools/worked.py
 	$(PYTHON) tools/compare.py --count $(COUNT) --seed $(SEED)
 
-bench: program bench-memory bench-metadata
+bench: program bench-memory bench-flat bench-metadata
 	$(PYTHON) tools/bench.py cut bin/tables bin
 
 bench-memory: memory-program
@@ -63,6 +65,16 @@ memory-program:
 	@echo "proving and building $(MEMORY); bin/memory.log says how far it is"
 	@cd $(MEMORY) && $(RT) run > ../../bin/memory.log 2>&1 || { tail -n 20 ../../bin/memory.log; exit 1; }
 	cp $(MEMORY)/out/columnar_memory_bench bin/columnar_memory_bench
+
+bench-flat: flat-program
+	$(PYTHON) tools/bench.py flat bin/flat_arrays_bench bin
+
+flat-program:
+	@mkdir -p bin
+	@rm -f bin/flat_arrays_bench $(FLAT)/out/flat_arrays_bench
+	@echo "proving and building $(FLAT); bin/flat.log says how far it is"
+	@cd $(FLAT) && $(RT) run > ../../bin/flat.log 2>&1 || { tail -n 20 ../../bin/flat.log; exit 1; }
+	cp $(FLAT)/out/flat_arrays_bench bin/flat_arrays_bench
 
 bench-metadata: metadata-program
 	$(PYTHON) tools/bench.py metadata bin/ipc_format_bench bin

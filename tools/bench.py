@@ -3,10 +3,11 @@
 
     bench.py cut PROGRAM FOLDER        `tables cut` on nearly all of a large stream, against plain_cut.rs and `cp` of the same file
     bench.py memory PROGRAM FOLDER     the jobs of `columnar_memory_bench`, against plain_memory.rs, as a table
+    bench.py flat PROGRAM FOLDER       the jobs of `flat_arrays_bench`, against plain_flat.rs, as a table
     bench.py metadata PROGRAM FOLDER   the jobs of `ipc_format_bench` at three sizes, against a copy of the metadata's bytes, as a table
 
-What is made stands in FOLDER; streams are taken away at the end. Times of a cut are the best of five rounds, those of the memory layer's
-jobs the best of 21. Outputs and checksums of both programs have to be the same.
+What is made stands in FOLDER; streams are taken away at the end. Times of a cut are the best of five rounds, those of the jobs
+the best of 21. Outputs and checksums of both programs have to be the same.
 """
 
 import filecmp
@@ -24,11 +25,11 @@ CPU = "x86-64-v2"
 # How many fields the schemas of the metadata's jobs have.
 FIELDS = [1000, 10000, 100000]
 
-# How often the memory layer's programs run in turn; each run is the best of seven rounds.
+# How often the programs of jobs run in turn; each run is the best of seven rounds.
 TURNS = 3
 
 # The jobs of the memory layer: name, what is done, and the binary logarithm of the size.
-JOBS = [
+MEMORY_JOBS = [
     ("and_aligned", "`and` of two bitmaps", 28),
     ("and_offsets", "`and` of bitmaps at offsets 1 and 3", 28),
     ("count_zeros", "`count_zeros` at offset 3", 28),
@@ -38,6 +39,18 @@ JOBS = [
     ("from_iter", "`Bitmap::from_iter` of booleans", 26),
     ("offsets", "`Offsets::<i32>::try_from_iter` of lengths", 24),
     ("zip_validity", "sum of 32-bit values by `ZipValidity`", 26),
+]
+
+# The same of flat arrays. The numbers have 32 bits, and one in eight is null.
+FLAT_JOBS = [
+    ("push_numbers", "numbers by `try_push`", 24),
+    ("from_iter", "numbers by `from_iter`", 24),
+    ("sum", "sum of numbers by `iter`", 24),
+    ("cut", "clones cut to 16 numbers by `sliced`", 22),
+    ("copy", "numbers by `try_extend_from_self`", 24),
+    ("push_texts", "short texts by `push`", 23),
+    ("from_slice", "short texts by `from_slice`", 23),
+    ("try_new", "short texts by `try_new`, against `from_utf8` of all bytes at once", 23),
 ]
 
 
@@ -114,13 +127,21 @@ def measure_job(program, plain, job, size):
     return min(ours for (ours, _), _ in turns), min(plainly for _, (plainly, _) in turns)
 
 
-def measure_memory(program, folder):
-    plain = built(folder, "plain_memory")
+def measure_jobs(program, folder, name, jobs):
+    plain = built(folder, name)
     print("| job | size | ours, ms | plain Rust, ms | ratio |")
     print("|---|---|---|---|---|")
-    for job, what, power in JOBS:
+    for job, what, power in jobs:
         ours, plainly = measure_job(program, plain, job, 1 << power)
         print("| %s | 2^%d | %.1f | %.1f | %.2f |" % (what, power, ours / 1e6, plainly / 1e6, ours / plainly), flush=True)
+
+
+def measure_memory(program, folder):
+    measure_jobs(program, folder, "plain_memory", MEMORY_JOBS)
+
+
+def measure_flat(program, folder):
+    measure_jobs(program, folder, "plain_flat", FLAT_JOBS)
 
 
 def measure_metadata(program, folder):
@@ -139,7 +160,7 @@ def measure_metadata(program, folder):
 
 
 if __name__ == "__main__":
-    measures = {"cut": measure_cut, "memory": measure_memory, "metadata": measure_metadata}
+    measures = {"cut": measure_cut, "memory": measure_memory, "flat": measure_flat, "metadata": measure_metadata}
     if len(sys.argv) != 4 or sys.argv[1] not in measures:
         sys.exit(__doc__)
     measures[sys.argv[1]](sys.argv[2], sys.argv[3])

@@ -1,0 +1,56 @@
+//! The data of the jobs, which follow from their sizes, and checksums.
+use columnar_memory::Result;
+use std::alloc::Global;
+
+/// The texts that columns of texts hold.
+const WORDS: [&str; 8] = [
+    "", "a", "north", "Zürich", "日本", "quick", "length", "columns",
+];
+
+/// The number at a place of a sequence that looks like chance (the mixing steps of SplitMix64).
+fn mixed(place: u64) -> u64 {
+    let number = place.wrapping_mul(0x9e37_79b9_7f4a_7c15);
+    let number = (number ^ (number >> 30)).wrapping_mul(0xbf58_476d_1ce4_e5b9);
+    let number = (number ^ (number >> 27)).wrapping_mul(0x94d0_49bb_1331_11eb);
+    number ^ (number >> 31)
+}
+
+/// A null, or a number below 2^16: about one in eight is null.
+fn slot_at(place: u64) -> Option<i32> {
+    let number = mixed(place);
+    if number % 8 == 0 {
+        None
+    } else {
+        Some((number % 0x1_0000) as i32)
+    }
+}
+
+/// So many slots.
+pub(crate) fn slots(alloc: Global, count: usize) -> Result<Vec<Option<i32>>> {
+    Ok((0..count).map(|k| slot_at(k as u64)).collect(alloc)?)
+}
+
+/// So many short texts.
+pub(crate) fn texts(alloc: Global, count: usize) -> Result<Vec<&'static str>> {
+    Ok(
+        (0..count)
+            .map(|k| WORDS[(mixed(k as u64) % 8) as usize])
+            .collect(alloc)?,
+    )
+}
+
+/// A checksum of numbers in their order.
+pub(crate) fn numbers_checksum(numbers: &[i32]) -> u64 {
+    numbers.iter().fold(0u64, |sum, number| {
+        sum.wrapping_mul(31)
+            .wrapping_add(u64::from(number.unsigned_abs()))
+    })
+}
+
+/// A checksum of bytes in their order.
+pub(crate) fn bytes_checksum(bytes: &[u8]) -> u64 {
+    bytes.iter().fold(
+        0u64,
+        |sum, byte| sum.wrapping_mul(31).wrapping_add(u64::from(*byte)),
+    )
+}
