@@ -6,9 +6,7 @@ from antt_library import called, record_of, same
 from arrow_types import Field, Schema, Table
 from definitions import Definitions
 
-FLATBUFFERS, GRAMMAR, COLUMNS, WRITTEN, ARRAYS = (
-    "ipc_format_flatbuffers", "ipc_format_grammar", "ipc_format_columns", "ipc_format_written", "nested_arrays",
-)
+FLATBUFFERS, GRAMMAR, ARRAYS = "ipc_format_flatbuffers", "ipc_format_grammar", "nested_arrays_columns"
 
 # how many children of a field, and messages, are looked through
 MOST_TRIED = 150
@@ -184,19 +182,19 @@ class Defined:
     def __init__(self):
         self.definitions = Definitions()
         self.terms, find = Terms(self.definitions), self.definitions.named
-        self.forms = {form: find(COLUMNS, form) for form in ("stream", "file")}
-        self.table, self.choice = find(COLUMNS, "table_of"), find(COLUMNS, "choice_of")
-        self.ends_early, self.is_truncated = find(COLUMNS, "EndsInLaterMessage"), find(COLUMNS, "is_truncated")
-        self.schema_table, self.child_at, self.is_float = (find(COLUMNS, name) for name in ("schema_table", "child_at", "IsFloat"))
-        self.message_at, self.is_delta = find(COLUMNS, "message_at"), find(COLUMNS, "is_delta")
-        self.compression, self.feather_mark = find(COLUMNS, "compression_in"), find(COLUMNS, "HasFeatherMark")
-        self.first_batches, self.behind_messages = find(COLUMNS, "first_batches"), find(COLUMNS, "behind_messages")
+        self.forms = {form: find(GRAMMAR, form) for form in ("stream", "file")}
+        self.table, self.choice = find(GRAMMAR, "table_of"), find(GRAMMAR, "choice_of")
+        self.ends_early, self.is_truncated = find(GRAMMAR, "EndsInLaterMessage"), find(GRAMMAR, "is_truncated")
+        self.schema_table, self.child_at, self.is_float = (find(GRAMMAR, name) for name in ("schema_table", "child_at", "IsFloat"))
+        self.message_at, self.is_delta = find(GRAMMAR, "message_at"), find(GRAMMAR, "is_delta")
+        self.compression, self.feather_mark = find(GRAMMAR, "compression_in"), find(GRAMMAR, "HasFeatherMark")
+        self.first_batches, self.behind_messages = find(GRAMMAR, "first_batches"), find(GRAMMAR, "behind_messages")
         self.laid, self.schema_message = find(FLATBUFFERS, "laid"), find(GRAMMAR, "schema_message")
-        self.default_ids, self.seal = find(WRITTEN, "default_ids"), find(WRITTEN, "sealed")
-        self.batch = find(WRITTEN, "batch_of_slots")
-        self.encode, self.encode_stored = find(WRITTEN, "encode"), find(WRITTEN, "encode_stored")
-        self.stream, self.file = find(WRITTEN, "written_stream"), find(WRITTEN, "written_file")
-        self.stored_batch, self.stream_bytes = find(WRITTEN, "batch_of_stored"), find(WRITTEN, "stream_bytes")
+        self.default_ids, self.seal = find(GRAMMAR, "default_ids"), find(GRAMMAR, "sealed")
+        self.batch = find(GRAMMAR, "batch_of_slots")
+        self.encode, self.encode_stored = find(GRAMMAR, "encode"), find(GRAMMAR, "encode_stored")
+        self.stream, self.file = find(GRAMMAR, "written_stream"), find(GRAMMAR, "written_file")
+        self.stored_batch, self.stream_bytes = find(GRAMMAR, "batch_of_stored"), find(GRAMMAR, "stream_bytes")
         self.slots, self.cut, self.is_sound = find(ARRAYS, "slots"), find(ARRAYS, "cut"), find(ARRAYS, "is_sound")
 
     # ---- reading

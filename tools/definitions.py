@@ -3,7 +3,7 @@
 
 usage: definitions.py CRATE MODULE EXPRESSION [NAME=FILE]..
 
-    definitions.py ipc_format_columns Tables 'table_of stream input' input=samples/example.stream
+    definitions.py ipc_format_grammar Tables 'table_of stream input' input=samples/example.stream
     definitions.py ipc_format_worked Examples 'is_writable x_int32'
 
 EXPRESSION stands as it would in crates/CRATE/specs/MODULE.antt, with the imports of that module;

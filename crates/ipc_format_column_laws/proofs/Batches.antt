@@ -17,22 +17,22 @@ use Rattle.columnar_memory.specs.declared.DataType.TheFolds.{fold-roll-DataType}
 use Rattle.columnar_memory.specs.declared.DataType.TheVariants as types
 use Rattle.columnar_memory.specs.declared.Field.{Field}
 use Rattle.columnar_memory.specs.declared.PrimitiveType.TheVariants as kinds
-use Rattle.nested_arrays.specs.Slots.{Slot}
-use Rattle.nested_arrays.specs.Cells.{is_null, fits_cell}
+use Rattle.nested_arrays_columns.specs.Slots.{Slot}
+use Rattle.nested_arrays_columns.specs.Cells.{is_null, fits_cell}
 use Rattle.ipc_format_grammar.specs.Messages as message
 use Rattle.ipc_format_grammar.specs.Messages.{V5, record_batch_in}
 use Rattle.ipc_format_grammar.specs.Schemas.{Ids}
 use Rattle.ipc_format_round_trip.specs.Batches.{AreSigned, IsRecordBatch}
 use Rattle.ipc_format_round_trip.proofs.Batches.{record_batches_read_back}
-use Rattle.ipc_format_columns.specs.Layouts.{node_number, buffer_number}
-use Rattle.ipc_format_columns.specs.Columns.{Source, Dictionary, slots_in, have_length}
-use Rattle.ipc_format_columns.specs.Dictionaries.{Layout, source_in}
-use Rattle.ipc_format_columns.specs.Tables.{agree_in_length, batch_in, columns_from, ids_at, stream_entry}
-use Rattle.ipc_format_written.specs.Buffers.{validity_bytes, null_count, kind_bytes}
-use Rattle.ipc_format_written.specs.Encoding.{Encoded, Encoder, encode, encode_step, joined, node_of}
-use Rattle.ipc_format_written.specs.WrittenMessages.{padded_buffer, buffer_places, body_bytes, body_limit, most_metadata, prefix_size}
-use Rattle.ipc_format_written.specs.WrittenMessages.{fits_limit, record_message}
-use Rattle.ipc_format_written.specs.WrittenStreams.{columns_of_slots, rows_of_slots}
+use Rattle.ipc_format_grammar.specs.Layouts.{node_number, buffer_number}
+use Rattle.ipc_format_grammar.specs.Columns.{Source, Dictionary, slots_in, have_length}
+use Rattle.ipc_format_grammar.specs.Dictionaries.{Layout, source_in}
+use Rattle.ipc_format_grammar.specs.Tables.{agree_in_length, batch_in, columns_from, ids_at, stream_entry}
+use Rattle.ipc_format_grammar.specs.Buffers.{validity_bytes, null_count, kind_bytes}
+use Rattle.ipc_format_grammar.specs.Encoding.{Encoded, Encoder, encode, encode_step, joined, node_of}
+use Rattle.ipc_format_grammar.specs.WrittenMessages.{padded_buffer, buffer_places, body_bytes, body_limit, most_metadata, prefix_size}
+use Rattle.ipc_format_grammar.specs.WrittenMessages.{fits_limit, record_message}
+use Rattle.ipc_format_grammar.specs.WrittenStreams.{columns_of_slots, rows_of_slots}
 use Rattle.ipc_format_laws.specs.Counts.{has_no_union}
 use Rattle.ipc_format_laws.proofs.Counts.{column_counts, next_numbers}
 use Rattle.ipc_format_column_laws.specs.Columns.{StandsAt, StandsAmong, HoldsColumns, is_flat_step, is_flat}

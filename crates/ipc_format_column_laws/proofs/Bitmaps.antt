@@ -4,8 +4,8 @@ use Rattle.std.proofs.Common.{get_or, take, drop, refl, sym, ap, ap₂, arith, m
 use Rattle.std.proofs.lemmas.Bool.{cases_lt}
 use Rattle.std.proofs.lemmas.List.{get_or-take, get_or-drop, length-take, length-drop}
 use Rattle.std.proofs.lemmas.Nat.{shr-shr}
-use Rattle.ipc_format_columns.specs.Values.{bit_at}
-use Rattle.ipc_format_written.specs.Buffers.{bits_by, bitmap_by}
+use Rattle.ipc_format_grammar.specs.Values.{bit_at}
+use Rattle.ipc_format_grammar.specs.Buffers.{bits_by, bitmap_by}
 
 -- a byte for each eight things
 pub bitmap_size : {A : Type 0} (test : A → Bool) (most : ℕ) (xs : List A) → length xs ≤ most

@@ -12,14 +12,14 @@ use Rattle.ipc_format_flatbuffers.specs.Reading.{window_at}
 use Rattle.ipc_format_flatbuffers.specs.FlatBuffers.{Vector}
 use Rattle.ipc_format_spelling.proofs.Places.{Stands, front, back, window_stands}
 use Rattle.ipc_format_spelling.proofs.Contents.{stands_window}
-use Rattle.nested_arrays.specs.Slots.{Slot, null, window}
-use Rattle.nested_arrays.specs.Cells.{is_null}
+use Rattle.nested_arrays_columns.specs.Slots.{Slot, null, window}
+use Rattle.nested_arrays_columns.specs.Cells.{is_null}
 use Rattle.ipc_format_grammar.specs.Messages.{Pair, struct_at}
 use Rattle.ipc_format_round_trip.specs.Batches.{HasPairs}
-use Rattle.ipc_format_columns.specs.Columns.{Source, Validity, all_valid, bitmap, is_valid_at, slot_by, buffer_at, validity_in}
-use Rattle.ipc_format_written.specs.Buffers.{bitmap_of, is_valid, null_count, validity_bytes}
-use Rattle.ipc_format_written.specs.Encoding.{Encoded, node_of}
-use Rattle.ipc_format_written.specs.WrittenMessages.{padded_buffer, buffer_places, body_bytes}
+use Rattle.ipc_format_grammar.specs.Columns.{Source, Validity, all_valid, bitmap, is_valid_at, slot_by, buffer_at, validity_in}
+use Rattle.ipc_format_grammar.specs.Buffers.{bitmap_of, is_valid, null_count, validity_bytes}
+use Rattle.ipc_format_grammar.specs.Encoding.{Encoded, node_of}
+use Rattle.ipc_format_grammar.specs.WrittenMessages.{padded_buffer, buffer_places, body_bytes}
 use Rattle.ipc_format_column_laws.specs.Columns.{StandsAt, HoldsColumns}
 use Rattle.ipc_format_column_laws.proofs.Elements.{window_is}
 use Rattle.ipc_format_column_laws.proofs.Bitmaps.{bitmap_size, bit_back}

@@ -6,11 +6,11 @@ use Rattle.std.specs.List.{flat_map, list_all}
 use Rattle.std.specs.Str.{is_utf8, chars}
 use lib.Utf8.{encode as encode_characters}
 use mir.Val.{hbits}
-use Rattle.nested_arrays.specs.Slots.{Slot, null, text, bytes, window}
-use Rattle.nested_arrays.specs.Cells.{is_text, is_bytes}
-use Rattle.ipc_format_columns.specs.Columns.{Source, node_at, buffer_at, taken_of, last_of, piece_at, slot_by, byte_slots}
-use Rattle.ipc_format_written.specs.Buffers.{is_valid, validity_bytes, content_of, offset_bytes}
-use Rattle.ipc_format_written.specs.Encoding.{Encoded, node_of, bytes_column}
+use Rattle.nested_arrays_columns.specs.Slots.{Slot, null, text, bytes, window}
+use Rattle.nested_arrays_columns.specs.Cells.{is_text, is_bytes}
+use Rattle.ipc_format_grammar.specs.Columns.{Source, node_at, buffer_at, taken_of, last_of, piece_at, slot_by, byte_slots}
+use Rattle.ipc_format_grammar.specs.Buffers.{is_valid, validity_bytes, content_of, offset_bytes}
+use Rattle.ipc_format_grammar.specs.Encoding.{Encoded, node_of, bytes_column}
 use Rattle.ipc_format_column_laws.specs.Columns.{StandsAmong, HoldsColumns}
 use Rattle.ipc_format_column_laws.proofs.Elements.{part_next, part_back, passes_at, window_passes}
 use Rattle.ipc_format_column_laws.proofs.Buffers.{pair_of, pair_reads, buffer_reads, written_validity, validity_reads, slots_back}

@@ -6,14 +6,14 @@ use Rattle.std.specs.List.{flat_map, list_all}
 use Rattle.std.proofs.lemmas.Bool.{and_parts, eqb-true}
 use Rattle.std.proofs.lemmas.List.{length-replicate}
 use Rattle.columnar_memory.specs.declared.PrimitiveType.{PrimitiveType}
-use Rattle.nested_arrays.specs.Slots.{Slot, null, truth, bytes, window}
-use Rattle.nested_arrays.specs.Cells.{is_null, is_truth, is_bytes_of}
-use Rattle.nested_arrays.specs.SoundColumns.{is_byte}
-use Rattle.ipc_format_columns.specs.Values.{bit_at, kind_size, value_of, value_at, element_bytes}
-use Rattle.ipc_format_columns.specs.Columns.{Source, node_at, buffer_at, taken_of, slot_by, fixed_slots, truth_slots, number_slots}
-use Rattle.ipc_format_columns.specs.Columns.{fixed_bytes_slots, null_slots}
-use Rattle.ipc_format_written.specs.Buffers.{bitmap_of, is_valid, is_true, validity_bytes, kind_bytes, fixed_content_of}
-use Rattle.ipc_format_written.specs.Encoding.{Encoded, node_of, column_over, flat_column, values_column}
+use Rattle.nested_arrays_columns.specs.Slots.{Slot, null, truth, bytes, window}
+use Rattle.nested_arrays_columns.specs.Cells.{is_null, is_truth, is_bytes_of}
+use Rattle.nested_arrays_columns.specs.SoundColumns.{is_byte}
+use Rattle.ipc_format_grammar.specs.Values.{bit_at, kind_size, value_of, value_at, element_bytes}
+use Rattle.ipc_format_grammar.specs.Columns.{Source, node_at, buffer_at, taken_of, slot_by, fixed_slots, truth_slots, number_slots}
+use Rattle.ipc_format_grammar.specs.Columns.{fixed_bytes_slots, null_slots}
+use Rattle.ipc_format_grammar.specs.Buffers.{bitmap_of, is_valid, is_true, validity_bytes, kind_bytes, fixed_content_of}
+use Rattle.ipc_format_grammar.specs.Encoding.{Encoded, node_of, column_over, flat_column, values_column}
 use Rattle.ipc_format_column_laws.specs.Columns.{StandsAmong, HoldsColumns, ReadsBack}
 use Rattle.ipc_format_column_laws.proofs.Elements.{part_next, passes_at, element_back, elements_size}
 use Rattle.ipc_format_column_laws.proofs.Bitmaps.{bitmap_size, bit_back}

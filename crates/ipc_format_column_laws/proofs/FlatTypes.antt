@@ -8,11 +8,11 @@ use Rattle.columnar_memory.specs.declared.Field.{Field}
 use Rattle.columnar_memory.specs.declared.IntervalUnit.TheVariants as intervals
 use Rattle.columnar_memory.specs.declared.PrimitiveType.{PrimitiveType}
 use Rattle.columnar_memory.specs.declared.PrimitiveType.TheVariants as kinds
-use Rattle.nested_arrays.specs.Slots.{Slot}
-use Rattle.nested_arrays.specs.Cells.{is_null, is_truth, is_bytes_of, fits_step, fits_cell}
-use Rattle.ipc_format_columns.specs.Columns.{Reader, read_step, read_field_step, slots_in, null_slots, truth_slots, number_slots, fixed_bytes_slots}
-use Rattle.ipc_format_written.specs.Buffers.{bitmap_of, is_true, kind_bytes, fixed_content_of}
-use Rattle.ipc_format_written.specs.Encoding.{Encoder, encode, encode_step, node_of, column_over, flat_column, values_column}
+use Rattle.nested_arrays_columns.specs.Slots.{Slot}
+use Rattle.nested_arrays_columns.specs.Cells.{is_null, is_truth, is_bytes_of, fits_step, fits_cell}
+use Rattle.ipc_format_grammar.specs.Columns.{Reader, read_step, read_field_step, slots_in, null_slots, truth_slots, number_slots, fixed_bytes_slots}
+use Rattle.ipc_format_grammar.specs.Buffers.{bitmap_of, is_true, kind_bytes, fixed_content_of}
+use Rattle.ipc_format_grammar.specs.Encoding.{Encoder, encode, encode_step, node_of, column_over, flat_column, values_column}
 use Rattle.ipc_format_laws.specs.Counts.{has_no_union_step, has_no_union}
 use Rattle.ipc_format_column_laws.specs.Columns.{ReadsBack, is_flat_step, is_flat, FlatColumnsReadBack}
 use Rattle.ipc_format_column_laws.proofs.Values.{fits_kind}

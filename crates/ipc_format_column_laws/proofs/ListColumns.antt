@@ -11,15 +11,15 @@ use Rattle.std.proofs.lemmas.Bool.{and_parts, and_from, eq-eqb, eqb-true}
 use Rattle.std.proofs.lemmas.List.{length-replicate}
 use Rattle.std.proofs.lemmas.List.Folds.{list_all-append}
 use Rattle.columnar_memory.specs.declared.Field.{Field}
-use Rattle.nested_arrays.specs.Slots.{Slot, Slots, null, items, no_slot, slot_then, in_slots, slot_list, window}
-use Rattle.nested_arrays.specs.Cells.{is_null, is_list_of, is_list_of_size}
-use Rattle.nested_arrays.specs.Children.{items_of, fixed_items_of, joined_items, joined_fixed_items}
+use Rattle.nested_arrays_columns.specs.Slots.{Slot, Slots, null, items, no_slot, slot_then, in_slots, slot_list, window}
+use Rattle.nested_arrays_columns.specs.Cells.{is_null, is_list_of, is_list_of_size}
+use Rattle.nested_arrays_columns.specs.Children.{items_of, fixed_items_of, joined_items, joined_fixed_items}
 use Rattle.ipc_format_grammar.specs.Schemas.{Ids}
 use Rattle.ipc_format_grammar.specs.Messages.{V5}
-use Rattle.ipc_format_columns.specs.Columns.{Source, Dictionary, Reader, node_at, taken_of, last_of, piece_at, slot_by, list_slots, fixed_list_slots}
-use Rattle.ipc_format_columns.specs.Columns.{limit_times, first_ids, ids_below}
-use Rattle.ipc_format_written.specs.Buffers.{is_valid, validity_bytes, offset_bytes}
-use Rattle.ipc_format_written.specs.Encoding.{Encoded, Encoder, node_of, column_over, list_column}
+use Rattle.ipc_format_grammar.specs.Columns.{Source, Dictionary, Reader, node_at, taken_of, last_of, piece_at, slot_by, list_slots, fixed_list_slots}
+use Rattle.ipc_format_grammar.specs.Columns.{limit_times, first_ids, ids_below}
+use Rattle.ipc_format_grammar.specs.Buffers.{is_valid, validity_bytes, offset_bytes}
+use Rattle.ipc_format_grammar.specs.Encoding.{Encoded, Encoder, node_of, column_over, list_column}
 use Rattle.ipc_format_column_laws.specs.Columns.{StandsAmong, HoldsColumns}
 use Rattle.ipc_format_column_laws.specs.WholeColumns.{ReadsWhole}
 use Rattle.ipc_format_column_laws.proofs.Elements.{part_front, part_next, part_back, passes_at, element_back, elements_size}

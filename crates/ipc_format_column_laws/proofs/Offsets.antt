@@ -14,11 +14,11 @@ use Rattle.std.proofs.Math.Seq.{take-append_seam, drop-append_seam}
 use Rattle.std.proofs.lemmas.Bool.{and_from, lt-ltb, ltb-true, le-leb, le-ltb}
 use Rattle.ipc_format_flatbuffers.proofs.Numbers.{length-to_le_bytes}
 use Rattle.columnar_memory.specs.NumberLaws.{signed_in-number_bytes}
-use Rattle.nested_arrays.specs.Slots.{Slot, null, window}
-use Rattle.ipc_format_columns.specs.Values.{signed_of, element_bytes}
-use Rattle.ipc_format_columns.specs.Columns.{Source, buffer_at, rising, offsets_in, last_of, piece_at}
-use Rattle.ipc_format_written.specs.Buffers.{sums_from, offset_bytes}
-use Rattle.ipc_format_written.specs.Encoding.{Encoded}
+use Rattle.nested_arrays_columns.specs.Slots.{Slot, null, window}
+use Rattle.ipc_format_grammar.specs.Values.{signed_of, element_bytes}
+use Rattle.ipc_format_grammar.specs.Columns.{Source, buffer_at, rising, offsets_in, last_of, piece_at}
+use Rattle.ipc_format_grammar.specs.Buffers.{sums_from, offset_bytes}
+use Rattle.ipc_format_grammar.specs.Encoding.{Encoded}
 use Rattle.ipc_format_column_laws.specs.Columns.{StandsAt, HoldsColumns}
 use Rattle.ipc_format_column_laws.proofs.Elements.{passes_at, element_back, elements_size, window_is}
 use Rattle.ipc_format_column_laws.proofs.Buffers.{buffer_reads, place_reads}

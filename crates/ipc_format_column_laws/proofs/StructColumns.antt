@@ -7,17 +7,17 @@ use Rattle.std.proofs.Math.ListN.{get_or-map}
 use Rattle.std.proofs.lemmas.Bool.{and_parts, and_from, eq-eqb}
 use Rattle.std.proofs.lemmas.List.{length-map}
 use Rattle.columnar_memory.specs.declared.Field.{Field}
-use Rattle.nested_arrays.specs.Slots.{Slot, Slots, null, fields, no_slot, slot_then, in_slots, slot_list, window}
-use Rattle.nested_arrays.specs.Cells.{fit_each, is_record_of}
-use Rattle.nested_arrays.specs.Children.{slot_number, field_of, field_slots}
+use Rattle.nested_arrays_columns.specs.Slots.{Slot, Slots, null, fields, no_slot, slot_then, in_slots, slot_list, window}
+use Rattle.nested_arrays_columns.specs.Cells.{fit_each, is_record_of}
+use Rattle.nested_arrays_columns.specs.Children.{slot_number, field_of, field_slots}
 use Rattle.ipc_format_grammar.specs.Messages.{V5}
 use Rattle.ipc_format_grammar.specs.Schemas.{IdsList}
-use Rattle.ipc_format_columns.specs.Layouts.{node_count, buffer_count}
-use Rattle.ipc_format_columns.specs.Columns.{Source, Dictionary, Reader, node_at, taken_of, have_length, slots_at, slot_by, columns_below}
-use Rattle.ipc_format_columns.specs.Columns.{struct_slots}
-use Rattle.ipc_format_columns.specs.Columns.{first_ids, other_ids, ids_below}
-use Rattle.ipc_format_written.specs.Buffers.{is_valid, validity_bytes}
-use Rattle.ipc_format_written.specs.Encoding.{Encoded, Encoder, joined, node_of, column_over, field_columns}
+use Rattle.ipc_format_grammar.specs.Layouts.{node_count, buffer_count}
+use Rattle.ipc_format_grammar.specs.Columns.{Source, Dictionary, Reader, node_at, taken_of, have_length, slots_at, slot_by, columns_below}
+use Rattle.ipc_format_grammar.specs.Columns.{struct_slots}
+use Rattle.ipc_format_grammar.specs.Columns.{first_ids, other_ids, ids_below}
+use Rattle.ipc_format_grammar.specs.Buffers.{is_valid, validity_bytes}
+use Rattle.ipc_format_grammar.specs.Encoding.{Encoded, Encoder, joined, node_of, column_over, field_columns}
 use Rattle.ipc_format_laws.specs.Counts.{HasCounts}
 use Rattle.ipc_format_column_laws.specs.Columns.{StandsAmong, HoldsColumns}
 use Rattle.ipc_format_column_laws.specs.WholeColumns.{ReadsWhole, fields_have_room}

@@ -10,13 +10,13 @@ use Rattle.ipc_format_flatbuffers.proofs.Numbers.{length-to_le_bytes}
 use Rattle.columnar_memory.specs.declared.PrimitiveType.{PrimitiveType}
 use Rattle.columnar_memory.specs.declared.PrimitiveType.TheVariants as kinds
 use Rattle.columnar_memory.specs.NumberLaws.{signed_in-number_bytes, unsigned_in-number_bytes, wide_in-wide_bytes}
-use Rattle.nested_arrays.specs.Kinds.{is_signed, is_unsigned, in_kind, same_kind}
-use Rattle.nested_arrays.specs.Slots.{Slot, number, pair, triple}
-use Rattle.nested_arrays.specs.Cells.{is_null, is_number_of, is_days_and_ms, is_months_days_and_ns}
-use Rattle.nested_arrays.proofs.SameSlotsDecide.{same_kind-implies}
-use Rattle.nested_arrays.proofs.Conditions.{parts_of_3, parts_of_4}
-use Rattle.ipc_format_columns.specs.Values.{kind_size, value_of, signed_256}
-use Rattle.ipc_format_written.specs.Buffers.{is_valid, number_bytes, wide_number, wide_bytes, days_and_ms_bytes, months_days_and_ns_bytes, kind_bytes}
+use Rattle.nested_arrays_columns.specs.Kinds.{is_signed, is_unsigned, in_kind, same_kind}
+use Rattle.nested_arrays_columns.specs.Slots.{Slot, number, pair, triple}
+use Rattle.nested_arrays_columns.specs.Cells.{is_null, is_number_of, is_days_and_ms, is_months_days_and_ns}
+use Rattle.nested_arrays_columns.proofs.SameSlotsDecide.{same_kind-implies}
+use Rattle.nested_arrays_columns.proofs.Conditions.{parts_of_3, parts_of_4}
+use Rattle.ipc_format_grammar.specs.Values.{kind_size, value_of, signed_256}
+use Rattle.ipc_format_grammar.specs.Buffers.{is_valid, number_bytes, wide_number, wide_bytes, days_and_ms_bytes, months_days_and_ns_bytes, kind_bytes}
 
 -- whether a slot fits a column of a kind: floats are no values here
 abbrev pub fits_kind : PrimitiveType → Slot → Bool

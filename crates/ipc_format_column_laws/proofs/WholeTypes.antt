@@ -16,16 +16,16 @@ use Rattle.columnar_memory.specs.declared.Field.{Field, map-Field}
 use Rattle.columnar_memory.specs.declared.IntervalUnit.TheVariants as intervals
 use Rattle.columnar_memory.specs.declared.PrimitiveType.{PrimitiveType}
 use Rattle.columnar_memory.specs.declared.PrimitiveType.TheVariants as kinds
-use Rattle.nested_arrays.specs.Slots.{Slot, null, text, bytes, items, in_slots}
-use Rattle.nested_arrays.specs.Cells.{is_null, is_truth, is_text, is_bytes, is_bytes_of, is_list_of, fits_step, fits_cell}
-use Rattle.nested_arrays.specs.Children.{items_of, joined_items}
-use Rattle.ipc_format_columns.specs.Layouts.{node_count, buffer_count}
+use Rattle.nested_arrays_columns.specs.Slots.{Slot, null, text, bytes, items, in_slots}
+use Rattle.nested_arrays_columns.specs.Cells.{is_null, is_truth, is_text, is_bytes, is_bytes_of, is_list_of, fits_step, fits_cell}
+use Rattle.nested_arrays_columns.specs.Children.{items_of, joined_items}
+use Rattle.ipc_format_grammar.specs.Layouts.{node_count, buffer_count}
 use Rattle.ipc_format_grammar.specs.Messages.{V5}
-use Rattle.ipc_format_columns.specs.Columns.{Reader, read_step, read_field_step, slots_in, number_slots, byte_slots, list_slots}
-use Rattle.ipc_format_columns.specs.Columns.{struct_slots}
-use Rattle.ipc_format_written.specs.Buffers.{is_valid, content_of, validity_bytes, kind_bytes}
-use Rattle.ipc_format_written.specs.Encoding.{Encoder, encode, encode_step, node_of, column_over, values_column, bytes_column, list_column}
-use Rattle.ipc_format_written.specs.Encoding.{field_columns}
+use Rattle.ipc_format_grammar.specs.Columns.{Reader, read_step, read_field_step, slots_in, number_slots, byte_slots, list_slots}
+use Rattle.ipc_format_grammar.specs.Columns.{struct_slots}
+use Rattle.ipc_format_grammar.specs.Buffers.{is_valid, content_of, validity_bytes, kind_bytes}
+use Rattle.ipc_format_grammar.specs.Encoding.{Encoder, encode, encode_step, node_of, column_over, values_column, bytes_column, list_column}
+use Rattle.ipc_format_grammar.specs.Encoding.{field_columns}
 use Rattle.ipc_format_laws.specs.Counts.{has_no_union_step, has_no_union, HasCounts}
 use Rattle.ipc_format_laws.specs.NormalForm.{all_of}
 use Rattle.ipc_format_laws.proofs.Counts.{column_counts}

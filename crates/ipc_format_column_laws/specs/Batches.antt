@@ -4,17 +4,17 @@ use Rattle.std.specs.List.{All, list_all}
 use Rattle.ipc_format_flatbuffers.specs.FlatBuffers.{Table}
 use Rattle.columnar_memory.specs.declared.DataType.TheVariants as types
 use Rattle.columnar_memory.specs.declared.Field.{Field}
-use Rattle.nested_arrays.specs.Slots.{Slot}
-use Rattle.nested_arrays.specs.Cells.{fits_cell}
+use Rattle.nested_arrays_columns.specs.Slots.{Slot}
+use Rattle.nested_arrays_columns.specs.Cells.{fits_cell}
 use Rattle.ipc_format_grammar.specs.Messages as message
 use Rattle.ipc_format_grammar.specs.Messages.{V5}
 use Rattle.ipc_format_round_trip.specs.Batches.{AreSigned, IsMessage}
-use Rattle.ipc_format_columns.specs.Columns.{Dictionary}
-use Rattle.ipc_format_columns.specs.Dictionaries.{Layout}
-use Rattle.ipc_format_columns.specs.Tables.{agree_in_length, batch_in, stream_entry}
-use Rattle.ipc_format_written.specs.Encoding.{joined}
-use Rattle.ipc_format_written.specs.WrittenMessages.{Written, fits_limit, record_message}
-use Rattle.ipc_format_written.specs.WrittenStreams.{columns_of_slots, rows_of_slots}
+use Rattle.ipc_format_grammar.specs.Columns.{Dictionary}
+use Rattle.ipc_format_grammar.specs.Dictionaries.{Layout}
+use Rattle.ipc_format_grammar.specs.Tables.{agree_in_length, batch_in, stream_entry}
+use Rattle.ipc_format_grammar.specs.Encoding.{joined}
+use Rattle.ipc_format_grammar.specs.WrittenMessages.{Written, fits_limit, record_message}
+use Rattle.ipc_format_grammar.specs.WrittenStreams.{columns_of_slots, rows_of_slots}
 use Rattle.ipc_format_column_laws.specs.Columns.{is_flat}
 use Rattle.ipc_format_column_laws.specs.WholeColumns.{is_whole, has_room}
 

@@ -6,14 +6,14 @@ use Rattle.ipc_format_flatbuffers.specs.Reading.{window_at}
 use Rattle.columnar_memory.specs.declared.DataType.{DataType}
 use Rattle.columnar_memory.specs.declared.DataType.TheOpen as layer
 use Rattle.columnar_memory.specs.declared.DataType.TheFolds.{fold-DataType}
-use Rattle.nested_arrays.specs.Slots.{Slot}
-use Rattle.nested_arrays.specs.Cells.{fits_cell}
+use Rattle.nested_arrays_columns.specs.Slots.{Slot}
+use Rattle.nested_arrays_columns.specs.Cells.{fits_cell}
 use Rattle.ipc_format_grammar.specs.Schemas.{Ids}
 use Rattle.ipc_format_round_trip.specs.Batches.{HasPairs}
-use Rattle.ipc_format_columns.specs.Layouts.{kind_of}
-use Rattle.ipc_format_columns.specs.Columns.{Source, Dictionary, Reader, slots_in, taken_of}
-use Rattle.ipc_format_written.specs.Encoding.{Encoded, Encoder, encode}
-use Rattle.ipc_format_written.specs.WrittenMessages.{buffer_places, body_bytes}
+use Rattle.ipc_format_grammar.specs.Layouts.{kind_of}
+use Rattle.ipc_format_grammar.specs.Columns.{Source, Dictionary, Reader, slots_in, taken_of}
+use Rattle.ipc_format_grammar.specs.Encoding.{Encoded, Encoder, encode}
+use Rattle.ipc_format_grammar.specs.WrittenMessages.{buffer_places, body_bytes}
 
 -- some things stand among others, from a place on
 pub record StandsAt {A : Type 0} (all : List A) (place : ℕ) (part : List A) : Type 0 where

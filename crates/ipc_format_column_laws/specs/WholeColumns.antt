@@ -5,15 +5,15 @@ use Rattle.std.specs.Int.{Width, w32, w64, byte_len}
 use Rattle.columnar_memory.specs.declared.DataType.{DataType}
 use Rattle.columnar_memory.specs.declared.DataType.TheOpen as layer
 use Rattle.columnar_memory.specs.declared.DataType.TheFolds.{fold-DataType}
-use Rattle.nested_arrays.specs.Slots.{Slot}
-use Rattle.nested_arrays.specs.Cells.{fits_cell}
-use Rattle.nested_arrays.specs.Children.{joined_items, joined_fixed_items, field_slots}
+use Rattle.nested_arrays_columns.specs.Slots.{Slot}
+use Rattle.nested_arrays_columns.specs.Cells.{fits_cell}
+use Rattle.nested_arrays_columns.specs.Children.{joined_items, joined_fixed_items, field_slots}
 use Rattle.ipc_format_grammar.specs.Messages.{V5}
 use Rattle.ipc_format_grammar.specs.Schemas.{Ids}
-use Rattle.ipc_format_columns.specs.Layouts.{below}
-use Rattle.ipc_format_columns.specs.Columns.{Source, Dictionary, Reader, slots_in, taken_of}
-use Rattle.ipc_format_written.specs.Buffers.{content_of}
-use Rattle.ipc_format_written.specs.Encoding.{Encoded, Encoder, encode}
+use Rattle.ipc_format_grammar.specs.Layouts.{below}
+use Rattle.ipc_format_grammar.specs.Columns.{Source, Dictionary, Reader, slots_in, taken_of}
+use Rattle.ipc_format_grammar.specs.Buffers.{content_of}
+use Rattle.ipc_format_grammar.specs.Encoding.{Encoded, Encoder, encode}
 use Rattle.ipc_format_laws.specs.NormalForm.{all_of}
 use Rattle.ipc_format_column_laws.specs.Columns.{StandsAmong, HoldsColumns}
 

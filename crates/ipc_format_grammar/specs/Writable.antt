@@ -15,7 +15,7 @@ use Rattle.columnar_memory.specs.declared.Schema.{Schema}
 use Rattle.columnar_memory.specs.declared.TimeUnit.{TimeUnit}
 use Rattle.columnar_memory.specs.declared.TimeUnit.TheVariants as units
 use Rattle.columnar_memory.specs.Pairs.{with_pair}
-use Rattle.nested_arrays.specs.Tables.{Table, FitsRows}
+use Rattle.nested_arrays_columns.specs.Tables.{Table, FitsRows}
 use Rattle.ipc_format_grammar.specs.Schemas.{extension_name_key, extension_metadata_key}
 
 -- what stands at the top of a type, as far as others ask

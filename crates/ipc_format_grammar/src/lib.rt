@@ -1,4 +1,5 @@
-//! Arrow's metadata: which bytes say which schema, message and batch, and which objects are written.
+//! Arrow's IPC format for every type: which bytes say which schema, message, column, dictionary and table, and which bytes are written
+//! of them.
 //!
 //! It has definitions for contracts, and no code.
 #![tactic(auto)]

@@ -12,13 +12,13 @@ use Rattle.columnar_memory.specs.declared.DataType.TheFolds.{fold-Field, fold-ro
 use Rattle.columnar_memory.specs.declared.DataType.TheViews.{roll-DataType, roll-Field}
 use Rattle.columnar_memory.specs.declared.Field.{Field, map-Field}
 use Rattle.columnar_memory.specs.declared.IntervalUnit.TheVariants as intervals
-use Rattle.nested_arrays.specs.Slots.{Slot}
-use Rattle.nested_arrays.specs.Children.{items_of, joined_items, joined_fixed_items, field_slots}
+use Rattle.nested_arrays_columns.specs.Slots.{Slot}
+use Rattle.nested_arrays_columns.specs.Children.{items_of, joined_items, joined_fixed_items, field_slots}
 use Rattle.ipc_format_grammar.specs.Messages.{V5}
-use Rattle.ipc_format_columns.specs.Layouts.{total, node_step, node_count, buffer_step, buffer_count}
-use Rattle.ipc_format_written.specs.Encoding.{Encoded, Encoder, encode, encode_step, joined, column_over, node_of, list_column, field_columns}
-use Rattle.ipc_format_written.specs.Buffers.{validity_bytes, offset_bytes}
-use Rattle.ipc_format_written.specs.WrittenStreams.{columns_of_slots}
+use Rattle.ipc_format_grammar.specs.Layouts.{total, node_step, node_count, buffer_step, buffer_count}
+use Rattle.ipc_format_grammar.specs.Encoding.{Encoded, Encoder, encode, encode_step, joined, column_over, node_of, list_column, field_columns}
+use Rattle.ipc_format_grammar.specs.Buffers.{validity_bytes, offset_bytes}
+use Rattle.ipc_format_grammar.specs.WrittenStreams.{columns_of_slots}
 use Rattle.ipc_format_laws.specs.NormalForm.{all_of}
 use Rattle.ipc_format_laws.specs.Counts.{has_no_union_step, has_no_union, HasCounts, ColumnCounts, BatchCounts, NextNumbers}
 

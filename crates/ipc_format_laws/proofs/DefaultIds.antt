@@ -14,9 +14,9 @@ use Rattle.ipc_format_grammar.specs.Schemas.{Ids, IdsList, ids, no_ids}
 use Rattle.ipc_format_grammar.specs.Writable.{Report, Shape, plain, dictionary, extension, struct_of_two, is_plain, is_dictionary}
 use Rattle.ipc_format_grammar.specs.Writable.{is_struct_of_two, is_size, over_all, report_step, field_step, report_of, reports_of}
 use Rattle.ipc_format_grammar.specs.Writable.{is_writable}
-use Rattle.ipc_format_columns.specs.Columns.{ids_below}
-use Rattle.ipc_format_written.specs.Ids.{Numbering, number_each, without_own, number_step, numbered, number_fields, default_ids, Fitting}
-use Rattle.ipc_format_written.specs.Ids.{fit_each, has_no_own, fit_step, ids_fit, ids_fit_fields}
+use Rattle.ipc_format_grammar.specs.Columns.{ids_below}
+use Rattle.ipc_format_grammar.specs.Ids.{Numbering, number_each, without_own, number_step, numbered, number_fields, default_ids, Fitting}
+use Rattle.ipc_format_grammar.specs.Ids.{fit_each, has_no_own, fit_step, ids_fit, ids_fit_fields}
 use Rattle.ipc_format_laws.specs.DefaultIds.{ids_in_order, all_in_order, ids_from, DefaultsFit, DefaultsCount}
 
 -- ---- ids from a number on

@@ -10,16 +10,16 @@ use Rattle.std.proofs.lemmas.List.Sums.{sum_by-cons}
 use Rattle.std.proofs.Math.Nat.{mul-suc}
 use Rattle.std.specs.Cmp.{unsigned_Decides}
 use mathlib.Core.Logic.{inl, inr}
-use Rattle.nested_arrays.specs.Cells.{is_null}
-use Rattle.nested_arrays.specs.Slots.{Slot, null, window}
-use Rattle.nested_arrays.specs.SoundColumns.{mask_fits}
-use Rattle.nested_arrays.specs.StoredColumns.{Stored, bits, numbers, pairs, triples, texts, byte_strings, fixed_bytes, is_valid_at}
-use Rattle.nested_arrays.specs.StoredColumns.{unless_null, stored_at, stored_len, cut_list, cut_mask}
-use Rattle.nested_arrays.proofs.Conditions.{holds_at}
-use Rattle.nested_arrays.proofs.Windows.{length-window}
-use Rattle.ipc_format_written.specs.Buffers.{bits_by, bitmap_by, bitmap_of, bitmap_bytes, is_valid, null_count, validity_bytes}
-use Rattle.ipc_format_written.specs.Encoding.{column_over, node_of}
-use Rattle.ipc_format_written.specs.StoredEncoding.{mask_nulls, mask_bytes, node_over}
+use Rattle.nested_arrays_columns.specs.Cells.{is_null}
+use Rattle.nested_arrays_columns.specs.Slots.{Slot, null, window}
+use Rattle.nested_arrays_columns.specs.SoundColumns.{mask_fits}
+use Rattle.nested_arrays_columns.specs.StoredColumns.{Stored, bits, numbers, pairs, triples, texts, byte_strings, fixed_bytes, is_valid_at}
+use Rattle.nested_arrays_columns.specs.StoredColumns.{unless_null, stored_at, stored_len, cut_list, cut_mask}
+use Rattle.nested_arrays_columns.proofs.Conditions.{holds_at}
+use Rattle.nested_arrays_columns.proofs.Windows.{length-window}
+use Rattle.ipc_format_grammar.specs.Buffers.{bits_by, bitmap_by, bitmap_of, bitmap_bytes, is_valid, null_count, validity_bytes}
+use Rattle.ipc_format_grammar.specs.Encoding.{column_over, node_of}
+use Rattle.ipc_format_grammar.specs.StoredEncoding.{mask_nulls, mask_bytes, node_over}
 use Rattle.ipc_format_laws.specs.Fresh.{is_fresh, is_blank_at}
 
 -- ---- windows

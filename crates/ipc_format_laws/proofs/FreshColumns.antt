@@ -19,17 +19,17 @@ use Rattle.columnar_memory.specs.declared.PhysicalType.TheVariants as physical
 use Rattle.columnar_memory.specs.declared.PrimitiveType.{PrimitiveType}
 use Rattle.columnar_memory.specs.declared.PrimitiveType.TheVariants as kinds
 use Rattle.columnar_memory.specs.Layouts.{stored_step, physical_step, physical_type}
-use Rattle.nested_arrays.specs.Kinds.{same_kind, numbers_of_kind, in_kind}
-use Rattle.nested_arrays.specs.Slots.{null, number, pair, triple}
-use Rattle.nested_arrays.specs.SoundColumns.{mask_fits, holds_below, are_strings, is_text_at, is_stored_as, has_size, are_pieces, are_pairs}
-use Rattle.nested_arrays.specs.SoundColumns.{are_triples, is_byte}
-use Rattle.nested_arrays.specs.StoredColumns.{string_at, Stored, bits, numbers, pairs, triples, texts, byte_strings, fixed_bytes}
-use Rattle.nested_arrays.specs.StoredColumns.{stored_len, pair_slot, triple_slot, type_layer, cut_mask, cut_list, cut_stored}
-use Rattle.nested_arrays.proofs.SameSlotsDecide.{same_kind-implies}
-use Rattle.ipc_format_written.specs.Buffers.{content_of, bitmap_of, bitmap_bytes, is_true, kind_bytes, fixed_content_of}
-use Rattle.ipc_format_written.specs.Encoding.{Encoded, Encoder, encode, encode_step, column_over, flat_column, values_column, number_column}
-use Rattle.ipc_format_written.specs.Encoding.{bytes_column}
-use Rattle.ipc_format_written.specs.StoredEncoding.{stored_buffers, offset_width, node_over, mask_bytes}
+use Rattle.nested_arrays_columns.specs.Kinds.{same_kind, numbers_of_kind, in_kind}
+use Rattle.nested_arrays_columns.specs.Slots.{null, number, pair, triple}
+use Rattle.nested_arrays_columns.specs.SoundColumns.{mask_fits, holds_below, are_strings, is_text_at, is_stored_as, has_size, are_pieces, are_pairs}
+use Rattle.nested_arrays_columns.specs.SoundColumns.{are_triples, is_byte}
+use Rattle.nested_arrays_columns.specs.StoredColumns.{string_at, Stored, bits, numbers, pairs, triples, texts, byte_strings, fixed_bytes}
+use Rattle.nested_arrays_columns.specs.StoredColumns.{stored_len, pair_slot, triple_slot, type_layer, cut_mask, cut_list, cut_stored}
+use Rattle.nested_arrays_columns.proofs.SameSlotsDecide.{same_kind-implies}
+use Rattle.ipc_format_grammar.specs.Buffers.{content_of, bitmap_of, bitmap_bytes, is_true, kind_bytes, fixed_content_of}
+use Rattle.ipc_format_grammar.specs.Encoding.{Encoded, Encoder, encode, encode_step, column_over, flat_column, values_column, number_column}
+use Rattle.ipc_format_grammar.specs.Encoding.{bytes_column}
+use Rattle.ipc_format_grammar.specs.StoredEncoding.{stored_buffers, offset_width, node_over, mask_bytes}
 use Rattle.ipc_format_laws.specs.Fresh.{is_fresh, is_zero, is_zero_pair, is_zero_triple, FreshAgrees}
 use Rattle.ipc_format_laws.proofs.FreshStrings.{string_buffers, no_bytes}
 use Rattle.ipc_format_laws.proofs.FlatColumns.{flat_slot, flat_slots, flat_map_window, map_window, map_itself, bitmap_answers, whole_cut}

@@ -9,14 +9,14 @@ use Rattle.std.proofs.lemmas.Bool.{and_parts, both_ways, leb-true}
 use Rattle.std.proofs.lemmas.List.{append_cancel_right}
 use Rattle.std.proofs.lemmas.List.Folds.{drop_split}
 use Rattle.columnar_memory.specs.declared.PhysicalType.{PhysicalType}
-use Rattle.nested_arrays.specs.Kinds.{most_offset}
-use Rattle.nested_arrays.specs.Slots.{Slot, window}
-use Rattle.nested_arrays.specs.SoundColumns.{holds_below, rises_at, are_offsets, are_strings, is_byte}
-use Rattle.nested_arrays.specs.StoredColumns.{string_at, cut_list}
-use Rattle.nested_arrays.proofs.Conditions.{holds_at}
-use Rattle.nested_arrays.proofs.Windows.{length-cut_list}
-use Rattle.ipc_format_written.specs.Buffers.{content_of, sums_from, offset_bytes}
-use Rattle.ipc_format_written.specs.StoredEncoding.{moved_offsets, moved_bytes, between_offsets}
+use Rattle.nested_arrays_columns.specs.Kinds.{most_offset}
+use Rattle.nested_arrays_columns.specs.Slots.{Slot, window}
+use Rattle.nested_arrays_columns.specs.SoundColumns.{holds_below, rises_at, are_offsets, are_strings, is_byte}
+use Rattle.nested_arrays_columns.specs.StoredColumns.{string_at, cut_list}
+use Rattle.nested_arrays_columns.proofs.Conditions.{holds_at}
+use Rattle.nested_arrays_columns.proofs.Windows.{length-cut_list}
+use Rattle.ipc_format_grammar.specs.Buffers.{content_of, sums_from, offset_bytes}
+use Rattle.ipc_format_grammar.specs.StoredEncoding.{moved_offsets, moved_bytes, between_offsets}
 use Rattle.ipc_format_laws.proofs.FlatColumns.{next_place, this_place, later, first_is, whole_cut}
 
 -- ---- numbers

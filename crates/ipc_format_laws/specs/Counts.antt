@@ -5,11 +5,11 @@ use Rattle.columnar_memory.specs.declared.DataType.{DataType}
 use Rattle.columnar_memory.specs.declared.DataType.TheOpen as layer
 use Rattle.columnar_memory.specs.declared.DataType.TheFolds.{fold-DataType}
 use Rattle.columnar_memory.specs.declared.Field.{Field}
-use Rattle.nested_arrays.specs.Slots.{Slot}
+use Rattle.nested_arrays_columns.specs.Slots.{Slot}
 use Rattle.ipc_format_grammar.specs.Messages.{Version, V5}
-use Rattle.ipc_format_columns.specs.Layouts.{below, node_count, buffer_count, node_number, buffer_number}
-use Rattle.ipc_format_written.specs.Encoding.{Encoded, encode, joined}
-use Rattle.ipc_format_written.specs.WrittenStreams.{columns_of_slots}
+use Rattle.ipc_format_grammar.specs.Layouts.{below, node_count, buffer_count, node_number, buffer_number}
+use Rattle.ipc_format_grammar.specs.Encoding.{Encoded, encode, joined}
+use Rattle.ipc_format_grammar.specs.WrittenStreams.{columns_of_slots}
 use Rattle.ipc_format_laws.specs.NormalForm.{all_of}
 
 -- one layer of a type, where each type below stands as whether it has no union; a dictionary's values do not stand in its batch

@@ -3,7 +3,7 @@ use Rattle.std.specs.Prelude.{◌≡◌, ℕ, zero, suc, ℤ, pos, true, List, [
 use Rattle.columnar_memory.specs.declared.Schema.{Schema}
 use Rattle.ipc_format_grammar.specs.Schemas.{Ids, IdsList, ids, no_ids, ids_then}
 use Rattle.ipc_format_grammar.specs.Writable.{Report, reports_of, is_writable}
-use Rattle.ipc_format_written.specs.Ids.{default_ids, ids_fit_fields}
+use Rattle.ipc_format_grammar.specs.Ids.{default_ids, ids_fit_fields}
 
 abbrev pub own_list : Option ℤ → List ℤ
 own_list None = []

@@ -4,11 +4,11 @@ use Rattle.std.specs.Prelude.{slice_index_or, slice_range}
 use Rattle.std.specs.Ordering.{int_eq}
 use Rattle.std.specs.Cmp.Lexicographic.{pointwise}
 use Rattle.columnar_memory.specs.declared.DataType.{DataType}
-use Rattle.nested_arrays.specs.StoredColumns.{Stored, bits, numbers, pairs, triples, texts, byte_strings, fixed_bytes, flat, is_valid_at}
-use Rattle.nested_arrays.specs.StoredColumns.{string_at, stored_len, slots}
-use Rattle.nested_arrays.specs.SoundColumns.{is_sound, holds_below}
-use Rattle.ipc_format_written.specs.Encoding.{encode}
-use Rattle.ipc_format_written.specs.StoredEncoding.{encode_stored}
+use Rattle.nested_arrays_columns.specs.StoredColumns.{Stored, bits, numbers, pairs, triples, texts, byte_strings, fixed_bytes, flat, is_valid_at}
+use Rattle.nested_arrays_columns.specs.StoredColumns.{string_at, stored_len, slots}
+use Rattle.nested_arrays_columns.specs.SoundColumns.{is_sound, holds_below}
+use Rattle.ipc_format_grammar.specs.Encoding.{encode}
+use Rattle.ipc_format_grammar.specs.StoredEncoding.{encode_stored}
 
 abbrev pub is_zero : ℤ → Bool
 is_zero n = int_eq n (pos 0)

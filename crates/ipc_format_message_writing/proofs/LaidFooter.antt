@@ -18,7 +18,7 @@ use Rattle.ipc_format_flatbuffers.specs.Objects.{piece_of}
 use Rattle.ipc_format_flatbuffers.specs.Views.{Lays, piece_view}
 use Rattle.ipc_format_grammar.specs.Schemas.{IdsList}
 use Rattle.ipc_format_grammar.specs.SchemaObjects.{schema_object}
-use Rattle.ipc_format_written.specs.WrittenFiles as files
+use Rattle.ipc_format_grammar.specs.WrittenFiles as files
 use Rattle.ipc_format_schema_writing.specs.Writing.{may_write, RefusesSchema}
 use Rattle.ipc_format_messages.specs.declared.Block.{Block}
 use Rattle.ipc_format_message_writing.specs.FooterWriting.{WritesFooter, FinishesFooter, block_view, laid_block}

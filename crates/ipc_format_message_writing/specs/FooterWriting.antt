@@ -13,7 +13,7 @@ use Rattle.ipc_format_flatbuffers.specs.declared.Laid.{Laid}
 use Rattle.ipc_format_flatbuffers.specs.declared.LayError.{LayError}
 use Rattle.ipc_format_flatbuffers.specs.declared.LayError.TheVariants.{TooLong}
 use Rattle.ipc_format_grammar.specs.Schemas.{IdsList}
-use Rattle.ipc_format_written.specs.WrittenFiles as files
+use Rattle.ipc_format_grammar.specs.WrittenFiles as files
 use Rattle.ipc_format_schema_writing.specs.Writing.{may_write, RefusesSchema}
 use Rattle.ipc_format_messages.specs.declared.Block.{Block}
 

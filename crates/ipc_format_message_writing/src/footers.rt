@@ -4,7 +4,7 @@ ghost use Rattle.std.specs.List.{flat_map};
 ghost use Rattle.ipc_format_flatbuffers.specs.Objects.{piece_of};
 ghost use Rattle.ipc_format_flatbuffers.specs.Views.{Lays};
 ghost use Rattle.ipc_format_grammar.specs.Writable.{is_writable};
-ghost use Rattle.ipc_format_written.specs.WrittenFiles as files;
+ghost use Rattle.ipc_format_grammar.specs.WrittenFiles as files;
 ghost use Rattle.ipc_format_metadata.specs.Views.{ids_views};
 ghost use Rattle.ipc_format_message_writing.specs.FooterWriting.{WritesFooter, FinishesFooter, blocks_view, block_view, laid_block};
 

@@ -7,7 +7,7 @@ use Rattle.columnar_memory.specs.declared.Field.{Field}
 use Rattle.ipc_format_flatbuffers.specs.Reading.{◌>>=◌, guard}
 use Rattle.ipc_format_flatbuffers.specs.FlatBuffers.{Table, Vector, table_field, vector_field, element_at}
 use Rattle.ipc_format_grammar.specs.Schemas.{FieldIn, Visits, no_ids}
-use Rattle.ipc_format_columns.specs.Refusals.{field_at_path, IsFloat}
+use Rattle.ipc_format_grammar.specs.Refusals.{field_at_path, IsFloat}
 use Rattle.ipc_format_metadata.specs.Parts.{Layer, flat, over, over_all}
 use Rattle.ipc_format_metadata.specs.Steps.{
   by_layer,

@@ -20,7 +20,7 @@ use Rattle.ipc_format_grammar.specs.Types.{tag_of}
 use Rattle.ipc_format_grammar.specs.Schemas.{FieldIn, TypeIn, SchemaIn, IdsList, Visits, type_in, field_in, each_of, fields_of}
 use Rattle.ipc_format_grammar.specs.Schemas.{ids_of, ids, no_ids, ids_then, metadata_in, extended, encoded_by, is_little_of}
 use Rattle.ipc_format_grammar.specs.SchemaGrammar as grammar
-use Rattle.ipc_format_columns.specs.Refusals.{field_at_path, field_of_schema, IsFloat}
+use Rattle.ipc_format_grammar.specs.Refusals.{field_at_path, field_of_schema, IsFloat}
 use Rattle.ipc_format_metadata.specs.Parts.{Layer, flat, over, over_all, layer_of}
 
 -- a float field stands at a path below a Field table

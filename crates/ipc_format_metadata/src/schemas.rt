@@ -2,7 +2,7 @@
 ghost use Rattle.std.specs.Prelude.{◌≡◌, ◌↔◌, IsTrue, IfOk, IfSome, MatchResult, ◌<◌, ◌+◌, ◌*◌, ◌≤◌, length, None, Some};
 ghost use Rattle.std.specs.Option.{option_map};
 ghost use Rattle.ipc_format_grammar.specs.Schemas as format;
-ghost use Rattle.ipc_format_columns.specs.Refusals.{IsFloat};
+ghost use Rattle.ipc_format_grammar.specs.Refusals.{IsFloat};
 ghost use Rattle.ipc_format_flatbuffers.specs.Views.{table_of, vector_of};
 ghost use Rattle.ipc_format_metadata.specs.Reading.{Reads};
 ghost use Rattle.ipc_format_metadata.specs.LayerViews.{layer_view, over_field, over_fields};

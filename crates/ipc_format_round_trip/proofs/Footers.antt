@@ -23,8 +23,8 @@ use Rattle.ipc_format_grammar.specs.Schemas.{IdsList}
 use Rattle.ipc_format_grammar.specs.SchemaObjects.{schema_object, objects_of, field_object, refers_if, metadata_object}
 use Rattle.ipc_format_grammar.specs.Writable.{is_writable, normalised}
 use Rattle.ipc_format_grammar.proofs.NormalReports.{writable_normal}
-use Rattle.ipc_format_columns.specs.Files.{file_mark, stands_at, block_at, blocks_from, blocks_of, footer_bytes, footer_schema, footer_in}
-use Rattle.ipc_format_written.specs.WrittenFiles.{Block, Blocks, block_bytes, blocks_object, file_start}
+use Rattle.ipc_format_grammar.specs.Files.{file_mark, stands_at, block_at, blocks_from, blocks_of, footer_bytes, footer_schema, footer_in}
+use Rattle.ipc_format_grammar.specs.WrittenFiles.{Block, Blocks, block_bytes, blocks_object, file_start}
 use Rattle.ipc_format_round_trip.specs.Schemas.{IsSchema, ids_read}
 use Rattle.ipc_format_round_trip.specs.Footers.{FitsBlock, FitBlocks, block_read, file_with, HasFooter, FootersReadBack}
 use Rattle.ipc_format_round_trip.proofs.SchemaParts.{tables_among, few_tables}

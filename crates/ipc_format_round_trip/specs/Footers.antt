@@ -7,9 +7,9 @@ use Rattle.ipc_format_flatbuffers.specs.Objects.{laid}
 use Rattle.ipc_format_grammar.specs.Messages.{V5, version_in}
 use Rattle.ipc_format_grammar.specs.Schemas.{IdsList}
 use Rattle.ipc_format_grammar.specs.Writable.{is_writable, normalised}
-use Rattle.ipc_format_columns.specs.Files as reading
-use Rattle.ipc_format_columns.specs.Files.{file_mark, footer_in}
-use Rattle.ipc_format_written.specs.WrittenFiles.{Block, Blocks, footer_object, file_start}
+use Rattle.ipc_format_grammar.specs.Files as reading
+use Rattle.ipc_format_grammar.specs.Files.{file_mark, footer_in}
+use Rattle.ipc_format_grammar.specs.WrittenFiles.{Block, Blocks, footer_object, file_start}
 use Rattle.ipc_format_round_trip.specs.Schemas.{HasTexts, FitIdsList, IsSchema, ids_read}
 
 -- a block's numbers are below what signed ones of eight bytes and of four have room for

@@ -3,9 +3,9 @@ use Rattle.std.proofs.Common.{◌≡◌, ◌∙◌, ℕ, suc, ◌+◌, ◌<◌, 
 use Rattle.std.specs.Prelude.{Bool, ◌&&◌, nat_eq}
 use Rattle.columnar_memory.specs.declared.Field.{Field}
 use Rattle.ipc_format_grammar.specs.Schemas.{Ids, IdsList}
-use Rattle.ipc_format_columns.specs.Columns.{first_ids, other_ids}
+use Rattle.ipc_format_grammar.specs.Columns.{first_ids, other_ids}
 use Rattle.ipc_format_flatbuffers.proofs.Rest.{rest_step, rest_end}
-use Rattle.ipc_format_written.specs.Ids.{Fitting, fit_each}
+use Rattle.ipc_format_grammar.specs.Ids.{Fitting, fit_each}
 use Rattle.ipc_format_metadata.specs.Views.{ids_views}
 use Rattle.ipc_format_metadata.specs.declared.ipc_schema.IpcField.{IpcField}
 use Rattle.ipc_format_schema_writing.specs.Fitting.{field_fitting}

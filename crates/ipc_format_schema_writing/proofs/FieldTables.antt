@@ -8,7 +8,7 @@ use Rattle.std.specs.List.{flat_map}
 use Rattle.columnar_memory.specs.declared.DataType.TheFolds.{fold-roll-Field}
 use Rattle.columnar_memory.specs.declared.Field.{Field}
 use Rattle.columnar_memory.specs.declared.IntegerType.{IntegerType}
-use Rattle.ipc_format_columns.specs.Columns.{first_ids, other_ids}
+use Rattle.ipc_format_grammar.specs.Columns.{first_ids, other_ids}
 use Rattle.ipc_format_flatbuffers.specs.declared.Laid.{Laid}
 use Rattle.ipc_format_flatbuffers.specs.declared.LayError.{LayError}
 use Rattle.ipc_format_flatbuffers.specs.declared.LayError.TheVariants.{Memory, TooLong}

@@ -5,7 +5,7 @@ use Rattle.std.proofs.Math.ListN.{drop_of_length-le}
 use Rattle.columnar_memory.specs.declared.DataType.TheFolds.{fold-roll-Field}
 use Rattle.columnar_memory.specs.declared.Field.{Field}
 use Rattle.ipc_format_grammar.specs.Schemas.{Ids, IdsList, ids_then}
-use Rattle.ipc_format_written.specs.Ids.{Numbering, number_each, number_fields, number_step, numbered, default_ids}
+use Rattle.ipc_format_grammar.specs.Ids.{Numbering, number_each, number_fields, number_step, numbered, default_ids}
 use Rattle.ipc_format_metadata.specs.Views.{ids_before, ids_view, ids_views}
 use Rattle.ipc_format_metadata.specs.declared.ipc_schema.IpcField.{IpcField}
 use Rattle.ipc_format_schema_writing.specs.Numbers.{field_numbering}

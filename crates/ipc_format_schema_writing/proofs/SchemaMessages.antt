@@ -22,7 +22,7 @@ use Rattle.ipc_format_grammar.specs.Schemas.{Ids, IdsList}
 use Rattle.ipc_format_grammar.specs.SchemaObjects.{field_object, objects_of, metadata_object, schema_object, schema_message}
 use Rattle.ipc_format_grammar.specs.Writable.{Report, report_of, reports_of, report_step, field_step, is_writable}
 use Rattle.ipc_format_metadata.specs.Reports.{field_report}
-use Rattle.ipc_format_written.specs.WrittenMessages.{schema_written, fits_limit}
+use Rattle.ipc_format_grammar.specs.WrittenMessages.{schema_written, fits_limit}
 use Rattle.ipc_format_schema_writing.specs.Pieces.{LaysIf, piece_if, slot_if, field_told}
 use Rattle.ipc_format_schema_writing.specs.Writing.{WritesSchema, RefusesSchema, IsEndRefusal, IsRefusalOf, may_write}
 use Rattle.ipc_format_schema_writing.proofs.Sizes.{table_over, lays_over}

@@ -3,7 +3,7 @@ use Rattle.std.specs.Prelude.{ℕ}
 use Rattle.columnar_memory.specs.declared.DataType.TheFolds.{fold-Field}
 use Rattle.columnar_memory.specs.declared.Field.{Field}
 use Rattle.ipc_format_grammar.specs.Schemas.{Ids, IdsList}
-use Rattle.ipc_format_written.specs.Ids.{Numbering, number_step}
+use Rattle.ipc_format_grammar.specs.Ids.{Numbering, number_step}
 use Rattle.ipc_format_metadata.specs.Views.{ids_view, ids_views}
 use Rattle.ipc_format_schema_writing.specs.declared.numbering.Numbered.{Numbered}
 use Rattle.ipc_format_schema_writing.specs.declared.numbering.NumberedFields.{NumberedFields}

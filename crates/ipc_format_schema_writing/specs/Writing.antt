@@ -9,8 +9,8 @@ use Rattle.ipc_format_flatbuffers.specs.declared.LayError.{LayError}
 use Rattle.ipc_format_flatbuffers.specs.declared.LayError.TheVariants.{Memory, TooLong}
 use Rattle.ipc_format_grammar.specs.Schemas.{IdsList}
 use Rattle.ipc_format_grammar.specs.Writable.{is_writable}
-use Rattle.ipc_format_written.specs.Ids.{ids_fit_fields}
-use Rattle.ipc_format_written.specs.WrittenMessages.{schema_written, fits_limit}
+use Rattle.ipc_format_grammar.specs.Ids.{ids_fit_fields}
+use Rattle.ipc_format_grammar.specs.WrittenMessages.{schema_written, fits_limit}
 use Rattle.ipc_format_schema_writing.specs.Floats.{has_float}
 
 -- a schema that is written, with ids that fit it

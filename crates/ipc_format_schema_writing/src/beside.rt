@@ -1,7 +1,7 @@
 //! Dictionary ids beside fields, one field after another.
 ghost use Rattle.std.specs.Prelude.{◌≡◌, ◌↔◌, IsTrue, []};
 ghost use Rattle.ipc_format_grammar.specs.Schemas.{ids};
-ghost use Rattle.ipc_format_columns.specs.Columns.{first_ids, other_ids};
+ghost use Rattle.ipc_format_grammar.specs.Columns.{first_ids, other_ids};
 ghost use Rattle.ipc_format_metadata.specs.Views.{ids_views};
 
 use ipc_format_metadata::IpcField;

@@ -1,7 +1,7 @@
 //! Whether dictionary ids fit the fields of a schema, and whether a float stands in it.
 ghost use Rattle.std.specs.Prelude.{◌≡◌, ◌∷◌, [], map};
 ghost use Rattle.std.specs.List.{list_any};
-ghost use Rattle.ipc_format_written.specs.Ids as format;
+ghost use Rattle.ipc_format_grammar.specs.Ids as format;
 ghost use Rattle.ipc_format_grammar.specs.Schemas.{ids};
 ghost use Rattle.ipc_format_metadata.specs.Views.{ids_views};
 ghost use Rattle.ipc_format_schema_writing.specs.Fitting.{field_fitting};

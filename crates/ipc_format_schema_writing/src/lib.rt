@@ -1,6 +1,6 @@
 //! Schemas written as metadata, and the ids of their dictionaries.
 //!
-//! What each function gives is a definition of the format (`ipc_format_grammar/specs`, `ipc_format_written/specs`).
+//! What each function gives is a definition of the format (`ipc_format_grammar/specs`, `ipc_format_grammar/specs`).
 #![tactic(auto)]
 
 mod beside;

@@ -1,7 +1,7 @@
 //! The ids of a schema's dictionaries, counted in pre-order (Schema.fbs, `DictionaryEncoding`).
 ghost use Rattle.std.specs.Prelude.{◌≡◌, ◌∷◌, [], IfOk, MatchResult, map};
 ghost use Rattle.columnar_memory.specs.Error.{IsOutOfMemory};
-ghost use Rattle.ipc_format_written.specs.Ids as ids;
+ghost use Rattle.ipc_format_grammar.specs.Ids as ids;
 ghost use Rattle.ipc_format_metadata.specs.Views.{ids_views};
 ghost use Rattle.ipc_format_schema_writing.specs.Numbers.{field_numbering, numbered_view, fields_view};
 
@@ -27,7 +27,7 @@ struct NumberedFields {
 ///
 /// # Errors
 /// - `OutOfMemory`: there was no memory for the ids.
-#[tactic(auto, unfolding(ipc_format_written::specs::Ids::default_ids))]
+#[tactic(auto, unfolding(ipc_format_grammar::specs::Ids::default_ids))]
 pub fn default_ipc_fields(alloc: Global, fields: &[Field]) -> Answer<Vec<IpcField>>
     ensures { MatchResult result (λ found. ids_views found.items ≡ ids.default_ids fields.now) IsOutOfMemory }
 {

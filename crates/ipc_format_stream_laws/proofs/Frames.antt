@@ -7,9 +7,9 @@ use Rattle.std.proofs.lemmas.Int.{to_z_pos}
 use Rattle.ipc_format_flatbuffers.specs.FlatBuffers.{signed_at}
 use Rattle.ipc_format_spelling.proofs.Places.{Stands, front, back, ends_within, window_stands}
 use Rattle.ipc_format_spelling.proofs.Contents.{signed_stands}
-use Rattle.ipc_format_columns.specs.Framing as reading
-use Rattle.ipc_format_columns.specs.Framing.{frame_at, metadata_then}
-use Rattle.ipc_format_written.specs.WrittenMessages.{framed, continuation_marker, end_mark}
+use Rattle.ipc_format_grammar.specs.Framing as reading
+use Rattle.ipc_format_grammar.specs.Framing.{frame_at, metadata_then}
+use Rattle.ipc_format_grammar.specs.WrittenMessages.{framed, continuation_marker, end_mark}
 
 -- the marker is read as -1
 marker_reads : {bytes : List ℕ} {place : ℕ} (rest : List ℕ) → Stands bytes place (continuation_marker ++ rest)

@@ -15,7 +15,7 @@ use Rattle.columnar_memory.specs.declared.Field.{Field}
 use Rattle.columnar_memory.specs.declared.Schema.{Schema}
 use Rattle.ipc_format_grammar.specs.Schemas.{Ids, IdsList, ids, no_ids, ids_then}
 use Rattle.ipc_format_grammar.specs.Writable.{Report, report_of, report_step, field_step, reports_of, deepest, leaf, is_writable}
-use Rattle.ipc_format_written.specs.Ids.{Numbering, Fitting, numbered, number_step, number_fields, default_ids, ids_fit, fit_step, ids_fit_fields}
+use Rattle.ipc_format_grammar.specs.Ids.{Numbering, Fitting, numbered, number_step, number_fields, default_ids, ids_fit, fit_step, ids_fit_fields}
 use Rattle.ipc_format_round_trip.specs.Schemas.{FitIdsList}
 use Rattle.ipc_format_stream_laws.proofs.NoDictionaries.{dictionaries_of}
 

@@ -7,10 +7,10 @@ use Rattle.std.proofs.lemmas.List.Elements.{All-head, All-tail, All-nil, All-con
 use Rattle.ipc_format_flatbuffers.specs.FlatBuffers.{Table}
 use Rattle.ipc_format_grammar.specs.Messages as grammar
 use Rattle.ipc_format_grammar.specs.Messages.{Header, message_in}
-use Rattle.ipc_format_columns.specs.Framing.{Framed, most_dictionaries}
-use Rattle.ipc_format_written.specs.GivenDictionaries.{Given, to_write, written_after}
-use Rattle.ipc_format_written.specs.WrittenMessages.{Written, fits_limit, prefix_size, most_metadata, body_limit, dictionary_message}
-use Rattle.ipc_format_written.specs.WrittenStreams.{Batch, messages_after}
+use Rattle.ipc_format_grammar.specs.Framing.{Framed, most_dictionaries}
+use Rattle.ipc_format_grammar.specs.GivenDictionaries.{Given, to_write, written_after}
+use Rattle.ipc_format_grammar.specs.WrittenMessages.{Written, fits_limit, prefix_size, most_metadata, body_limit, dictionary_message}
+use Rattle.ipc_format_grammar.specs.WrittenStreams.{Batch, messages_after}
 use Rattle.ipc_format_round_trip.specs.Batches.{IsMessage}
 use Rattle.ipc_format_round_trip.proofs.SchemaParts.{both}
 use Rattle.ipc_format_stream_laws.specs.Messages.{as_written, IsReadable, MayFollow}

@@ -9,15 +9,15 @@ use Rattle.columnar_memory.specs.declared.DataType.TheViews.{roll-DataType, roll
 use Rattle.columnar_memory.specs.declared.DataType.TheFolds.{fold-Field, para-Field, ind-DataType, fold-roll-DataType, fold-roll-Field}
 use Rattle.columnar_memory.specs.declared.DataType.TheFolds.{para-roll-DataType, para-roll-Field}
 use Rattle.columnar_memory.specs.declared.Field.{Field}
-use Rattle.nested_arrays.specs.Slots.{Slot}
-use Rattle.nested_arrays.specs.Children.{joined_items, joined_fixed_items, field_slots}
+use Rattle.nested_arrays_columns.specs.Slots.{Slot}
+use Rattle.nested_arrays_columns.specs.Children.{joined_items, joined_fixed_items, field_slots}
 use Rattle.ipc_format_grammar.specs.Schemas.{Ids, IdsList}
 use Rattle.ipc_format_grammar.specs.Writable.{Report, report_of, report_step, field_step, reports_of}
 use Rattle.ipc_format_grammar.proofs.NormalReports.{report_field}
 use Rattle.ipc_format_round_trip.proofs.SchemaParts.{both}
-use Rattle.ipc_format_columns.specs.Columns.{first_ids, other_ids, ids_below}
-use Rattle.ipc_format_written.specs.GivenDictionaries.{Giver, given_by, given_fields, givers, give_step, give_field_step}
-use Rattle.ipc_format_written.specs.WrittenStreams.{given_of_slots}
+use Rattle.ipc_format_grammar.specs.Columns.{first_ids, other_ids, ids_below}
+use Rattle.ipc_format_grammar.specs.GivenDictionaries.{Giver, given_by, given_fields, givers, give_step, give_field_step}
+use Rattle.ipc_format_grammar.specs.WrittenStreams.{given_of_slots}
 use Rattle.ipc_format_column_laws.specs.Columns.{is_flat, is_flat_step}
 
 abbrev Layer : Type 0

@@ -9,12 +9,12 @@ use Rattle.ipc_format_grammar.specs.Messages.{V5}
 use Rattle.ipc_format_grammar.specs.Schemas.{IdsList}
 use Rattle.ipc_format_grammar.specs.SchemaObjects.{schema_message}
 use Rattle.ipc_format_grammar.specs.Writable.{is_writable, normalised}
-use Rattle.ipc_format_columns.specs.Framing.{Framed, Stream, messages_of}
-use Rattle.ipc_format_columns.specs.Tables.{stream, stream_entry, contents_of}
-use Rattle.ipc_format_written.specs.GivenDictionaries.{agree}
-use Rattle.ipc_format_written.specs.Ids.{ids_fit_fields}
-use Rattle.ipc_format_written.specs.WrittenMessages.{Written, fits_limit, end_mark, schema_written}
-use Rattle.ipc_format_written.specs.WrittenStreams.{Batch, messages_after, stream_messages, bytes_of_messages, stream_bytes, written_stream}
+use Rattle.ipc_format_grammar.specs.Framing.{Framed, Stream, messages_of}
+use Rattle.ipc_format_grammar.specs.Tables.{stream, stream_entry, contents_of}
+use Rattle.ipc_format_grammar.specs.GivenDictionaries.{agree}
+use Rattle.ipc_format_grammar.specs.Ids.{ids_fit_fields}
+use Rattle.ipc_format_grammar.specs.WrittenMessages.{Written, fits_limit, end_mark, schema_written}
+use Rattle.ipc_format_grammar.specs.WrittenStreams.{Batch, messages_after, stream_messages, bytes_of_messages, stream_bytes, written_stream}
 use Rattle.ipc_format_round_trip.specs.Batches.{IsMessage}
 use Rattle.ipc_format_round_trip.specs.Schemas.{HasTexts, FitIdsList, IsSchema, ids_read}
 use Rattle.ipc_format_round_trip.proofs.SchemaParts.{both}

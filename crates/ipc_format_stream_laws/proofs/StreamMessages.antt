@@ -9,10 +9,10 @@ use Rattle.ipc_format_flatbuffers.specs.FlatBuffers.{number_at, reference_at, ro
 use Rattle.ipc_format_grammar.specs.Messages as grammar
 use Rattle.ipc_format_grammar.specs.Messages.{Header, Message, message_in}
 use Rattle.ipc_format_spelling.proofs.Places.{Stands, front, back, ends_within, window_stands}
-use Rattle.ipc_format_columns.specs.Framing.{Framed, message_then, framed_by, next_at, dictionaries_after}
-use Rattle.ipc_format_columns.specs.Framing.{later_messages, schema_then, first_of, messages_of}
-use Rattle.ipc_format_written.specs.WrittenMessages.{message_bytes, continuation_marker, end_mark}
-use Rattle.ipc_format_written.specs.WrittenStreams.{bytes_of_messages}
+use Rattle.ipc_format_grammar.specs.Framing.{Framed, message_then, framed_by, next_at, dictionaries_after}
+use Rattle.ipc_format_grammar.specs.Framing.{later_messages, schema_then, first_of, messages_of}
+use Rattle.ipc_format_grammar.specs.WrittenMessages.{message_bytes, continuation_marker, end_mark}
+use Rattle.ipc_format_grammar.specs.WrittenStreams.{bytes_of_messages}
 use Rattle.ipc_format_stream_laws.specs.Messages.{as_written, IsReadable, IsOfSchema, MayFollow, all_written, MessagesReadBack}
 use Rattle.ipc_format_stream_laws.proofs.Readers.{schema_has_no_body}
 use Rattle.ipc_format_stream_laws.proofs.Frames.{frame_stands, end_stands}

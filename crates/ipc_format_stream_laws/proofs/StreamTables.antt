@@ -4,20 +4,20 @@ use Rattle.std.specs.Prelude.{Option, Some, nat_lt}
 use Rattle.std.specs.List.{All, list_all}
 use Rattle.std.proofs.lemmas.Bool.{lt-ltb}
 use Rattle.columnar_memory.specs.declared.Schema.{Schema}
-use Rattle.nested_arrays.specs.Slots.{Slot}
-use Rattle.nested_arrays.specs.Tables.{rows_of_batches}
+use Rattle.nested_arrays_columns.specs.Slots.{Slot}
+use Rattle.nested_arrays_columns.specs.Tables.{rows_of_batches}
 use Rattle.ipc_format_flatbuffers.specs.FlatBuffers.{Table}
 use Rattle.ipc_format_grammar.specs.Messages as grammar
 use Rattle.ipc_format_grammar.specs.Messages.{V5}
 use Rattle.ipc_format_grammar.specs.Schemas.{SchemaIn, IdsList}
 use Rattle.ipc_format_grammar.specs.Writable.{normalised}
-use Rattle.ipc_format_columns.specs.Dictionaries.{Layout, Entry}
-use Rattle.ipc_format_columns.specs.Framing.{Framed}
-use Rattle.ipc_format_columns.specs.Tables.{Contents, stream, stream_entry, layout_of, agree_in_length, batches_of, contents_of, batches_in, table_of}
-use Rattle.ipc_format_written.specs.GivenDictionaries.{agree}
-use Rattle.ipc_format_written.specs.Ids.{default_ids}
-use Rattle.ipc_format_written.specs.WrittenMessages.{Written, fits_limit}
-use Rattle.ipc_format_written.specs.WrittenStreams.{Batch, batch_of_slots, rows_of_slots, given_of_slots, messages_after, written_stream}
+use Rattle.ipc_format_grammar.specs.Dictionaries.{Layout, Entry}
+use Rattle.ipc_format_grammar.specs.Framing.{Framed}
+use Rattle.ipc_format_grammar.specs.Tables.{Contents, stream, stream_entry, layout_of, agree_in_length, batches_of, contents_of, batches_in, table_of}
+use Rattle.ipc_format_grammar.specs.GivenDictionaries.{agree}
+use Rattle.ipc_format_grammar.specs.Ids.{default_ids}
+use Rattle.ipc_format_grammar.specs.WrittenMessages.{Written, fits_limit}
+use Rattle.ipc_format_grammar.specs.WrittenStreams.{Batch, batch_of_slots, rows_of_slots, given_of_slots, messages_after, written_stream}
 use Rattle.ipc_format_round_trip.specs.Schemas.{HasTexts, FitIdsList, ids_read}
 use Rattle.ipc_format_column_laws.specs.Batches.{fit_fields, batch_written, GivesColumns, BatchReadsBack}
 use Rattle.ipc_format_column_laws.proofs.Batches.{flat_batches_read_back, int32_batches_read_back}

@@ -8,12 +8,12 @@ use Rattle.ipc_format_grammar.specs.Messages as grammar
 use Rattle.ipc_format_grammar.specs.Messages.{Header, V5}
 use Rattle.ipc_format_grammar.specs.Schemas.{SchemaIn, IdsList}
 use Rattle.ipc_format_grammar.specs.Writable.{normalised}
-use Rattle.ipc_format_columns.specs.Framing.{Framed, Stream, most_dictionaries, messages_of}
-use Rattle.ipc_format_columns.specs.Tables.{stream, stream_entry, contents_of}
-use Rattle.ipc_format_written.specs.Encoding.{joined}
-use Rattle.ipc_format_written.specs.GivenDictionaries.{Given, to_write, written_after}
-use Rattle.ipc_format_written.specs.WrittenMessages.{Written, buffer_places, record_message, dictionary_message}
-use Rattle.ipc_format_written.specs.WrittenStreams.{Batch, stream_messages, written_stream}
+use Rattle.ipc_format_grammar.specs.Framing.{Framed, Stream, most_dictionaries, messages_of}
+use Rattle.ipc_format_grammar.specs.Tables.{stream, stream_entry, contents_of}
+use Rattle.ipc_format_grammar.specs.Encoding.{joined}
+use Rattle.ipc_format_grammar.specs.GivenDictionaries.{Given, to_write, written_after}
+use Rattle.ipc_format_grammar.specs.WrittenMessages.{Written, buffer_places, record_message, dictionary_message}
+use Rattle.ipc_format_grammar.specs.WrittenStreams.{Batch, stream_messages, written_stream}
 use Rattle.ipc_format_round_trip.specs.Batches.{AreSigned, IsRecordBatch, IsDictionaryBatch}
 use Rattle.ipc_format_round_trip.specs.Schemas.{HasTexts, FitIdsList, ids_read}
 use Rattle.ipc_format_stream_laws.specs.Messages.{as_written, all_written}

@@ -4,9 +4,9 @@ use Rattle.std.specs.Prelude.{◌≡◌, ℕ, ◌<◌, ◌^◌, pos, List, [], �
 use Rattle.std.specs.List.{All}
 use Rattle.ipc_format_grammar.specs.Messages as grammar
 use Rattle.ipc_format_grammar.specs.Messages.{Header, message_in}
-use Rattle.ipc_format_columns.specs.Framing.{Framed, Stream, dictionaries_after, messages_of}
-use Rattle.ipc_format_written.specs.WrittenMessages.{Written, end_mark}
-use Rattle.ipc_format_written.specs.WrittenStreams.{bytes_of_messages}
+use Rattle.ipc_format_grammar.specs.Framing.{Framed, Stream, dictionaries_after, messages_of}
+use Rattle.ipc_format_grammar.specs.WrittenMessages.{Written, end_mark}
+use Rattle.ipc_format_grammar.specs.WrittenStreams.{bytes_of_messages}
 
 -- a message as it is written: its metadata and its body
 abbrev pub as_written : Framed → Written

@@ -4,14 +4,14 @@ use Rattle.std.specs.List.{All, list_all}
 use Rattle.columnar_memory.specs.declared.DataType.TheVariants as types
 use Rattle.columnar_memory.specs.declared.Field.{Field}
 use Rattle.columnar_memory.specs.declared.Schema.{Schema}
-use Rattle.nested_arrays.specs.Slots.{Slot}
-use Rattle.nested_arrays.specs.Tables.{rows_of_batches}
+use Rattle.nested_arrays_columns.specs.Slots.{Slot}
+use Rattle.nested_arrays_columns.specs.Tables.{rows_of_batches}
 use Rattle.ipc_format_grammar.specs.Schemas.{IdsList}
 use Rattle.ipc_format_grammar.specs.Writable.{normalised}
-use Rattle.ipc_format_columns.specs.Tables.{stream, agree_in_length, batches_in, table_of}
-use Rattle.ipc_format_written.specs.Ids.{default_ids}
-use Rattle.ipc_format_written.specs.WrittenMessages.{Written, fits_limit}
-use Rattle.ipc_format_written.specs.WrittenStreams.{Batch, batch_of_slots, rows_of_slots, stream_messages, stream_bytes, written_stream}
+use Rattle.ipc_format_grammar.specs.Tables.{stream, agree_in_length, batches_in, table_of}
+use Rattle.ipc_format_grammar.specs.Ids.{default_ids}
+use Rattle.ipc_format_grammar.specs.WrittenMessages.{Written, fits_limit}
+use Rattle.ipc_format_grammar.specs.WrittenStreams.{Batch, batch_of_slots, rows_of_slots, stream_messages, stream_bytes, written_stream}
 use Rattle.ipc_format_laws.specs.DefaultIds.{dictionary_count}
 use Rattle.ipc_format_round_trip.specs.Schemas.{HasTexts, FitIdsList}
 use Rattle.ipc_format_column_laws.specs.Columns.{is_flat}

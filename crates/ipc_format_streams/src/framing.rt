@@ -3,7 +3,7 @@
 //! The input stands in memory, so metadata and bodies are windows of it: no memory is asked for by a stated length.
 ghost use Rattle.std.specs.Prelude.{◌≡◌, ◌≢◌, ◌+◌, ◌≤◌, ◌<◌, length, IfSome, negsuc};
 ghost use Rattle.std.specs.Option.{option_map};
-ghost use Rattle.ipc_format_columns.specs.Framing as format;
+ghost use Rattle.ipc_format_grammar.specs.Framing as format;
 ghost use Rattle.ipc_format_streams.specs.Frames.{ReachesFrom, ReachesBehind, frame_view, framed_view, next_view};
 
 use crate::frames::{Frame, Framed, NextMessage};
@@ -26,7 +26,7 @@ fn frame_of(bytes: &[u8], stated: i32, place: usize) -> Option<Frame<'_>>
 
 /// What stands at a place: the marker, which may be missing, a length, and as many bytes of metadata. `None` where the length is
 /// negative or passes the end.
-#[tactic(auto, unfolding(ipc_format_columns::specs::Framing::frame_at))]
+#[tactic(auto, unfolding(ipc_format_grammar::specs::Framing::frame_at))]
 fn frame_at(bytes: &[u8], place: usize) -> Option<Frame<'_>>
     ensures value { option_map frame_view result ≡ format.frame_at bytes.now place }
     ensures reach { IfSome result (ReachesFrom place (length bytes.now)) }

@@ -5,7 +5,7 @@ use Rattle.std.specs.Prelude.{ℤ, Bool, Option}
 use Rattle.std.specs.Int.{w8, w16}
 use Rattle.columnar_memory.specs.declared.Field as columns
 use Rattle.columnar_memory.specs.declared.Schema as columns_of
-use Rattle.ipc_format_columns.specs.Columns.{first_ids, other_ids}
+use Rattle.ipc_format_grammar.specs.Columns.{first_ids, other_ids}
 use Rattle.ipc_format_flatbuffers.specs.Objects.{Object, Objects, table, references, text, no_field, absent_then, number_then, refers_then}
 use Rattle.ipc_format_flatbuffers.specs.Objects.{no_object, object_then}
 use Rattle.ipc_format_flatbuffers.proofs.Rest.{rest_step, rest_end}

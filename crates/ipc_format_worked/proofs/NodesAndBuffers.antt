@@ -9,7 +9,7 @@ use Rattle.columnar_memory.specs.declared.DataType.TheVariants as types
 use Rattle.columnar_memory.specs.declared.UnionMode.TheVariants as modes
 use Rattle.columnar_memory.specs.declared.Field.{Field}
 use Rattle.ipc_format_grammar.specs.Messages.{Version, V4, V5}
-use Rattle.ipc_format_columns.specs.Layouts.{node_count, buffer_count, node_step, buffer_step}
+use Rattle.ipc_format_grammar.specs.Layouts.{node_count, buffer_count, node_step, buffer_step}
 use Rattle.ipc_format_worked.specs.Examples.{number_x, one_union}
 
 -- ---- nodes

@@ -6,7 +6,7 @@ ghost use Rattle.ipc_format_grammar.specs.Messages.{V4, V5};
 ghost use Rattle.ipc_format_grammar.specs.Schemas.{no_ids, extension_name_key, extension_metadata_key};
 ghost use Rattle.ipc_format_grammar.specs.SchemaObjects.{schema_message, written_pairs};
 ghost use Rattle.ipc_format_grammar.specs.Writable.{is_writable, normalised};
-ghost use Rattle.ipc_format_columns.specs.Layouts.{node_count, buffer_count};
+ghost use Rattle.ipc_format_grammar.specs.Layouts.{node_count, buffer_count};
 ghost use Rattle.ipc_format_worked.specs.Examples.{number_x, schema_x, x_int32, d_dictionary, id_0, x_extension, x_metadata, d_metadata};
 ghost use Rattle.ipc_format_worked.specs.Examples.{x_extension_metadata, union_of, one_union, in_lists};
 

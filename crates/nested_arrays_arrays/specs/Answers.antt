@@ -4,8 +4,8 @@ use Rattle.columnar_memory.specs.Error.{IsOutOfSpec}
 use Rattle.columnar_memory.specs.Layouts.{physical_type}
 use Rattle.columnar_memory.specs.declared.Error.{Error}
 use Rattle.columnar_memory.specs.declared.PhysicalType.{PhysicalType}
-use Rattle.nested_arrays.specs.SoundColumns.{is_sound}
-use Rattle.nested_arrays.specs.StoredColumns.{Column, column_type}
+use Rattle.nested_arrays_columns.specs.SoundColumns.{is_sound}
+use Rattle.nested_arrays_columns.specs.StoredColumns.{Column, column_type}
 
 -- the array of these parts, if they are those of an array, or a refusal
 abbrev pub IsChecked : Column → Result Column Error → Type 0

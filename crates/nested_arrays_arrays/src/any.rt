@@ -1,7 +1,7 @@
 //! Arrays of any type.
 ghost use Rattle.std.specs.Prelude.{◌≡◌, ◌+◌, ◌≤◌, true};
-ghost use Rattle.nested_arrays.specs.SoundColumns.{is_sound};
-ghost use Rattle.nested_arrays.specs.StoredColumns.{column_len, column_type, cut};
+ghost use Rattle.nested_arrays_columns.specs.SoundColumns.{is_sound};
+ghost use Rattle.nested_arrays_columns.specs.StoredColumns.{column_len, column_type, cut};
 
 use crate::fixed_lists::FixedSizeListArray;
 use crate::flats::FlatArray;
@@ -44,8 +44,8 @@ pub struct AnyArray {
 
 impl Model for AnyArray {
     ghost use Rattle.std.specs.Prelude.{◌+◌, ◌*◌};
-    ghost use Rattle.nested_arrays.specs.StoredColumns.{Column, column_size};
-    ghost use Rattle.nested_arrays.specs.ColumnCodes.{column_code};
+    ghost use Rattle.nested_arrays_columns.specs.StoredColumns.{Column, column_size};
+    ghost use Rattle.nested_arrays_columns.specs.ColumnCodes.{column_code};
 
     ghost Value = { Column };
 

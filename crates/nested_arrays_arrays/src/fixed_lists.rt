@@ -1,7 +1,7 @@
 //! Lists of one size.
 ghost use Rattle.std.specs.Prelude.{◌≡◌, ◌+◌, ◌≤◌, true};
-ghost use Rattle.nested_arrays.specs.SoundColumns.{is_sound, has_fixed_item_type};
-ghost use Rattle.nested_arrays.specs.StoredColumns.{column_len, column_type, cut, fixed_lists, type_layer};
+ghost use Rattle.nested_arrays_columns.specs.SoundColumns.{is_sound, has_fixed_item_type};
+ghost use Rattle.nested_arrays_columns.specs.StoredColumns.{column_len, column_type, cut, fixed_lists, type_layer};
 ghost use Rattle.nested_arrays_arrays.specs.Answers.{IsChecked};
 ghost use Rattle.nested_arrays_arrays.specs.Lengths.{size_of};
 
@@ -24,9 +24,9 @@ pub struct FixedSizeListArray {
 impl Model for FixedSizeListArray {
     ghost use Rattle.std.specs.Prelude.{◌≡◌, ◌+◌, ◌*◌, true};
     ghost use Rattle.std.proofs.Common.{arith};
-    ghost use Rattle.nested_arrays.specs.StoredColumns.{Column, column_size, fixed_lists};
-    ghost use Rattle.nested_arrays.specs.ColumnCodes.{column_code};
-    ghost use Rattle.nested_arrays.specs.SoundColumns.{is_sound};
+    ghost use Rattle.nested_arrays_columns.specs.StoredColumns.{Column, column_size, fixed_lists};
+    ghost use Rattle.nested_arrays_columns.specs.ColumnCodes.{column_code};
+    ghost use Rattle.nested_arrays_columns.specs.SoundColumns.{is_sound};
 
     ghost Value = { Column };
 

@@ -1,7 +1,7 @@
 //! Arrays without children.
 ghost use Rattle.std.specs.Prelude.{◌≡◌, ◌+◌, ◌≤◌, true};
-ghost use Rattle.nested_arrays.specs.SoundColumns.{is_sound};
-ghost use Rattle.nested_arrays.specs.StoredColumns.{column_len, column_type, cut};
+ghost use Rattle.nested_arrays_columns.specs.SoundColumns.{is_sound};
+ghost use Rattle.nested_arrays_columns.specs.StoredColumns.{column_len, column_type, cut};
 ghost use Rattle.nested_arrays_flat.specs.FlatColumns.{binary_column, boolean_column, text_column};
 
 use columnar_memory::{DataType, Offset};
@@ -31,9 +31,9 @@ pub struct FlatArray {
 
 impl Model for FlatArray {
     ghost use Rattle.std.specs.Prelude.{◌≡◌, true};
-    ghost use Rattle.nested_arrays.specs.ColumnCodes.{column_code};
-    ghost use Rattle.nested_arrays.specs.SoundColumns.{is_sound};
-    ghost use Rattle.nested_arrays.specs.StoredColumns.{Column};
+    ghost use Rattle.nested_arrays_columns.specs.ColumnCodes.{column_code};
+    ghost use Rattle.nested_arrays_columns.specs.SoundColumns.{is_sound};
+    ghost use Rattle.nested_arrays_columns.specs.StoredColumns.{Column};
 
     ghost Value = { Column };
 

@@ -1,7 +1,7 @@
 //! Lists of any length.
 ghost use Rattle.std.specs.Prelude.{◌≡◌, ◌+◌, ◌≤◌, ◌↔◌, IsTrue, true};
 ghost use Rattle.columnar_memory.specs.Spans.{offsets_of};
-ghost use Rattle.nested_arrays.specs.StoredColumns.{column_len, column_type, cut, lists, type_layer};
+ghost use Rattle.nested_arrays_columns.specs.StoredColumns.{column_len, column_type, cut, lists, type_layer};
 ghost use Rattle.nested_arrays_arrays.specs.Answers.{IsCheckedAs, LiesAs};
 ghost use Rattle.nested_arrays_arrays.specs.Entries.{has_list_item_type, list_layout};
 
@@ -23,8 +23,8 @@ pub struct ListArray<O: Offset> {
 
 impl<O: Offset> Model for ListArray<O> {
     ghost use Rattle.columnar_memory.specs.Spans.{offsets_of};
-    ghost use Rattle.nested_arrays.specs.ColumnCodes.{column_code};
-    ghost use Rattle.nested_arrays.specs.StoredColumns.{Column, lists};
+    ghost use Rattle.nested_arrays_columns.specs.ColumnCodes.{column_code};
+    ghost use Rattle.nested_arrays_columns.specs.StoredColumns.{Column, lists};
     ghost use Rattle.nested_arrays_arrays.specs.Answers.{LiesAs};
     ghost use Rattle.nested_arrays_arrays.specs.Entries.{list_layout};
 

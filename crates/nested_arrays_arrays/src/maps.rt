@@ -3,8 +3,8 @@ ghost use Rattle.std.specs.Prelude.{◌≡◌, ◌+◌, ◌≤◌, ◌↔◌, Is
 ghost use Rattle.columnar_memory.specs.Spans.{offsets_of};
 ghost use Rattle.columnar_memory.specs.declared.DataType.TheViews.{out-DataType};
 ghost use Rattle.columnar_memory.specs.declared.PhysicalType.TheVariants as physical;
-ghost use Rattle.nested_arrays.specs.SoundColumns.{is_entry};
-ghost use Rattle.nested_arrays.specs.StoredColumns.{column_len, column_type, cut, lists, type_layer};
+ghost use Rattle.nested_arrays_columns.specs.SoundColumns.{is_entry};
+ghost use Rattle.nested_arrays_columns.specs.StoredColumns.{column_len, column_type, cut, lists, type_layer};
 ghost use Rattle.nested_arrays_arrays.specs.Answers.{IsCheckedAs, LiesAs};
 ghost use Rattle.nested_arrays_arrays.specs.Entries.{has_entry_type};
 
@@ -31,9 +31,9 @@ impl Model for MapArray {
     ghost use Rattle.columnar_memory.specs.Spans.{offsets_of};
     ghost use Rattle.columnar_memory.specs.Layouts.{physical_type};
     ghost use Rattle.columnar_memory.specs.declared.PhysicalType.TheVariants as physical;
-    ghost use Rattle.nested_arrays.specs.StoredColumns.{Column, column_size, lists};
-    ghost use Rattle.nested_arrays.specs.ColumnCodes.{column_code};
-    ghost use Rattle.nested_arrays.specs.SoundColumns.{is_sound};
+    ghost use Rattle.nested_arrays_columns.specs.StoredColumns.{Column, column_size, lists};
+    ghost use Rattle.nested_arrays_columns.specs.ColumnCodes.{column_code};
+    ghost use Rattle.nested_arrays_columns.specs.SoundColumns.{is_sound};
 
     ghost Value = { Column };
 

@@ -1,7 +1,7 @@
 //! Structs.
 ghost use Rattle.std.specs.Prelude.{◌≡◌, ◌+◌, ◌≤◌, true, map, All, option_copied};
-ghost use Rattle.nested_arrays.specs.SoundColumns.{is_sound};
-ghost use Rattle.nested_arrays.specs.StoredColumns.{column_len, column_type, cut, records, in_columns};
+ghost use Rattle.nested_arrays_columns.specs.SoundColumns.{is_sound};
+ghost use Rattle.nested_arrays_columns.specs.StoredColumns.{column_len, column_type, cut, records, in_columns};
 ghost use Rattle.nested_arrays_arrays.specs.Answers.{IsChecked};
 ghost use Rattle.nested_arrays_arrays.specs.Lengths.{struct_len};
 
@@ -24,9 +24,9 @@ pub struct StructArray {
 
 impl Model for StructArray {
     ghost use Rattle.std.specs.Prelude.{◌≡◌, ◌+◌, ◌*◌, true};
-    ghost use Rattle.nested_arrays.specs.StoredColumns.{Column, column_size, records, in_columns};
-    ghost use Rattle.nested_arrays.specs.ColumnCodes.{column_code};
-    ghost use Rattle.nested_arrays.specs.SoundColumns.{is_sound};
+    ghost use Rattle.nested_arrays_columns.specs.StoredColumns.{Column, column_size, records, in_columns};
+    ghost use Rattle.nested_arrays_columns.specs.ColumnCodes.{column_code};
+    ghost use Rattle.nested_arrays_columns.specs.SoundColumns.{is_sound};
 
     ghost Value = { Column };
 

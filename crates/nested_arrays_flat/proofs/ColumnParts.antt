@@ -4,13 +4,13 @@ use Rattle.std.specs.Prelude.{Bool, false, ◌&&◌, ◌/◌, ◌-◌, min, Opti
 use Rattle.std.specs.Option.{ForSome}
 use Rattle.std.proofs.lemmas.Bool.{and_from, and_parts}
 use Rattle.columnar_memory.specs.Layouts.{physical_type}
-use Rattle.nested_arrays.proofs.Conditions.{parts_of_3, parts_of_4}
-use Rattle.nested_arrays.proofs.SoundCuts.{is_sound-cut}
-use Rattle.nested_arrays.specs.Kinds.{most_offset}
-use Rattle.nested_arrays.specs.SoundColumns.{are_offsets, are_pieces, are_sound, has_field_types, has_fixed_item_type, has_item_type, has_size}
-use Rattle.nested_arrays.specs.SoundColumns.{has_value_at, has_value_type, have_len, holds_below, is_sound, is_stored_as, mask_fits}
-use Rattle.nested_arrays.specs.StoredColumns.{Column, nulls, flat, lists, fixed_lists, records, unions, dictionary, column_len, column_type, cut}
-use Rattle.nested_arrays.specs.StoredColumns.{stored_len, type_layer}
+use Rattle.nested_arrays_columns.proofs.Conditions.{parts_of_3, parts_of_4}
+use Rattle.nested_arrays_columns.proofs.SoundCuts.{is_sound-cut}
+use Rattle.nested_arrays_columns.specs.Kinds.{most_offset}
+use Rattle.nested_arrays_columns.specs.SoundColumns.{are_offsets, are_pieces, are_sound, has_field_types, has_fixed_item_type, has_item_type, has_size}
+use Rattle.nested_arrays_columns.specs.SoundColumns.{has_value_at, has_value_type, have_len, holds_below, is_sound, is_stored_as, mask_fits}
+use Rattle.nested_arrays_columns.specs.StoredColumns.{Column, nulls, flat, lists, fixed_lists, records, unions, dictionary, column_len, column_type, cut}
+use Rattle.nested_arrays_columns.specs.StoredColumns.{stored_len, type_layer}
 use Rattle.nested_arrays_flat.proofs.CutMasks.{mark_within}
 use Rattle.nested_arrays_flat.specs.ColumnMasks.{column_mask, with_mask}
 

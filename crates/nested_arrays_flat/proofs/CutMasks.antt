@@ -5,8 +5,8 @@ use Rattle.std.specs.Option.{ForSome}
 use Rattle.std.proofs.lemmas.Bool.{eq-eqb, eqb-true}
 use Rattle.std.proofs.lemmas.Option.{get_or_from_slice_get}
 use Rattle.columnar_memory.specs.Window.{window}
-use Rattle.nested_arrays.specs.SoundColumns.{mask_fits}
-use Rattle.nested_arrays.specs.StoredColumns.{cut_list, is_valid_at}
+use Rattle.nested_arrays_columns.specs.SoundColumns.{mask_fits}
+use Rattle.nested_arrays_columns.specs.StoredColumns.{cut_list, is_valid_at}
 
 pub cut_window : {A : Type 0} (xs : List A) (o n : ℕ) → cut_list xs o n ≡ window xs o n
 cut_window xs o n = ap (λ k. take k (drop o xs)) (omega arith)

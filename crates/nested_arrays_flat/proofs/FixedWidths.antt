@@ -14,10 +14,10 @@ use Rattle.columnar_memory.specs.declared.DataType.TheViews.{out-DataType, roll-
 use Rattle.columnar_memory.specs.declared.IntervalUnit.TheVariants as intervals
 use Rattle.columnar_memory.specs.declared.PhysicalType.{PhysicalType}
 use Rattle.columnar_memory.specs.declared.PhysicalType.TheVariants as physical
-use Rattle.nested_arrays.proofs.Conditions.{parts_of_3}
-use Rattle.nested_arrays.proofs.CutStored.{pieces_within}
-use Rattle.nested_arrays.specs.SoundColumns.{are_pieces, has_size, is_byte, is_sound, is_stored_as, mask_fits}
-use Rattle.nested_arrays.specs.StoredColumns.{Column, column_len, cut, cut_list, cut_mask, fixed_bytes, type_layer}
+use Rattle.nested_arrays_columns.proofs.Conditions.{parts_of_3}
+use Rattle.nested_arrays_columns.proofs.CutStored.{pieces_within}
+use Rattle.nested_arrays_columns.specs.SoundColumns.{are_pieces, has_size, is_byte, is_sound, is_stored_as, mask_fits}
+use Rattle.nested_arrays_columns.specs.StoredColumns.{Column, column_len, cut, cut_list, cut_mask, fixed_bytes, type_layer}
 use Rattle.nested_arrays_flat.proofs.CutMasks.{cut_window}
 use Rattle.nested_arrays_flat.proofs.Layers.{Layer, is_extension, layer_layout, type_lies}
 use Rattle.nested_arrays_flat.specs.FlatColumns.{byte_width, fixed_column, layer_width}

@@ -8,7 +8,7 @@ use Rattle.std.proofs.lemmas.Bool.{and_from, lt-ltb}
 use Rattle.columnar_memory.specs.declared.PrimitiveType.{PrimitiveType}
 use Rattle.columnar_memory.specs.declared.PrimitiveType.TheVariants as kinds
 use Rattle.columnar_memory.specs.Numbers.{Numbers, one, two, three, IsNative, FitsWide}
-use Rattle.nested_arrays.specs.Kinds.{is_signed, is_unsigned, numbers_of_kind}
+use Rattle.nested_arrays_columns.specs.Kinds.{is_signed, is_unsigned, numbers_of_kind}
 use Rattle.nested_arrays_flat.specs.FlatColumns.{is_native}
 
 in_signed : (w : Width) (width : ℕ) → width - 1 ≡ hbits w → (z : ℤ) → FitsSigned w z → is_signed width z ≡ true

@@ -8,7 +8,7 @@ use Rattle.columnar_memory.specs.declared.DataType.TheFolds.{ind-DataType, fold-
 use Rattle.columnar_memory.specs.declared.Field.{Field}
 use Rattle.columnar_memory.specs.declared.PhysicalType.{PhysicalType}
 use Rattle.columnar_memory.specs.Layouts.{stored_step, physical_step, physical_type}
-use Rattle.nested_arrays.specs.StoredColumns.{type_layer}
+use Rattle.nested_arrays_columns.specs.StoredColumns.{type_layer}
 use denote.Hole.Carrier
 
 abbrev pub Layer : Type 0

@@ -6,8 +6,8 @@ use Rattle.columnar_memory.specs.declared.DataType.TheOpen as layer
 use Rattle.columnar_memory.specs.declared.IntervalUnit.TheVariants as intervals
 use Rattle.columnar_memory.specs.declared.PhysicalType.TheVariants as physical
 use Rattle.columnar_memory.specs.Layouts.{physical_type}
-use Rattle.nested_arrays.specs.SoundColumns.{is_null_type}
-use Rattle.nested_arrays.specs.StoredColumns.{type_layer}
+use Rattle.nested_arrays_columns.specs.SoundColumns.{is_null_type}
+use Rattle.nested_arrays_columns.specs.StoredColumns.{type_layer}
 use Rattle.nested_arrays_flat.proofs.Layers.{Layer, is_extension, layer_layout, type_lies}
 
 layer_of_nulls : (x : Layer) → is_extension x ≡ false → layer_layout x ≡ physical.Null → is_null_type x ≡ true

@@ -13,13 +13,13 @@ use Rattle.columnar_memory.specs.declared.PrimitiveType.TheVariants as kinds
 use Rattle.columnar_memory.specs.Numbers.{Numbers, one, two, three, first_number}
 use Rattle.flat_arrays_values.specs.Flat as arrays
 use Rattle.flat_arrays_values.specs.Flat.{Flat, IsFlat, IsMaskOf}
-use Rattle.nested_arrays.specs.Kinds.{in_kind, is_signed, same_kind, numbers_of_kind}
-use Rattle.nested_arrays.specs.SoundColumns.{mask_fits, is_stored_as, has_size, is_sound}
-use Rattle.nested_arrays.proofs.Conditions.{parts_of_3, parts_of_4}
+use Rattle.nested_arrays_columns.specs.Kinds.{in_kind, is_signed, same_kind, numbers_of_kind}
+use Rattle.nested_arrays_columns.specs.SoundColumns.{mask_fits, is_stored_as, has_size, is_sound}
+use Rattle.nested_arrays_columns.proofs.Conditions.{parts_of_3, parts_of_4}
 use Rattle.nested_arrays_flat.proofs.Layers.{Layer}
-use Rattle.nested_arrays.specs.StoredColumns as StoredColumns
-use Rattle.nested_arrays.specs.StoredColumns.{Stored, Column, cut_list, cut_mask, cut_stored, stored_len, cut, numbers, pairs, triples}
-use Rattle.nested_arrays.specs.StoredColumns.{column_len, type_layer}
+use Rattle.nested_arrays_columns.specs.StoredColumns as StoredColumns
+use Rattle.nested_arrays_columns.specs.StoredColumns.{Stored, Column, cut_list, cut_mask, cut_stored, stored_len, cut, numbers, pairs, triples}
+use Rattle.nested_arrays_columns.specs.StoredColumns.{column_len, type_layer}
 use Rattle.nested_arrays_flat.proofs.ColumnParts.{is_flat}
 use Rattle.nested_arrays_flat.specs.Primitives.{column_of}
 use Rattle.nested_arrays_flat.specs.declared.primitive.PrimitiveNode.{PrimitiveNode}

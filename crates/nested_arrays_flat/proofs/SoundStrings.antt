@@ -16,12 +16,12 @@ use Rattle.flat_arrays_byte_columns.proofs.Places.{value_between, text_among}
 use Rattle.flat_arrays_byte_columns.specs.ByteStrings as arrays
 use Rattle.flat_arrays_byte_columns.specs.ByteStrings.{ByteStrings, len_of, values_of}
 use Rattle.flat_arrays_byte_columns.specs.Fits.{IsBinary, IsMaskOf, IsText, binary_layout, text_layout}
-use Rattle.nested_arrays.proofs.Conditions.{holds_from}
-use Rattle.nested_arrays.specs.Kinds.{most_offset}
-use Rattle.nested_arrays.specs.SoundColumns.{are_offsets, are_strings, has_size, holds_below, is_byte, is_sound, is_stored_as, is_text_at}
-use Rattle.nested_arrays.specs.SoundColumns.{mask_fits, rises_at}
-use Rattle.nested_arrays.specs.StoredColumns as StoredColumns
-use Rattle.nested_arrays.specs.StoredColumns.{byte_strings, cut, cut_list, cut_mask, place_of, stored_len, texts, type_layer}
+use Rattle.nested_arrays_columns.proofs.Conditions.{holds_from}
+use Rattle.nested_arrays_columns.specs.Kinds.{most_offset}
+use Rattle.nested_arrays_columns.specs.SoundColumns.{are_offsets, are_strings, has_size, holds_below, is_byte, is_sound, is_stored_as, is_text_at}
+use Rattle.nested_arrays_columns.specs.SoundColumns.{mask_fits, rises_at}
+use Rattle.nested_arrays_columns.specs.StoredColumns as StoredColumns
+use Rattle.nested_arrays_columns.specs.StoredColumns.{byte_strings, cut, cut_list, cut_mask, place_of, stored_len, texts, type_layer}
 use Rattle.nested_arrays_flat.proofs.CutMasks.{cut_window}
 use Rattle.nested_arrays_flat.proofs.Layers.{Layer}
 use Rattle.nested_arrays_flat.proofs.Offsets.{cut_offsets, get_or-offsets_of, length-offsets_of, spans_count}

@@ -2,8 +2,8 @@
 use Rattle.std.specs.Prelude.{◌≡◌, true, Result, MatchResult}
 use Rattle.columnar_memory.specs.declared.Error.{Error}
 use Rattle.columnar_memory.specs.Error.{IsOutOfSpec}
-use Rattle.nested_arrays.specs.SoundColumns.{is_sound}
-use Rattle.nested_arrays.specs.StoredColumns.{Column}
+use Rattle.nested_arrays_columns.specs.SoundColumns.{is_sound}
+use Rattle.nested_arrays_columns.specs.StoredColumns.{Column}
 
 -- the array of these parts, if they are those of an array, or a refusal
 abbrev pub IsChecked : Column → Result Column Error → Type 0

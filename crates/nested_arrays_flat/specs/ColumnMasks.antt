@@ -3,8 +3,8 @@ use Rattle.std.specs.Prelude.{◌≡◌, ℕ, Bool, true, List, Option, Some, No
 use Rattle.columnar_memory.specs.Bits.{unset_count}
 use Rattle.columnar_memory.specs.Error.{IsInvalidArgument}
 use Rattle.columnar_memory.specs.declared.Error.{Error}
-use Rattle.nested_arrays.specs.SoundColumns.{mask_fits}
-use Rattle.nested_arrays.specs.StoredColumns.{Column, nulls, flat, lists, fixed_lists, records, unions, dictionary, column_len}
+use Rattle.nested_arrays_columns.specs.SoundColumns.{mask_fits}
+use Rattle.nested_arrays_columns.specs.StoredColumns.{Column, nulls, flat, lists, fixed_lists, records, unions, dictionary, column_len}
 
 -- a column's mask; nulls alone and unions have none
 abbrev pub column_mask : Column → Option (List Bool)

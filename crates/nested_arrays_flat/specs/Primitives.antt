@@ -2,7 +2,7 @@
 use Rattle.std.specs.Prelude.{pos}
 use Rattle.columnar_memory.specs.declared.PrimitiveType.TheVariants as kinds
 use Rattle.columnar_memory.specs.Numbers.{one, two, three}
-use Rattle.nested_arrays.specs.StoredColumns.{Column}
+use Rattle.nested_arrays_columns.specs.StoredColumns.{Column}
 use Rattle.nested_arrays_flat.specs.FlatColumns.{primitive_column}
 use Rattle.nested_arrays_flat.specs.declared.primitive.PrimitiveNode.{PrimitiveNode}
 use Rattle.nested_arrays_flat.specs.declared.primitive.PrimitiveNode.TheVariants as variant

@@ -2,9 +2,9 @@
 ghost use Rattle.std.specs.Prelude.{◌≡◌, ◌+◌, ◌*◌, ◌/◌, ◌^◌, ◌<◌, ◌≤◌, [], length, replicate};
 ghost use Rattle.std.specs.Prelude.{false, true, MatchOption, None, Some, option_copied};
 ghost use Rattle.columnar_memory.specs.Results.{OrOutOfMemory};
-ghost use Rattle.nested_arrays.specs.Slots.{bytes, null};
-ghost use Rattle.nested_arrays.specs.SoundColumns.{is_sound, mask_fits};
-ghost use Rattle.nested_arrays.specs.StoredColumns.{column_len, column_type, cut, cut_list, is_valid_at, slot_at};
+ghost use Rattle.nested_arrays_columns.specs.Slots.{bytes, null};
+ghost use Rattle.nested_arrays_columns.specs.SoundColumns.{is_sound, mask_fits};
+ghost use Rattle.nested_arrays_columns.specs.StoredColumns.{column_len, column_type, cut, cut_list, is_valid_at, slot_at};
 ghost use Rattle.nested_arrays_flat.specs.Checked.{IsChecked};
 ghost use Rattle.nested_arrays_flat.specs.ColumnMasks.{column_mask, unset_in, with_mask, ReplacesMask};
 ghost use Rattle.nested_arrays_flat.specs.FlatColumns.{byte_width, fixed_column};
@@ -27,9 +27,9 @@ pub struct FixedSizeBinaryArray {
 
 impl Model for FixedSizeBinaryArray {
     ghost use Rattle.std.specs.Prelude.{◌≡◌, true};
-    ghost use Rattle.nested_arrays.specs.ColumnCodes.{column_code};
-    ghost use Rattle.nested_arrays.specs.SoundColumns.{is_sound};
-    ghost use Rattle.nested_arrays.specs.StoredColumns.{Column};
+    ghost use Rattle.nested_arrays_columns.specs.ColumnCodes.{column_code};
+    ghost use Rattle.nested_arrays_columns.specs.SoundColumns.{is_sound};
+    ghost use Rattle.nested_arrays_columns.specs.StoredColumns.{Column};
     ghost use Rattle.nested_arrays_flat.specs.FlatColumns.{fixed_column};
 
     ghost Value = { Column };

@@ -3,8 +3,8 @@
 ghost use Rattle.std.specs.Prelude.{◌≡◌, ◌+◌, ◌<◌, ◌≤◌, ◌↔◌, IsTrue, length, option_copied, true};
 ghost use Rattle.std.specs.Option.{ForSome};
 ghost use Rattle.columnar_memory.specs.Spans.{spans_between};
-ghost use Rattle.nested_arrays.specs.SoundColumns.{mask_fits};
-ghost use Rattle.nested_arrays.specs.StoredColumns.{cut_mask, is_valid_at};
+ghost use Rattle.nested_arrays_columns.specs.SoundColumns.{mask_fits};
+ghost use Rattle.nested_arrays_columns.specs.StoredColumns.{cut_mask, is_valid_at};
 ghost use Rattle.nested_arrays_flat.specs.ColumnMasks.{unset_in};
 
 use columnar_memory::{Bitmap, Offset, OffsetsBuffer};

@@ -2,8 +2,8 @@
 ghost use Rattle.std.specs.Prelude.{◌≡◌, ◌+◌, ◌≤◌, ◌↔◌, IsTrue, true, MatchResult};
 ghost use Rattle.columnar_memory.specs.Layouts.{physical_type};
 ghost use Rattle.columnar_memory.specs.declared.PhysicalType.TheVariants as physical;
-ghost use Rattle.nested_arrays.specs.SoundColumns.{is_sound};
-ghost use Rattle.nested_arrays.specs.StoredColumns.{column_len, column_type, cut, nulls};
+ghost use Rattle.nested_arrays_columns.specs.SoundColumns.{is_sound};
+ghost use Rattle.nested_arrays_columns.specs.StoredColumns.{column_len, column_type, cut, nulls};
 ghost use Rattle.nested_arrays_flat.specs.Checked.{IsChecked};
 
 use columnar_memory::{DataType, Error, PhysicalType, Result};
@@ -19,9 +19,9 @@ pub struct NullArray {
 
 impl Model for NullArray {
     ghost use Rattle.std.specs.Prelude.{◌≡◌, true};
-    ghost use Rattle.nested_arrays.specs.StoredColumns.{Column, nulls};
-    ghost use Rattle.nested_arrays.specs.ColumnCodes.{column_code};
-    ghost use Rattle.nested_arrays.specs.SoundColumns.{is_sound};
+    ghost use Rattle.nested_arrays_columns.specs.StoredColumns.{Column, nulls};
+    ghost use Rattle.nested_arrays_columns.specs.ColumnCodes.{column_code};
+    ghost use Rattle.nested_arrays_columns.specs.SoundColumns.{is_sound};
 
     ghost Value = { Column };
 

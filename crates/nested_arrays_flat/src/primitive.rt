@@ -2,8 +2,8 @@
 ghost use Rattle.std.specs.Prelude.{◌≡◌, ◌+◌, ◌<◌, ◌≤◌, ◌↔◌, IsTrue, MatchResult, option_copied, true};
 ghost use Rattle.columnar_memory.specs.declared.PhysicalType.TheVariants as physical;
 ghost use Rattle.flat_arrays_values.specs.Flat.{flat, IsFlat};
-ghost use Rattle.nested_arrays.specs.SoundColumns.{is_sound, mask_fits};
-ghost use Rattle.nested_arrays.specs.StoredColumns.{column_len, column_type, cut, is_valid_at};
+ghost use Rattle.nested_arrays_columns.specs.SoundColumns.{is_sound, mask_fits};
+ghost use Rattle.nested_arrays_columns.specs.StoredColumns.{column_len, column_type, cut, is_valid_at};
 ghost use Rattle.nested_arrays_flat.specs.ColumnMasks.{column_mask, unset_in, with_mask, ReplacesMask};
 ghost use Rattle.nested_arrays_flat.specs.FlatColumns.{primitive_column};
 ghost use Rattle.nested_arrays_flat.specs.Taken.{ArePartsOf, IsLeft, Shows, Takes};
@@ -61,9 +61,9 @@ pub struct AnyPrimitive {
 
 impl Model for AnyPrimitive {
     ghost use Rattle.std.specs.Prelude.{◌≡◌, true};
-    ghost use Rattle.nested_arrays.specs.StoredColumns.{Column};
-    ghost use Rattle.nested_arrays.specs.ColumnCodes.{column_code};
-    ghost use Rattle.nested_arrays.specs.SoundColumns.{is_sound};
+    ghost use Rattle.nested_arrays_columns.specs.StoredColumns.{Column};
+    ghost use Rattle.nested_arrays_columns.specs.ColumnCodes.{column_code};
+    ghost use Rattle.nested_arrays_columns.specs.SoundColumns.{is_sound};
 
     ghost Value = { Column };
 

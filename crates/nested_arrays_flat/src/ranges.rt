@@ -1,7 +1,7 @@
 //! Values read one by one, so that a proof knows their ranges. A compiler that looks at such a loop leaves it out.
 ghost use Rattle.std.specs.Prelude.{◌≡◌, true};
 ghost use Rattle.std.specs.List.{list_all};
-ghost use Rattle.nested_arrays.specs.SoundColumns.{is_byte};
+ghost use Rattle.nested_arrays_columns.specs.SoundColumns.{is_byte};
 ghost use Rattle.nested_arrays_flat.specs.FlatColumns.{is_native};
 
 use columnar_memory::NativeType;

@@ -1,7 +1,7 @@
 //! What the columns of flat arrays are: sound ones. Each function here reads an array, and hands that to a caller's proof.
 ghost use Rattle.std.specs.Prelude.{◌≡◌, ◌≤◌, true};
 ghost use Rattle.columnar_memory.specs.Spans.{last_of};
-ghost use Rattle.nested_arrays.specs.SoundColumns.{is_sound};
+ghost use Rattle.nested_arrays_columns.specs.SoundColumns.{is_sound};
 ghost use Rattle.nested_arrays_flat.specs.FlatColumns.{binary_column, boolean_column, primitive_column, text_column};
 
 use crate::ranges::{read_bytes, read_each};

@@ -16,9 +16,9 @@ use Rattle.columnar_memory.specs.Words.{word, word_bits}
 use Rattle.columnar_memory_bits.proofs.Counts.{unset_count_le}
 use Rattle.columnar_memory_bits.proofs.Windows.{length_window, window_next}
 use Rattle.columnar_memory_bits.proofs.Words.{word_bits_of_word}
-use Rattle.nested_arrays.specs.Slots.{Slot}
-use Rattle.nested_arrays.specs.Cells.{is_null}
-use Rattle.ipc_format_written.specs.Buffers.{null_count, is_valid}
+use Rattle.nested_arrays_columns.specs.Slots.{Slot}
+use Rattle.nested_arrays_columns.specs.Cells.{is_null}
+use Rattle.ipc_format_grammar.specs.Buffers.{null_count, is_valid}
 use Rattle.tables_stream.specs.Int32Written.{bits_of, value_bytes}
 use Rattle.tables_stream.specs.Cells.{slot_of, cell_of, cells_of, int32_bytes}
 use Rattle.tables_stream.proofs.Slices.{part_size, parts_joined}

@@ -10,10 +10,10 @@ use Rattle.std.proofs.lemmas.Grind.{flat_map-append}
 use Rattle.std.proofs.lemmas.Bool.{ltb-true, ltb-false}
 use Rattle.std.proofs.lemmas.List.{append-nil, length-drop, length-append, length-map, map-append, take-append-le, drop-append-le}
 use Rattle.std.proofs.lemmas.List.{drop-replicate, take-replicate}
-use Rattle.nested_arrays.specs.Slots.{Slot}
+use Rattle.nested_arrays_columns.specs.Slots.{Slot}
 use Rattle.tables_stream.specs.Int32Written.{bits_of, bitmap_bytes, value_bytes, int32_buffers}
-use Rattle.ipc_format_written.specs.Buffers.{null_count, validity_bytes}
-use Rattle.ipc_format_written.specs.WrittenMessages.{padded_buffer, body_bytes}
+use Rattle.ipc_format_grammar.specs.Buffers.{null_count, validity_bytes}
+use Rattle.ipc_format_grammar.specs.WrittenMessages.{padded_buffer, body_bytes}
 use Rattle.tables_stream.specs.Cells.{slot_of}
 use Rattle.columnar_memory.specs.Error.{IsIo}
 use Rattle.columnar_memory.specs.declared.Error.{Error}

@@ -11,13 +11,13 @@ use Rattle.std.proofs.lemmas.Int.{of_z-to_z}
 use Rattle.std.proofs.lemmas.List.{append-nil, length-append, length-replicate, length-map, map-append, take-append-drop}
 use Rattle.columnar_memory.specs.Error.{IsIo}
 use Rattle.columnar_memory.specs.declared.Error.{Error}
-use Rattle.nested_arrays.specs.Slots.{Slot}
-use Rattle.ipc_format_written.specs.Buffers.{null_count, validity_bytes}
+use Rattle.nested_arrays_columns.specs.Slots.{Slot}
+use Rattle.ipc_format_grammar.specs.Buffers.{null_count, validity_bytes}
 use Rattle.tables_stream.specs.Int32Written.{bitmap_bytes, value_bytes, int32_buffers, validity_size, buffers_of}
-use Rattle.ipc_format_written.specs.WrittenMessages.{padded_buffer}
-use Rattle.ipc_format_written.specs.WrittenMessages.{buffer_places, body_bytes}
+use Rattle.ipc_format_grammar.specs.WrittenMessages.{padded_buffer}
+use Rattle.ipc_format_grammar.specs.WrittenMessages.{buffer_places, body_bytes}
 use Rattle.tables_stream.specs.Int32Written.{nodes_of}
-use Rattle.ipc_format_written.specs.WrittenStreams.{rows_of_slots}
+use Rattle.ipc_format_grammar.specs.WrittenStreams.{rows_of_slots}
 use Rattle.tables_stream.specs.Cells.{slot_of}
 use Rattle.tables_stream.specs.Batches.{window_cells, rows_of_cells}
 use Rattle.tables_stream.specs.Tables.{batch_slots}

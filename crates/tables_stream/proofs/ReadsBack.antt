@@ -5,13 +5,13 @@ use Rattle.std.specs.List.{All, list_all}
 use Rattle.std.proofs.lemmas.List.Elements.{All-map}
 use Rattle.columnar_memory.specs.declared.Field.{Field}
 use Rattle.columnar_memory.specs.declared.Schema.{Schema}
-use Rattle.nested_arrays.specs.Slots.{Slot}
+use Rattle.nested_arrays_columns.specs.Slots.{Slot}
 use Rattle.ipc_format_grammar.specs.Messages as message
 use Rattle.ipc_format_grammar.specs.Messages.{Version, version_in}
 use Rattle.ipc_format_grammar.specs.Schemas.{SchemaIn}
-use Rattle.ipc_format_columns.specs.Framing.{Framed, first_of}
-use Rattle.ipc_format_columns.specs.Tables.{agree_in_length, schema_of}
-use Rattle.ipc_format_written.specs.WrittenMessages.{fits_limit}
+use Rattle.ipc_format_grammar.specs.Framing.{Framed, first_of}
+use Rattle.ipc_format_grammar.specs.Tables.{agree_in_length, schema_of}
+use Rattle.ipc_format_grammar.specs.WrittenMessages.{fits_limit}
 use Rattle.ipc_format_round_trip.specs.Schemas.{HasTexts}
 use Rattle.ipc_format_column_laws.specs.Batches.{fit_fields}
 use Rattle.ipc_format_column_laws.proofs.Texts.{schemas_read_have_texts}

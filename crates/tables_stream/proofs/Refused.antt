@@ -15,8 +15,8 @@ use Rattle.columnar_memory.specs.declared.Error.TheVariants as errors
 use Rattle.columnar_memory.specs.declared.Field.{Field}
 use Rattle.columnar_memory.specs.declared.Schema.{Schema}
 use Rattle.ipc_format.specs.Objects.{Object, laid}
-use Rattle.ipc_format_written.specs.Ids.{default_ids}
-use Rattle.ipc_format_written.specs.WrittenMessages.{Written, body_limit, most_metadata, prefix_size, fits_limit}
+use Rattle.ipc_format_grammar.specs.Ids.{default_ids}
+use Rattle.ipc_format_grammar.specs.WrittenMessages.{Written, body_limit, most_metadata, prefix_size, fits_limit}
 use Rattle.ipc_format_message_writing.specs.MessageWriting as metadata
 use Rattle.ipc_format_schema_writing.specs.Floats.{float_step, in_type, in_field}
 use Rattle.ipc_format_schema_writing.specs.Writing.{WritesSchema, may_write}

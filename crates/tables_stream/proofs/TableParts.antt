@@ -7,9 +7,9 @@ use Rattle.std.proofs.lemmas.List.{take-map, drop-map, get_or-take, get_or-drop,
 use Rattle.std.proofs.lemmas.Bool.{ltb-false}
 use Rattle.std.proofs.Math.Seq.{drop-nil}
 use Rattle.columnar_memory.specs.declared.Schema.{Schema}
-use Rattle.nested_arrays.specs.Slots.{Slot, null, window}
-use Rattle.nested_arrays.proofs.Windows.{window_same, length-window, cut_list-window}
-use Rattle.nested_arrays.specs.Tables.{Table, part, rows_of_batches, rows_of_columns, batch_rows, row_at}
+use Rattle.nested_arrays_columns.specs.Slots.{Slot, null, window}
+use Rattle.nested_arrays_columns.proofs.Windows.{window_same, length-window, cut_list-window}
+use Rattle.nested_arrays_columns.specs.Tables.{Table, part, rows_of_batches, rows_of_columns, batch_rows, row_at}
 use Rattle.tables_stream.specs.Cells.{slot_of}
 use Rattle.tables_stream.specs.Batches.{window_cells, rows_of_cells}
 use Rattle.tables_stream.specs.Cuts.{cut_of}

@@ -7,13 +7,13 @@ use Rattle.std.specs.Io.KnownBytes.{Appends}
 use Rattle.std.proofs.lemmas.List.{length-map}
 use Rattle.std.proofs.lemmas.List.Elements.{All-nil, All-cons, All-head, All-tail, All-push}
 use Rattle.columnar_memory.specs.declared.Schema.{Schema}
-use Rattle.nested_arrays.specs.Slots.{Slot}
+use Rattle.nested_arrays_columns.specs.Slots.{Slot}
 use Rattle.ipc_format.specs.Reading.{◌>>=◌, guard}
 use Rattle.ipc_format.specs.FlatBuffers as flat
 use Rattle.ipc_format.specs.Messages.{V5, Header, schema, dictionary_batch, record_batch, RecordBatch, record_batch_in, lengths_sum}
-use Rattle.ipc_format_columns.specs.Columns.{Source}
-use Rattle.ipc_format_columns.specs.Tables.{agree_in_length}
-use Rattle.ipc_format_columns.specs.Framing.{Framed, Next, nothing_whole, at_end, message_then, next_at}
+use Rattle.ipc_format_grammar.specs.Columns.{Source}
+use Rattle.ipc_format_grammar.specs.Tables.{agree_in_length}
+use Rattle.ipc_format_grammar.specs.Framing.{Framed, Next, nothing_whole, at_end, message_then, next_at}
 use Rattle.tables_stream.specs.Batches.{window_cells, rows_of_cells}
 use Rattle.tables_stream.specs.Cells.{slot_of}
 use Rattle.tables_stream.specs.Cuts.{cut_of}

@@ -6,8 +6,8 @@ use Rattle.columnar_memory.specs.Bits.{bit_at, bits_of}
 use Rattle.columnar_memory.specs.declared.PrimitiveType.TheVariants as kinds
 use Rattle.columnar_memory_bits.proofs.Windows.{length_window}
 use Rattle.columnar_memory_bitmap.proofs.Lists.{slice_range-window}
-use Rattle.nested_arrays.specs.Slots.{Slot, null, number, window}
-use Rattle.ipc_format_columns.specs.Columns.{all_valid, bitmap}
+use Rattle.nested_arrays_columns.specs.Slots.{Slot, null, number, window}
+use Rattle.ipc_format_grammar.specs.Columns.{all_valid, bitmap}
 use Rattle.tables_stream.specs.Int32Values.{int32_at, int32_slot}
 use Rattle.tables_stream.specs.Cells.{slot_of, cell_of, cells_of}
 

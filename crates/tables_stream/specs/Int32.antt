@@ -2,17 +2,17 @@
 use Rattle.std.specs.Prelude.{ℕ, zero, suc, ◌+◌, ◌*◌, ◌^◌, true, not, List, [], ◌∷◌, ◌++◌, length, map, Option, Some, None, nat_le, nat_lt}
 use Rattle.std.specs.Option.{option_map}
 use Rattle.columnar_memory.specs.declared.Schema.{Schema}
-use Rattle.nested_arrays.specs.Slots.{Slot}
-use Rattle.nested_arrays.specs.Tables as tables
-use Rattle.nested_arrays.specs.Tables.{rows_of_batches}
+use Rattle.nested_arrays_columns.specs.Slots.{Slot}
+use Rattle.nested_arrays_columns.specs.Tables as tables
+use Rattle.nested_arrays_columns.specs.Tables.{rows_of_batches}
 use Rattle.ipc_format.specs.Reading.{◌>>=◌, guard}
 use Rattle.ipc_format.specs.FlatBuffers as flat
 use Rattle.ipc_format.specs.Messages as message
 use Rattle.ipc_format.specs.Messages.{Version, V5, record_batch_in, lengths_sum, version_in}
 use Rattle.ipc_format.specs.Schemas.{SchemaIn}
-use Rattle.ipc_format_columns.specs.Columns as format
+use Rattle.ipc_format_grammar.specs.Columns as format
 use Rattle.tables_stream.specs.Int32Values as int32
-use Rattle.ipc_format_columns.specs.Framing as framing
+use Rattle.ipc_format_grammar.specs.Framing as framing
 use Rattle.ipc_format.specs.Dictionaries.{Layout}
 use Rattle.ipc_format.specs.Tables.{agree_in_length, batches_behind, batches_of, schema_of, stream_entry}
 use Rattle.ipc_format.specs.Refusals.{first_messages}

@@ -3,7 +3,7 @@ use Rattle.std.specs.Prelude.{◌≡◌, ◌⊎◌, ℕ, ◌≤◌, ◌<◌, ◌
 use Rattle.columnar_memory.specs.declared.Error.{Error}
 use Rattle.columnar_memory.specs.declared.Error.TheVariants as errors
 use Rattle.columnar_memory.specs.declared.Schema.{Schema}
-use Rattle.nested_arrays.specs.Tables.{rows_of_batches}
+use Rattle.nested_arrays_columns.specs.Tables.{rows_of_batches}
 use Rattle.ipc_format.specs.FlatBuffers.{Table}
 use Rattle.ipc_format.specs.Messages.{Version, record_batch}
 use Rattle.ipc_format.specs.Framing.{Next, nothing_whole, truncated_from, EndsInLaterMessage}

@@ -2,8 +2,8 @@
 use Rattle.std.specs.Prelude.{◌≡◌, ℕ, ◌<◌, ◌^◌, ℤ, true, All, List, ◌++◌, Option, length, map, sum_by}
 use Rattle.columnar_memory.specs.declared.Field.{Field}
 use Rattle.columnar_memory.specs.declared.Schema.{Schema}
-use Rattle.nested_arrays.specs.Slots.{Slot}
-use Rattle.nested_arrays.specs.Tables.{Table, rows_of_batches}
+use Rattle.nested_arrays_columns.specs.Slots.{Slot}
+use Rattle.nested_arrays_columns.specs.Tables.{Table, rows_of_batches}
 use Rattle.ipc_format.specs.Ids.{default_ids}
 use Rattle.ipc_format.specs.Tables.{agree_in_length}
 use Rattle.ipc_format.specs.WrittenMessages.{Written}

@@ -1,6 +1,6 @@
 //! Tables: a schema, and rows batch by batch.
 ghost use Rattle.std.specs.Prelude.{◌≡◌, ◌+◌, ◌≤◌, ◌<◌, ◌^◌, ◌↔◌, IsTrue, IfOk, IfErr, length, map};
-ghost use Rattle.nested_arrays.specs.Tables.{part};
+ghost use Rattle.nested_arrays_columns.specs.Tables.{part};
 ghost use Rattle.tables_stream.specs.Cuts.{cut_of};
 ghost use Rattle.tables_stream.specs.Refusals.{WritesStream};
 ghost use Rattle.tables_stream.specs.Tables.{row_count, as_table, table_bytes, ReadAsTable};

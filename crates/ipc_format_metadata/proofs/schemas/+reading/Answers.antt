@@ -5,7 +5,7 @@ use Rattle.ipc_format_flatbuffers.specs.Reading.{◌>>=◌}
 use Rattle.ipc_format_flatbuffers.specs.FlatBuffers.{element_at}
 use Rattle.ipc_format_flatbuffers.specs.Views.{table_of, vector_of}
 use Rattle.ipc_format_grammar.specs.Schemas.{field_in}
-use Rattle.ipc_format_columns.specs.Refusals.{IsFloat}
+use Rattle.ipc_format_grammar.specs.Refusals.{IsFloat}
 use Rattle.ipc_format_metadata.specs.Views.{ids_view}
 use Rattle.ipc_format_metadata.specs.Parts as parts
 use Rattle.ipc_format_metadata.specs.LayerViews.{over_field, over_fields}

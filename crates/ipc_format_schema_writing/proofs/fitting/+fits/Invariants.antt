@@ -1,5 +1,5 @@
 use Rattle.std.proofs.Common.{◌≡◌, map, drop}
-use Rattle.ipc_format_written.specs.Ids as format
+use Rattle.ipc_format_grammar.specs.Ids as format
 use Rattle.ipc_format_metadata.specs.Views.{ids_views}
 use Rattle.ipc_format_schema_writing.specs.Fitting.{field_fitting}
 use Rattle.ipc_format_schema_writing.proofs.fitting.+fits.Given as goal

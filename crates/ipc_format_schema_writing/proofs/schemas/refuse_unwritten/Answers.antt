@@ -1,6 +1,6 @@
 use Rattle.std.proofs.Common.{rules}
 use Rattle.ipc_format_grammar.specs.Writable.{is_writable}
-use Rattle.ipc_format_written.specs.Ids.{ids_fit_fields}
+use Rattle.ipc_format_grammar.specs.Ids.{ids_fit_fields}
 use Rattle.ipc_format_metadata.specs.Views.{ids_views}
 use Rattle.ipc_format_schema_writing.proofs.SchemaMessages.{both_true}
 use Rattle.ipc_format_schema_writing.proofs.schemas.refuse_unwritten.Goals as goal

@@ -1,6 +1,6 @@
 -- The numbers so far are those of the values so far.
 use Rattle.std.proofs.Common.{◌≡◌}
-use Rattle.nested_arrays.specs.Slots.{window}
+use Rattle.nested_arrays_columns.specs.Slots.{window}
 use Rattle.tables_stream.specs.Int32Values as int32
 use Rattle.tables_stream.proofs.columns.numbers.Given as goal
 

@@ -3,9 +3,9 @@ use Rattle.std.proofs.Common.{rules, ◌≡◌, ◌+◌, ◌<◌, ℕ, List, len
 use Rattle.std.specs.Prelude.{Option}
 use Rattle.std.specs.Io.KnownBytes.{Appends}
 use Rattle.std.specs.List.{flat_map}
-use Rattle.nested_arrays.specs.Slots.{Slot}
-use Rattle.ipc_format_written.specs.Buffers.{null_count}
-use Rattle.ipc_format_written.specs.WrittenMessages.{padded_buffer}
+use Rattle.nested_arrays_columns.specs.Slots.{Slot}
+use Rattle.ipc_format_grammar.specs.Buffers.{null_count}
+use Rattle.ipc_format_grammar.specs.WrittenMessages.{padded_buffer}
 use Rattle.tables_stream.specs.Int32Written.{bitmap_bytes, value_bytes}
 use Rattle.ipc_format_streams.specs.Devices.{Puts}
 use Rattle.tables_stream.proofs.Padded.{slots_between, slots_size, column_put, values_put, validity_refused}

@@ -1,5 +1,5 @@
 use Rattle.std.proofs.Common.{rules, ◌≡◌, ◌∙◌, ◌*◌, ap, false, replicate, Some}
-use Rattle.nested_arrays.specs.SoundColumns.{is_sound}
+use Rattle.nested_arrays_columns.specs.SoundColumns.{is_sound}
 use Rattle.nested_arrays_flat.specs.FlatColumns.{byte_width, fixed_column}
 use Rattle.nested_arrays_flat.proofs.FixedWidths.{nulls_sound}
 use Rattle.nested_arrays_flat.proofs.fixed_size_binary.FixedSizeBinaryArray.new_null.Goals as goal

@@ -1,5 +1,5 @@
 use Rattle.std.proofs.Common.{◌∙◌, ◌/◌, ap, length, sym}
-use Rattle.nested_arrays.specs.SoundColumns.{is_sound}
+use Rattle.nested_arrays_columns.specs.SoundColumns.{is_sound}
 use Rattle.nested_arrays_flat.proofs.ColumnParts.{sound_after}
 use Rattle.nested_arrays_flat.proofs.CutMasks.{marks_within}
 use Rattle.nested_arrays_flat.proofs.FixedWidths.{fixed_cut, fixed_parts, slots_within}

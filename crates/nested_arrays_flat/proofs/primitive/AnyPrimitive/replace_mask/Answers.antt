@@ -1,5 +1,5 @@
 use Rattle.std.proofs.Common.{◌∙◌, ap, sym}
-use Rattle.nested_arrays.specs.SoundColumns.{is_sound}
+use Rattle.nested_arrays_columns.specs.SoundColumns.{is_sound}
 use Rattle.nested_arrays_flat.proofs.ColumnParts.{flat_masked, is_flat}
 use Rattle.nested_arrays_flat.proofs.SoundFlats.{numbers_flat}
 use Rattle.nested_arrays_flat.specs.ColumnMasks.{with_mask}

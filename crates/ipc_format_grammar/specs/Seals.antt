@@ -1,0 +1,74 @@
+-- Seals: the one byte text of a schema, a list of rows and a batch size. The rows go in batches of that size, little-endian, each column
+-- from its slots alone, the dictionaries numbered from 0.
+use Rattle.std.specs.Prelude.{◌≡◌, ℕ, zero, suc, Bool, true, ◌&&◌, List, [], ◌∷◌, length, map, take, drop, is_none, Option, Some}
+use Rattle.std.specs.Prelude.{slice_index_or}
+use Rattle.std.specs.List.{list_all}
+use Rattle.ipc_format_flatbuffers.specs.Reading.{◌>>=◌, guard}
+use Rattle.columnar_memory.specs.declared.Field.{Field}
+use Rattle.columnar_memory.specs.declared.Schema.{Schema}
+use Rattle.nested_arrays_columns.specs.Slots.{Slot, null, window}
+use Rattle.nested_arrays_columns.specs.Tables.{Table}
+use Rattle.nested_arrays_columns.specs.OpenBatch.{fits}
+use Rattle.nested_arrays_columns.specs.Sealing.{seal_bar}
+use Rattle.ipc_format_grammar.specs.Writable.{is_writable, IsTable}
+use Rattle.ipc_format_grammar.specs.Ids.{default_ids}
+use Rattle.ipc_format_grammar.specs.WrittenMessages.{fits_limit}
+use Rattle.ipc_format_grammar.specs.WrittenStreams.{Batch, batch_of_slots, stream_messages, stream_bytes}
+
+-- groups of n, the last one shorter; there are at most so many
+abbrev pub groups_within : {A : Type 0} → ℕ → ℕ → List A → List (List A)
+groups_within zero n xs = []
+groups_within (suc most) n [] = []
+groups_within (suc most) n (x ∷ xs) = take n (x ∷ xs) ∷ groups_within most n (drop n (x ∷ xs))
+
+abbrev pub groups_of : {A : Type 0} → ℕ → List A → List (List A)
+groups_of n xs = groups_within (length xs) n xs
+
+-- the column of field k of some rows
+abbrev pub column_of_rows : List (List Slot) → ℕ → List Slot
+column_of_rows rows k = map (λ row. slice_index_or row k null) rows
+
+abbrev pub columns_of_rows : List Field → List (List Slot) → List (List Slot)
+columns_of_rows fields rows = window (column_of_rows rows) 0 (length fields)
+
+-- the batches of a seal
+abbrev pub seal_batches : Schema → List (List Slot) → ℕ → List Batch
+seal_batches schema rows n =
+    map (λ group. batch_of_slots schema.fields (default_ids schema.fields) (columns_of_rows schema.fields group)) (groups_of n rows)
+
+-- the bytes of a seal
+unfoldable pub seal_bytes : Schema → List (List Slot) → ℕ → List ℕ
+seal_bytes schema rows n = stream_bytes schema (default_ids schema.fields) (seal_batches schema rows n)
+
+-- each column of a group fits its type
+abbrev pub columns_fit : List Field → List (List Slot) → Bool
+columns_fit [] columns = true
+columns_fit (field ∷ fields) [] = true
+columns_fit (field ∷ fields) (column ∷ columns) = fits field.data_type column && columns_fit fields columns
+
+-- whether a schema may be sealed
+abbrev pub is_sealable : Schema → Bool
+is_sealable schema = is_none (seal_bar schema (is_writable schema))
+
+-- whether each group's columns fit
+abbrev pub groups_fit : Schema → List (List Slot) → ℕ → Bool
+groups_fit schema rows n = list_all (λ group. columns_fit schema.fields (columns_of_rows schema.fields group)) (groups_of n rows)
+
+-- whether each message is within its limit
+abbrev pub messages_fit : Schema → List (List Slot) → ℕ → Bool
+messages_fit schema rows n = list_all fits_limit (stream_messages schema (default_ids schema.fields) (seal_batches schema rows n))
+
+-- the seal of a schema and rows in batches of n: nothing where the schema may not be sealed, a group doesn't fit, or a message is too long
+unfoldable pub sealed : Schema → List (List Slot) → ℕ → Option (List ℕ)
+sealed schema rows n = do
+  _ ← guard (is_sealable schema)
+  _ ← guard (groups_fit schema rows n)
+  _ ← guard (messages_fit schema rows n)
+  Some (seal_bytes schema rows n)
+
+-- a table that may be sealed in batches of n
+pub record SealableWith (table : Table) (n : ℕ) : Type 0 where
+  pub is_table : IsTable table
+  pub sealable : is_sealable table.schema ≡ true
+  pub groups : groups_fit table.schema table.rows n ≡ true
+  pub messages : messages_fit table.schema table.rows n ≡ true

@@ -1,0 +1,105 @@
+-- Written files (Arrow IPC, "IPC File Format"; File.fbs).
+use Rattle.std.specs.Prelude.{ℕ, ◌+◌, ◌^◌, Bool, true, ◌&&◌, List, [], ◌∷◌, ◌++◌, length, replicate, nat_lt, is_none, ◌||◌, Option, Some}
+use Rattle.std.specs.List.{flat_map, list_all}
+use Rattle.std.specs.Int.{w16, w32, w64, to_le_bytes}
+use Rattle.ipc_format_flatbuffers.specs.Reading.{◌>>=◌, guard}
+use Rattle.ipc_format_flatbuffers.specs.Objects.{Object, laid, table, elements, no_field, absent_then, number_then, refers_then}
+use Rattle.columnar_memory.specs.declared.Schema.{Schema}
+use Rattle.ipc_format_grammar.specs.Schemas.{IdsList}
+use Rattle.ipc_format_grammar.specs.SchemaObjects.{schema_object}
+use Rattle.ipc_format_grammar.specs.Writable.{is_writable}
+use Rattle.ipc_format_grammar.specs.Files.{file_mark}
+use Rattle.ipc_format_grammar.specs.Ids.{ids_fit_fields}
+use Rattle.ipc_format_grammar.specs.GivenDictionaries.{Given, stands_for, last_under, to_write, written_after}
+use Rattle.ipc_format_grammar.specs.WrittenMessages.{Written, prefix_size, message_bytes, fits_limit, schema_written}
+use Rattle.ipc_format_grammar.specs.WrittenMessages.{record_message, dictionary_message}
+use Rattle.ipc_format_grammar.specs.WrittenStreams.{Batch, stream_messages, stream_bytes}
+
+-- where a message stands in a file: its place, how many bytes stand before its body, and how many its body has
+pub record Block : Type 0 where
+  pub offset : ℕ
+  pub metadata_length : ℕ
+  pub body_length : ℕ
+
+-- the blocks of a file, of dictionaries and of record batches
+pub record Blocks : Type 0 where
+  pub dictionaries : List Block
+  pub record_batches : List Block
+
+abbrev pub block_of : ℕ → Written → Block
+block_of place message =
+    record { offset = place; metadata_length = prefix_size + length message.metadata; body_length = length message.body }
+
+-- where the next message stands
+abbrev pub place_after : ℕ → Written → ℕ
+place_after place message = place + length (message_bytes message)
+
+abbrev pub with_dictionary : Block → Blocks → Blocks
+with_dictionary block blocks = record blocks { dictionaries = block ∷ blocks.dictionaries }
+
+abbrev pub with_record_batch : Block → Blocks → Blocks
+with_record_batch block blocks = record blocks { record_batches = block ∷ blocks.record_batches }
+
+-- the blocks of dictionaries from a place on, and then those that come of the place behind them
+abbrev pub dictionary_blocks : ℕ → List Given → (ℕ → Blocks) → Blocks
+dictionary_blocks place [] rest = rest place
+dictionary_blocks place (given ∷ others) rest =
+    with_dictionary (block_of place (dictionary_message given)) (dictionary_blocks (place_after place (dictionary_message given)) others rest)
+
+-- the blocks of batches from a place on, where some dictionaries are written already
+abbrev pub batch_blocks : ℕ → List Given → List Batch → Blocks
+batch_blocks place written [] = record { dictionaries = []; record_batches = [] }
+batch_blocks place written (batch ∷ batches) =
+    dictionary_blocks place (to_write written batch.given) (λ here.
+    let message = record_message batch.rows batch.columns in
+    with_record_batch (block_of here message) (batch_blocks (place_after here message) (written_after written batch.given) batches))
+
+-- ---- the footer
+
+-- a block: its offset, the length of its metadata, four bytes of padding, and the length of its body
+abbrev pub block_bytes : Block → List ℕ
+block_bytes block = to_le_bytes w64 block.offset ++ to_le_bytes w32 block.metadata_length ++ replicate 4 0 ++ to_le_bytes w64 block.body_length
+
+abbrev pub blocks_object : List Block → Object
+blocks_object blocks = elements (length blocks) (flat_map block_bytes blocks)
+
+-- the footer, in version V5
+abbrev pub footer_object : Schema → IdsList → Blocks → Object
+footer_object schema ids blocks =
+    table (number_then w16 4 (refers_then (schema_object schema ids) (refers_then (blocks_object blocks.dictionaries)
+    (refers_then (blocks_object blocks.record_batches) (absent_then no_field)))))
+
+-- what stands before a file's first message: its mark, and two zeros
+abbrev pub file_start : List ℕ
+file_start = file_mark ++ replicate 2 0
+
+unfoldable pub footer_bytes : Schema → IdsList → List Batch → List ℕ
+footer_bytes schema ids batches =
+    laid (footer_object schema ids (batch_blocks (place_after (length file_start) (schema_written schema ids)) [] batches))
+
+-- a file's bytes: its messages as a stream has them, the footer, the footer's length, and the mark
+unfoldable pub file_bytes : Schema → IdsList → List Batch → List ℕ
+file_bytes schema ids batches =
+    file_start ++ stream_bytes schema ids batches ++ footer_bytes schema ids batches
+    ++ to_le_bytes w32 (length (footer_bytes schema ids batches)) ++ file_mark
+
+-- a dictionary that a file may hold: the first of its id, or the same
+abbrev pub is_first_or_same : List Given → Given → Bool
+is_first_or_same written given = is_none (last_under given.id written) || stands_for given (last_under given.id written)
+
+-- no dictionary is replaced
+abbrev pub none_replaced : List Given → List Given → Bool
+none_replaced written [] = true
+none_replaced written (given ∷ others) = is_first_or_same written given && none_replaced (given ∷ written) others
+
+abbrev pub all_given : List Batch → List Given
+all_given batches = flat_map (λ (batch : Batch). batch.given) batches
+
+-- A whole file: nothing where the schema isn't written, its ids don't fit, a dictionary is replaced, a message is too long, or the footer.
+unfoldable pub written_file : Schema → IdsList → List Batch → Option (List ℕ)
+written_file schema ids batches = do
+  _ ← guard (is_writable schema && ids_fit_fields schema.fields ids)
+  _ ← guard (none_replaced [] (all_given batches))
+  _ ← guard (list_all fits_limit (stream_messages schema ids batches))
+  _ ← guard (nat_lt (length (footer_bytes schema ids batches)) (2 ^ 31))
+  Some (file_bytes schema ids batches)

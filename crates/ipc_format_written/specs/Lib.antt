@@ -1,9 +1,0 @@
-pub mod Buffers
-pub mod Encoding
-pub mod StoredEncoding
-pub mod Ids
-pub mod GivenDictionaries
-pub mod WrittenMessages
-pub mod WrittenStreams
-pub mod WrittenFiles
-pub mod Seals

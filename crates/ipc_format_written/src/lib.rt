@@ -1,4 +1,0 @@
-//! What is written of columns, dictionaries, batches, streams, files and seals, for every type.
-//!
-//! It has definitions for contracts, and no code.
-#![tactic(auto)]
