@@ -20,7 +20,7 @@ use Rattle.nested_arrays_columns.specs.StoredColumns.{records, unions, in_column
 use Rattle.nested_arrays_columns.proofs.CutStored.{pieces_within}
 use Rattle.nested_arrays_arrays.specs.AnyColumns.{FitsWidth}
 use Rattle.nested_arrays_arrays.specs.declared.any.Node.{Node}
-use Rattle.nested_arrays_arrays.proofs.OffsetLists.{cut_offsets, spans_count}
+use Rattle.nested_arrays_parts.proofs.OffsetLists.{cut_offsets, spans_count}
 
 pub cut_lists : (data_type : DataType) (mask : Option (List Bool)) (s : Spans) (child : Column) (o n : ℕ) → o + n ≤ length s.lengths
     → lists data_type (cut_mask mask o n) (offsets_of (spans_between s o n)) child ≡ cut (lists data_type mask (offsets_of s) child) o n

@@ -14,7 +14,7 @@ use Rattle.nested_arrays_columns.proofs.Conditions.{parts_of_4}
 use Rattle.nested_arrays_arrays.specs.Answers.{LiesAs}
 use Rattle.nested_arrays_arrays.specs.Entries.{has_entry_type, has_list_item_type, list_layout}
 use Rattle.nested_arrays_flat.proofs.Layers.{Layer, layer_layout, type_lies}
-use Rattle.nested_arrays_arrays.proofs.OffsetLists.{spans_sound, offsets_end_within, spans_count}
+use Rattle.nested_arrays_parts.proofs.OffsetLists.{spans_sound, offsets_end_within, spans_count}
 
 -- types of maps are those that lie in memory as maps and have items
 map_layer : (x : Layer) (child : DataType) → has_entry_type x child ≡ true → (has_item_type x child ≡ true) × (layer_layout x ≡ physical.Map)

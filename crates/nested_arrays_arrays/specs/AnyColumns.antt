@@ -6,7 +6,7 @@ use Rattle.nested_arrays_columns.specs.SoundColumns.{is_sound}
 use Rattle.nested_arrays_columns.specs.StoredColumns.{Column, lists}
 use Rattle.nested_arrays_arrays.specs.declared.any.Node.{Node}
 use Rattle.nested_arrays_arrays.specs.declared.any.Node.TheVariants as variant
-use Rattle.nested_arrays_arrays.specs.Widths.{spans_in, layout_of}
+use Rattle.nested_arrays_parts.specs.Widths.{spans_in, layout_of}
 
 abbrev pub column_of : Node → Column
 column_of (variant.Flat array) = array

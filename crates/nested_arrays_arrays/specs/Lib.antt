@@ -1,7 +1,5 @@
 pub mod AnyColumns
 pub mod Answers
 pub mod Entries
-pub mod FlatNodes
 pub mod Lengths
 pub mod Sizes
-pub mod Widths

@@ -4,13 +4,12 @@ ghost use Rattle.nested_arrays_columns.specs.SoundColumns.{is_sound};
 ghost use Rattle.nested_arrays_columns.specs.StoredColumns.{column_len, column_type, cut};
 
 use crate::fixed_lists::FixedSizeListArray;
-use crate::flats::FlatArray;
 use crate::maps::MapArray;
-use crate::offsets::ListOffsets;
 use crate::records::StructArray;
 use crate::unions::UnionArray;
 use columnar_memory::{Bitmap, DataType};
 use nested_arrays_flat::slice_mask;
+use nested_arrays_parts::{FlatArray, ListOffsets};
 use std::marker::Model;
 
 /// An array, by how it lies in memory.
@@ -67,7 +66,7 @@ impl Model for AnyArray {
 impl AnyArray {
     /// How many slots there are.
     #[cycle(counting)]
-    #[tactic(auto, using(crate::proofs::OffsetLists::spans_count))]
+    #[tactic(auto, using(nested_arrays_parts::proofs::OffsetLists::spans_count))]
     pub fn len(&self) -> usize
         ensures { result ≡ column_len self.now }
     {

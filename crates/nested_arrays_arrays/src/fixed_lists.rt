@@ -6,9 +6,9 @@ ghost use Rattle.nested_arrays_arrays.specs.Answers.{IsChecked};
 ghost use Rattle.nested_arrays_arrays.specs.Lengths.{size_of};
 
 use crate::any::AnyArray;
-use crate::masks::fits;
 use columnar_memory::{Bitmap, DataType, Error, Result};
 use nested_arrays_flat::slice_mask;
+use nested_arrays_parts::fits;
 use std::marker::Model;
 
 /// Lists of one size, one after another in a child (Arrow columnar format, "Fixed-Size List Layout"). A contract sees the column that it stores.

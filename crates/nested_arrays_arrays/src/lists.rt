@@ -6,9 +6,9 @@ ghost use Rattle.nested_arrays_arrays.specs.Answers.{IsCheckedAs, LiesAs};
 ghost use Rattle.nested_arrays_arrays.specs.Entries.{has_list_item_type, list_layout};
 
 use crate::any::AnyArray;
-use crate::masks::{fits, last_of};
 use columnar_memory::{Bitmap, DataType, Error, Offset, OffsetsBuffer, Result};
 use nested_arrays_flat::{slice_mask, slice_offsets};
+use nested_arrays_parts::{fits, last_of};
 use std::marker::Model;
 
 /// Lists of any length, one after another in a child, with offsets of one width (Arrow columnar format, "Variable-size List Layout"). A
@@ -95,7 +95,7 @@ impl<O: Offset> ListArray<O> {
     }
 
     /// How many slots there are.
-    #[tactic(auto, using(crate::proofs::OffsetLists::spans_count))]
+    #[tactic(auto, using(nested_arrays_parts::proofs::OffsetLists::spans_count))]
     pub fn len(&self) -> usize
         ensures { result ≡ column_len self.now }
     {

@@ -9,9 +9,9 @@ ghost use Rattle.nested_arrays_arrays.specs.Answers.{IsCheckedAs, LiesAs};
 ghost use Rattle.nested_arrays_arrays.specs.Entries.{has_entry_type};
 
 use crate::any::AnyArray;
-use crate::masks::{fits, last_of};
 use columnar_memory::{Bitmap, DataType, Error, OffsetsBuffer, Result};
 use nested_arrays_flat::{slice_mask, slice_offsets};
+use nested_arrays_parts::{fits, last_of};
 use std::marker::Model;
 
 /// Maps, each a list of entries, structs of a key and a value, one after another in a child (Arrow columnar format, "Map"). A contract sees
@@ -117,7 +117,7 @@ impl MapArray {
     }
 
     /// How many slots there are.
-    #[tactic(auto, using(crate::proofs::OffsetLists::spans_count))]
+    #[tactic(auto, using(nested_arrays_parts::proofs::OffsetLists::spans_count))]
     pub fn len(&self) -> usize
         ensures { result ≡ column_len self.now }
     {

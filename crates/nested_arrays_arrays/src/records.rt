@@ -7,9 +7,9 @@ ghost use Rattle.nested_arrays_arrays.specs.Lengths.{struct_len};
 
 use crate::any::AnyArray;
 use crate::children::{are_fields_of, are_whole, have_len};
-use crate::masks::fits;
 use columnar_memory::{Bitmap, DataType, Error, Result};
 use nested_arrays_flat::slice_mask;
+use nested_arrays_parts::fits;
 use std::marker::Model;
 
 /// Structs (Arrow columnar format, "Struct Layout").

@@ -2,8 +2,8 @@
 use Rattle.columnar_memory.specs.Spans.{Spans}
 use Rattle.columnar_memory.specs.declared.PhysicalType.{PhysicalType}
 use Rattle.columnar_memory.specs.declared.PhysicalType.TheVariants as physical
-use Rattle.nested_arrays_arrays.specs.declared.offsets.ListOffsets.{ListOffsets}
-use Rattle.nested_arrays_arrays.specs.declared.offsets.ListOffsets.TheVariants as width
+use Rattle.nested_arrays_parts.specs.declared.offsets.ListOffsets.{ListOffsets}
+use Rattle.nested_arrays_parts.specs.declared.offsets.ListOffsets.TheVariants as width
 
 abbrev pub spans_in : ListOffsets → Spans
 spans_in (width.Small offsets) = offsets

@@ -6,7 +6,7 @@ ghost use Rattle.nested_arrays_columns.specs.SoundColumns.{mask_fits};
 use columnar_memory::{Bitmap, Index, Offset, OffsetsBuffer};
 
 /// Whether a mask, if there is one, has a mark for each of so many slots.
-pub(crate) fn fits(validity: &Option<Bitmap>, length: usize) -> bool
+pub fn fits(validity: &Option<Bitmap>, length: usize) -> bool
     ensures { result ≡ mask_fits validity.now length }
 {
     match validity {
@@ -16,7 +16,7 @@ pub(crate) fn fits(validity: &Option<Bitmap>, length: usize) -> bool
 }
 
 /// Where the last span ends, as a number.
-pub(crate) fn last_of<O: Offset>(offsets: &OffsetsBuffer<O>) -> usize
+pub fn last_of<O: Offset>(offsets: &OffsetsBuffer<O>) -> usize
     ensures value { result ≡ last_of offsets.now }
     ensures bound { result ≤ O.greatest }
 {

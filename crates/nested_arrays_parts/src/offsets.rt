@@ -1,7 +1,7 @@
 //! Offsets of lists.
 ghost use Rattle.std.specs.Prelude.{◌≡◌, ◌+◌, ◌≤◌, length};
 ghost use Rattle.columnar_memory.specs.Spans.{spans_between};
-ghost use Rattle.nested_arrays_arrays.specs.Widths.{spans_in, layout_of};
+ghost use Rattle.nested_arrays_parts.specs.Widths.{spans_in, layout_of};
 
 use columnar_memory::OffsetsBuffer;
 use nested_arrays_flat::slice_offsets;
@@ -15,7 +15,7 @@ pub enum ListOffsets {
 
 impl ListOffsets {
     /// How many lists there are.
-    pub(crate) fn lists(&self) -> usize
+    pub fn lists(&self) -> usize
         ensures { result ≡ length (spans_in self.now).lengths }
     {
         match self {
@@ -25,7 +25,7 @@ impl ListOffsets {
     }
 
     /// Narrows this to the offsets of the `count` lists from `offset` on.
-    pub(crate) fn slice(&mut self, offset: usize, count: usize)
+    pub fn slice(&mut self, offset: usize, count: usize)
         requires { offset + count ≤ length (spans_in self.old).lengths }
         ensures spans { spans_in self.new ≡ spans_between (spans_in self.old) offset count }
         ensures width { layout_of self.new ≡ layout_of self.old }

@@ -39,7 +39,7 @@ impl Model for FlatArray {
 
     ghost coded = { column_code };
 
-    ghost use Rattle.nested_arrays_arrays.specs.FlatNodes.{flat_column};
+    ghost use Rattle.nested_arrays_parts.specs.FlatNodes.{flat_column};
 
     ghost view = { λ it. flat_column it.node };
 

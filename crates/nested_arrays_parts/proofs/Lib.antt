@@ -1,0 +1,2 @@
+pub mod FlatCuts
+pub mod OffsetLists

@@ -1,0 +1,2 @@
+pub mod FlatNodes
+pub mod Widths

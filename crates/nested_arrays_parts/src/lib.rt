@@ -1,0 +1,11 @@
+//! What arrays of any type are made of: arrays without children as one type, offsets of either width, and tests of masks.
+#![tactic(auto)]
+
+mod flats;
+mod from;
+mod masks;
+mod offsets;
+
+pub use flats::{FlatArray, FlatNode};
+pub use masks::{fits, last_of};
+pub use offsets::ListOffsets;
