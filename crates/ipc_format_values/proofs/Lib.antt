@@ -1,5 +1,2 @@
 mod PairLists
 mod FieldValues
-mod Taking
-mod Gathered
-mod FieldsTaken

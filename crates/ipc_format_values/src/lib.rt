@@ -6,15 +6,8 @@
 
 mod fields;
 mod messages;
-mod numbers;
-mod owned_batches;
-mod owned_fields;
-mod owned_messages;
-mod owned_pairs;
-mod owned_types;
 mod pairs;
 mod serializing;
-mod taken;
 mod told;
 mod types;
 

@@ -1,0 +1,5 @@
+pub mod Taken
+pub mod TakenViews
+pub mod Owned
+pub mod OwnedFields
+pub mod OwnedMessages
