@@ -8,10 +8,11 @@ ghost use Rattle.flat_arrays_bytes.specs.Collected.{CollectsAlong, IsCollected};
 ghost use Rattle.flat_arrays_byte_columns.specs.Fits.{IsMaskOf, text_type};
 ghost use Rattle.flat_arrays_byte_columns.specs.Texts.{AllTexts};
 
-use crate::gather::{AsText, bytes_of, push_value, stored_text};
+use crate::gather::{bytes_of, push_value, stored_text};
 use crate::utf8::Utf8Array;
 use columnar_memory::{Bitmap, Buffer, MutableBitmap, Offset, Offsets, Result};
 use std::alloc::Global;
+use std::convert::AsStr;
 
 impl<O: Offset> Utf8Array<O> {
     /// The slots of an iterator that ends. A null stores no bytes, and without nulls there is no mask.
@@ -19,7 +20,7 @@ impl<O: Offset> Utf8Array<O> {
     /// # Errors
     /// `Overflow`: a text would end past the greatest offset of the type.
     /// `OutOfMemory`: the texts or the mask found no memory.
-    pub fn from_iter<T: AsText, I: Iterator<Item = Option<T>> + Drop>(
+    pub fn from_iter<T: AsStr + Copy, I: Iterator<Item = Option<T>> + Drop>(
         alloc: Global,
         slots: I,
     ) -> Result<Self>
@@ -43,7 +44,7 @@ impl<O: Offset> Utf8Array<O> {
     /// # Errors
     /// `Overflow`: a text would end past the greatest offset of the type.
     /// `OutOfMemory`: the texts found no memory.
-    pub fn from_iter_values<T: AsText, I: Iterator<Item = T> + Drop>(
+    pub fn from_iter_values<T: AsStr + Copy, I: Iterator<Item = T> + Drop>(
         alloc: Global,
         values: I,
     ) -> Result<Self>
@@ -64,7 +65,7 @@ impl<O: Offset> Utf8Array<O> {
     /// # Errors
     /// `Overflow`: a text would end past the greatest offset of the type.
     /// `OutOfMemory`: the texts or the mask found no memory.
-    pub fn from<T: AsText>(alloc: Global, slots: &[Option<T>]) -> Result<Self>
+    pub fn from<T: AsStr + Copy>(alloc: Global, slots: &[Option<T>]) -> Result<Self>
         ensures { IsCollected O.greatest (of_slots (text_type O.IS_LARGE) (map (option_map T.text) slots.now)) result }
     {
         Utf8Array::from_iter(alloc, slots.iter().copied())
@@ -75,7 +76,7 @@ impl<O: Offset> Utf8Array<O> {
     /// # Errors
     /// `Overflow`: a text would end past the greatest offset of the type.
     /// `OutOfMemory`: the texts found no memory.
-    pub fn from_slice<T: AsText>(alloc: Global, values: &[T]) -> Result<Self>
+    pub fn from_slice<T: AsStr + Copy>(alloc: Global, values: &[T]) -> Result<Self>
         ensures { IsCollected O.greatest (of_values (text_type O.IS_LARGE) (map T.text values.now)) result }
     {
         Utf8Array::from_iter_values(alloc, values.iter().copied())
