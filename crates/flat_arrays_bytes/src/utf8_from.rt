@@ -31,6 +31,10 @@ impl<O: Offset> Utf8Array<O> {
         let mut offsets = Offsets::new(alloc)?;
         let mut values: Vec<u8> = Vec::new(alloc);
         let mut mask = MutableBitmap::new(alloc);
+        // An iterator that promises more than there is memory for may give fewer.
+        let least = slots.size_hint().0;
+        let _ = offsets.reserve(least);
+        let _ = mask.reserve(least);
         for slot in slots {
             push_value(&mut offsets, &mut values, stored_text(&slot))?;
             mask.push(slot.is_some())?;
@@ -54,6 +58,8 @@ impl<O: Offset> Utf8Array<O> {
     {
         let mut offsets = Offsets::new(alloc)?;
         let mut bytes: Vec<u8> = Vec::new(alloc);
+        // An iterator that promises more than there is memory for may give fewer.
+        let _ = offsets.reserve(values.size_hint().0);
         for value in values {
             push_value(&mut offsets, &mut bytes, bytes_of(value.as_str()))?;
         }

@@ -1,4 +1,4 @@
-ghost use Rattle.std.specs.Prelude.{◌≡◌, ◌+◌, ◌<◌, ◌≤◌, [], not, length, slice_get, option_copied, unwrap_or, ◌↔◌, IsTrue, Some, None, Bool, List, IfSome, MatchResult};
+ghost use Rattle.std.specs.Prelude.{◌≡◌, ◌+◌, ◌<◌, ◌≤◌, [], not, length, slice_get, option_copied, unwrap_or, ◌↔◌, IsTrue, Some, None, Bool, List, MatchResult};
 ghost use Rattle.std.specs.Option.{ForSome};
 ghost use Rattle.std.specs.declared.alloc.Global.{Global};
 ghost use Rattle.std.specs.declared.vec.Vec.{Vec};
@@ -240,13 +240,6 @@ impl<T: NativeType> PrimitiveArray<T> {
         let mut array = self;
         array.set_values(values);
         array
-    }
-
-    /// The values to change, where this array is the one owner of their memory; else nothing. Takes no memory.
-    pub fn get_mut_values(&mut self) -> Option<&mut [T]>
-        ensures { IfSome result (λ s. s.now ≡ self.old.values) }
-    {
-        self.values.get_mut_slice()
     }
 
     /// The same slots under another data type whose arrays store values of `T`.
