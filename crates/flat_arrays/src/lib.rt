@@ -10,6 +10,7 @@ pub use flat_arrays_builders::{
     MutableBooleanArray, MutablePrimitiveArray, UInt8Vec, UInt16Vec, UInt32Vec, UInt64Vec,
 };
 pub use flat_arrays_byte_builders::{MutableBinaryArray, MutableUtf8Array};
+pub use flat_arrays_byte_columns::{ByteValuesIter, HoldsByteStrings, TextValuesIter};
 pub use flat_arrays_byte_values_builders::{
     ByteBuilder, MutableBinaryValuesArray, MutableBinaryValuesIter, MutableUtf8ValuesArray,
     MutableUtf8ValuesIter, a_push_adds_one_slot, joined_slots_stand_behind_the_others,
