@@ -1,5 +1,5 @@
-//! The jobs of `flat_arrays_bench` in plain Rust, on the same data, to measure against. A column is its values and the bytes of its marks, in
-//! memory that cuts share.
+//! The jobs of `flat_arrays_bench` in plain Rust, on the same data, to measure against. A column is its type, and windows on shared values and on
+//! shared marks; a builder is its values and the bytes of its marks.
 //!
 //!     plain_flat JOB SIZE     the job, the least nanoseconds of its rounds, and the checksum
 //!     plain_flat              each job at a small size: its name and the checksum alone
@@ -85,21 +85,60 @@ fn sum(numbers: &Numbers) -> u64 {
     valid.fold(0, |sum: u64, (number, _)| sum.wrapping_add(u64::from(number.unsigned_abs())))
 }
 
-/// A window on shared values and marks, and how many of its slots are null.
+/// The type of a column, which a copy of the column copies.
 #[derive(Clone)]
-struct Window {
-    column: Rc<Numbers>,
+enum DataType {
+    Int32,
+    #[allow(dead_code)]
+    Timestamp(Option<String>),
+    #[allow(dead_code)]
+    List(Box<DataType>),
+}
+
+/// A window on shared marks, and how many of them say null.
+#[derive(Clone)]
+struct Marks {
+    bytes: Rc<Vec<u8>>,
     offset: usize,
-    len: usize,
     nulls: usize,
 }
 
-impl Window {
-    fn cut(mut self, offset: usize, len: usize) -> Window {
+/// A type, and windows on shared values and on shared marks.
+#[derive(Clone)]
+struct Column {
+    #[allow(dead_code)]
+    data_type: DataType,
+    values: Rc<Vec<i32>>,
+    offset: usize,
+    len: usize,
+    marks: Option<Marks>,
+}
+
+impl Column {
+    fn of(numbers: Numbers) -> Column {
+        let nulls = numbers.nulls();
+        Column {
+            data_type: DataType::Int32,
+            offset: 0,
+            len: numbers.values.len(),
+            values: Rc::new(numbers.values),
+            marks: Some(Marks { bytes: Rc::new(numbers.marks), offset: 0, nulls }),
+        }
+    }
+
+    fn cut(mut self, offset: usize, len: usize) -> Column {
+        assert!(offset + len <= self.len && self.offset + offset + len <= self.values.len());
         self.offset += offset;
         self.len = len;
-        self.nulls = unset(&self.column.marks, self.offset, len);
+        if let Some(marks) = &mut self.marks {
+            marks.offset += offset;
+            marks.nulls = unset(&marks.bytes, marks.offset, len);
+        }
         self
+    }
+
+    fn nulls(&self) -> usize {
+        self.marks.as_ref().map_or(0, |marks| marks.nulls)
     }
 }
 
@@ -116,9 +155,9 @@ fn unset(bytes: &[u8], offset: usize, len: usize) -> usize {
     len - (set - before.count_ones() as usize - after.count_ones() as usize)
 }
 
-fn cuts(column: &Window, count: usize) -> u64 {
+fn cuts(column: &Column, count: usize) -> u64 {
     let places = column.len - CUT + 1;
-    (0..count).fold(0, |nulls: u64, k| nulls.wrapping_add(black_box(column.clone().cut(k % places, CUT)).nulls as u64))
+    (0..count).fold(0, |nulls: u64, k| nulls.wrapping_add(black_box(column.clone().cut(k % places, CUT)).nulls() as u64))
 }
 
 /// Bytes of texts, and where each begins and ends.
@@ -187,8 +226,7 @@ fn run(job: &str, size: usize, rounds: usize) -> (u128, u64) {
             timed(rounds, || sum(black_box(&numbers)), |sum| *sum)
         }
         "cut" => {
-            let column = Rc::new(gathered(slots(COLUMN).into_iter()));
-            let column = Window { len: COLUMN, offset: 0, nulls: column.nulls(), column };
+            let column = Column::of(gathered(slots(COLUMN).into_iter()));
             timed(rounds, || cuts(black_box(&column), size), |nulls| *nulls)
         }
         "copy" => {

@@ -10,12 +10,13 @@ pub use flat_arrays_builders::{
     MutableBooleanArray, MutablePrimitiveArray, UInt8Vec, UInt16Vec, UInt32Vec, UInt64Vec,
 };
 pub use flat_arrays_byte_builders::{MutableBinaryArray, MutableUtf8Array};
+pub use flat_arrays_byte_columns::{ByteValuesIter, HoldsByteStrings, TextValuesIter};
 pub use flat_arrays_byte_values_builders::{
     ByteBuilder, MutableBinaryValuesArray, MutableBinaryValuesIter, MutableUtf8ValuesArray,
     MutableUtf8ValuesIter, a_push_adds_one_slot, joined_slots_stand_behind_the_others,
 };
 pub use flat_arrays_bytes::{
-    AsBytes, AsText, BinaryArray, BinaryValueIter, Utf8Array, Utf8ValuesIter,
+    BinaryArray, BinaryValueIter, Utf8Array, Utf8ValuesIter,
     a_cut_of_a_cut_of_byte_strings_is_one_cut, a_cut_of_byte_strings_has_a_range_of_the_slots,
     a_walk_over_byte_strings_begins_with_all_slots,
 };

@@ -207,6 +207,7 @@ impl MutableBooleanArray {
     }
 
     /// Adds a value and its mark at the end.
+    #[inline(always)]
     #[tactic(auto, using(flat_arrays_masks::proofs::Marked::cut_back, flat_arrays_masks::proofs::Marked::masked))]
     pub(crate) fn push_marked(&mut self, value: bool, mark: bool) -> Result<()>
         ensures { Changes result self.old self.new (grown self.old (value ∷ []) (mark ∷ [])) }
@@ -214,17 +215,18 @@ impl MutableBooleanArray {
         let alloc = self.values.allocator();
         let held = self.values.len();
         self.values.push(value)?;
-        let marked = push_mark(alloc, &mut self.validity, held, mark);
-        if marked.is_err() {
+        if push_mark(alloc, &mut self.validity, held, mark).is_err() {
             truncate_bits(&mut self.values, held);
+            return Err(Error::OutOfMemory);
         }
-        marked
+        Ok(())
     }
 
     /// Adds a slot at the end. A null stores false, and the first one makes the mask.
     ///
     /// # Errors
     /// `OutOfMemory`: the slot found no memory.
+    #[inline(always)]
     pub fn push(&mut self, slot: Option<bool>) -> Result<()>
         ensures { Changes result self.old self.new (with_slots false self.old (slot ∷ [])) }
     {
@@ -235,6 +237,7 @@ impl MutableBooleanArray {
     ///
     /// # Errors
     /// `OutOfMemory`: the slot found no memory.
+    #[inline(always)]
     pub fn try_push(&mut self, slot: Option<bool>) -> Result<()>
         ensures { Changes result self.old self.new (with_slots false self.old (slot ∷ [])) }
     {

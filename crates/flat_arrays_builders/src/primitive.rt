@@ -216,6 +216,7 @@ impl<T: NativeType> MutablePrimitiveArray<T> {
     }
 
     /// Adds a value and its mark at the end.
+    #[inline(always)]
     #[tactic(auto, using(flat_arrays_masks::proofs::Marked::cut_back, flat_arrays_masks::proofs::Marked::masked))]
     pub(crate) fn push_marked(&mut self, value: T, mark: bool) -> Result<()>
         ensures { Changes result self.old self.new (grown self.old (value ∷ []) (mark ∷ [])) }
@@ -223,17 +224,18 @@ impl<T: NativeType> MutablePrimitiveArray<T> {
         let alloc = *self.values.allocator();
         let held = self.values.len();
         self.values.push(value)?;
-        let marked = push_mark(alloc, &mut self.validity, held, mark);
-        if marked.is_err() {
+        if push_mark(alloc, &mut self.validity, held, mark).is_err() {
             self.values.truncate(held);
+            return Err(Error::OutOfMemory);
         }
-        marked
+        Ok(())
     }
 
     /// Adds a slot at the end. A null stores zeros, and the first one makes the mask.
     ///
     /// # Errors
     /// `OutOfMemory`: the slot found no memory.
+    #[inline(always)]
     pub fn push(&mut self, slot: Option<T>) -> Result<()>
         ensures { ForZero T.numbers T.PRIMITIVE (λ zero. Changes result self.old self.new (with_slots zero self.old (slot ∷ []))) }
     {
@@ -245,6 +247,7 @@ impl<T: NativeType> MutablePrimitiveArray<T> {
     ///
     /// # Errors
     /// `OutOfMemory`: the slot found no memory.
+    #[inline(always)]
     pub fn try_push(&mut self, slot: Option<T>) -> Result<()>
         ensures { ForZero T.numbers T.PRIMITIVE (λ zero. Changes result self.old self.new (with_slots zero self.old (slot ∷ []))) }
     {

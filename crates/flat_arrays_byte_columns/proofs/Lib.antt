@@ -1,4 +1,5 @@
 pub mod Cuts
 pub mod Places
+pub mod Ranges
 pub mod Slots
 pub mod TextCuts

@@ -9,6 +9,7 @@ ghost use Rattle.flat_arrays_byte_columns.specs.ByteStrings.{byte_strings, cut, 
 ghost use Rattle.flat_arrays_byte_columns.specs.Equal.{AreEqual};
 ghost use Rattle.flat_arrays_byte_columns.specs.Fits.{HoldsMarks, IsChecked, Fits, IsMaskOf, KeepsLength};
 
+use crate::HoldsByteStrings;
 use columnar_memory::{
     Bitmap, Buffer, DataType, Error, Index, Offset, Offsets, OffsetsBuffer, PhysicalType, Result,
 };
@@ -327,5 +328,17 @@ impl<O: Offset> ByteColumn<O> {
             validity,
         } = self;
         (data_type, offsets, values, validity)
+    }
+}
+
+impl<O: Offset> HoldsByteStrings for ByteColumn<O> {
+    ghost held = { λ column. column };
+
+    fn count(&self) -> usize {
+        self.len()
+    }
+
+    fn bytes_at(&self, index: usize) -> &[u8] {
+        self.value(index)
     }
 }

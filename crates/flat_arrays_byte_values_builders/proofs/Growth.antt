@@ -13,7 +13,7 @@ use Rattle.columnar_memory.specs.Spans.{Spans, extended, first_spans, last_of, o
 use Rattle.columnar_memory_types.specs.declared.error.Error.{Error}
 use Rattle.columnar_memory_types.specs.declared.kinds.PhysicalType.{PhysicalType}
 use Rattle.flat_arrays_byte_columns.proofs.Cuts.{slots_of-cut, values_of-cut}
-use Rattle.flat_arrays_bytes.proofs.Ranges.{range_all, range_last}
+use Rattle.flat_arrays_byte_columns.proofs.Ranges.{range_all, range_last}
 use Rattle.flat_arrays_byte_columns.proofs.Slots.{length_slots, length_values}
 use Rattle.flat_arrays_byte_columns.specs.ByteStrings.{ByteStrings, cut, cut_by, len_of, marks, marks_of, slot_of, slots_of, values_of}
 use Rattle.flat_arrays_byte_columns.specs.Fits.{Fits, IsMaskOf}

@@ -7,14 +7,17 @@ ghost use Rattle.flat_arrays_byte_columns.specs.ByteStrings.{byte_strings, value
 ghost use Rattle.flat_arrays_byte_columns.specs.Fits.{IsBinary, binary_layout, binary_type};
 ghost use Rattle.flat_arrays_byte_values_builders.specs.Growing.{Grows, IsTaken, IsValues, OrUnchanged, Pops, pushed};
 
-use crate::MutableBinaryValuesIter;
 use crate::builder::{ByteBuilder, binary_layout_of};
 use columnar_memory::{DataType, Offset, Offsets, Result};
+use flat_arrays_byte_columns::ByteValuesIter;
 use flat_arrays_bytes::BinaryArray;
 use std::alloc::Global;
 use std::marker::Model;
 use std::ops::Deref;
 use std::rc::Rc;
+
+/// The byte strings of a builder, those under nulls too, in order or from the back.
+pub type MutableBinaryValuesIter<'a, O> = ByteValuesIter<'a, ByteBuilder<O>>;
 
 /// A builder of byte strings none of which is null. A contract sees its data type, where each byte string stands among the bytes, and the
 /// bytes, of which none stand behind the last byte string; it has no mask.
@@ -95,7 +98,7 @@ impl<O: Offset> MutableBinaryValuesArray<O> {
     pub fn values_iter(&self) -> MutableBinaryValuesIter<'_, O>
         ensures { result ≡ values_of self.now }
     {
-        MutableBinaryValuesIter::new(&self.builder)
+        ByteValuesIter::new(&self.builder)
     }
 
     /// The same as `values_iter`.

@@ -15,6 +15,7 @@ use columnar_memory::{
     Bitmap, Buffer, DataType, Error, Index, MutableBitmap, Offset, Offsets, OffsetsBuffer,
     PhysicalType, Result,
 };
+use flat_arrays_byte_columns::HoldsByteStrings;
 use flat_arrays_masks::{is_mask_of, push_mark, reserve_marks, shrink_marks};
 use simdutf8::is_utf8;
 use std::alloc::Global;
@@ -408,5 +409,17 @@ impl<O: Offset> ByteBuilder<O> {
             validity,
         } = self;
         (data_type, offsets, values, validity)
+    }
+}
+
+impl<O: Offset> HoldsByteStrings for ByteBuilder<O> {
+    ghost held = { λ builder. builder };
+
+    fn count(&self) -> usize {
+        self.len()
+    }
+
+    fn bytes_at(&self, index: usize) -> &[u8] {
+        self.value(index)
     }
 }

@@ -7,13 +7,11 @@ mod binary_values_extend;
 mod builder;
 mod builder_join;
 mod builder_slots;
-mod iterators;
 mod laws;
 mod utf8_values;
 mod utf8_values_extend;
 
-pub use binary_values::MutableBinaryValuesArray;
+pub use binary_values::{MutableBinaryValuesArray, MutableBinaryValuesIter};
 pub use builder::{ByteBuilder, Parts, binary_layout_of, text_layout_of};
-pub use iterators::{MutableBinaryValuesIter, MutableUtf8ValuesIter};
 pub use laws::{a_push_adds_one_slot, joined_slots_stand_behind_the_others};
-pub use utf8_values::MutableUtf8ValuesArray;
+pub use utf8_values::{MutableUtf8ValuesArray, MutableUtf8ValuesIter};

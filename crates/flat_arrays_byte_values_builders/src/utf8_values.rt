@@ -8,15 +8,18 @@ ghost use Rattle.flat_arrays_byte_columns.specs.ByteStrings.{byte_strings, len_o
 ghost use Rattle.flat_arrays_byte_columns.specs.Fits.{IsText, text_layout, text_type};
 ghost use Rattle.flat_arrays_byte_values_builders.specs.Growing.{Grows, IsTaken, IsValues, OrUnchanged, Pops, pushed};
 
-use crate::MutableUtf8ValuesIter;
 use crate::builder::{ByteBuilder, text_layout_of};
 use columnar_memory::{DataType, Error, Offset, Offsets, Result};
+use flat_arrays_byte_columns::TextValuesIter;
 use flat_arrays_bytes::Utf8Array;
 use std::alloc::Global;
 use std::marker::Model;
 use std::ops::Deref;
 use std::rc::Rc;
 use std::str::from_utf8_unchecked;
+
+/// The texts of a builder, those under nulls too, in order or from the back.
+pub type MutableUtf8ValuesIter<'a, O> = TextValuesIter<'a, ByteBuilder<O>>;
 
 /// A builder of texts none of which is null. A contract sees its data type, where each text stands among the bytes, and the
 /// bytes, of which none stand behind the last text; it has no mask.
@@ -113,7 +116,7 @@ impl<O: Offset> MutableUtf8ValuesArray<O> {
     pub fn values_iter(&self) -> MutableUtf8ValuesIter<'_, O>
         ensures { result ≡ values_of self.now }
     {
-        MutableUtf8ValuesIter::new(&self.builder)
+        TextValuesIter::new(&self.builder)
     }
 
     /// The same as `values_iter`.

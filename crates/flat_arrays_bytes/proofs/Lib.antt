@@ -1,4 +1,3 @@
 pub mod Gathered
 pub mod Nulls
-pub mod Ranges
 pub mod Walks

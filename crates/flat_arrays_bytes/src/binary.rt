@@ -10,13 +10,15 @@ ghost use Rattle.flat_arrays_bytes.specs.ByteWalks.{StandsBefore};
 ghost use Rattle.flat_arrays_byte_columns.specs.Equal.{AreEqual, same_array, same_array-equivalence, same_array-per};
 ghost use Rattle.flat_arrays_byte_columns.specs.Fits.{binary_layout, binary_type, IsBinary, IsChecked, IsMaskOf, KeepsLength};
 
-use crate::BinaryValueIter;
 use columnar_memory::{
     Bitmap, BitmapIter, Buffer, DataType, Offset, OffsetsBuffer, PhysicalType, Result, ZipValidity,
 };
-use flat_arrays_byte_columns::ByteColumn;
+use flat_arrays_byte_columns::{ByteColumn, ByteValuesIter};
 use std::alloc::Global;
 use std::marker::Model;
+
+/// The byte strings of an array, those under nulls too, in order or from the back.
+pub type BinaryValueIter<'a, O> = ByteValuesIter<'a, ByteColumn<O>>;
 
 /// Byte strings of any length, any of which may be null (Arrow columnar format, "Variable-size Binary Layout"). A contract sees its data type,
 /// where each byte string stands among the bytes, the bytes, and its mask. A cut shares the memory.
@@ -263,7 +265,7 @@ impl<O: Offset> BinaryArray<O> {
     pub fn values_iter(&self) -> BinaryValueIter<'_, O>
         ensures { result ≡ values_of self.now }
     {
-        BinaryValueIter::new(self)
+        ByteValuesIter::new(&self.column)
     }
 
     /// The slots from both ends: the stored byte strings, and where a slot is null their marks beside them.

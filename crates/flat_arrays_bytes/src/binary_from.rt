@@ -8,9 +8,10 @@ ghost use Rattle.flat_arrays_bytes.specs.Collected.{CollectsAlong, IsCollected};
 ghost use Rattle.flat_arrays_byte_columns.specs.Fits.{IsMaskOf, binary_type};
 
 use crate::binary::BinaryArray;
-use crate::gather::{AsBytes, push_value, stored_bytes};
+use crate::gather::{push_value, stored_bytes};
 use columnar_memory::{Bitmap, Buffer, MutableBitmap, Offset, Offsets, Result};
 use std::alloc::Global;
+use std::convert::AsSlice;
 
 impl<O: Offset> BinaryArray<O> {
     /// The slots of an iterator that ends. A null stores no bytes, and without nulls there is no mask.
@@ -18,17 +19,21 @@ impl<O: Offset> BinaryArray<O> {
     /// # Errors
     /// `Overflow`: a byte string would end past the greatest offset of the type.
     /// `OutOfMemory`: the byte strings or the mask found no memory.
-    pub fn from_iter<T: AsBytes, I: Iterator<Item = Option<T>> + Drop>(
+    pub fn from_iter<T: AsSlice<u8> + Copy, I: Iterator<Item = Option<T>> + Drop>(
         alloc: Global,
         slots: I,
     ) -> Result<Self>
         requires can { I.can_next slots }
         requires ends { IsFinite (I.remaining slots) }
-        ensures { CollectsAlong I.next_gives O.greatest (λ items. of_slots (binary_type O.IS_LARGE) (map (option_map T.bytes) items)) slots result }
+        ensures { CollectsAlong I.next_gives O.greatest (λ items. of_slots (binary_type O.IS_LARGE) (map (option_map T.items) items)) slots result }
     {
         let mut offsets = Offsets::new(alloc)?;
         let mut values: Vec<u8> = Vec::new(alloc);
         let mut mask = MutableBitmap::new(alloc);
+        // An iterator that promises more than there is memory for may give fewer.
+        let least = slots.size_hint().0;
+        let _ = offsets.reserve(least);
+        let _ = mask.reserve(least);
         for slot in slots {
             push_value(&mut offsets, &mut values, stored_bytes(&slot))?;
             mask.push(slot.is_some())?;
@@ -42,16 +47,18 @@ impl<O: Offset> BinaryArray<O> {
     /// # Errors
     /// `Overflow`: a byte string would end past the greatest offset of the type.
     /// `OutOfMemory`: the byte strings found no memory.
-    pub fn from_iter_values<T: AsBytes, I: Iterator<Item = T> + Drop>(
+    pub fn from_iter_values<T: AsSlice<u8> + Copy, I: Iterator<Item = T> + Drop>(
         alloc: Global,
         values: I,
     ) -> Result<Self>
         requires can { I.can_next values }
         requires ends { IsFinite (I.remaining values) }
-        ensures { CollectsAlong I.next_gives O.greatest (λ items. of_values (binary_type O.IS_LARGE) (map T.bytes items)) values result }
+        ensures { CollectsAlong I.next_gives O.greatest (λ items. of_values (binary_type O.IS_LARGE) (map T.items items)) values result }
     {
         let mut offsets = Offsets::new(alloc)?;
         let mut bytes: Vec<u8> = Vec::new(alloc);
+        // An iterator that promises more than there is memory for may give fewer.
+        let _ = offsets.reserve(values.size_hint().0);
         for value in values {
             push_value(&mut offsets, &mut bytes, value.as_slice())?;
         }
@@ -63,8 +70,8 @@ impl<O: Offset> BinaryArray<O> {
     /// # Errors
     /// `Overflow`: a byte string would end past the greatest offset of the type.
     /// `OutOfMemory`: the byte strings or the mask found no memory.
-    pub fn from<T: AsBytes>(alloc: Global, slots: &[Option<T>]) -> Result<Self>
-        ensures { IsCollected O.greatest (of_slots (binary_type O.IS_LARGE) (map (option_map T.bytes) slots.now)) result }
+    pub fn from<T: AsSlice<u8> + Copy>(alloc: Global, slots: &[Option<T>]) -> Result<Self>
+        ensures { IsCollected O.greatest (of_slots (binary_type O.IS_LARGE) (map (option_map T.items) slots.now)) result }
     {
         BinaryArray::from_iter(alloc, slots.iter().copied())
     }
@@ -74,8 +81,8 @@ impl<O: Offset> BinaryArray<O> {
     /// # Errors
     /// `Overflow`: a byte string would end past the greatest offset of the type.
     /// `OutOfMemory`: the byte strings found no memory.
-    pub fn from_slice<T: AsBytes>(alloc: Global, values: &[T]) -> Result<Self>
-        ensures { IsCollected O.greatest (of_values (binary_type O.IS_LARGE) (map T.bytes values.now)) result }
+    pub fn from_slice<T: AsSlice<u8> + Copy>(alloc: Global, values: &[T]) -> Result<Self>
+        ensures { IsCollected O.greatest (of_values (binary_type O.IS_LARGE) (map T.items values.now)) result }
     {
         BinaryArray::from_iter_values(alloc, values.iter().copied())
     }

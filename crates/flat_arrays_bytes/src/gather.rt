@@ -1,41 +1,10 @@
 //! Byte strings and texts put one after another.
-ghost use Rattle.std.specs.Prelude.{◌≡◌, ℕ, List, option_map, unwrap_or, []};
+ghost use Rattle.std.specs.Prelude.{◌≡◌, option_map, unwrap_or, []};
 ghost use Rattle.std.specs.Str.{IsUtf8};
 ghost use Rattle.flat_arrays_bytes.specs.Collected.{Follows};
 
 use columnar_memory::{Offset, Offsets, Result};
-
-/// A byte string that an array is made of, where it stands. `bytes` says what it is.
-pub trait AsBytes: Copy {
-    ghost bytes: { Self → List ℕ };
-
-    fn as_slice(&self) -> &[u8]
-        ensures { result.now ≡ bytes self.now };
-}
-
-impl<'a> AsBytes for &'a [u8] {
-    ghost bytes = { λ x. x.now };
-
-    fn as_slice(&self) -> &[u8] {
-        *self
-    }
-}
-
-/// A text that an array is made of, where it stands. `text` says what it is.
-pub trait AsText: Copy {
-    ghost text: { Self → List ℕ };
-
-    fn as_str(&self) -> &str
-        ensures { result.now ≡ text self.now };
-}
-
-impl<'a> AsText for &'a str {
-    ghost text = { λ x. x.now };
-
-    fn as_str(&self) -> &str {
-        *self
-    }
-}
+use std::convert::{AsSlice, AsStr};
 
 /// Puts a byte string behind the others.
 ///
@@ -56,8 +25,8 @@ pub(crate) fn push_value<O: Offset>(
 }
 
 /// The bytes that are stored for a slot: none for a null.
-pub(crate) fn stored_bytes<T: AsBytes>(slot: &Option<T>) -> &[u8]
-    ensures { result.now ≡ unwrap_or (option_map T.bytes slot.now) [] }
+pub(crate) fn stored_bytes<T: AsSlice<u8>>(slot: &Option<T>) -> &[u8]
+    ensures { result.now ≡ unwrap_or (option_map T.items slot.now) [] }
 {
     match slot {
         Some(value) => value.as_slice(),
@@ -66,7 +35,7 @@ pub(crate) fn stored_bytes<T: AsBytes>(slot: &Option<T>) -> &[u8]
 }
 
 /// The same of a slot of texts.
-pub(crate) fn stored_text<T: AsText>(slot: &Option<T>) -> &[u8]
+pub(crate) fn stored_text<T: AsStr>(slot: &Option<T>) -> &[u8]
     ensures value { result.now ≡ unwrap_or (option_map T.text slot.now) [] }
     ensures text { IsUtf8 result.now }
 {

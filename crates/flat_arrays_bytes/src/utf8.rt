@@ -10,15 +10,17 @@ ghost use Rattle.flat_arrays_bytes.specs.ByteWalks.{StandsBefore};
 ghost use Rattle.flat_arrays_byte_columns.specs.Equal.{AreEqual, same_array, same_array-equivalence, same_array-per};
 ghost use Rattle.flat_arrays_byte_columns.specs.Fits.{text_layout, text_type, IsText, IsChecked, IsMaskOf, KeepsLength};
 
-use crate::Utf8ValuesIter;
 use columnar_memory::{
     Bitmap, BitmapIter, Buffer, DataType, Error, Offset, OffsetsBuffer, PhysicalType, Result,
     ZipValidity,
 };
-use flat_arrays_byte_columns::{ByteColumn, are_texts};
+use flat_arrays_byte_columns::{ByteColumn, TextValuesIter, are_texts};
 use std::alloc::Global;
 use std::marker::Model;
 use std::str::from_utf8_unchecked;
+
+/// The texts of an array, those under nulls too, in order or from the back.
+pub type Utf8ValuesIter<'a, O> = TextValuesIter<'a, ByteColumn<O>>;
 
 /// Texts of any length, any of which may be null (Arrow columnar format, "Variable-size Binary Layout"). A contract sees its data type, where
 /// each text stands among the bytes, the bytes, and its mask. Each stored text, under a null too, is UTF-8 by itself. A cut shares the memory.
@@ -282,7 +284,7 @@ impl<O: Offset> Utf8Array<O> {
     pub fn values_iter(&self) -> Utf8ValuesIter<'_, O>
         ensures { result ≡ values_of self.now }
     {
-        Utf8ValuesIter::new(self)
+        TextValuesIter::new(&self.column)
     }
 
     /// The slots from both ends: the stored texts, and where a slot is null their marks beside them.

@@ -8,10 +8,11 @@ ghost use Rattle.flat_arrays_bytes.specs.Collected.{CollectsAlong, IsCollected};
 ghost use Rattle.flat_arrays_byte_columns.specs.Fits.{IsMaskOf, text_type};
 ghost use Rattle.flat_arrays_byte_columns.specs.Texts.{AllTexts};
 
-use crate::gather::{AsText, bytes_of, push_value, stored_text};
+use crate::gather::{bytes_of, push_value, stored_text};
 use crate::utf8::Utf8Array;
 use columnar_memory::{Bitmap, Buffer, MutableBitmap, Offset, Offsets, Result};
 use std::alloc::Global;
+use std::convert::AsStr;
 
 impl<O: Offset> Utf8Array<O> {
     /// The slots of an iterator that ends. A null stores no bytes, and without nulls there is no mask.
@@ -19,7 +20,7 @@ impl<O: Offset> Utf8Array<O> {
     /// # Errors
     /// `Overflow`: a text would end past the greatest offset of the type.
     /// `OutOfMemory`: the texts or the mask found no memory.
-    pub fn from_iter<T: AsText, I: Iterator<Item = Option<T>> + Drop>(
+    pub fn from_iter<T: AsStr + Copy, I: Iterator<Item = Option<T>> + Drop>(
         alloc: Global,
         slots: I,
     ) -> Result<Self>
@@ -30,6 +31,10 @@ impl<O: Offset> Utf8Array<O> {
         let mut offsets = Offsets::new(alloc)?;
         let mut values: Vec<u8> = Vec::new(alloc);
         let mut mask = MutableBitmap::new(alloc);
+        // An iterator that promises more than there is memory for may give fewer.
+        let least = slots.size_hint().0;
+        let _ = offsets.reserve(least);
+        let _ = mask.reserve(least);
         for slot in slots {
             push_value(&mut offsets, &mut values, stored_text(&slot))?;
             mask.push(slot.is_some())?;
@@ -43,7 +48,7 @@ impl<O: Offset> Utf8Array<O> {
     /// # Errors
     /// `Overflow`: a text would end past the greatest offset of the type.
     /// `OutOfMemory`: the texts found no memory.
-    pub fn from_iter_values<T: AsText, I: Iterator<Item = T> + Drop>(
+    pub fn from_iter_values<T: AsStr + Copy, I: Iterator<Item = T> + Drop>(
         alloc: Global,
         values: I,
     ) -> Result<Self>
@@ -53,6 +58,8 @@ impl<O: Offset> Utf8Array<O> {
     {
         let mut offsets = Offsets::new(alloc)?;
         let mut bytes: Vec<u8> = Vec::new(alloc);
+        // An iterator that promises more than there is memory for may give fewer.
+        let _ = offsets.reserve(values.size_hint().0);
         for value in values {
             push_value(&mut offsets, &mut bytes, bytes_of(value.as_str()))?;
         }
@@ -64,7 +71,7 @@ impl<O: Offset> Utf8Array<O> {
     /// # Errors
     /// `Overflow`: a text would end past the greatest offset of the type.
     /// `OutOfMemory`: the texts or the mask found no memory.
-    pub fn from<T: AsText>(alloc: Global, slots: &[Option<T>]) -> Result<Self>
+    pub fn from<T: AsStr + Copy>(alloc: Global, slots: &[Option<T>]) -> Result<Self>
         ensures { IsCollected O.greatest (of_slots (text_type O.IS_LARGE) (map (option_map T.text) slots.now)) result }
     {
         Utf8Array::from_iter(alloc, slots.iter().copied())
@@ -75,7 +82,7 @@ impl<O: Offset> Utf8Array<O> {
     /// # Errors
     /// `Overflow`: a text would end past the greatest offset of the type.
     /// `OutOfMemory`: the texts found no memory.
-    pub fn from_slice<T: AsText>(alloc: Global, values: &[T]) -> Result<Self>
+    pub fn from_slice<T: AsStr + Copy>(alloc: Global, values: &[T]) -> Result<Self>
         ensures { IsCollected O.greatest (of_values (text_type O.IS_LARGE) (map T.text values.now)) result }
     {
         Utf8Array::from_iter_values(alloc, values.iter().copied())

@@ -1,6 +1,6 @@
 //! Masks of builders: none where no slot is null, else a bit for each slot, which is set where the slot has a value (Arrow columnar format,
 //! "Validity bitmaps").
-ghost use Rattle.std.specs.Prelude.{◌≡◌, ◌<◌, ◌≤◌, ℕ, Bool, List, [], ◌∷◌, ◌++◌, length, replicate, slice_get, take, ◌↔◌, IsTrue, Some};
+ghost use Rattle.std.specs.Prelude.{◌≡◌, ◌<◌, ◌≤◌, ℕ, Bool, List, [], ◌∷◌, ◌++◌, false, length, replicate, true, slice_get, take, ◌↔◌, IsTrue, Some};
 ghost use Rattle.std.specs.Option.{ForSome};
 ghost use Rattle.columnar_memory.specs.Results.{OrOutOfMemory};
 ghost use Rattle.flat_arrays_values.specs.Flat.{cut_mask, marks, IsMaskOf};
@@ -61,6 +61,7 @@ pub fn truncate_mask(validity: &mut Option<MutableBitmap>, len: usize)
 ///
 /// # Errors
 /// `OutOfMemory`: the mark, or the mask that it makes, found no memory.
+#[inline(always)]
 pub fn push_mark(
     alloc: Global,
     validity: &mut Option<MutableBitmap>,
@@ -73,13 +74,25 @@ pub fn push_mark(
         Some(mask) => mask.push(mark),
         None => {
             if !mark {
-                let mut mask = MutableBitmap::from_len_set(alloc, held)?;
-                mask.push(false)?;
-                *validity = Some(mask);
+                *validity = Some(first_null(alloc, held)?);
             }
             Ok(())
         }
     }
+}
+
+/// The mask of `held` values and a null behind them.
+///
+/// # Errors
+/// `OutOfMemory`: the mask found no memory.
+#[cold]
+#[inline(never)]
+fn first_null(alloc: Global, held: usize) -> Result<MutableBitmap>
+    ensures { OrOutOfMemory result (λ mask. mask ≡ replicate held true ++ false ∷ []) }
+{
+    let mut mask = MutableBitmap::from_len_set(alloc, held)?;
+    mask.push(false)?;
+    Ok(mask)
 }
 
 /// Replaces the mark of one of `held` values.

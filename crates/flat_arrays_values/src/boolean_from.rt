@@ -76,6 +76,10 @@ impl BooleanArray {
     {
         let mut values = MutableBitmap::new(alloc);
         let mut mask = MutableBitmap::new(alloc);
+        // An iterator that promises more than there is memory for may give fewer.
+        let least = slots.size_hint().0;
+        let _ = values.reserve(least);
+        let _ = mask.reserve(least);
         for slot in slots {
             values.push(slot.unwrap_or(false))?;
             mask.push(slot.is_some())?;

@@ -91,6 +91,10 @@ impl<T: NativeType> PrimitiveArray<T> {
         let zero = T::default();
         let mut values: Vec<T> = Vec::new(alloc);
         let mut mask = MutableBitmap::new(alloc);
+        // An iterator that promises more than there is memory for may give fewer.
+        let least = slots.size_hint().0;
+        let _ = values.reserve(least);
+        let _ = mask.reserve(least);
         for slot in slots {
             values.push(slot.unwrap_or(zero))?;
             mask.push(slot.is_some())?;

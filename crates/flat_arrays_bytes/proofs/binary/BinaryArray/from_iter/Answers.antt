@@ -6,7 +6,7 @@ use Rattle.flat_arrays_bytes.proofs.binary.BinaryArray.from_iter.Goals as goal
 
 pub loop-slot-preserved : goal.loop-slot-preserved
 loop-slot-preserved g c = record {
-  gathered = gathered_more (stored_by g.T.AsBytes.bytes) g.O.Index.greatest c.loop-slot.yielded c.in-Some.slot c.stored_bytes.result.now
+  gathered = gathered_more (stored_by g.T.AsSlice.items) g.O.Index.greatest c.loop-slot.yielded c.in-Some.slot c.stored_bytes.result.now
       c.loop-slot.values.items
       c.push_value.new.values.items c.loop-slot.offsets c.push_value.new.offsets c.stored_bytes.ensures c.loop-slot.invariant.gathered
       c.in_ok-push_value.ensures;
@@ -16,18 +16,18 @@ loop-slot-preserved g c = record {
 
 pub from_gathered-requires-clause-masked : goal.from_gathered-requires-clause-masked
 from_gathered-requires-clause-masked g c =
-    masked_gathered (stored_by g.T.AsBytes.bytes) g.O.Index.greatest c.loop-slot.yielded c.loop-slot.offsets c.loop-slot.values.items c.loop-slot.mask
+    masked_gathered (stored_by g.T.AsSlice.items) g.O.Index.greatest c.loop-slot.yielded c.loop-slot.offsets c.loop-slot.values.items c.loop-slot.mask
     c.in_ok-validity.validity c.loop-slot.invariant.gathered c.loop-slot.invariant.marks c.in_ok-validity.ensures
 
 pub from_gathered-requires-clause-within : goal.from_gathered-requires-clause-within
 from_gathered-requires-clause-within g c =
-    within_gathered g.O.Index.greatest (map (stored_by g.T.AsBytes.bytes) c.loop-slot.yielded) c.loop-slot.offsets c.loop-slot.values.items
+    within_gathered g.O.Index.greatest (map (stored_by g.T.AsSlice.items) c.loop-slot.yielded) c.loop-slot.offsets c.loop-slot.values.items
     c.loop-slot.invariant.gathered
 
 pub returns-in_err-push_value : goal.returns-in_err-push_value
 returns-in_err-push_value g c =
     let p = err_from_is_err_and c.from_residual-in_err-push_value.result c.from_residual-in_err-push_value.ensures.1 in
-    rw (p.1, p.2) (slots_refused g.T.AsBytes.bytes (binary_type g.O.Offset.IS_LARGE) g.O.Index.greatest c.loop-slot.offsets
+    rw (p.1, p.2) (slots_refused g.T.AsSlice.items (binary_type g.O.Offset.IS_LARGE) g.O.Index.greatest c.loop-slot.offsets
     c.loop-slot.values.items g.I.Iterator.next_gives
     c.args.slots c.into_iter-slot-iterator.result c.into_iter-slot-iterator.ensures.into_iter_gives c.loop-slot.yielded
     c.loop-slot.slot-iterator c.loop-slot.yielded_by c.loop-slot.invariant.gathered c.next.new.self
@@ -35,7 +35,7 @@ returns-in_err-push_value g c =
 
 pub returns : goal.returns
 returns g c =
-    slots_collected g.T.AsBytes.bytes (binary_type g.O.Offset.IS_LARGE) g.O.Index.greatest c.loop-slot.offsets c.loop-slot.values.items
+    slots_collected g.T.AsSlice.items (binary_type g.O.Offset.IS_LARGE) g.O.Index.greatest c.loop-slot.offsets c.loop-slot.values.items
     g.I.Iterator.next_gives
     c.args.slots c.into_iter-slot-iterator.result c.into_iter-slot-iterator.ensures.into_iter_gives c.loop-slot.yielded
     c.loop-slot.slot-iterator c.loop-slot.yielded_by c.loop-slot.invariant.gathered c.next.new.self c.loop-slot.mask c.in_ok-validity.validity

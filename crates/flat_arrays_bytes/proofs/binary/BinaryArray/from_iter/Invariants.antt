@@ -5,6 +5,6 @@ use Rattle.flat_arrays_bytes.proofs.binary.BinaryArray.from_iter.Given as goal
 
 abbrev pub invariant-loop-slot : goal.invariant-loop-slot
 invariant-loop-slot g l = record {
-  gathered : AreGathered g.O.Index.greatest (map (stored_by g.T.AsBytes.bytes) l.yielded) l.offsets l.values.items;
+  gathered : AreGathered g.O.Index.greatest (map (stored_by g.T.AsSlice.items) l.yielded) l.offsets l.values.items;
   marks : l.mask ≡ map is_some l.yielded;
 }

@@ -4,5 +4,5 @@ use Rattle.flat_arrays_bytes.proofs.binary.BinaryArray.from_iter_values.Given as
 
 abbrev pub invariant-loop-value : goal.invariant-loop-value
 invariant-loop-value g l = record {
-  gathered : AreGathered g.O.Index.greatest (map g.T.AsBytes.bytes l.yielded) l.offsets l.bytes.items;
+  gathered : AreGathered g.O.Index.greatest (map g.T.AsSlice.items l.yielded) l.offsets l.bytes.items;
 }

@@ -6,28 +6,28 @@ use Rattle.flat_arrays_bytes.proofs.utf8.Utf8Array.from_iter_values.Goals as goa
 
 pub loop-value-preserved : goal.loop-value-preserved
 loop-value-preserved g c = record {
-  gathered = gathered_more g.T.AsText.text g.O.Index.greatest c.loop-value.yielded c.in-Some.value c.bytes_of.result.now c.loop-value.bytes.items
+  gathered = gathered_more g.T.AsStr.text g.O.Index.greatest c.loop-value.yielded c.in-Some.value c.bytes_of.result.now c.loop-value.bytes.items
       c.push_value.new.values.items c.loop-value.offsets c.push_value.new.offsets (c.bytes_of.ensures.value ∙ c.as_str.ensures)
       c.loop-value.invariant.gathered
       c.in_ok-push_value.ensures;
-  texts = texts_more g.T.AsText.text c.loop-value.yielded c.in-Some.value c.bytes_of.result.now (c.bytes_of.ensures.value ∙ c.as_str.ensures)
+  texts = texts_more g.T.AsStr.text c.loop-value.yielded c.in-Some.value c.bytes_of.result.now (c.bytes_of.ensures.value ∙ c.as_str.ensures)
       c.bytes_of.ensures.text c.loop-value.invariant.texts;
 }
 
 pub from_gathered-requires-clause-within : goal.from_gathered-requires-clause-within
 from_gathered-requires-clause-within g c =
-    within_gathered g.O.Index.greatest (map g.T.AsText.text c.loop-value.yielded) c.loop-value.offsets c.loop-value.bytes.items
+    within_gathered g.O.Index.greatest (map g.T.AsStr.text c.loop-value.yielded) c.loop-value.offsets c.loop-value.bytes.items
     c.loop-value.invariant.gathered
 
 pub from_gathered-requires-clause-texts : goal.from_gathered-requires-clause-texts
 from_gathered-requires-clause-texts g c =
-    texts_gathered g.O.Index.greatest (map g.T.AsText.text c.loop-value.yielded) c.loop-value.offsets c.loop-value.bytes.items
+    texts_gathered g.O.Index.greatest (map g.T.AsStr.text c.loop-value.yielded) c.loop-value.offsets c.loop-value.bytes.items
     c.loop-value.invariant.gathered c.loop-value.invariant.texts
 
 pub returns-in_err-push_value : goal.returns-in_err-push_value
 returns-in_err-push_value g c =
     let p = err_from_is_err_and c.from_residual-in_err-push_value.result c.from_residual-in_err-push_value.ensures.1 in
-    rw (p.1, p.2) (values_refused g.T.AsText.text (text_type g.O.Offset.IS_LARGE) g.O.Index.greatest c.loop-value.offsets c.loop-value.bytes.items
+    rw (p.1, p.2) (values_refused g.T.AsStr.text (text_type g.O.Offset.IS_LARGE) g.O.Index.greatest c.loop-value.offsets c.loop-value.bytes.items
     g.I.Iterator.next_gives
     c.args.values c.into_iter-value-iterator.result c.into_iter-value-iterator.ensures.into_iter_gives c.loop-value.yielded
     c.loop-value.value-iterator c.loop-value.yielded_by c.loop-value.invariant.gathered c.next.new.self
@@ -36,7 +36,7 @@ returns-in_err-push_value g c =
 
 pub returns : goal.returns
 returns g c =
-    values_collected g.T.AsText.text (text_type g.O.Offset.IS_LARGE) g.O.Index.greatest c.loop-value.offsets c.loop-value.bytes.items
+    values_collected g.T.AsStr.text (text_type g.O.Offset.IS_LARGE) g.O.Index.greatest c.loop-value.offsets c.loop-value.bytes.items
     g.I.Iterator.next_gives
     c.args.values c.into_iter-value-iterator.result c.into_iter-value-iterator.ensures.into_iter_gives c.loop-value.yielded
     c.loop-value.value-iterator c.loop-value.yielded_by c.loop-value.invariant.gathered c.next.new.self c.from_gathered.result

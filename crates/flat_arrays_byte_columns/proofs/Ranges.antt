@@ -1,8 +1,10 @@
--- A range of a list without its first element, without its last, and its length.
+-- A range of a list without its first element, without its last, and its length; and texts without the last.
 use Rattle.std.proofs.Common.{◌≡◌, ◌∙◌, ℕ, suc, ◌+◌, ◌-◌, ◌≤◌, ◌<◌, List, [], ◌∷◌, ◌++◌, length, take, drop, get_or, ap, arith, length-drop}
 use Rattle.std.specs.Prelude.{Some, slice_get, slice_range}
 use Rattle.std.proofs.lemmas.List.{drop_more, take_all, take_more, length-take, get_or-drop}
 use Rattle.std.proofs.lemmas.Option.{get_or_from_slice_get}
+use Rattle.std.specs.Str.{IsUtf8}
+use Rattle.flat_arrays_byte_columns.specs.Texts.{AllTexts}
 
 pub range_first : {X : Type 0} (xs : List X) (from end : ℕ) (x : X) → from < end → end ≤ length xs → slice_get xs from ≡ Some x
     → slice_range xs from end ≡ x ∷ slice_range xs (from + 1) end
@@ -30,3 +32,13 @@ range_all xs n e =
     let count : n - 0 ≡ n = omega arith in
     let le : length xs ≤ n = omega (arith, e) in
     ap (λ k. take k xs) count ∙ take_all n xs le
+
+-- of some texts the last is a text
+pub text_last : (xs : List (List ℕ)) (x : List ℕ) → AllTexts (xs ++ x ∷ []) → IsUtf8 x
+text_last [] x h = h.0
+text_last (y ∷ ys) x h = text_last ys x h.1
+
+-- and so are those before it
+pub texts_before : (xs : List (List ℕ)) (x : List ℕ) → AllTexts (xs ++ x ∷ []) → AllTexts xs
+texts_before [] x h = tt
+texts_before (y ∷ ys) x h = (h.0, texts_before ys x h.1)
