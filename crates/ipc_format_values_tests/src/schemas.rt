@@ -8,7 +8,7 @@ use std::alloc::Global;
 use std::test::*;
 
 /// x, a dictionary of extensions e of texts by signed 32-bit keys, with the metadata a = 1 of its own.
-fn schema(alloc: Global) -> Result<Schema, Fail> {
+pub(crate) fn schema(alloc: Global) -> Result<Schema, Fail> {
     let inner = Boxed::new(alloc, DataType::Utf8)?;
     let name = Text::from_str(alloc, "e")?;
     let metadata = Text::from_str(alloc, "m")?;
@@ -22,7 +22,7 @@ fn schema(alloc: Global) -> Result<Schema, Fail> {
     Ok(Schema::from_fields(fields))
 }
 
-fn ids(alloc: Global, dictionary_id: i64) -> Result<Vec<IpcField>, Fail> {
+pub(crate) fn ids(alloc: Global, dictionary_id: i64) -> Result<Vec<IpcField>, Fail> {
     let mut ids = Vec::new(alloc);
     ids.push(IpcField {
         fields: Items::new(alloc),

@@ -1,0 +1,17 @@
+//! A caller of `ipc_format_owned`, as the page CALLING.md of that crate has it.
+ghost use Rattle.std.specs.Prelude.{◌≡◌, Some, IfOk};
+ghost use Rattle.ipc_format_messages.specs.SchemaRefs.{field_view};
+ghost use Rattle.ipc_format_owned.specs.OwnedFields.{top_field_in};
+
+use columnar_memory::Result;
+use ipc_format_messages::FieldRef;
+use ipc_format_owned::field_of;
+use ipc_format_values::Field;
+use std::alloc::Global;
+
+/// The field of a view, with the fields below it.
+pub fn whole_field(alloc: Global, field: FieldRef<'_>) -> Result<Field>
+    ensures { IfOk result (λ value. top_field_in (field_view field.entry) ≡ Some value) }
+{
+    field_of(alloc, field)
+}
