@@ -11,6 +11,7 @@ pub use ipc_format_metadata::{
     IpcField, IpcSchema, OutOfSpecKind, can_write, deserialize_schema, deserialize_schema_counted,
     schema_in,
 };
+pub use ipc_format_owned as owned;
 pub use ipc_format_schema_writing::{default_ipc_fields, normalised, schema_to_bytes};
 pub use ipc_format_streams::{Counting, Faults, Frame, Framed, NextMessage, next_at, put, refusal};
 pub use ipc_format_values as values;

@@ -1,8 +1,8 @@
 -- The messages and footers that stand in metadata (Message.fbs, File.fbs). A message has a header and a footer its schema; a batch has both
 -- its vectors, and is not compressed; a footer has the blocks of its record batches. Blocks of dictionaries and custom metadata that are
 -- absent are empty.
-use Rattle.std.specs.Prelude.{ℕ, Bool, true, false, not, List, [], ◌∷◌, Option, Some, None}
-use Rattle.ipc_format_flatbuffers.specs.Reading.{◌>>=◌, guard}
+use Rattle.std.specs.Prelude.{ℕ, Bool, true, false, List, [], ◌∷◌, Option, Some, None}
+use Rattle.ipc_format_flatbuffers.specs.Reading.{◌>>=◌}
 use Rattle.ipc_format_grammar.specs.Messages as format
 use Rattle.ipc_format_grammar.specs.Messages.{Pair, Version, struct_at}
 use Rattle.ipc_format_grammar.specs.SlotNumbers.{reference_size}

@@ -1,4 +1,4 @@
-use Rattle.std.proofs.Common.{◌≡◌, ◌++◌, [], rules, arith}
+use Rattle.std.proofs.Common.{◌≡◌, ◌++◌, rules, arith}
 use Rattle.std.specs.Prelude.{Some, None}
 use Rattle.ipc_format_messages.specs.SchemaRefs.{pairs_view}
 use Rattle.ipc_format_owned.specs.Owned.{kept, kept_at}
