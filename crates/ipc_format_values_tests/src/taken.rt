@@ -8,11 +8,11 @@ use ipc_format_messages::{
     Block, Buffer, FieldNode, FieldRef, FooterRef, MessageHeaderRef, MessageRef,
 };
 use ipc_format_owned::{
-    field_of, footer_of, key_value_of, message_header_of, message_of, record_batch_of, schema_of,
-    type_of,
+    dictionary_batch_of, field_of, footer_of, key_value_of, message_header_of, message_of,
+    record_batch_of, schema_of, type_of,
 };
 use ipc_format_schema_writing::{default_ipc_fields, schema_to_bytes};
-use ipc_format_values::{MessageHeader, Type_};
+use ipc_format_values::Type_;
 use std::alloc::Global;
 use std::test::*;
 
@@ -139,10 +139,10 @@ fn a_dictionary_batch_is_taken(rt: HostRuntime) -> Result<(), Fail> {
     let alloc = rt.alloc();
     let bytes = dictionary_batch_to_bytes(alloc, 7, 2, &NODES, &BUFFERS, 128);
     let bytes = bytes.ok().ok_or("not written")?;
-    let header = message_header_of(alloc, header_of(&bytes)?);
-    let Ok(MessageHeader::DictionaryBatch(batch)) = header else {
+    let MessageHeaderRef::DictionaryBatch(view) = header_of(&bytes)? else {
         return Err(Fail::from("no dictionary"));
     };
+    let batch = dictionary_batch_of(alloc, view).ok().ok_or("refused")?;
     assert_eq!(rt; batch.id, 7);
     assert_eq!(rt; batch.data.nodes.len(), 1);
     assert!(rt; !batch.is_delta);
@@ -176,6 +176,7 @@ fn a_damaged_message_is_refused(rt: HostRuntime) -> Result<(), Fail> {
     let mut bytes = bytes.ok().ok_or("not written")?;
     let view = MessageRef::read_as_root(&bytes).ok().ok_or("no message")?;
     assert!(rt; message_of(alloc, view).is_ok());
+    assert!(rt; message_header_of(alloc, header_of(&bytes)?).is_ok());
     // the count of nodes
     *bytes.get_mut(92).ok_or("too short")? = 255;
     let view = MessageRef::read_as_root(&bytes).ok().ok_or("no message")?;
