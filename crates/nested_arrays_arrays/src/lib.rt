@@ -12,7 +12,7 @@ mod records;
 mod unions;
 mod validity;
 
-pub use any::{AnyArray, ListNode, Node};
+pub use any::{AnyArray, DictionaryNode, ListNode, Node};
 pub use fixed_lists::FixedSizeListArray;
 pub use lists::ListArray;
 pub use maps::MapArray;
