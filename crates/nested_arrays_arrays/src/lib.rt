@@ -5,6 +5,7 @@ mod any;
 mod children;
 mod fixed_lists;
 mod from;
+mod key_masks;
 mod lists;
 mod maps;
 mod picks;
