@@ -2,4 +2,6 @@ pub mod AnyColumns
 pub mod Answers
 pub mod Entries
 pub mod Lengths
+pub mod NamedValues
+pub mod Parts
 pub mod Sizes

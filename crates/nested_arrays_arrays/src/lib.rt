@@ -5,10 +5,13 @@ mod any;
 mod children;
 mod fixed_lists;
 mod from;
+mod key_masks;
 mod lists;
 mod maps;
+mod picks;
 mod records;
 mod unions;
+mod validity;
 
 pub use any::{AnyArray, DictionaryNode, ListNode, Node};
 pub use fixed_lists::FixedSizeListArray;
