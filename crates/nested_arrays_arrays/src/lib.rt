@@ -6,7 +6,6 @@ mod children;
 mod fixed_lists;
 mod from;
 mod key_masks;
-mod lists;
 mod maps;
 mod picks;
 mod records;
@@ -15,7 +14,6 @@ mod validity;
 
 pub use any::{AnyArray, DictionaryNode, ListNode, Node};
 pub use fixed_lists::FixedSizeListArray;
-pub use lists::ListArray;
 pub use maps::MapArray;
 pub use records::StructArray;
 pub use unions::UnionArray;
