@@ -1,0 +1,9 @@
+//! Equality of arrays without children by their slots.
+#![tactic(auto)]
+
+mod numbers;
+mod ranges;
+mod stored;
+mod values;
+
+pub use ranges::{has_no_nulls, is_valid, same_slots, same_slots_counted, validity};
