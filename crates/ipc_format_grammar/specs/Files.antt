@@ -6,8 +6,10 @@ use Rattle.ipc_format_flatbuffers.specs.Reading.{◌>>=◌, guard, window_at}
 use Rattle.ipc_format_flatbuffers.specs.FlatBuffers.{Table, Vector, signed_at, number_field, table_field, vector_field, root_of}
 use Rattle.ipc_format_grammar.specs.Messages as message
 use Rattle.ipc_format_grammar.specs.Messages.{natural, version_in, header_of}
-use Rattle.ipc_format_grammar.specs.Framing.{Frame, truncated, end_mark, metadata_then, frame_at, most_dictionaries}
+use Rattle.ipc_format_grammar.specs.Framing.{Frame, truncated, end_mark, metadata_then, frame_at}
+use Rattle.ipc_format_grammar.specs.Limits.{most_dictionaries}
 use Rattle.ipc_format_grammar.specs.Dictionaries.{Entry}
+use Rattle.ipc_format_grammar.specs.SlotNumbers as slots
 
 -- what stands at both ends of a file
 abbrev pub file_mark : List ℕ
@@ -42,7 +44,7 @@ abbrev pub blocks_from : List ℕ → ℕ → ℕ → Option (List Block)
 blocks_from bytes place zero = Some []
 blocks_from bytes place (suc n) = do
   block ← block_at bytes place
-  others ← blocks_from bytes (place + 24) n
+  others ← blocks_from bytes (place + slots.block_size) n
   Some (block ∷ others)
 
 abbrev pub blocks_of : List ℕ → Vector → Option (List Block)
@@ -76,7 +78,7 @@ unfoldable pub footer_schema : List ℕ → Option (List ℕ × Table)
 footer_schema bytes = do
   footer ← footer_bytes bytes
   root ← root_of footer
-  found ← table_field footer root 1
+  found ← table_field footer root slots.footer_schema
   schema ← found
   Some (footer, schema)
 
@@ -85,9 +87,9 @@ unfoldable pub footer_in : List ℕ → Option Footer
 footer_in bytes = do
   found ← footer_schema bytes
   root ← root_of found.0
-  found_dictionaries ← vector_field found.0 root 2 24
+  found_dictionaries ← vector_field found.0 root slots.footer_dictionaries slots.block_size
   dictionaries ← blocks_if found.0 found_dictionaries
-  found_batches ← vector_field found.0 root 3 24
+  found_batches ← vector_field found.0 root slots.footer_record_batches slots.block_size
   vector ← found_batches
   record_batches ← blocks_of found.0 vector
   Some (record { bytes = found.0; schema = found.1; dictionaries = dictionaries; record_batches = record_batches })
@@ -102,8 +104,8 @@ metadata_of (metadata_then metadata place) = Some metadata
 unfoldable pub header_in : List ℕ → Option message.Header
 header_in bytes = do
   root ← root_of bytes
-  tag ← number_field w8 bytes root 1 0
-  found ← table_field bytes root 2
+  tag ← number_field w8 bytes root slots.message_header_type 0
+  found ← table_field bytes root slots.message_header
   table ← found
   header_of tag table
 

@@ -6,6 +6,7 @@ use Rattle.ipc_format_flatbuffers.specs.Reading.{◌>>=◌, guard, window_at}
 use Rattle.ipc_format_flatbuffers.specs.FlatBuffers.{signed_at}
 use Rattle.ipc_format_grammar.specs.Messages as message
 use Rattle.ipc_format_grammar.specs.Messages.{Message, message_in, natural}
+use Rattle.ipc_format_grammar.specs.Limits.{most_dictionaries}
 
 -- what stands at a message's place: fewer than four bytes, a length of 0, or metadata, with the place where its body begins
 pub data Frame : Type 0 where
@@ -72,10 +73,6 @@ abbrev pub next_at : List ℕ → ℕ → Option Next
 next_at bytes place = do
   frame ← frame_at bytes place
   next_of bytes frame
-
--- how many dictionary messages may stand in a row in a stream, or in a file (a limit of this library)
-abbrev pub most_dictionaries : ℕ
-most_dictionaries = 65536
 
 -- how many dictionary messages stand in a row after one more message; too many are refused, and so is a schema
 abbrev pub dictionaries_after : ℕ → message.Header → Option ℕ

@@ -1,3 +1,6 @@
+pub mod Limits
+pub mod SlotNumbers
+pub mod TagNumbers
 pub mod Messages
 pub mod Types
 pub mod Schemas

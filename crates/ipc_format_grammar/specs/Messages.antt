@@ -5,6 +5,7 @@ use Rattle.std.specs.Int.{w8, w16, w64}
 use Rattle.ipc_format_flatbuffers.specs.Reading.{◌>>=◌}
 use Rattle.ipc_format_flatbuffers.specs.FlatBuffers.{Table, Vector, number_field, signed_field, truth_field, signed_at, table_field}
 use Rattle.ipc_format_flatbuffers.specs.FlatBuffers.{vector_field, root_of}
+use Rattle.ipc_format_grammar.specs.SlotNumbers as slots
 
 -- a version of Arrow's metadata
 pub data Version : Type 0 where
@@ -44,15 +45,15 @@ pub record Message : Type 0 where
 -- how many bytes the body has; a schema has none, and what its message states is not looked at
 abbrev pub body_length_of : List ℕ → Table → Header → Option ℤ
 body_length_of bytes root (schema table) = Some (pos 0)
-body_length_of bytes root (dictionary_batch table) = signed_field w64 bytes root 3 (pos 0)
-body_length_of bytes root (record_batch table) = signed_field w64 bytes root 3 (pos 0)
+body_length_of bytes root (dictionary_batch table) = signed_field w64 bytes root slots.message_body_length (pos 0)
+body_length_of bytes root (record_batch table) = signed_field w64 bytes root slots.message_body_length (pos 0)
 
 -- the message of some metadata
 unfoldable pub message_in : List ℕ → Option Message
 message_in bytes = do
   root ← root_of bytes
-  tag ← number_field w8 bytes root 1 0
-  found ← table_field bytes root 2
+  tag ← number_field w8 bytes root slots.message_header_type 0
+  found ← table_field bytes root slots.message_header
   table ← found
   header ← header_of tag table
   body_length ← body_length_of bytes root header
@@ -62,7 +63,7 @@ message_in bytes = do
 unfoldable pub version_in : List ℕ → Option Version
 version_in bytes = do
   root ← root_of bytes
-  number ← signed_field w16 bytes root 0 (pos 0)
+  number ← signed_field w16 bytes root slots.message_version (pos 0)
   version_of number
 
 -- where the nodes and buffers of a batch stand, and whether its buffers are compressed
@@ -74,11 +75,11 @@ pub record RecordBatch : Type 0 where
 -- a record batch; both vectors must be there, each with structs of 16 bytes
 unfoldable pub record_batch_in : List ℕ → Table → Option RecordBatch
 record_batch_in bytes table = do
-  found_nodes ← vector_field bytes table 1 16
+  found_nodes ← vector_field bytes table slots.record_batch_nodes slots.pair_size
   nodes ← found_nodes
-  found_buffers ← vector_field bytes table 2 16
+  found_buffers ← vector_field bytes table slots.record_batch_buffers slots.pair_size
   buffers ← found_buffers
-  compression ← table_field bytes table 3
+  compression ← table_field bytes table slots.record_batch_compression
   Some (record { nodes = nodes; buffers = buffers; is_compressed = is_some compression })
 
 -- a dictionary's id, its values as a record batch, and whether they are added to earlier ones
@@ -89,10 +90,10 @@ pub record DictionaryBatch : Type 0 where
 
 unfoldable pub dictionary_batch_in : List ℕ → Table → Option DictionaryBatch
 dictionary_batch_in bytes table = do
-  id ← signed_field w64 bytes table 0 (pos 0)
-  found ← table_field bytes table 1
+  id ← signed_field w64 bytes table slots.dictionary_batch_id (pos 0)
+  found ← table_field bytes table slots.dictionary_batch_data
   values ← found
-  is_delta ← truth_field bytes table 2
+  is_delta ← truth_field bytes table slots.dictionary_batch_is_delta
   Some (record { id = id; values = values; is_delta = is_delta })
 
 -- two signed numbers of eight bytes, one behind the other
@@ -108,7 +109,7 @@ pair_at bytes place = do
 
 -- element k of a vector of such structs: of a node its length and how many slots are null, of a buffer its offset and length
 unfoldable pub struct_at : List ℕ → Vector → ℕ → Option Pair
-struct_at bytes vector k = if nat_lt k vector.count then pair_at bytes (vector.place + 16 * k) else None
+struct_at bytes vector k = if nat_lt k vector.count then pair_at bytes (vector.place + slots.pair_size * k) else None
 
 -- a number that isn't negative
 abbrev pub natural : ℤ → Option ℕ
@@ -121,7 +122,7 @@ lengths_from bytes place zero = Some 0
 lengths_from bytes place (suc n) = do
   buffer ← pair_at bytes place
   length ← natural buffer.second
-  others ← lengths_from bytes (place + 16) n
+  others ← lengths_from bytes (place + slots.pair_size) n
   Some (length + others)
 
 -- the same of all buffers of a vector

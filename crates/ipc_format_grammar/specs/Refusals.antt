@@ -14,17 +14,15 @@ use Rattle.ipc_format_grammar.specs.Framing.{Framed, Next, nothing_whole, by_nex
 use Rattle.ipc_format_grammar.specs.Files.{Footer, Block, footer_in, footer_schema, file_entries, stands_at, metadata_of, header_in}
 use Rattle.ipc_format_grammar.specs.Framing.{frame_at}
 use Rattle.ipc_format_grammar.specs.Tables.{Form, stream, file, Contents, schema_of, stream_entry, layout_of, batches_of}
+use Rattle.ipc_format_grammar.specs.SlotNumbers as slots
+use Rattle.ipc_format_grammar.specs.TagNumbers as tags
 
 -- ---- a float field (Schema.fbs, FloatingPoint)
-
--- the tag of FloatingPoint in the union Type
-abbrev pub float_tag : ℕ
-float_tag = 3
 
 -- table k of the vector that a slot refers to
 abbrev pub child_at : List ℕ → Table → ℕ → ℕ → Option Table
 child_at bytes table slot k = do
-  found ← vector_field bytes table slot 4
+  found ← vector_field bytes table slot slots.reference_size
   vector ← found
   _ ← guard (nat_lt k vector.count)
   element_at bytes vector k
@@ -33,17 +31,17 @@ child_at bytes table slot k = do
 abbrev pub field_at_path : List ℕ → Table → List ℕ → Option Table
 field_at_path bytes field [] = Some field
 field_at_path bytes field (k ∷ path) = do
-  child ← child_at bytes field 5 k
+  child ← child_at bytes field slots.field_children k
   field_at_path bytes child path
 
 -- the Field table at a path of a schema
 abbrev pub field_of_schema : List ℕ → Table → ℕ → List ℕ → Option Table
 field_of_schema bytes schema k path = do
-  field ← child_at bytes schema 1 k
+  field ← child_at bytes schema slots.schema_fields k
   field_at_path bytes field path
 
 abbrev pub IsFloat : List ℕ → Table → Type 0
-IsFloat bytes field = number_field w8 bytes field 2 0 ≡ Some float_tag
+IsFloat bytes field = number_field w8 bytes field slots.field_type_type 0 ≡ Some tags.floating_point
 
 -- a float field stands in a schema, at some path
 abbrev pub HasFloatField : List ℕ → Table → Type 0
@@ -111,17 +109,17 @@ abbrev pub batch_table : List ℕ → message.Header → Option Table
 batch_table metadata (message.schema table) = None
 batch_table metadata (message.record_batch table) = Some table
 batch_table metadata (message.dictionary_batch table) = do
-  found ← table_field metadata table 1
+  found ← table_field metadata table slots.dictionary_batch_data
   found
 
 abbrev pub compression_in : List ℕ × message.Header → Option Table
 compression_in found = do
   batch ← batch_table found.0 found.1
-  compression ← table_field found.0 batch 3
+  compression ← table_field found.0 batch slots.record_batch_compression
   compression
 
 abbrev pub is_delta : List ℕ → message.Header → Option Bool
-is_delta metadata (message.dictionary_batch table) = truth_field metadata table 2
+is_delta metadata (message.dictionary_batch table) = truth_field metadata table slots.dictionary_batch_is_delta
 is_delta metadata _ = None
 
 -- a batch of the bytes is compressed

@@ -19,6 +19,7 @@ use Rattle.columnar_memory.specs.declared.UnionMode.{UnionMode}
 use Rattle.columnar_memory.specs.declared.UnionMode.TheVariants as modes
 use Rattle.ipc_format_grammar.specs.Schemas.{Ids, IdsList, ids, no_ids, ids_then, extension_name_key, extension_metadata_key}
 use Rattle.ipc_format_grammar.specs.Writable.{without_key}
+use Rattle.ipc_format_grammar.specs.TagNumbers as tags
 
 -- a truth value as a byte
 abbrev pub truth : Bool → ℕ
@@ -110,39 +111,40 @@ nested tag type_table fields below =
 -- One layer of a type, where each type below stands as what tells it by the ids below it. Floats are not written; they are told as they
 -- would be.
 abbrev pub told_step : layer.DataType-F (IdsList → Told) (Ids → Object) → IdsList → Told
-told_step layer.Null = flat 1 empty_table
-told_step layer.Int8 = flat 2 (int_object 8 true)
-told_step layer.Int16 = flat 2 (int_object 16 true)
-told_step layer.Int32 = flat 2 (int_object 32 true)
-told_step layer.Int64 = flat 2 (int_object 64 true)
-told_step layer.UInt8 = flat 2 (int_object 8 false)
-told_step layer.UInt16 = flat 2 (int_object 16 false)
-told_step layer.UInt32 = flat 2 (int_object 32 false)
-told_step layer.UInt64 = flat 2 (int_object 64 false)
-told_step layer.Float16 = flat 3 (short_table 0)
-told_step layer.Float32 = flat 3 (short_table 1)
-told_step layer.Float64 = flat 3 (short_table 2)
-told_step layer.Binary = flat 4 empty_table
-told_step layer.Utf8 = flat 5 empty_table
-told_step layer.Boolean = flat 6 empty_table
-told_step (layer.Decimal precision scale) = flat 7 (decimal_object precision scale 128)
-told_step (layer.Decimal256 precision scale) = flat 7 (decimal_object precision scale 256)
-told_step layer.Date32 = flat 8 (short_table 0)
-told_step layer.Date64 = flat 8 (short_table 1)
-told_step (layer.Time32 unit) = flat 9 (time_object (unit_number unit) 32)
-told_step (layer.Time64 unit) = flat 9 (time_object (unit_number unit) 64)
-told_step (layer.Timestamp unit timezone) = flat 10 (table (number_then w16 (unit_number unit) (refers_if (text_if timezone) no_field)))
-told_step (layer.Interval unit) = flat 11 (short_table (interval_number unit))
-told_step (layer.List item) = nested 12 empty_table (item ∷ [])
-told_step (layer.Struct fields) = nested 13 empty_table fields
-told_step (layer.Union fields numbers mode) = nested 14 (table (number_then w16 (mode_number mode) (refers_if (numbers_if numbers) no_field))) fields
-told_step (layer.FixedSizeBinary size) = flat 15 (long_table size)
-told_step (layer.FixedSizeList item size) = nested 16 (long_table size) (item ∷ [])
-told_step (layer.Map entry is_sorted) = nested 17 (table (number_then w8 (truth is_sorted) no_field)) (entry ∷ [])
-told_step (layer.Duration unit) = flat 18 (short_table (unit_number unit))
-told_step layer.LargeBinary = flat 19 empty_table
-told_step layer.LargeUtf8 = flat 20 empty_table
-told_step (layer.LargeList item) = nested 21 empty_table (item ∷ [])
+told_step layer.Null = flat tags.null empty_table
+told_step layer.Int8 = flat tags.int (int_object 8 true)
+told_step layer.Int16 = flat tags.int (int_object 16 true)
+told_step layer.Int32 = flat tags.int (int_object 32 true)
+told_step layer.Int64 = flat tags.int (int_object 64 true)
+told_step layer.UInt8 = flat tags.int (int_object 8 false)
+told_step layer.UInt16 = flat tags.int (int_object 16 false)
+told_step layer.UInt32 = flat tags.int (int_object 32 false)
+told_step layer.UInt64 = flat tags.int (int_object 64 false)
+told_step layer.Float16 = flat tags.floating_point (short_table tags.half)
+told_step layer.Float32 = flat tags.floating_point (short_table tags.single)
+told_step layer.Float64 = flat tags.floating_point (short_table tags.double)
+told_step layer.Binary = flat tags.binary empty_table
+told_step layer.Utf8 = flat tags.utf8 empty_table
+told_step layer.Boolean = flat tags.bool empty_table
+told_step (layer.Decimal precision scale) = flat tags.decimal (decimal_object precision scale 128)
+told_step (layer.Decimal256 precision scale) = flat tags.decimal (decimal_object precision scale 256)
+told_step layer.Date32 = flat tags.date (short_table tags.day)
+told_step layer.Date64 = flat tags.date (short_table tags.millisecond)
+told_step (layer.Time32 unit) = flat tags.time (time_object (unit_number unit) 32)
+told_step (layer.Time64 unit) = flat tags.time (time_object (unit_number unit) 64)
+told_step (layer.Timestamp unit timezone) = flat tags.timestamp (table (number_then w16 (unit_number unit) (refers_if (text_if timezone) no_field)))
+told_step (layer.Interval unit) = flat tags.interval (short_table (interval_number unit))
+told_step (layer.List item) = nested tags.list empty_table (item ∷ [])
+told_step (layer.Struct fields) = nested tags.struct empty_table fields
+told_step (layer.Union fields numbers mode) =
+    nested tags.union (table (number_then w16 (mode_number mode) (refers_if (numbers_if numbers) no_field))) fields
+told_step (layer.FixedSizeBinary size) = flat tags.fixed_size_binary (long_table size)
+told_step (layer.FixedSizeList item size) = nested tags.fixed_size_list (long_table size) (item ∷ [])
+told_step (layer.Map entry is_sorted) = nested tags.map (table (number_then w8 (truth is_sorted) no_field)) (entry ∷ [])
+told_step (layer.Duration unit) = flat tags.duration (short_table (unit_number unit))
+told_step layer.LargeBinary = flat tags.large_binary empty_table
+told_step layer.LargeUtf8 = flat tags.large_utf8 empty_table
+told_step (layer.LargeList item) = nested tags.large_list empty_table (item ∷ [])
 told_step (layer.Dictionary key value is_ordered) = λ below. record (value below) { dictionary = Some (key, is_ordered) }
 told_step (layer.Extension name inner metadata) = λ below. record (inner below) { extension = Some (name, metadata) }
 
@@ -180,7 +182,8 @@ id_number (Some id) = cast_unsigned w64 id
 abbrev pub encoding_object : Option (IntegerType × Bool) → Option ℤ → Option Object
 encoding_object None id = None
 encoding_object (Some (key, is_ordered)) id =
-    Some (table (number_then w64 (id_number id) (refers_then (integer_object key) (number_then w8 (truth is_ordered) (number_then w16 0 no_field)))))
+    Some (table (number_then w64 (id_number id) (refers_then (integer_object key)
+    (number_then w8 (truth is_ordered) (number_then w16 tags.dense_array no_field)))))
 
 abbrev pub field_table : List ℕ → Bool → List (List ℕ × List ℕ) → Told → Option ℤ → Object
 field_table name is_nullable pairs told id =
@@ -201,18 +204,18 @@ field_object field (ids id below) = field_table field.name field.is_nullable fie
 -- a schema, little-endian
 unfoldable pub schema_object : Schema → IdsList → Object
 schema_object schema below =
-    table (number_then w16 0 (refers_then (references (objects_of (map field_object schema.fields) below))
+    table (number_then w16 tags.little (refers_then (references (objects_of (map field_object schema.fields) below))
     (refers_if (metadata_object schema.metadata) (absent_then no_field))))
 
 -- ---- messages, in version V5
 
 -- a message of a header's tag and object, and the length of its body
 abbrev pub message_object : ℕ → Object → ℕ → Object
-message_object tag header body_length =
-    table (number_then w16 4 (number_then w8 tag (refers_then header (number_then w64 body_length (absent_then no_field)))))
+message_object header_type header body_length =
+    table (number_then w16 tags.version_5 (number_then w8 header_type (refers_then header (number_then w64 body_length (absent_then no_field)))))
 
 abbrev pub schema_message : Schema → IdsList → Object
-schema_message schema below = message_object 1 (schema_object schema below) 0
+schema_message schema below = message_object tags.schema_tag (schema_object schema below) 0
 
 -- structs of two numbers of eight bytes
 abbrev pub structs_object : List (ℕ × ℕ) → Object
@@ -225,4 +228,4 @@ record_batch_object rows nodes buffers =
 
 -- a dictionary batch: its id, and its values as a record batch
 abbrev pub dictionary_batch_object : ℤ → Object → Object
-dictionary_batch_object id values = table (number_then w64 (cast_unsigned w64 id) (refers_then values (number_then w8 0 no_field)))
+dictionary_batch_object id values = table (number_then w64 (cast_unsigned w64 id) (refers_then values (number_then w8 (truth false) no_field)))

@@ -13,6 +13,8 @@ use Rattle.columnar_memory.specs.Pairs.{value_at, with_pair}
 use Rattle.ipc_format_grammar.specs.Types as kind
 use Rattle.ipc_format_grammar.specs.Types.{Tag, tag_of, integer_in, type_of_integer, size_of, decimal_in, date_of, time_in, timestamp_in}
 use Rattle.ipc_format_grammar.specs.Types.{interval_of, time_unit_of, union_in}
+use Rattle.ipc_format_grammar.specs.SlotNumbers as slots
+use Rattle.ipc_format_grammar.specs.Limits.{most_levels}
 
 mutual
   -- the dictionary ids beside a field: its own, if it has a dictionary, and those of the fields below it
@@ -65,14 +67,14 @@ flat data_type left = Some (record { data_type = data_type; below = no_ids }, le
 -- all children of a field
 abbrev pub children_in : (Table → Visits FieldIn) → List ℕ → Table → Visits (List FieldIn)
 children_in read bytes field left = do
-  found ← vector_field bytes field 5 4
+  found ← vector_field bytes field slots.field_children slots.reference_size
   vector ← found
   each_of read bytes vector vector.count 0 left
 
 -- the first child of a field, which counts alone for lists and maps
 abbrev pub child_in : (Table → Visits FieldIn) → List ℕ → Table → Visits FieldIn
 child_in read bytes field left = do
-  found ← vector_field bytes field 5 4
+  found ← vector_field bytes field slots.field_children slots.reference_size
   vector ← found
   _ ← guard (nat_le 1 vector.count)
   table ← element_at bytes vector 0
@@ -100,7 +102,7 @@ type_in floats read bytes kind.decimal field table left = do
   data_type ← decimal_in bytes table
   flat data_type left
 type_in floats read bytes kind.date field table left = do
-  unit ← signed_field w16 bytes table 0 (pos 1)
+  unit ← signed_field w16 bytes table slots.date_unit (pos 1)
   data_type ← date_of unit
   flat data_type left
 type_in floats read bytes kind.time field table left = do
@@ -110,15 +112,15 @@ type_in floats read bytes kind.timestamp field table left = do
   data_type ← timestamp_in bytes table
   flat data_type left
 type_in floats read bytes kind.interval field table left = do
-  unit ← signed_field w16 bytes table 0 (pos 0)
+  unit ← signed_field w16 bytes table slots.interval_unit (pos 0)
   data_type ← interval_of unit
   flat data_type left
 type_in floats read bytes kind.duration field table left = do
-  number ← signed_field w16 bytes table 0 (pos 1)
+  number ← signed_field w16 bytes table slots.duration_unit (pos 1)
   unit ← time_unit_of number
   flat (types.Duration unit) left
 type_in floats read bytes kind.fixed_size_binary field table left = do
-  width ← signed_field w32 bytes table 0 (pos 0)
+  width ← signed_field w32 bytes table slots.fixed_size_binary_byte_width (pos 0)
   size ← size_of width
   flat (types.FixedSizeBinary size) left
 type_in floats read bytes kind.list field table left = do
@@ -128,12 +130,12 @@ type_in floats read bytes kind.large_list field table left = do
   child ← child_in read bytes field left
   Some (with_child types.LargeList child)
 type_in floats read bytes kind.fixed_size_list field table left = do
-  count ← signed_field w32 bytes table 0 (pos 0)
+  count ← signed_field w32 bytes table slots.fixed_size_list_list_size (pos 0)
   size ← size_of count
   child ← child_in read bytes field left
   Some (with_child (λ item. types.FixedSizeList item size) child)
 type_in floats read bytes kind.map field table left = do
-  is_sorted ← truth_field bytes table 0
+  is_sorted ← truth_field bytes table slots.map_keys_sorted
   child ← child_in read bytes field left
   Some (with_child (λ entry. types.Map entry is_sorted) child)
 type_in floats read bytes kind.struct field table left = do
@@ -155,8 +157,8 @@ abbrev pub pairs_from : List ℕ → Vector → ℕ → ℕ → List (List ℕ �
 pairs_from bytes vector zero k pairs = Some pairs
 pairs_from bytes vector (suc n) k pairs = do
   table ← element_at bytes vector k
-  key ← string_field bytes table 0
-  value ← string_field bytes table 1
+  key ← string_field bytes table slots.key_value_key
+  value ← string_field bytes table slots.key_value_value
   pairs_from bytes vector n (k + 1) (with_found pairs key value)
 
 abbrev pub pairs_of : List ℕ → Option Vector → Option (List (List ℕ × List ℕ))
@@ -166,7 +168,7 @@ pairs_of bytes (Some vector) = pairs_from bytes vector vector.count 0 []
 -- the custom metadata that a slot of a table refers to, in the order of the keys
 unfoldable pub metadata_in : List ℕ → Table → ℕ → Option (List (List ℕ × List ℕ))
 metadata_in bytes table slot = do
-  vector ← vector_field bytes table slot 4
+  vector ← vector_field bytes table slot slots.reference_size
   pairs_of bytes vector
 
 -- the keys under which a field's metadata names an extension type (Arrow columnar format, "Extension Types")
@@ -193,11 +195,11 @@ pub record Encoded : Type 0 where
 abbrev pub encoded_by : List ℕ → Option Table → DataType → Option Encoded
 encoded_by bytes None data_type = Some (record { data_type = data_type; id = None })
 encoded_by bytes (Some table) data_type = do
-  id ← signed_field w64 bytes table 0 (pos 0)
-  found ← table_field bytes table 1
+  id ← signed_field w64 bytes table slots.dictionary_encoding_id (pos 0)
+  found ← table_field bytes table slots.dictionary_encoding_index_type
   keys ← found
   integer ← integer_in bytes keys
-  is_ordered ← truth_field bytes table 2
+  is_ordered ← truth_field bytes table slots.dictionary_encoding_is_ordered
   Some (record { data_type = types.Dictionary integer data_type is_ordered; id = Some id })
 
 -- The field of a Field table, where fields may nest so many levels deep from here on. The reader keeps the keys of an extension in the
@@ -206,16 +208,16 @@ unfoldable pub field_in : Option DataType → List ℕ → ℕ → Table → Vis
 field_in floats bytes zero table left = None
 field_in floats bytes (suc levels) table left = do
   visited ← visit left
-  found_name ← string_field bytes table 0
+  found_name ← string_field bytes table slots.field_name
   name ← found_name
-  is_nullable ← truth_field bytes table 1
-  number ← number_field w8 bytes table 2 0
+  is_nullable ← truth_field bytes table slots.field_nullable
+  number ← number_field w8 bytes table slots.field_type_type 0
   tag ← tag_of number
-  found_type ← table_field bytes table 3
+  found_type ← table_field bytes table slots.field_type
   type_table ← found_type
   found ← type_in floats (field_in floats bytes levels) bytes tag table type_table visited
-  dictionary ← table_field bytes table 4
-  metadata ← metadata_in bytes table 6
+  dictionary ← table_field bytes table slots.field_dictionary
+  metadata ← metadata_in bytes table slots.field_custom_metadata
   encoded ← encoded_by bytes dictionary (extended metadata found.0.data_type)
   Some (
     record {
@@ -240,10 +242,10 @@ is_little_of _ = None
 -- the schema of a Schema table, before it is tested whether it is one that is written; its features are not looked at
 unfoldable pub any_schema_in : Option DataType → List ℕ → Table → Option SchemaIn
 any_schema_in floats bytes table = do
-  number ← signed_field w16 bytes table 0 (pos 0)
+  number ← signed_field w16 bytes table slots.schema_endianness (pos 0)
   is_little_endian ← is_little_of number
-  found ← vector_field bytes table 1 4
+  found ← vector_field bytes table slots.schema_fields slots.reference_size
   vector ← found
-  fields ← each_of (field_in floats bytes 64) bytes vector vector.count 0 (length bytes)
-  metadata ← metadata_in bytes table 2
+  fields ← each_of (field_in floats bytes most_levels) bytes vector vector.count 0 (length bytes)
+  metadata ← metadata_in bytes table slots.schema_custom_metadata
   Some (record { schema = record { fields = fields_of fields.0; metadata = metadata }; ids = ids_of fields.0; is_little_endian = is_little_endian })

@@ -14,6 +14,7 @@ use Rattle.columnar_memory.specs.declared.IntegerType.TheVariants as integers
 use Rattle.columnar_memory.specs.declared.UnionMode.{UnionMode}
 use Rattle.columnar_memory.specs.declared.UnionMode.TheVariants as modes
 use Rattle.ipc_format_grammar.specs.Messages.{natural}
+use Rattle.ipc_format_grammar.specs.SlotNumbers as slots
 
 -- the tags of the union Type
 pub data Tag : Type 0 where
@@ -80,8 +81,8 @@ integer_of bits false = unsigned_of bits
 -- an Int table: how many bits, and whether signed
 unfoldable pub integer_in : List ℕ → Table → Option IntegerType
 integer_in bytes table = do
-  bits ← signed_field w32 bytes table 0 (pos 0)
-  is_signed ← truth_field bytes table 1
+  bits ← signed_field w32 bytes table slots.int_bit_width (pos 0)
+  is_signed ← truth_field bytes table slots.int_is_signed
   integer_of bits is_signed
 
 -- the type of a column of whole numbers
@@ -108,11 +109,11 @@ decimal_of bits precision scale =
 
 unfoldable pub decimal_in : List ℕ → Table → Option DataType
 decimal_in bytes table = do
-  stated_precision ← signed_field w32 bytes table 0 (pos 0)
+  stated_precision ← signed_field w32 bytes table slots.decimal_precision (pos 0)
   precision ← natural stated_precision
-  stated_scale ← signed_field w32 bytes table 1 (pos 0)
+  stated_scale ← signed_field w32 bytes table slots.decimal_scale (pos 0)
   scale ← natural stated_scale
-  bits ← signed_field w32 bytes table 2 (pos 128)
+  bits ← signed_field w32 bytes table slots.decimal_bit_width (pos 128)
   decimal_of bits precision scale
 
 -- dates by their unit: days or milliseconds
@@ -138,16 +139,16 @@ time_of bits unit =
 
 unfoldable pub time_in : List ℕ → Table → Option DataType
 time_in bytes table = do
-  number ← signed_field w16 bytes table 0 (pos 1)
+  number ← signed_field w16 bytes table slots.time_unit (pos 1)
   unit ← time_unit_of number
-  bits ← signed_field w32 bytes table 1 (pos 32)
+  bits ← signed_field w32 bytes table slots.time_bit_width (pos 32)
   time_of bits unit
 
 unfoldable pub timestamp_in : List ℕ → Table → Option DataType
 timestamp_in bytes table = do
-  number ← signed_field w16 bytes table 0 (pos 0)
+  number ← signed_field w16 bytes table slots.timestamp_unit (pos 0)
   unit ← time_unit_of number
-  timezone ← string_field bytes table 1
+  timezone ← string_field bytes table slots.timestamp_timezone
   Some (types.Timestamp unit timezone)
 
 -- intervals by their unit
@@ -168,7 +169,7 @@ abbrev pub numbers_from : List ℕ → ℕ → ℕ → Option (List ℤ)
 numbers_from bytes place zero = Some []
 numbers_from bytes place (suc n) = do
   first ← signed_at w32 bytes place
-  others ← numbers_from bytes (place + 4) n
+  others ← numbers_from bytes (place + slots.id_size) n
   Some (first ∷ others)
 
 abbrev pub numbers_of : List ℕ → Option Vector → Option (Option (List ℤ))
@@ -184,8 +185,8 @@ pub record UnionTable : Type 0 where
 
 unfoldable pub union_in : List ℕ → Table → Option UnionTable
 union_in bytes table = do
-  number ← signed_field w16 bytes table 0 (pos 0)
+  number ← signed_field w16 bytes table slots.union_mode (pos 0)
   mode ← mode_of number
-  vector ← vector_field bytes table 1 4
+  vector ← vector_field bytes table slots.union_type_ids slots.id_size
   ids ← numbers_of bytes vector
   Some (record { mode = mode; ids = ids })

@@ -17,6 +17,7 @@ use Rattle.columnar_memory.specs.declared.TimeUnit.TheVariants as units
 use Rattle.columnar_memory.specs.Pairs.{with_pair}
 use Rattle.nested_arrays_columns.specs.Tables.{Table, FitsRows}
 use Rattle.ipc_format_grammar.specs.Schemas.{extension_name_key, extension_metadata_key}
+use Rattle.ipc_format_grammar.specs.Limits.{most_levels, most_dictionaries}
 
 -- what stands at the top of a type, as far as others ask
 pub data Shape : Type 0 where
@@ -139,7 +140,7 @@ reports_of fields = map (λ (field : Field). report_of field.data_type) fields
 -- a schema that is written, and read: each type is allowed, fields nest at most 64 deep, and at most 65,536 have dictionaries
 unfoldable pub is_writable : Schema → Bool
 is_writable schema = let all = over_all true plain (reports_of schema.fields) in
-    all.is_allowed && nat_le all.levels 64 && nat_le all.dictionaries 65536
+    all.is_allowed && nat_le all.levels most_levels && nat_le all.dictionaries most_dictionaries
 
 -- the pairs without one of a key
 abbrev pub without_key : List ℕ → List (List ℕ × List ℕ) → List (List ℕ × List ℕ)

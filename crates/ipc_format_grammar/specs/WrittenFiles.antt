@@ -14,6 +14,7 @@ use Rattle.ipc_format_grammar.specs.GivenDictionaries.{Given, stands_for, last_u
 use Rattle.ipc_format_grammar.specs.WrittenMessages.{Written, prefix_size, message_bytes, fits_limit, schema_written}
 use Rattle.ipc_format_grammar.specs.WrittenMessages.{record_message, dictionary_message}
 use Rattle.ipc_format_grammar.specs.WrittenStreams.{Batch, stream_messages, stream_bytes}
+use Rattle.ipc_format_grammar.specs.TagNumbers as tags
 
 -- where a message stands in a file: its place, how many bytes stand before its body, and how many its body has
 pub record Block : Type 0 where
@@ -66,7 +67,7 @@ blocks_object blocks = elements (length blocks) (flat_map block_bytes blocks)
 -- the footer, in version V5
 abbrev pub footer_object : Schema → IdsList → Blocks → Object
 footer_object schema ids blocks =
-    table (number_then w16 4 (refers_then (schema_object schema ids) (refers_then (blocks_object blocks.dictionaries)
+    table (number_then w16 tags.version_5 (refers_then (schema_object schema ids) (refers_then (blocks_object blocks.dictionaries)
     (refers_then (blocks_object blocks.record_batches) (absent_then no_field)))))
 
 -- what stands before a file's first message: its mark, and two zeros

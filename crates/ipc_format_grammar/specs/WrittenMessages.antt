@@ -8,6 +8,7 @@ use Rattle.ipc_format_grammar.specs.Schemas.{IdsList}
 use Rattle.ipc_format_grammar.specs.SchemaObjects.{message_object, schema_message, record_batch_object, dictionary_batch_object}
 use Rattle.ipc_format_grammar.specs.Encoding.{Encoded, joined}
 use Rattle.ipc_format_grammar.specs.GivenDictionaries.{Given}
+use Rattle.ipc_format_grammar.specs.TagNumbers.{dictionary_tag, record_tag}
 
 -- a message as it is written: its metadata, a whole number of eights of bytes, and its body
 pub record Written : Type 0 where
@@ -58,13 +59,6 @@ abbrev pub body_bytes : List (List ℕ) → List ℕ
 body_bytes buffers = flat_map padded_buffer buffers
 
 -- ---- messages
-
--- the tags of the headers (Message.fbs, union MessageHeader)
-abbrev pub dictionary_tag : ℕ
-dictionary_tag = 2
-
-abbrev pub record_tag : ℕ
-record_tag = 3
 
 -- a record batch of so many rows
 abbrev pub batch_object : ℕ → Encoded → Object

@@ -12,7 +12,8 @@ use Rattle.ipc_format_flatbuffers.specs.declared.Laid.{Laid}
 use Rattle.ipc_format_flatbuffers.specs.declared.LayError.{LayError}
 use Rattle.ipc_format_flatbuffers.specs.declared.LayError.TheVariants.{TooLong}
 use Rattle.ipc_format_grammar.specs.SchemaObjects.{message_object, record_batch_object, dictionary_batch_object}
-use Rattle.ipc_format_grammar.specs.WrittenMessages.{dictionary_tag, record_tag, prefix_size, most_metadata, body_limit}
+use Rattle.ipc_format_grammar.specs.TagNumbers.{dictionary_tag, record_tag}
+use Rattle.ipc_format_grammar.specs.WrittenMessages.{prefix_size, most_metadata, body_limit}
 use Rattle.ipc_format_messages.specs.declared.FieldNode.{FieldNode}
 use Rattle.ipc_format_messages.specs.declared.Buffer.{Buffer}
 

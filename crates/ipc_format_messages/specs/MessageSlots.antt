@@ -8,6 +8,7 @@ use Rattle.ipc_format_flatbuffers.specs.FlatBuffers.{Table, Vector, signed_at, n
 use Rattle.ipc_format_flatbuffers.specs.FlatBuffers.{vector_field, root_of}
 use Rattle.ipc_format_grammar.specs.Messages as format
 use Rattle.ipc_format_grammar.specs.Messages.{Version, version_of}
+use Rattle.ipc_format_grammar.specs.SlotNumbers as slots
 
 -- a table of a message, with the message's bytes
 pub record TableIn : Type 0 where
@@ -51,10 +52,10 @@ version_in from slot = do
   number ← signed_field w16 from.bytes from.table slot (pos 0)
   version_of number
 
--- ---- Message: 0 version, 1 and 2 header, 3 body length
+-- ---- Message
 
 abbrev pub message_version : TableIn → Option Version
-message_version message = version_in message 0
+message_version message = version_in message slots.message_version
 
 -- the header of a kind, by its table
 abbrev pub header_of : ℕ → TableIn → Option HeaderIn
@@ -70,51 +71,51 @@ header_if kind (Some table) = do
 
 abbrev pub message_header : TableIn → Option (Option HeaderIn)
 message_header message = do
-  kind ← number_field w8 message.bytes message.table 1 0
-  table ← table_in message 2
+  kind ← number_field w8 message.bytes message.table slots.message_header_type 0
+  table ← table_in message slots.message_header
   header_if kind table
 
 abbrev pub message_body_length : TableIn → Option ℤ
-message_body_length message = long_in message 3
+message_body_length message = long_in message slots.message_body_length
 
--- ---- RecordBatch: 0 length, 1 nodes, 2 buffers, 3 compression
+-- ---- RecordBatch
 
 abbrev pub batch_length : TableIn → Option ℤ
-batch_length batch = long_in batch 0
+batch_length batch = long_in batch slots.record_batch_length
 
 abbrev pub batch_nodes : TableIn → Option (Option VectorIn)
-batch_nodes batch = vector_in batch 1 16
+batch_nodes batch = vector_in batch slots.record_batch_nodes slots.pair_size
 
 abbrev pub batch_buffers : TableIn → Option (Option VectorIn)
-batch_buffers batch = vector_in batch 2 16
+batch_buffers batch = vector_in batch slots.record_batch_buffers slots.pair_size
 
 abbrev pub batch_compression : TableIn → Option (Option TableIn)
-batch_compression batch = table_in batch 3
+batch_compression batch = table_in batch slots.record_batch_compression
 
--- ---- DictionaryBatch: 0 id, 1 data, 2 whether it is a delta
+-- ---- DictionaryBatch
 
 abbrev pub dictionary_id : TableIn → Option ℤ
-dictionary_id batch = long_in batch 0
+dictionary_id batch = long_in batch slots.dictionary_batch_id
 
 abbrev pub dictionary_data : TableIn → Option (Option TableIn)
-dictionary_data batch = table_in batch 1
+dictionary_data batch = table_in batch slots.dictionary_batch_data
 
 abbrev pub dictionary_is_delta : TableIn → Option Bool
-dictionary_is_delta batch = truth_field batch.bytes batch.table 2
+dictionary_is_delta batch = truth_field batch.bytes batch.table slots.dictionary_batch_is_delta
 
--- ---- Footer: 0 version, 1 schema, 2 dictionaries, 3 record batches
+-- ---- Footer
 
 abbrev pub footer_version : TableIn → Option Version
-footer_version footer = version_in footer 0
+footer_version footer = version_in footer slots.footer_version
 
 abbrev pub footer_schema : TableIn → Option (Option TableIn)
-footer_schema footer = table_in footer 1
+footer_schema footer = table_in footer slots.footer_schema
 
 abbrev pub footer_dictionaries : TableIn → Option (Option VectorIn)
-footer_dictionaries footer = vector_in footer 2 24
+footer_dictionaries footer = vector_in footer slots.footer_dictionaries slots.block_size
 
 abbrev pub footer_record_batches : TableIn → Option (Option VectorIn)
-footer_record_batches footer = vector_in footer 3 24
+footer_record_batches footer = vector_in footer slots.footer_record_batches slots.block_size
 
 -- a block as it is stated: an offset, the length of the metadata, four bytes of padding, and the length of the body
 pub record BlockIn : Type 0 where
@@ -131,4 +132,4 @@ stated_block bytes place = do
 
 -- block k of a vector of them
 unfoldable pub block_at : List ℕ → Vector → ℕ → Option BlockIn
-block_at bytes vector k = if nat_lt k vector.count then stated_block bytes (vector.place + 24 * k) else None
+block_at bytes vector k = if nat_lt k vector.count then stated_block bytes (vector.place + slots.block_size * k) else None

@@ -5,6 +5,7 @@ use Rattle.ipc_format_flatbuffers.specs.Reading.{◌>>=◌}
 use Rattle.ipc_format_flatbuffers.specs.FlatBuffers.{signed_field, truth_field, string_field, element_at}
 use Rattle.ipc_format_grammar.specs.Schemas.{is_little_of}
 use Rattle.ipc_format_messages.specs.MessageSlots.{TableIn, VectorIn, table_in, vector_in, long_in}
+use Rattle.ipc_format_grammar.specs.SlotNumbers as slots
 
 -- a text, if it is there
 abbrev pub text_in : TableIn → ℕ → Option (Option (List ℕ))
@@ -21,59 +22,59 @@ element_in from k =
       Some (Some (record { bytes = from.bytes; table = table })))
     else Some None
 
--- ---- Schema: 0 endianness (whether it is little), 1 fields, 2 custom metadata
+-- ---- Schema
 
 abbrev pub schema_is_little : TableIn → Option Bool
 schema_is_little schema = do
-  number ← signed_field w16 schema.bytes schema.table 0 (pos 0)
+  number ← signed_field w16 schema.bytes schema.table slots.schema_endianness (pos 0)
   is_little_of number
 
 abbrev pub schema_fields : TableIn → Option (Option VectorIn)
-schema_fields schema = vector_in schema 1 4
+schema_fields schema = vector_in schema slots.schema_fields slots.reference_size
 
 abbrev pub schema_metadata : TableIn → Option (Option VectorIn)
-schema_metadata schema = vector_in schema 2 4
+schema_metadata schema = vector_in schema slots.schema_custom_metadata slots.reference_size
 
--- ---- Field: 0 name, 1 whether it may be null, 2 and 3 type, 4 dictionary, 5 children, 6 custom metadata
+-- ---- Field
 
 abbrev pub field_name : TableIn → Option (Option (List ℕ))
-field_name field = text_in field 0
+field_name field = text_in field slots.field_name
 
 abbrev pub field_is_nullable : TableIn → Option Bool
-field_is_nullable field = truth_in field 1
+field_is_nullable field = truth_in field slots.field_nullable
 
 abbrev pub field_dictionary : TableIn → Option (Option TableIn)
-field_dictionary field = table_in field 4
+field_dictionary field = table_in field slots.field_dictionary
 
 abbrev pub field_children : TableIn → Option (Option VectorIn)
-field_children field = vector_in field 5 4
+field_children field = vector_in field slots.field_children slots.reference_size
 
 abbrev pub field_metadata : TableIn → Option (Option VectorIn)
-field_metadata field = vector_in field 6 4
+field_metadata field = vector_in field slots.field_custom_metadata slots.reference_size
 
--- ---- DictionaryEncoding: 0 id, 1 the type of the keys, 2 whether the values are ordered
+-- ---- DictionaryEncoding
 
 abbrev pub encoding_id : TableIn → Option ℤ
-encoding_id encoding = long_in encoding 0
+encoding_id encoding = long_in encoding slots.dictionary_encoding_id
 
 abbrev pub encoding_index_type : TableIn → Option (Option TableIn)
-encoding_index_type encoding = table_in encoding 1
+encoding_index_type encoding = table_in encoding slots.dictionary_encoding_index_type
 
 abbrev pub encoding_is_ordered : TableIn → Option Bool
-encoding_is_ordered encoding = truth_in encoding 2
+encoding_is_ordered encoding = truth_in encoding slots.dictionary_encoding_is_ordered
 
--- ---- Int: 0 how many bits, 1 whether signed
+-- ---- Int
 
 abbrev pub int_bit_width : TableIn → Option ℤ
-int_bit_width int = signed_field w32 int.bytes int.table 0 (pos 0)
+int_bit_width int = signed_field w32 int.bytes int.table slots.int_bit_width (pos 0)
 
 abbrev pub int_is_signed : TableIn → Option Bool
-int_is_signed int = truth_in int 1
+int_is_signed int = truth_in int slots.int_is_signed
 
--- ---- KeyValue: 0 key, 1 value
+-- ---- KeyValue
 
 abbrev pub pair_key : TableIn → Option (Option (List ℕ))
-pair_key pair = text_in pair 0
+pair_key pair = text_in pair slots.key_value_key
 
 abbrev pub pair_value : TableIn → Option (Option (List ℕ))
-pair_value pair = text_in pair 1
+pair_value pair = text_in pair slots.key_value_value

@@ -11,6 +11,7 @@ use Rattle.ipc_format_grammar.specs.Types.{Tag, tag_of, mode_of}
 use Rattle.ipc_format_metadata.specs.Leaves.{unit_in}
 use Rattle.ipc_format_messages.specs.MessageSlots.{TableIn, table_in}
 use Rattle.ipc_format_messages.specs.SchemaSlots.{text_in, truth_in}
+use Rattle.ipc_format_grammar.specs.SlotNumbers as slots
 
 -- a type: its kind, and its own table
 pub record TypeIn : Type 0 where
@@ -29,29 +30,29 @@ type_if number (Some table) = do
   found ← type_of number table
   Some (Some found)
 
--- ---- Field: 2 and 3 type
+-- ---- Field
 
 abbrev pub field_type : TableIn → Option (Option TypeIn)
 field_type field = do
-  number ← number_field w8 field.bytes field.table 2 0
-  table ← table_in field 3
+  number ← number_field w8 field.bytes field.table slots.field_type_type 0
+  table ← table_in field slots.field_type
   type_if number table
 
--- ---- Decimal: 0 precision, 1 scale, 2 how many bits
+-- ---- Decimal
 
 abbrev pub int_in : TableIn → ℕ → ℕ → Option ℤ
 int_in from slot absent = signed_field w32 from.bytes from.table slot (pos absent)
 
 abbrev pub decimal_precision : TableIn → Option ℤ
-decimal_precision decimal = int_in decimal 0 0
+decimal_precision decimal = int_in decimal slots.decimal_precision 0
 
 abbrev pub decimal_scale : TableIn → Option ℤ
-decimal_scale decimal = int_in decimal 1 0
+decimal_scale decimal = int_in decimal slots.decimal_scale 0
 
 abbrev pub decimal_bit_width : TableIn → Option ℤ
-decimal_bit_width decimal = int_in decimal 2 128
+decimal_bit_width decimal = int_in decimal slots.decimal_bit_width 128
 
--- ---- Date: 0 unit (whether it is the day)
+-- ---- Date (whether the unit is the day)
 
 abbrev pub is_day_of : ℤ → Option Bool
 is_day_of (pos zero) = Some true
@@ -60,26 +61,26 @@ is_day_of _ = None
 
 abbrev pub date_is_day : TableIn → Option Bool
 date_is_day date = do
-  number ← signed_field w16 date.bytes date.table 0 (pos 1)
+  number ← signed_field w16 date.bytes date.table slots.date_unit (pos 1)
   is_day_of number
 
--- ---- Time: 0 unit, 1 how many bits
+-- ---- Time
 
 abbrev pub time_unit : TableIn → Option TimeUnit
 time_unit time = unit_in time.bytes time.table 1
 
 abbrev pub time_bit_width : TableIn → Option ℤ
-time_bit_width time = int_in time 1 32
+time_bit_width time = int_in time slots.time_bit_width 32
 
--- ---- Timestamp: 0 unit, 1 time zone
+-- ---- Timestamp
 
 abbrev pub timestamp_unit : TableIn → Option TimeUnit
 timestamp_unit timestamp = unit_in timestamp.bytes timestamp.table 0
 
 abbrev pub timestamp_timezone : TableIn → Option (Option (List ℕ))
-timestamp_timezone timestamp = text_in timestamp 1
+timestamp_timezone timestamp = text_in timestamp slots.timestamp_timezone
 
--- ---- Interval: 0 unit
+-- ---- Interval
 
 abbrev pub interval_unit_of : ℤ → Option IntervalUnit
 interval_unit_of (pos zero) = Some intervals.YearMonth
@@ -89,27 +90,27 @@ interval_unit_of _ = None
 
 abbrev pub interval_unit : TableIn → Option IntervalUnit
 interval_unit interval = do
-  number ← signed_field w16 interval.bytes interval.table 0 (pos 0)
+  number ← signed_field w16 interval.bytes interval.table slots.interval_unit (pos 0)
   interval_unit_of number
 
--- ---- Union: 0 mode
+-- ---- Union
 
 abbrev pub union_mode : TableIn → Option UnionMode
 union_mode union = do
-  number ← signed_field w16 union.bytes union.table 0 (pos 0)
+  number ← signed_field w16 union.bytes union.table slots.union_mode (pos 0)
   mode_of number
 
--- ---- FixedSizeBinary: 0 byte width; FixedSizeList: 0 list size
+-- ---- FixedSizeBinary and FixedSizeList, whose sizes have one slot
 
 abbrev pub fixed_size : TableIn → Option ℤ
-fixed_size from = int_in from 0 0
+fixed_size from = int_in from slots.fixed_size_list_list_size 0
 
--- ---- Map: 0 whether the keys are sorted
+-- ---- Map
 
 abbrev pub map_keys_sorted : TableIn → Option Bool
-map_keys_sorted map = truth_in map 0
+map_keys_sorted map = truth_in map slots.map_keys_sorted
 
--- ---- Duration: 0 unit
+-- ---- Duration
 
 abbrev pub duration_unit : TableIn → Option TimeUnit
 duration_unit duration = unit_in duration.bytes duration.table 1

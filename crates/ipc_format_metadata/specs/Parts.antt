@@ -10,6 +10,7 @@ use Rattle.ipc_format_flatbuffers.specs.FlatBuffers.{Table, Vector, signed_field
 use Rattle.ipc_format_grammar.specs.Types as kind
 use Rattle.ipc_format_grammar.specs.Types.{Tag, tag_of, integer_in, type_of_integer, decimal_in, time_in, timestamp_in, union_in}
 use Rattle.ipc_format_metadata.specs.Leaves.{date_in, interval_in, unit_in, size_in}
+use Rattle.ipc_format_grammar.specs.SlotNumbers as slots
 
 -- what stands above the fields below a type: nothing, one field, or some
 pub data Layer : Type 0 where
@@ -57,7 +58,7 @@ layer_of bytes kind.fixed_size_list table = do
   size ← size_in bytes table
   Some (over (λ item. types.FixedSizeList item size))
 layer_of bytes kind.map table = do
-  is_sorted ← truth_field bytes table 0
+  is_sorted ← truth_field bytes table slots.map_keys_sorted
   Some (over (λ entry. types.Map entry is_sorted))
 layer_of bytes kind.struct table = Some (over_all types.Struct)
 layer_of bytes kind.union table = do
@@ -68,8 +69,8 @@ layer_of bytes kind.union table = do
 abbrev pub pair_in : List ℕ → Vector → ℕ → Option (Option (List ℕ) × Option (List ℕ))
 pair_in bytes vector k = do
   table ← element_at bytes vector k
-  key ← string_field bytes table 0
-  value ← string_field bytes table 1
+  key ← string_field bytes table slots.key_value_key
+  value ← string_field bytes table slots.key_value_value
   Some (key, value)
 
 -- a dictionary's id, the type of its keys, and whether its values are ordered
@@ -80,9 +81,9 @@ pub record Encoding : Type 0 where
 
 abbrev pub encoding_in : List ℕ → Table → Option Encoding
 encoding_in bytes table = do
-  id ← signed_field w64 bytes table 0 (pos 0)
-  found ← table_field bytes table 1
+  id ← signed_field w64 bytes table slots.dictionary_encoding_id (pos 0)
+  found ← table_field bytes table slots.dictionary_encoding_index_type
   keys ← found
   integer ← integer_in bytes keys
-  is_ordered ← truth_field bytes table 2
+  is_ordered ← truth_field bytes table slots.dictionary_encoding_is_ordered
   Some (record { id = id; keys = integer; is_ordered = is_ordered })

@@ -22,6 +22,8 @@ use Rattle.ipc_format_grammar.specs.Schemas.{ids_of, ids, no_ids, ids_then, meta
 use Rattle.ipc_format_grammar.specs.SchemaGrammar as grammar
 use Rattle.ipc_format_grammar.specs.Refusals.{field_at_path, field_of_schema, IsFloat}
 use Rattle.ipc_format_metadata.specs.Parts.{Layer, flat, over, over_all, layer_of}
+use Rattle.ipc_format_grammar.specs.SlotNumbers as slots
+use Rattle.ipc_format_grammar.specs.Limits.{most_levels}
 
 -- a float field stands at a path below a Field table
 abbrev pub FloatBelow : List ℕ → Table → Type 0
@@ -52,7 +54,7 @@ fields_in read bytes vector left = do
 -- the children of a field
 abbrev pub children : List ℕ → Table → Option Vector
 children bytes field = do
-  found ← vector_field bytes field 5 4
+  found ← vector_field bytes field slots.field_children slots.reference_size
   found
 
 -- the first of them
@@ -83,34 +85,34 @@ by_layer (over_all make) read bytes field left = do
 -- the layer of a field's type
 abbrev pub layer_in : List ℕ → Table → Option Layer
 layer_in bytes field = do
-  number ← number_field w8 bytes field 2 0
+  number ← number_field w8 bytes field slots.field_type_type 0
   tag ← tag_of number
-  found ← table_field bytes field 3
+  found ← table_field bytes field slots.field_type
   table ← found
   layer_of bytes tag table
 
 -- the type of a field
 abbrev pub type_found : (Table → Visits FieldIn) → List ℕ → Table → Visits TypeIn
 type_found read bytes field left = do
-  number ← number_field w8 bytes field 2 0
+  number ← number_field w8 bytes field slots.field_type_type 0
   tag ← tag_of number
-  found ← table_field bytes field 3
+  found ← table_field bytes field slots.field_type
   table ← found
   type_in None read bytes tag field table left
 
 -- the name of a field, and whether its slots may be null
 abbrev pub head_in : List ℕ → Table → Option (List ℕ × Bool)
 head_in bytes field = do
-  found_name ← string_field bytes field 0
+  found_name ← string_field bytes field slots.field_name
   name ← found_name
-  is_nullable ← truth_field bytes field 1
+  is_nullable ← truth_field bytes field slots.field_nullable
   Some (name, is_nullable)
 
 -- a field by its type, with what stands beside it
 abbrev pub completed : List ℕ → Table → List ℕ × Bool → TypeIn × ℕ → Option (FieldIn × ℕ)
 completed bytes table head found = do
-  dictionary ← table_field bytes table 4
-  metadata ← metadata_in bytes table 6
+  dictionary ← table_field bytes table slots.field_dictionary
+  metadata ← metadata_in bytes table slots.field_custom_metadata
   encoded ← encoded_by bytes dictionary (extended metadata found.0.data_type)
   Some (
     record {
@@ -123,20 +125,20 @@ completed bytes table head found = do
 -- the byte order of a schema
 abbrev pub order_in : List ℕ → Table → Option Bool
 order_in bytes table = do
-  number ← signed_field w16 bytes table 0 (pos 0)
+  number ← signed_field w16 bytes table slots.schema_endianness (pos 0)
   is_little_of number
 
 -- the Field tables of a schema
 abbrev pub tables_in : List ℕ → Table → Option Vector
 tables_in bytes table = do
-  found ← vector_field bytes table 1 4
+  found ← vector_field bytes table slots.schema_fields slots.reference_size
   found
 
 -- how many Field tables may still be visited when a schema's fields are read, of as many as the message has bytes
 abbrev pub visits_left : List ℕ → Table → Option ℕ
 visits_left bytes table = do
   vector ← tables_in bytes table
-  found ← fields_in (field_in None bytes 64) bytes vector (length bytes)
+  found ← fields_in (field_in None bytes most_levels) bytes vector (length bytes)
   Some found.1
 
 -- the Schema table of a message

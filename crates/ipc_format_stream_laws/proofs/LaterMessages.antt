@@ -7,7 +7,8 @@ use Rattle.std.proofs.lemmas.List.Elements.{All-head, All-tail, All-nil, All-con
 use Rattle.ipc_format_flatbuffers.specs.FlatBuffers.{Table}
 use Rattle.ipc_format_grammar.specs.Messages as grammar
 use Rattle.ipc_format_grammar.specs.Messages.{Header, message_in}
-use Rattle.ipc_format_grammar.specs.Framing.{Framed, most_dictionaries}
+use Rattle.ipc_format_grammar.specs.Framing.{Framed}
+use Rattle.ipc_format_grammar.specs.Limits.{most_dictionaries}
 use Rattle.ipc_format_grammar.specs.GivenDictionaries.{Given, to_write, written_after}
 use Rattle.ipc_format_grammar.specs.WrittenMessages.{Written, fits_limit, prefix_size, most_metadata, body_limit, dictionary_message}
 use Rattle.ipc_format_grammar.specs.WrittenStreams.{Batch, messages_after}

@@ -6,7 +6,7 @@ use Rattle.std.specs.List.{All, list_all}
 use Rattle.std.proofs.lemmas.List.Elements.{All-head, All-tail, All-cons}
 use Rattle.std.proofs.lemmas.List.Folds.{list_all-append}
 use Rattle.ipc_format_grammar.specs.Messages as grammar
-use Rattle.ipc_format_grammar.specs.Framing.{most_dictionaries}
+use Rattle.ipc_format_grammar.specs.Limits.{most_dictionaries}
 use Rattle.ipc_format_grammar.specs.Encoding.{joined}
 use Rattle.ipc_format_grammar.specs.GivenDictionaries.{Given, stands_for, last_under, to_write, written_after}
 use Rattle.ipc_format_grammar.specs.WrittenMessages.{Written, padded_buffer, buffer_places, body_bytes, fits_limit, record_message}

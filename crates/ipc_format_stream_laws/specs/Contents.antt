@@ -8,7 +8,8 @@ use Rattle.ipc_format_grammar.specs.Messages as grammar
 use Rattle.ipc_format_grammar.specs.Messages.{Header, V5}
 use Rattle.ipc_format_grammar.specs.Schemas.{SchemaIn, IdsList}
 use Rattle.ipc_format_grammar.specs.Writable.{normalised}
-use Rattle.ipc_format_grammar.specs.Framing.{Framed, Stream, most_dictionaries, messages_of}
+use Rattle.ipc_format_grammar.specs.Framing.{Framed, Stream, messages_of}
+use Rattle.ipc_format_grammar.specs.Limits.{most_dictionaries}
 use Rattle.ipc_format_grammar.specs.Tables.{stream, stream_entry, contents_of}
 use Rattle.ipc_format_grammar.specs.Encoding.{joined}
 use Rattle.ipc_format_grammar.specs.GivenDictionaries.{Given, to_write, written_after}

@@ -1,4 +1,4 @@
--- The column of an array of any type, and which width its offsets have.
+-- The column of an array of any type, and which width its offsets or its keys have.
 use Rattle.std.specs.Prelude.{◌≡◌, true}
 use Rattle.columnar_memory.specs.Layouts.{physical_type}
 use Rattle.columnar_memory.specs.Spans.{offsets_of}
@@ -6,6 +6,7 @@ use Rattle.nested_arrays_columns.specs.SoundColumns.{is_sound}
 use Rattle.nested_arrays_columns.specs.StoredColumns.{Column, lists}
 use Rattle.nested_arrays_arrays.specs.declared.any.Node.{Node}
 use Rattle.nested_arrays_arrays.specs.declared.any.Node.TheVariants as variant
+use Rattle.nested_arrays_parts.specs.Keys.{AreKeysOf, keyed}
 use Rattle.nested_arrays_parts.specs.Widths.{spans_in, layout_of}
 
 abbrev pub column_of : Node → Column
@@ -15,10 +16,12 @@ column_of (variant.FixedSizeList array) = array
 column_of (variant.Struct array) = array
 column_of (variant.Map array) = array
 column_of (variant.Union array) = array
+column_of (variant.Dictionary node) = keyed node.data_type node.keys node.values.value
 
--- the offsets of lists are as wide as their type says
+-- the offsets of lists are as wide as their type says, and the keys of dictionaries of its kind
 abbrev pub FitsWidth : Node → Type 0
 FitsWidth (variant.List node) = physical_type node.data_type ≡ layout_of node.offsets
+FitsWidth (variant.Dictionary node) = AreKeysOf (physical_type node.data_type) node.keys
 FitsWidth _ = Unit {0}
 
 -- an array of any type is sound at every depth

@@ -17,6 +17,7 @@ node_is_deep (variant.FixedSizeList array) = omega arith
 node_is_deep (variant.Struct array) = omega arith
 node_is_deep (variant.Map array) = omega arith
 node_is_deep (variant.Union array) = omega arith
+node_is_deep (variant.Dictionary node) = omega arith
 
 pub children_are_deep : (columns : List Column) → max (most (λ c. 2 * column_size c + 1 + 1) columns) 0 ≤ 2 * (columns_size (in_columns columns) + 1)
 children_are_deep columns = omega (arith, most_of_columns columns)

@@ -8,7 +8,7 @@ use crate::maps::MapArray;
 use crate::records::StructArray;
 use crate::unions::UnionArray;
 use columnar_memory::{Bitmap, DataType};
-use nested_arrays_flat::slice_mask;
+use nested_arrays_flat::{AnyPrimitive, slice_mask};
 use nested_arrays_parts::{FlatArray, ListOffsets};
 use std::marker::Model;
 
@@ -22,6 +22,7 @@ pub enum Node {
     Struct(StructArray),
     Map(MapArray),
     Union(UnionArray),
+    Dictionary(DictionaryNode),
 }
 
 /// Lists of any length, one after another in a child.
@@ -32,6 +33,15 @@ pub struct ListNode {
     pub offsets: ListOffsets,
     pub values: Box<AnyArray>,
     pub validity: Option<Bitmap>,
+}
+
+/// Values by keys: each slot is the value at the place that its key names. The mask is that of the keys.
+#[cycle(arrays)]
+#[derive(Drop)]
+pub struct DictionaryNode {
+    pub data_type: DataType,
+    pub keys: AnyPrimitive,
+    pub values: Box<AnyArray>,
 }
 
 /// An array of any type, which a contract sees as the column that it stores. It is sound at every depth.
@@ -77,6 +87,7 @@ impl AnyArray {
             Node::Struct(array) => array.len(),
             Node::Map(array) => array.len(),
             Node::Union(array) => array.len(),
+            Node::Dictionary(node) => node.keys.len(),
         }
     }
 
@@ -90,6 +101,7 @@ impl AnyArray {
             Node::Struct(array) => array.data_type(),
             Node::Map(array) => array.data_type(),
             Node::Union(array) => array.data_type(),
+            Node::Dictionary(node) => &node.data_type,
         }
     }
 
@@ -116,6 +128,7 @@ impl AnyArray {
             Node::Struct(array) => array.slice(offset, count),
             Node::Map(array) => array.slice(offset, count),
             Node::Union(array) => array.slice(offset, count),
+            Node::Dictionary(node) => node.keys.slice(offset, count),
         }
     }
 }

@@ -10,7 +10,7 @@ mod maps;
 mod records;
 mod unions;
 
-pub use any::{AnyArray, ListNode, Node};
+pub use any::{AnyArray, DictionaryNode, ListNode, Node};
 pub use fixed_lists::FixedSizeListArray;
 pub use lists::ListArray;
 pub use maps::MapArray;

@@ -189,11 +189,14 @@ impl FixedSizeBinaryArray {
         &self.values.as_slice()[start..start + self.size]
     }
 
-    /// The slot at a place: its byte string, or none where it is null.
+    /// The slot at a place: its byte string, or none where it is null or where there is no such place.
     pub fn get(&self, i: usize) -> Option<&[u8]>
-        requires { i < column_len self.now }
-        ensures { MatchOption result (slot_at self.now i ≡ null) (λ value. slot_at self.now i ≡ bytes value.now) }
+        ensures { MatchOption result (i < column_len self.now → slot_at self.now i ≡ null)
+            (λ value. (i < column_len self.now) × (slot_at self.now i ≡ bytes value.now)) }
     {
+        if i >= self.len() {
+            return None;
+        }
         if self.is_valid(i) {
             Some(self.value(i))
         } else {

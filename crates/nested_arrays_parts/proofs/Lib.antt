@@ -1,2 +1,3 @@
 pub mod FlatCuts
+pub mod KeyCuts
 pub mod OffsetLists

@@ -1,2 +1,3 @@
 pub mod FlatNodes
+pub mod Keys
 pub mod Widths

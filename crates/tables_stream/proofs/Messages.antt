@@ -16,6 +16,7 @@ use Rattle.ipc_format.specs.Objects.{Object, laid}
 use Rattle.ipc_format_grammar.specs.Schemas.{IdsList}
 use Rattle.ipc_format_grammar.specs.SchemaObjects.{message_object, record_batch_object}
 use Rattle.ipc_format_grammar.specs.Ids.{default_ids}
+use Rattle.ipc_format_grammar.specs.TagNumbers.{}
 use Rattle.ipc_format_grammar.specs.WrittenMessages.{Written, framed, message_bytes, fits_limit, end_mark, body_bytes, buffer_places, schema_written}
 use Rattle.ipc_format_grammar.specs.WrittenMessages.{prefix_size, most_metadata, record_tag}
 use Rattle.ipc_format.specs.WrittenStreams.{rows_of_slots, bytes_of_messages}

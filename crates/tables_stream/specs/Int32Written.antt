@@ -7,7 +7,8 @@ use Rattle.columnar_memory.specs.declared.Schema.{Schema}
 use Rattle.ipc_format_grammar.specs.Ids.{default_ids}
 use Rattle.ipc_format_grammar.specs.Buffers.{bits_by, bitmap_by, is_valid, validity_bytes, number_bytes}
 use Rattle.ipc_format_grammar.specs.Encoding.{Encoded, node_of}
-use Rattle.ipc_format_grammar.specs.WrittenMessages.{Written, message_of, batch_object, record_tag, schema_written}
+use Rattle.ipc_format_grammar.specs.TagNumbers.{record_tag}
+use Rattle.ipc_format_grammar.specs.WrittenMessages.{Written, message_of, batch_object, schema_written}
 use Rattle.ipc_format_grammar.specs.WrittenStreams.{rows_of_slots}
 
 -- the four bytes of a number, and zeros under a null

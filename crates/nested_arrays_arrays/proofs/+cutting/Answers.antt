@@ -9,11 +9,17 @@ use Rattle.nested_arrays_arrays.proofs.CutNodes.{lists_cut, records_cut, fixed_l
 use Rattle.nested_arrays_arrays.proofs.CutNodes.{sound_after, fits_at, fits_from}
 use Rattle.nested_arrays_arrays.proofs.CutNodes.{sparse_children, sparse_cut, dense_cut, with_offsets, sound_with_offsets}
 use Rattle.nested_arrays_arrays.proofs.CutNodes.{size_over, within_over, length-over, get_or-any}
+use Rattle.nested_arrays_parts.proofs.KeyCuts.{keyed_cut, keys_after, keys_within}
 use Rattle.nested_arrays_arrays.proofs.+cutting.Goals as goal
 
 pub any::AnyArray::slice-slice-requires-in-List : goal.any::AnyArray::slice-slice-requires-in-List
 any::AnyArray::slice-slice-requires-in-List t c =
     spans_within _ _ _ _ _ _ _ (ap column_of (sym c.in-List.is) ∙ c.self.view_is) c.requires
+
+pub any::AnyArray::slice-slice-requires-in-Dictionary : goal.any::AnyArray::slice-slice-requires-in-Dictionary
+any::AnyArray::slice-slice-requires-in-Dictionary t c =
+    keys_within _ _ _ _ _ _ _ (ap column_of (sym c.in-Dictionary.is) ∙ c.self.view_is) (fits_from _ _ c.in-Dictionary.is c.self.invariant.fits)
+    c.requires
 
 pub any::AnyArray::slice-slice-requires-in-FixedSizeList : goal.any::AnyArray::slice-slice-requires-in-FixedSizeList
 any::AnyArray::slice-slice-requires-in-FixedSizeList t c =
@@ -37,6 +43,8 @@ any::AnyArray::slice-returns t c = elim c.match-self.branch [
       ∙ ap (λ col. cut col c.args.offset c.args.count) (ap column_of (sym w.in-Map.is) ∙ c.self.view_is)
   | goal.any::AnyArray::slice-in-Union w ↦ ap (λ i. column_of i.node) w.self-inside-is ∙ w.slice-in-Union.ensures
       ∙ ap (λ col. cut col c.args.offset c.args.count) (ap column_of (sym w.in-Union.is) ∙ c.self.view_is)
+  | goal.any::AnyArray::slice-in-Dictionary w ↦ ap (λ i. column_of i.node) w.self-inside-is
+      ∙ keyed_cut _ _ _ _ _ _ _ (ap column_of (sym w.in-Dictionary.is) ∙ c.self.view_is) w.slice-in-Dictionary.ensures
 ]
 
 pub any::AnyArray::slice-invariant_of-self : goal.any::AnyArray::slice-invariant_of-self
@@ -51,6 +59,8 @@ any::AnyArray::slice-invariant_of-self t c = record {
     | goal.any::AnyArray::slice-in-Struct w ↦ fits_at _ _ (ap (λ i. i.node) w.self-inside-is) tt
     | goal.any::AnyArray::slice-in-Map w ↦ fits_at _ _ (ap (λ i. i.node) w.self-inside-is) tt
     | goal.any::AnyArray::slice-in-Union w ↦ fits_at _ _ (ap (λ i. i.node) w.self-inside-is) tt
+    | goal.any::AnyArray::slice-in-Dictionary w ↦ fits_at _ _ (ap (λ i. i.node) w.self-inside-is)
+        (keys_after _ _ _ _ _ (fits_from _ _ w.in-Dictionary.is c.self.invariant.fits) w.slice-in-Dictionary.ensures)
   ];
 }
 
