@@ -1,3 +1,5 @@
+pub mod ArrayParts
 pub mod CutNodes
 pub mod ListParts
 pub mod StructParts
+pub mod UnionParts

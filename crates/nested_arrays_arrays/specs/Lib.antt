@@ -2,4 +2,5 @@ pub mod AnyColumns
 pub mod Answers
 pub mod Entries
 pub mod Lengths
+pub mod Parts
 pub mod Sizes

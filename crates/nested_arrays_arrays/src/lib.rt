@@ -7,8 +7,10 @@ mod fixed_lists;
 mod from;
 mod lists;
 mod maps;
+mod picks;
 mod records;
 mod unions;
+mod validity;
 
 pub use any::{AnyArray, DictionaryNode, ListNode, Node};
 pub use fixed_lists::FixedSizeListArray;
