@@ -1,5 +1,8 @@
 pub mod ArrayParts
 pub mod CutNodes
+pub mod KeyPlaces
 pub mod ListParts
+pub mod SameSlots
+pub mod SlotPlaces
 pub mod StructParts
 pub mod UnionParts

@@ -5,7 +5,7 @@ ghost use Rattle.nested_arrays_columns.specs.StoredColumns.{child_number, column
 ghost use Rattle.nested_arrays_columns.specs.StoredColumns.{picked_at, union_place, unions};
 ghost use Rattle.nested_arrays_arrays.specs.Answers.{IsChecked};
 ghost use Rattle.nested_arrays_arrays.specs.Parts.{column_children, column_ids, column_places};
-ghost use Rattle.nested_arrays_flat.specs.ColumnMasks.{ReplacesMask};
+ghost use Rattle.nested_arrays_flat.specs.ColumnMasks.{column_mask, ReplacesMask};
 
 use crate::any::AnyArray;
 use crate::children::are_whole;
@@ -140,6 +140,14 @@ impl UnionArray {
         }
     }
 
+    /// The mask, of which unions have none.
+    pub fn validity(&self) -> Option<&Bitmap>
+        ensures { option_copied result ≡ column_mask self.now }
+    {
+        let _types = &self.types;
+        None
+    }
+
     /// Leaves this without a mask, as each union is.
     ///
     /// # Errors
@@ -147,6 +155,7 @@ impl UnionArray {
     pub fn set_validity(&mut self, validity: Option<Bitmap>) -> Result<()>
         ensures { ReplacesMask self.old validity self.new result }
     {
+        let _types = &self.types;
         match validity {
             Some(_) => Err(Error::InvalidArgumentError("a mask for a union, which has none")),
             None => Ok(()),

@@ -95,6 +95,8 @@ null_form c i few valid = (
   λ is. sym (form_there c i few) ∙ ap slot_form (sym (valid_slot c i valid) ∙ is),
 )
 
+pub ruleset nulls_where = (null_form, null_slot)
+
 -- ranges without nulls are those of the stored values
 pub bare_ranges : (l r : Column) (i j n : ℕ) → ((k : ℕ) → k < n → is_valid_at (column_mask l) (i + k) ≡ true)
     → ((k : ℕ) → k < n → is_valid_at (column_mask r) (j + k) ≡ true) → SameRanges (bare l) i (bare r) j n ↔ SameRanges l i r j n

@@ -1,6 +1,7 @@
 //! Comparisons of slots.
 ghost use Rattle.std.specs.Prelude.{◌≡◌, ◌+◌, ◌<◌, ◌≤◌, ◌↔◌, ℕ, IsTrue, length, option_copied, true};
 ghost use Rattle.std.specs.Option.{ForSome};
+ghost use Rattle.nested_arrays_columns.specs.Slots.{null};
 ghost use Rattle.nested_arrays_columns.specs.StoredColumns.{column_len, is_valid_at, slot_at};
 ghost use Rattle.nested_arrays_equal.specs.Forms.{column_form};
 ghost use Rattle.nested_arrays_equal.specs.Ranges.{SameRanges};
@@ -12,32 +13,13 @@ use columnar_memory::{Bitmap, Steps};
 use nested_arrays_flat::mark_at;
 use nested_arrays_parts::{FlatArray, FlatNode};
 
-/// The mask of an array, where there is one.
-pub fn validity(array: &FlatArray) -> Option<&Bitmap>
-    ensures { option_copied result ≡ column_mask array.now }
-{
-    match &array.node {
-        FlatNode::Null(array) => {
-            array.holds_nulls();
-            None
-        }
-        FlatNode::Boolean(array) => array.validity(),
-        FlatNode::Primitive(array) => array.validity(),
-        FlatNode::Binary(array) => array.validity(),
-        FlatNode::LargeBinary(array) => array.validity(),
-        FlatNode::FixedSizeBinary(array) => array.validity(),
-        FlatNode::Utf8(array) => array.validity(),
-        FlatNode::LargeUtf8(array) => array.validity(),
-    }
-}
-
 /// Whether the mask, if there is one, says that a slot has a value.
 pub fn is_valid(array: &FlatArray, i: usize) -> bool
     requires { i < column_len array.now }
     ensures { result ≡ is_valid_at (column_mask array.now) i }
 {
     array.whole();
-    mark_at(validity(array), i)
+    mark_at(array.validity(), i)
 }
 
 /// Whether an array is of nulls alone.
@@ -63,6 +45,19 @@ fn is_of_nulls(array: &FlatArray) -> bool
         FlatNode::Utf8(_) => false,
         FlatNode::LargeUtf8(_) => false,
     }
+}
+
+/// Whether a slot is null.
+#[tactic(auto, using(crate::proofs::SameForms::nulls_where))]
+pub fn is_null(array: &FlatArray, i: usize) -> bool
+    requires { i < column_len array.now }
+    ensures { IsTrue result ↔ (slot_at array.now i ≡ null) }
+{
+    holds_values(array);
+    if is_valid(array, i) {
+        return is_of_nulls(array);
+    }
+    true
 }
 
 /// Whether no mark of a mask, if there is one, from a place on is unset, of so many.
@@ -107,7 +102,7 @@ pub fn same_slots(left: &FlatArray, i: usize, right: &FlatArray, j: usize, count
     right.whole();
     let _left = left.len();
     let _right = right.len();
-    if has_no_nulls(validity(left), i, count) && has_no_nulls(validity(right), j, count) {
+    if has_no_nulls(left.validity(), i, count) && has_no_nulls(right.validity(), j, count) {
         return same_values(left, i, right, j, count);
     }
     for k in 0..count {

@@ -18,7 +18,7 @@ pub(crate) fn holds_numbers(array: &AnyPrimitive)
 }
 
 /// Hands to a proof that an array without children stores values without slots inside.
-pub(crate) fn holds_values(array: &FlatArray)
+pub fn holds_values(array: &FlatArray)
     ensures { column_form array.now ≤ 4 }
 {
     match &array.node {
