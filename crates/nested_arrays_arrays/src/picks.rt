@@ -8,7 +8,7 @@ ghost use Rattle.nested_arrays_columns.specs.StoredColumns.{child_number, in_col
 
 use crate::any::AnyArray;
 use crate::children::{have_len, have_types};
-use columnar_memory::{Buffer, DataType, Items};
+use columnar_memory::{Buffer, DataType, Index, Items};
 
 /// Whether there are as many ids as fields, where a type has ids.
 fn has_an_id_each(ids: &Option<Items<i32>>, count: usize) -> bool
@@ -110,11 +110,13 @@ fn lie_at_offsets(data_type: &DataType, ids: &[i8], offsets: &[i32], arrays: &[A
         && holds_below (length ids.now) (has_child_at (type_layer data_type.now) ids.now (Some offsets.now) (in_columns arrays.now))) }
 {
     for i in 0..ids.len() {
-        if offsets[i] < 0 {
-            return false;
-        }
-        if offsets[i] as usize >= room_of(data_type, ids[i], arrays) {
-            return false;
+        match offsets[i].try_to_usize() {
+            Some(place) => {
+                if place >= room_of(data_type, ids[i], arrays) {
+                    return false;
+                }
+            }
+            None => return false,
         }
     }
     true
