@@ -27,10 +27,10 @@ key_there number values i key is = get_or_from_slice_get (map first_number (map 
     (slice_get-map first_number (map number values) i ∙ ap (option_map first_number) (slice_get-map number values i ∙ ap (option_map number) is))
 
 -- the place that it names
-pub key_found : {T : Type 0} (number : T → Numbers) (values : List T) (i : ℕ) (key : T) (numbers : List ℤ) → slice_get values i ≡ Some key
-    → map first_number (map number values) ≡ numbers → place_of (first_number (number key)) ≡ place_of (slice_index_or numbers i (pos 0))
-key_found number values i key numbers is same =
-    ap place_of (sym (key_there number values i key is)) ∙ ap (λ (found : List ℤ). place_of (slice_index_or found i (pos 0))) same
+pub key_found : {T : Type 0} (number : T → Numbers) (values : List T) (i : ℕ) (key : T) (found : List ℤ) → slice_get values i ≡ Some key
+    → map first_number (map number values) ≡ found → place_of (first_number (number key)) ≡ place_of (slice_index_or found i (pos 0))
+key_found number values i key found is same =
+    ap place_of (sym (key_there number values i key is)) ∙ ap (λ (stored : List ℤ). place_of (slice_index_or stored i (pos 0))) same
 
 key_kinds : (key : IntegerType) → kinds.Int128 ≡ kind_of_keys key → ⊥
 key_kinds integers.Int8 is = cc

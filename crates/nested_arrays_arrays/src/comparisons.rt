@@ -32,7 +32,7 @@ fn flat(array: &AnyArray) -> Option<&FlatArray>
 pub(crate) fn same_types(left: &AnyArray, right: &AnyArray) -> bool
     ensures { IsTrue result ↔ (column_type left.now ≡ column_type right.now) }
 {
-    left.data_type() == right.data_type()
+    *left.data_type() == *right.data_type()
 }
 
 /// Whether so many slots of an array from a place on are those of another from a place on.

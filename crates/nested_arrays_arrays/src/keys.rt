@@ -1,5 +1,6 @@
 //! The values that keys name.
-ghost use Rattle.std.specs.Prelude.{◌≡◌, ◌<◌, pos, slice_index_or};
+ghost use Rattle.std.specs.Prelude.{◌≡◌, ◌<◌, length, map, pos, slice_index_or};
+ghost use Rattle.columnar_memory.specs.Numbers.{first_number};
 ghost use Rattle.nested_arrays_columns.specs.StoredColumns.{column_len, place_of};
 ghost use Rattle.nested_arrays_parts.specs.Keys.{numbers_in};
 ghost use Rattle.nested_arrays_arrays.specs.AnyColumns.{FitsWidth};
@@ -8,6 +9,7 @@ ghost use Rattle.nested_arrays_arrays.specs.Places.{IsValue};
 use crate::any::{AnyArray, DictionaryNode, Node};
 use crate::places::is_set;
 use columnar_memory::Index;
+use flat_arrays_values::PrimitiveArray;
 use nested_arrays_equal::holds_values;
 use nested_arrays_flat::PrimitiveNode;
 
@@ -21,6 +23,14 @@ fn place<K: Index>(key: K) -> usize
     }
 }
 
+/// The place that the key at a place of an array names.
+fn key_in<K: Index>(keys: &PrimitiveArray<K>, i: usize) -> usize
+    requires { i < length keys.now.values }
+    ensures { result ≡ place_of (slice_index_or (map first_number (map K.numbers keys.now.values)) i (pos 0)) }
+{
+    place(keys.value(i))
+}
+
 /// The place that the key of a slot names.
 #[tactic(auto, using(crate::proofs::KeyPlaces::keys_there))]
 fn key_at(node: &DictionaryNode, i: usize) -> usize
@@ -29,16 +39,16 @@ fn key_at(node: &DictionaryNode, i: usize) -> usize
     ensures { result ≡ place_of (slice_index_or (numbers_in node.now.keys) i (pos 0)) }
 {
     match &node.keys.node {
-        PrimitiveNode::Int8(keys) => place(keys.value(i)),
-        PrimitiveNode::Int16(keys) => place(keys.value(i)),
-        PrimitiveNode::Int32(keys) => place(keys.value(i)),
-        PrimitiveNode::Int64(keys) => place(keys.value(i)),
+        PrimitiveNode::Int8(keys) => key_in(keys, i),
+        PrimitiveNode::Int16(keys) => key_in(keys, i),
+        PrimitiveNode::Int32(keys) => key_in(keys, i),
+        PrimitiveNode::Int64(keys) => key_in(keys, i),
         PrimitiveNode::Int128(_) => 0,
         PrimitiveNode::Int256(_) => 0,
-        PrimitiveNode::UInt8(keys) => place(keys.value(i)),
-        PrimitiveNode::UInt16(keys) => place(keys.value(i)),
-        PrimitiveNode::UInt32(keys) => place(keys.value(i)),
-        PrimitiveNode::UInt64(keys) => place(keys.value(i)),
+        PrimitiveNode::UInt8(keys) => key_in(keys, i),
+        PrimitiveNode::UInt16(keys) => key_in(keys, i),
+        PrimitiveNode::UInt32(keys) => key_in(keys, i),
+        PrimitiveNode::UInt64(keys) => key_in(keys, i),
         PrimitiveNode::DaysMs(_) => 0,
         PrimitiveNode::MonthsDaysNs(_) => 0,
     }

@@ -185,13 +185,16 @@ pub(crate) fn fields_at(array: &AnyArray, i: usize) -> Option<&[AnyArray]>
 }
 
 /// The child of a union that a slot picks, and its place there.
-fn union_pick(array: &UnionArray, i: usize) -> (&AnyArray, usize)
+fn union_pick(array: &UnionArray, i: usize) -> Option<(&AnyArray, usize)>
     requires { i < column_len array.now }
-    ensures { IsPick array.now i result.0.now result.1 }
+    ensures { MatchOption result (slot_class (slot_at array.now i) ≢ 4) (λ found. IsPick array.now i found.0.now found.1) }
 {
     let (number, place) = array.index(i);
     let fields = array.fields();
-    (&fields[number], place)
+    match fields.get(number) {
+        Some(child) => Some((child, place)),
+        None => None,
+    }
 }
 
 /// The array that a slot picks and its place there, if it is a union's.
@@ -219,7 +222,7 @@ pub(crate) fn pick_at(array: &AnyArray, i: usize) -> Option<(&AnyArray, usize)>
             let _entries = array.field();
             None
         }
-        Node::Union(array) => Some(union_pick(array, i)),
+        Node::Union(array) => union_pick(array, i),
         Node::Dictionary(_) => None,
     }
 }
