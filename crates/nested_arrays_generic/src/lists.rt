@@ -1,13 +1,14 @@
 //! Lists of any length.
-ghost use Rattle.std.specs.Prelude.{◌≡◌, ◌+◌, ◌≤◌, ◌↔◌, IsTrue, true};
+ghost use Rattle.std.specs.Prelude.{◌≡◌, ◌+◌, ◌<◌, ◌≤◌, ◌↔◌, IsTrue, not, option_copied};
 ghost use Rattle.columnar_memory.specs.Spans.{offsets_of};
-ghost use Rattle.nested_arrays_columns.specs.StoredColumns.{column_len, column_type, cut, lists, type_layer};
+ghost use Rattle.nested_arrays_columns.specs.StoredColumns.{column_len, column_type, cut, is_valid_at, lists, type_layer};
+ghost use Rattle.nested_arrays_flat.specs.ColumnMasks.{column_mask, unset_in};
 ghost use Rattle.nested_arrays_arrays.specs.Answers.{IsCheckedAs, LiesAs};
-ghost use Rattle.nested_arrays_arrays.specs.Entries.{has_list_item_type, list_layout};
+ghost use Rattle.nested_arrays_generic.specs.ListTypes.{has_list_item_type, items_in, list_layout};
 
-use crate::any::AnyArray;
 use columnar_memory::{Bitmap, DataType, Error, Offset, OffsetsBuffer, Result};
-use nested_arrays_flat::{slice_mask, slice_offsets};
+use nested_arrays_arrays::AnyArray;
+use nested_arrays_flat::{mark_at, slice_mask, slice_offsets, unset_marks};
 use nested_arrays_parts::{fits, last_of};
 use std::marker::Model;
 
@@ -26,7 +27,7 @@ impl<O: Offset> Model for ListArray<O> {
     ghost use Rattle.nested_arrays_columns.specs.ColumnCodes.{column_code};
     ghost use Rattle.nested_arrays_columns.specs.StoredColumns.{Column, lists};
     ghost use Rattle.nested_arrays_arrays.specs.Answers.{LiesAs};
-    ghost use Rattle.nested_arrays_arrays.specs.Entries.{list_layout};
+    ghost use Rattle.nested_arrays_generic.specs.ListTypes.{list_layout};
 
     ghost Value = { Column };
 
@@ -94,6 +95,24 @@ impl<O: Offset> ListArray<O> {
         })
     }
 
+    /// The array of parts that fit, as `try_new` tests.
+    pub fn new(
+        data_type: DataType,
+        offsets: OffsetsBuffer<O>,
+        values: Box<AnyArray>,
+        validity: Option<Bitmap>,
+    ) -> Self
+        requires { LiesAs (list_layout O.IS_LARGE) (lists data_type validity (offsets_of offsets) values.value) }
+        ensures { result ≡ lists data_type validity (offsets_of offsets) values.value }
+    {
+        ListArray {
+            data_type,
+            offsets,
+            values,
+            validity,
+        }
+    }
+
     /// How many slots there are.
     #[tactic(auto, using(nested_arrays_parts::proofs::OffsetLists::spans_count))]
     pub fn len(&self) -> usize
@@ -102,10 +121,61 @@ impl<O: Offset> ListArray<O> {
         self.offsets.len_proxy()
     }
 
+    pub fn is_empty(&self) -> bool
+        ensures { IsTrue result ↔ (column_len self.now ≡ 0) }
+    {
+        self.len() == 0
+    }
+
     pub fn data_type(&self) -> &DataType
         ensures { result.now ≡ column_type self.now }
     {
         &self.data_type
+    }
+
+    /// Where each list begins among the items, and the last one ends.
+    pub fn offsets(&self) -> &OffsetsBuffer<O>
+        ensures { lists (column_type self.now) (column_mask self.now) (offsets_of result.now) (items_in self.now) ≡ self.now }
+    {
+        &self.offsets
+    }
+
+    /// The items of all lists, those outside the offsets too.
+    pub fn values(&self) -> &AnyArray
+        ensures { result.now ≡ items_in self.now }
+    {
+        &self.values
+    }
+
+    /// The mask, where there is one: a bit is set where its slot is not null.
+    pub fn validity(&self) -> Option<&Bitmap>
+        ensures { option_copied result ≡ column_mask self.now }
+    {
+        self.validity.as_ref()
+    }
+
+    /// How many slots are null.
+    pub fn null_count(&self) -> usize
+        ensures { result ≡ unset_in (column_mask self.now) }
+    {
+        unset_marks(self.validity())
+    }
+
+    /// Whether a slot has a list.
+    pub fn is_valid(&self, i: usize) -> bool
+        requires { i < column_len self.now }
+        ensures { result ≡ is_valid_at (column_mask self.now) i }
+    {
+        self.whole();
+        mark_at(self.validity(), i)
+    }
+
+    /// Whether a slot is null.
+    pub fn is_null(&self, i: usize) -> bool
+        requires { i < column_len self.now }
+        ensures { result ≡ not (is_valid_at (column_mask self.now) i) }
+    {
+        !self.is_valid(i)
     }
 
     /// Hands to a proof what holds of every such array.
@@ -122,5 +192,14 @@ impl<O: Offset> ListArray<O> {
     {
         slice_mask(&mut self.validity, offset, count);
         slice_offsets(&mut self.offsets, offset, count);
+    }
+    /// The `count` slots from `offset` on, in the same memory.
+    pub fn sliced(self, offset: usize, count: usize) -> Self
+        requires { offset + count ≤ column_len self }
+        ensures { result ≡ cut self offset count }
+    {
+        let mut array = self;
+        array.slice(offset, count);
+        array
     }
 }

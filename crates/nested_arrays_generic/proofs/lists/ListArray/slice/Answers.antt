@@ -1,7 +1,7 @@
 use Rattle.std.proofs.Common.{◌∙◌, ap, sym}
 use Rattle.nested_arrays_columns.specs.SoundColumns.{is_sound}
 use Rattle.nested_arrays_arrays.proofs.CutNodes.{lists_cut, spans_within, sound_after}
-use Rattle.nested_arrays_arrays.proofs.lists.ListArray.slice.Goals as goal
+use Rattle.nested_arrays_generic.proofs.lists.ListArray.slice.Goals as goal
 
 pub slice_offsets-requires : goal.slice_offsets-requires
 slice_offsets-requires g c = spans_within _ _ _ _ _ _ _ c.self.view_is c.requires
