@@ -4,4 +4,6 @@ pub mod Entries
 pub mod Lengths
 pub mod NamedValues
 pub mod Parts
+pub mod Places
+pub mod SameArrays
 pub mod Sizes

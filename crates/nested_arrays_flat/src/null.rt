@@ -120,6 +120,13 @@ impl NullArray {
         let _length = self.length;
     }
 
+    /// Hands to a proof that each slot is null.
+    pub fn holds_nulls(&self)
+        ensures { self.now ≡ nulls (column_type self.now) (column_len self.now) }
+    {
+        let _length = self.length;
+    }
+
     /// Narrows this to the `count` slots from `offset` on.
     pub fn slice(&mut self, offset: usize, count: usize)
         requires { offset + count ≤ column_len self.old }
