@@ -230,7 +230,10 @@ impl MutableBooleanArray {
     pub fn push(&mut self, slot: Option<bool>) -> Result<()>
         ensures { Changes result self.old self.new (with_slots false self.old (slot ∷ [])) }
     {
-        self.push_marked(slot.unwrap_or(false), slot.is_some())
+        match slot {
+            Some(value) => self.push_marked(value, true),
+            None => self.push_marked(false, false),
+        }
     }
 
     /// The same as `push`.

@@ -240,7 +240,10 @@ impl<T: NativeType> MutablePrimitiveArray<T> {
         ensures { ForZero T.numbers T.PRIMITIVE (λ zero. Changes result self.old self.new (with_slots zero self.old (slot ∷ []))) }
     {
         let zero = T::default();
-        self.push_marked(slot.unwrap_or(zero), slot.is_some())
+        match slot {
+            Some(value) => self.push_marked(value, true),
+            None => self.push_marked(zero, false),
+        }
     }
 
     /// The same as `push`.

@@ -5,6 +5,7 @@
 mod binary;
 mod binary_extend;
 mod equality;
+mod from_values;
 mod into_mut;
 mod iterate;
 mod utf8;

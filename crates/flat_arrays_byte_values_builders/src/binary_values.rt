@@ -168,6 +168,16 @@ impl<O: Offset> MutableBinaryValuesArray<O> {
         (data_type, offsets, values)
     }
 
+    /// What stands inside: the same byte strings, beside which a mask may come.
+    pub fn into_builder(self) -> ByteBuilder<O>
+        ensures value { result ≡ self }
+        ensures whole { IsValues (binary_layout O.IS_LARGE) self }
+    {
+        let MutableBinaryValuesArray { builder } = self;
+        let _slots = builder.len();
+        builder
+    }
+
     /// The array of these byte strings, with no copy.
     ///
     /// # Errors

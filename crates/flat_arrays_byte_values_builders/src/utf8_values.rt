@@ -6,6 +6,7 @@ ghost use Rattle.columnar_memory.specs.Results.{OrOutOfMemory};
 ghost use Rattle.columnar_memory.specs.Spans.{no_spans};
 ghost use Rattle.flat_arrays_byte_columns.specs.ByteStrings.{byte_strings, len_of, values_of};
 ghost use Rattle.flat_arrays_byte_columns.specs.Fits.{IsText, text_layout, text_type};
+ghost use Rattle.flat_arrays_byte_columns.specs.Texts.{AllTexts};
 ghost use Rattle.flat_arrays_byte_values_builders.specs.Growing.{Grows, IsTaken, IsValues, OrUnchanged, Pops, pushed};
 
 use crate::builder::{ByteBuilder, text_layout_of};
@@ -187,6 +188,17 @@ impl<O: Offset> MutableUtf8ValuesArray<O> {
         let MutableUtf8ValuesArray { builder } = self;
         let (data_type, offsets, values, _) = builder.into_inner();
         (data_type, offsets, values)
+    }
+
+    /// What stands inside: the same texts, beside which a mask may come.
+    pub fn into_builder(self) -> ByteBuilder<O>
+        ensures value { result ≡ self }
+        ensures whole { IsValues (text_layout O.IS_LARGE) self }
+        ensures texts { AllTexts (values_of self) }
+    {
+        let MutableUtf8ValuesArray { builder } = self;
+        let _slots = builder.len();
+        builder
     }
 
     /// The array of these texts, with no copy.

@@ -27,3 +27,20 @@ fn slots_are_gathered(rt: HostRuntime) -> Result<(), Fail> {
     assert!(rt; array.is_valid(0) && array.is_null(1) && array.is_valid(2));
     Ok(())
 }
+
+#[test]
+fn an_array_of_nulls_has_no_value(rt: HostRuntime) -> Result<(), Fail> {
+    let empty: BinaryArray<i64> = BinaryArray::new_empty(rt.alloc(), DataType::LargeBinary)?;
+    assert!(rt; empty.is_empty());
+    let nulls: BinaryArray<i32> = BinaryArray::new_null(rt.alloc(), DataType::Binary, 2)?;
+    assert_eq!(rt; nulls.null_count(), 2);
+    Ok(())
+}
+
+#[test]
+fn values_are_copied(rt: HostRuntime) -> Result<(), Fail> {
+    let array: BinaryArray<i32> = BinaryArray::from_slice(rt.alloc(), &["a", "bc"])?;
+    assert_eq!(rt; array.len(), 2);
+    assert!(rt; array.clone()? == array && array.value(1) == "bc".as_bytes());
+    Ok(())
+}

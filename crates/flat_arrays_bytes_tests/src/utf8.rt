@@ -32,3 +32,28 @@ fn bytes_around_the_texts_do_not_count(rt: HostRuntime) -> Result<(), Fail> {
     assert!(rt; array.get(0) == Some("é") && array.get(1).is_none());
     Ok(())
 }
+
+#[test]
+fn an_array_of_nulls_has_no_value(rt: HostRuntime) -> Result<(), Fail> {
+    let empty: Utf8Array<i64> = Utf8Array::new_empty(rt.alloc(), DataType::LargeUtf8)?;
+    assert!(rt; empty.is_empty());
+    let nulls: Utf8Array<i32> = Utf8Array::new_null(rt.alloc(), DataType::Utf8, 2)?;
+    assert_eq!(rt; nulls.null_count(), 2);
+    Ok(())
+}
+
+#[test]
+fn values_are_copied(rt: HostRuntime) -> Result<(), Fail> {
+    let array: Utf8Array<i32> = Utf8Array::from_slice(rt.alloc(), &["a", "bc"])?;
+    assert_eq!(rt; array.len(), 2);
+    assert!(rt; array.clone()? == array && array.value(1) == "bc");
+    Ok(())
+}
+
+#[test]
+fn slots_are_gathered(rt: HostRuntime) -> Result<(), Fail> {
+    let array: Utf8Array<i32> = Utf8Array::from(rt.alloc(), &[Some("a"), None])?;
+    assert_eq!(rt; array.len(), 2);
+    assert!(rt; array.get(0) == Some("a") && array.is_null(1));
+    Ok(())
+}

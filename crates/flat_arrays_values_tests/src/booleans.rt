@@ -1,4 +1,4 @@
-use columnar_memory::Error;
+use columnar_memory::{DataType, Error};
 use flat_arrays_values::BooleanArray;
 use std::alloc::Global;
 use std::test::Fail;
@@ -16,5 +16,40 @@ fn slots_are_gathered(rt: HostRuntime) -> Result<(), Fail> {
         (Some(true), None, Some(false))
     );
     assert!(rt; array.get(3).is_none());
+    Ok(())
+}
+
+#[test]
+fn an_array_of_nulls_has_no_value(rt: HostRuntime) -> Result<(), Fail> {
+    assert_eq!(rt;
+        BooleanArray::new_empty(rt.alloc(), DataType::Boolean)?.len(),
+        0
+    );
+    assert_eq!(rt;
+        BooleanArray::new_null(rt.alloc(), DataType::Boolean, 2)?.null_count(),
+        2
+    );
+    Ok(())
+}
+
+#[test]
+fn values_are_copied(rt: HostRuntime) -> Result<(), Fail> {
+    assert_eq!(rt;
+        BooleanArray::from_slice(rt.alloc(), &[true, false])?.len(),
+        2
+    );
+    assert_eq!(rt;
+        BooleanArray::from_values(rt.alloc(), [true].into_iter())?.len(),
+        1
+    );
+    Ok(())
+}
+
+#[test]
+fn changed_values_are_the_arrays(rt: HostRuntime) -> Result<(), Fail> {
+    let mut array = three(rt.alloc())?;
+    let same = array.clone()?;
+    array.apply_values_mut(|values| values)?;
+    assert!(rt; array == same);
     Ok(())
 }

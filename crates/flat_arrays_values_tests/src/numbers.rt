@@ -1,4 +1,4 @@
-use columnar_memory::Error;
+use columnar_memory::{DataType, Error};
 use flat_arrays_values::Int32Array;
 use std::alloc::Global;
 use std::test::Fail;
@@ -15,5 +15,37 @@ fn slots_are_gathered(rt: HostRuntime) -> Result<(), Fail> {
         (array.get(0), array.get(1), array.get(4)),
         (Some(1), None, None)
     );
+    Ok(())
+}
+
+#[test]
+fn an_array_of_nulls_has_no_value(rt: HostRuntime) -> Result<(), Fail> {
+    assert_eq!(rt;
+        Int32Array::new_empty(rt.alloc(), DataType::Int32)?.len(),
+        0
+    );
+    assert_eq!(rt;
+        Int32Array::new_null(rt.alloc(), DataType::Int32, 2)?.null_count(),
+        2
+    );
+    Ok(())
+}
+
+#[test]
+fn values_are_copied(rt: HostRuntime) -> Result<(), Fail> {
+    assert_eq!(rt; Int32Array::from_slice(rt.alloc(), &[1, 2])?.len(), 2);
+    assert_eq!(rt;
+        Int32Array::from_values(rt.alloc(), [1, 2].into_iter())?.len(),
+        2
+    );
+    Ok(())
+}
+
+#[test]
+fn changed_values_are_the_arrays(rt: HostRuntime) -> Result<(), Fail> {
+    let mut array = gathered(rt.alloc())?;
+    let same = array.clone()?;
+    array.apply_values_mut(|values| values)?;
+    assert!(rt; array == same);
     Ok(())
 }

@@ -1,3 +1,9 @@
+pub mod ArrayParts
 pub mod CutNodes
+pub mod KeyMasks
+pub mod KeyPlaces
 pub mod ListParts
+pub mod SameSlots
+pub mod SlotPlaces
 pub mod StructParts
+pub mod UnionParts

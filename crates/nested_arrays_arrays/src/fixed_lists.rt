@@ -1,9 +1,10 @@
 //! Lists of one size.
-ghost use Rattle.std.specs.Prelude.{◌≡◌, ◌+◌, ◌≤◌, true};
+ghost use Rattle.std.specs.Prelude.{◌≡◌, ◌+◌, ◌<◌, ◌≤◌, ◌↔◌, IsTrue, true, option_copied};
 ghost use Rattle.nested_arrays_columns.specs.SoundColumns.{is_sound, has_fixed_item_type};
 ghost use Rattle.nested_arrays_columns.specs.StoredColumns.{column_len, column_type, cut, fixed_lists, type_layer};
 ghost use Rattle.nested_arrays_arrays.specs.Answers.{IsChecked};
 ghost use Rattle.nested_arrays_arrays.specs.Lengths.{size_of};
+ghost use Rattle.nested_arrays_flat.specs.ColumnMasks.{column_mask, ReplacesMask};
 
 use crate::any::AnyArray;
 use columnar_memory::{Bitmap, DataType, Error, Result};
@@ -93,6 +94,66 @@ impl FixedSizeListArray {
             values,
             validity,
         })
+    }
+
+    /// The array of parts that fit, as `try_new` tests.
+    #[tactic(auto, using(crate::proofs::ArrayParts::size_is))]
+    pub fn new(data_type: DataType, values: Box<AnyArray>, validity: Option<Bitmap>) -> Self
+        requires { is_sound (fixed_lists data_type validity (size_of data_type) values.value) ≡ true }
+        ensures { result ≡ fixed_lists data_type validity (size_of data_type) values.value }
+    {
+        let size = size_of(&data_type);
+        FixedSizeListArray {
+            data_type,
+            size,
+            values,
+            validity,
+        }
+    }
+
+    /// How many items each list has, one at least.
+    #[tactic(auto, using(crate::proofs::ArrayParts::size_is, crate::proofs::CutNodes::fixed_size))]
+    pub fn size(&self) -> usize
+        ensures value { result ≡ size_of (column_type self.now) }
+        ensures some { 0 < result }
+    {
+        self.size
+    }
+
+    /// The items, one list after another, those under nulls too.
+    #[tactic(auto, using(crate::proofs::ArrayParts::size_is))]
+    pub fn values(&self) -> &AnyArray
+        ensures { self.now ≡ fixed_lists (column_type self.now) (column_mask self.now) (size_of (column_type self.now)) result.now }
+    {
+        &self.values
+    }
+
+    /// The mask, where there is one: a bit is set where its slot is not null.
+    pub fn validity(&self) -> Option<&Bitmap>
+        ensures { option_copied result ≡ column_mask self.now }
+    {
+        self.validity.as_ref()
+    }
+
+    /// Replaces the mask.
+    ///
+    /// # Errors
+    /// `InvalidArgumentError`: the mask has another length than the array, which is as it was.
+    #[tactic(auto, using(crate::proofs::ArrayParts::fixed_masked))]
+    pub fn set_validity(&mut self, validity: Option<Bitmap>) -> Result<()>
+        ensures { ReplacesMask self.old validity self.new result }
+    {
+        if !fits(&validity, self.len()) {
+            return Err(Error::InvalidArgumentError("a mask of another length than the array"));
+        }
+        self.validity = validity;
+        Ok(())
+    }
+
+    pub fn is_empty(&self) -> bool
+        ensures { IsTrue result ↔ (column_len self.now ≡ 0) }
+    {
+        self.len() == 0
     }
 
     /// How many slots there are.

@@ -3,16 +3,22 @@
 
 mod any;
 mod children;
+mod comparisons;
+mod equality;
 mod fixed_lists;
 mod from;
-mod lists;
+mod key_masks;
+mod keys;
 mod maps;
+mod picks;
+mod places;
 mod records;
 mod unions;
+mod validity;
 
 pub use any::{AnyArray, DictionaryNode, ListNode, Node};
+pub use equality::{equal, equal_counted};
 pub use fixed_lists::FixedSizeListArray;
-pub use lists::ListArray;
 pub use maps::MapArray;
 pub use records::StructArray;
 pub use unions::UnionArray;

@@ -1,5 +1,5 @@
 //! Maps.
-ghost use Rattle.std.specs.Prelude.{◌≡◌, ◌+◌, ◌≤◌, ◌↔◌, IsTrue, true};
+ghost use Rattle.std.specs.Prelude.{◌≡◌, ◌+◌, ◌≤◌, ◌↔◌, IsTrue, true, option_copied};
 ghost use Rattle.columnar_memory.specs.Spans.{offsets_of};
 ghost use Rattle.columnar_memory.specs.declared.DataType.TheViews.{out-DataType};
 ghost use Rattle.columnar_memory.specs.declared.PhysicalType.TheVariants as physical;
@@ -7,6 +7,8 @@ ghost use Rattle.nested_arrays_columns.specs.SoundColumns.{is_entry};
 ghost use Rattle.nested_arrays_columns.specs.StoredColumns.{column_len, column_type, cut, lists, type_layer};
 ghost use Rattle.nested_arrays_arrays.specs.Answers.{IsCheckedAs, LiesAs};
 ghost use Rattle.nested_arrays_arrays.specs.Entries.{has_entry_type};
+ghost use Rattle.nested_arrays_arrays.specs.Parts.{column_offsets};
+ghost use Rattle.nested_arrays_flat.specs.ColumnMasks.{column_mask, ReplacesMask};
 
 use crate::any::AnyArray;
 use columnar_memory::{Bitmap, DataType, Error, OffsetsBuffer, Result};
@@ -114,6 +116,66 @@ impl MapArray {
             field,
             validity,
         })
+    }
+
+    /// The array of parts that fit, as `try_new` tests.
+    pub fn new(
+        data_type: DataType,
+        offsets: OffsetsBuffer<i32>,
+        field: Box<AnyArray>,
+        validity: Option<Bitmap>,
+    ) -> Self
+        requires { LiesAs physical.Map (lists data_type validity (offsets_of offsets) field.value) }
+        ensures { result ≡ lists data_type validity (offsets_of offsets) field.value }
+    {
+        MapArray {
+            data_type,
+            offsets,
+            field,
+            validity,
+        }
+    }
+
+    /// Where each map begins among the entries, and where the last one ends.
+    pub fn offsets(&self) -> &OffsetsBuffer<i32>
+        ensures { offsets_of result.now ≡ column_offsets self.now }
+    {
+        &self.offsets
+    }
+
+    /// The entries, structs of a key and a value, those outside the maps too.
+    pub fn field(&self) -> &AnyArray
+        ensures { self.now ≡ lists (column_type self.now) (column_mask self.now) (column_offsets self.now) result.now }
+    {
+        &self.field
+    }
+
+    /// The mask, where there is one: a bit is set where its slot is not null.
+    pub fn validity(&self) -> Option<&Bitmap>
+        ensures { option_copied result ≡ column_mask self.now }
+    {
+        self.validity.as_ref()
+    }
+
+    /// Replaces the mask.
+    ///
+    /// # Errors
+    /// `InvalidArgumentError`: the mask has another length than the array, which is as it was.
+    #[tactic(auto, using(crate::proofs::ArrayParts::lists_masked))]
+    pub fn set_validity(&mut self, validity: Option<Bitmap>) -> Result<()>
+        ensures { ReplacesMask self.old validity self.new result }
+    {
+        if !fits(&validity, self.len()) {
+            return Err(Error::InvalidArgumentError("a mask of another length than the array"));
+        }
+        self.validity = validity;
+        Ok(())
+    }
+
+    pub fn is_empty(&self) -> bool
+        ensures { IsTrue result ↔ (column_len self.now ≡ 0) }
+    {
+        self.len() == 0
     }
 
     /// How many slots there are.

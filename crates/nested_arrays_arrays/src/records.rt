@@ -1,13 +1,15 @@
 //! Structs.
-ghost use Rattle.std.specs.Prelude.{◌≡◌, ◌+◌, ◌≤◌, true, map, All, option_copied};
+ghost use Rattle.std.specs.Prelude.{◌≡◌, ◌+◌, ◌≤◌, ◌↔◌, IsTrue, true, map, All, option_copied};
 ghost use Rattle.nested_arrays_columns.specs.SoundColumns.{is_sound};
 ghost use Rattle.nested_arrays_columns.specs.StoredColumns.{column_len, column_type, cut, records, in_columns};
 ghost use Rattle.nested_arrays_arrays.specs.Answers.{IsChecked};
 ghost use Rattle.nested_arrays_arrays.specs.Lengths.{struct_len};
+ghost use Rattle.nested_arrays_arrays.specs.Parts.{fields_of};
+ghost use Rattle.nested_arrays_flat.specs.ColumnMasks.{column_mask, ReplacesMask};
 
 use crate::any::AnyArray;
 use crate::children::{are_fields_of, are_whole, have_len};
-use columnar_memory::{Bitmap, DataType, Error, Result};
+use columnar_memory::{Bitmap, DataType, Error, Field, Result};
 use nested_arrays_flat::slice_mask;
 use nested_arrays_parts::fits;
 use std::marker::Model;
@@ -88,11 +90,77 @@ impl StructArray {
         })
     }
 
+    /// The array of parts that fit, as `try_new` tests.
+    pub fn new(data_type: DataType, values: Vec<AnyArray>, validity: Option<Bitmap>) -> Self
+        requires { is_sound (records data_type validity (struct_len values.items) (in_columns values.items)) ≡ true }
+        ensures { result ≡ records data_type validity (struct_len values.items) (in_columns values.items) }
+    {
+        let length = first_len(&values);
+        StructArray {
+            data_type,
+            values,
+            validity,
+            length,
+        }
+    }
+
+    /// The fields of the type of a struct, none where a type is no struct.
+    pub fn get_fields(data_type: &DataType) -> &[Field]
+        ensures { result.now ≡ fields_of data_type.now }
+    {
+        match data_type.to_logical_type() {
+            DataType::Struct(fields) => fields.as_slice(),
+            _ => &[],
+        }
+    }
+
+    /// The fields of the type, one for each child.
+    pub fn fields(&self) -> &[Field]
+        ensures { result.now ≡ fields_of (column_type self.now) }
+    {
+        StructArray::get_fields(&self.data_type)
+    }
+
+    /// The children, one for each field; what stands under a null too.
+    pub fn values(&self) -> &[AnyArray]
+        ensures { self.now ≡ records (column_type self.now) (column_mask self.now) (column_len self.now) (in_columns result.now) }
+    {
+        self.values.as_slice()
+    }
+
+    /// The mask, where there is one: a bit is set where its slot is not null.
+    pub fn validity(&self) -> Option<&Bitmap>
+        ensures { option_copied result ≡ column_mask self.now }
+    {
+        self.validity.as_ref()
+    }
+
+    /// Replaces the mask.
+    ///
+    /// # Errors
+    /// `InvalidArgumentError`: the mask has another length than the array, which is as it was.
+    #[tactic(auto, using(crate::proofs::ArrayParts::records_masked))]
+    pub fn set_validity(&mut self, validity: Option<Bitmap>) -> Result<()>
+        ensures { ReplacesMask self.old validity self.new result }
+    {
+        if !fits(&validity, self.length) {
+            return Err(Error::InvalidArgumentError("a mask of another length than the array"));
+        }
+        self.validity = validity;
+        Ok(())
+    }
+
     /// How many slots there are.
     pub fn len(&self) -> usize
         ensures { result ≡ column_len self.now }
     {
         self.length
+    }
+
+    pub fn is_empty(&self) -> bool
+        ensures { IsTrue result ↔ (column_len self.now ≡ 0) }
+    {
+        self.length == 0
     }
 
     pub fn data_type(&self) -> &DataType

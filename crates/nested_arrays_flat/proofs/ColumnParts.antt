@@ -12,7 +12,7 @@ use Rattle.nested_arrays_columns.specs.SoundColumns.{has_value_at, has_value_typ
 use Rattle.nested_arrays_columns.specs.StoredColumns.{Column, nulls, flat, lists, fixed_lists, records, unions, dictionary, column_len, column_type, cut}
 use Rattle.nested_arrays_columns.specs.StoredColumns.{stored_len, type_layer}
 use Rattle.nested_arrays_flat.proofs.CutMasks.{mark_within}
-use Rattle.nested_arrays_flat.specs.ColumnMasks.{column_mask, with_mask}
+use Rattle.nested_arrays_flat.specs.ColumnMasks.{column_mask, with_mask, TakesMask}
 
 -- the mask of a sound column fits it
 pub sound_mask : (column : Column) → is_sound column ≡ true → mask_fits (column_mask column) (column_len column) ≡ true
@@ -55,3 +55,13 @@ flat_masked (flat t old stored) after mask is_one sound fits is =
     let typed = is_stored_as (physical_type t) stored && has_size (type_layer t) stored in
     ap is_sound is ∙ and_from typed (mask_fits mask (stored_len stored)) (and_parts typed (mask_fits old (stored_len stored)) sound).0 fits
 flat_masked _ after mask is_one sound fits is = absurd cc
+
+-- a flat column has whatever mask it is given
+pub flat_mask : (column : Column) (mask : Option (List Bool)) → is_flat column ≡ true → column_mask (with_mask column mask) ≡ mask
+flat_mask (flat t old stored) mask is = refl
+flat_mask _ mask is = absurd cc
+
+pub flat_takes : (column : Column) (mask : Option (List Bool)) → is_flat column ≡ true → is_sound column ≡ true
+    → mask_fits mask (column_len column) ≡ true → TakesMask column mask
+flat_takes column mask is sound fits =
+    (fits, flat_mask column mask is, flat_masked column (with_mask column mask) mask is sound fits refl)

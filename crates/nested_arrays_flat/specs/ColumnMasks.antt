@@ -3,7 +3,7 @@ use Rattle.std.specs.Prelude.{◌≡◌, ℕ, Bool, true, List, Option, Some, No
 use Rattle.columnar_memory.specs.Bits.{unset_count}
 use Rattle.columnar_memory.specs.Error.{IsInvalidArgument}
 use Rattle.columnar_memory.specs.declared.Error.{Error}
-use Rattle.nested_arrays_columns.specs.SoundColumns.{mask_fits}
+use Rattle.nested_arrays_columns.specs.SoundColumns.{is_sound, mask_fits}
 use Rattle.nested_arrays_columns.specs.StoredColumns.{Column, nulls, flat, lists, fixed_lists, records, unions, dictionary, column_len}
 
 -- a column's mask; nulls alone and unions have none
@@ -31,7 +31,13 @@ with_mask (records data_type old n children) mask = records data_type mask n chi
 with_mask (unions data_type ids offsets children) mask = unions data_type ids offsets children
 with_mask (dictionary data_type old keys values) mask = dictionary data_type mask keys values
 
--- the column has the mask, if it fits; else it is as it was
+-- A column may have a mask of its length with which it is sound; nulls alone and unions have none, and in a dictionary each key that the
+-- mask says is valid has its value.
+abbrev pub TakesMask : Column → Option (List Bool) → Type 0
+TakesMask column mask = (mask_fits mask (column_len column) ≡ true) × (column_mask (with_mask column mask) ≡ mask)
+    × (is_sound (with_mask column mask) ≡ true)
+
+-- the column has the mask, if it may; else it is as it was
 abbrev pub ReplacesMask : Column → Option (List Bool) → Column → Result (Unit {0}) Error → Type 0
-ReplacesMask old mask after r = MatchResult r (λ _. (mask_fits mask (column_len old) ≡ true) × (after ≡ with_mask old mask))
-    (λ e. IsInvalidArgument e × ¬ (mask_fits mask (column_len old) ≡ true) × (after ≡ old))
+ReplacesMask old mask after r = MatchResult r (λ _. TakesMask old mask × (after ≡ with_mask old mask))
+    (λ e. IsInvalidArgument e × ¬ TakesMask old mask × (after ≡ old))

@@ -1,12 +1,13 @@
 //! Arrays of nulls.
-ghost use Rattle.std.specs.Prelude.{◌≡◌, ◌+◌, ◌≤◌, ◌↔◌, IsTrue, true, MatchResult};
+ghost use Rattle.std.specs.Prelude.{◌≡◌, ◌+◌, ◌≤◌, ◌↔◌, IsTrue, true, MatchResult, option_copied};
 ghost use Rattle.columnar_memory.specs.Layouts.{physical_type};
 ghost use Rattle.columnar_memory.specs.declared.PhysicalType.TheVariants as physical;
 ghost use Rattle.nested_arrays_columns.specs.SoundColumns.{is_sound};
 ghost use Rattle.nested_arrays_columns.specs.StoredColumns.{column_len, column_type, cut, nulls};
 ghost use Rattle.nested_arrays_flat.specs.Checked.{IsChecked};
+ghost use Rattle.nested_arrays_flat.specs.ColumnMasks.{column_mask, ReplacesMask};
 
-use columnar_memory::{DataType, Error, PhysicalType, Result};
+use columnar_memory::{Bitmap, DataType, Error, PhysicalType, Result};
 use std::alloc::AllocError;
 use std::marker::Model;
 
@@ -90,9 +91,38 @@ impl NullArray {
         &self.data_type
     }
 
+    /// The mask, of which nulls have none.
+    pub fn validity(&self) -> Option<&Bitmap>
+        ensures { option_copied result ≡ column_mask self.now }
+    {
+        let _length = self.length;
+        None
+    }
+
+    /// Leaves this without a mask, as all nulls are.
+    ///
+    /// # Errors
+    /// `InvalidArgumentError`: a mask is given.
+    pub fn set_validity(&mut self, validity: Option<Bitmap>) -> Result<()>
+        ensures { ReplacesMask self.old validity self.new result }
+    {
+        let _length = self.length;
+        match validity {
+            Some(_) => Err(Error::InvalidArgumentError("a mask for nulls alone, which have none")),
+            None => Ok(()),
+        }
+    }
+
     /// Hands to a proof what holds of every such array.
     pub fn whole(&self)
         ensures { is_sound self.now ≡ true }
+    {
+        let _length = self.length;
+    }
+
+    /// Hands to a proof that each slot is null.
+    pub fn holds_nulls(&self)
+        ensures { self.now ≡ nulls (column_type self.now) (column_len self.now) }
     {
         let _length = self.length;
     }

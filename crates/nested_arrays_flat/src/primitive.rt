@@ -172,6 +172,7 @@ impl AnyPrimitive {
     pub fn set_validity(&mut self, validity: Option<Bitmap>) -> Result<()>
         ensures { ReplacesMask self.old validity self.new result }
     {
+        let _node = &self.node;
         if !is_mask_of(&validity, self.len()) {
             return Err(Error::InvalidArgumentError("a mask of another length than the array"));
         }

@@ -1,3 +1,4 @@
 pub mod FlatCuts
+pub mod FlatMasks
 pub mod KeyCuts
 pub mod OffsetLists

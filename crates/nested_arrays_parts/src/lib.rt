@@ -5,7 +5,9 @@ mod flats;
 mod from;
 mod masks;
 mod offsets;
+mod validity;
 
 pub use flats::{FlatArray, FlatNode};
 pub use masks::{fits, last_of};
 pub use offsets::ListOffsets;
+pub use validity::{mask_booleans, mask_strings, mask_texts};

@@ -1,0 +1,2 @@
+pub mod MaskedArrays
+pub mod Nulls

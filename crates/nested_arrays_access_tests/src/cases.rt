@@ -1,0 +1,37 @@
+use columnar_memory::{Buffer, DataType, Error, Field, Items, Text, UnionMode};
+use flat_arrays_values::PrimitiveArray;
+use nested_arrays_arrays::{AnyArray, UnionArray};
+use nested_arrays_flat::AnyPrimitive;
+use nested_arrays_parts::FlatArray;
+use std::alloc::Global;
+
+pub(crate) fn numbers(alloc: Global, values: &[i32]) -> Result<AnyArray, Error> {
+    let array = AnyPrimitive::from_array(PrimitiveArray::from_slice(alloc, values)?);
+    Ok(AnyArray::from(FlatArray::from(array)))
+}
+
+fn union_of_numbers(alloc: Global, mode: UnionMode) -> Result<DataType, Error> {
+    let mut fields = Items::new(alloc);
+    let name = Text::from_str(alloc, "number")?;
+    fields.push(Field::new(alloc, name, DataType::Int32, true))?;
+    Ok(DataType::Union(fields, None, mode))
+}
+
+fn children(alloc: Global, values: &[i32]) -> Result<Vec<AnyArray>, Error> {
+    let mut children = Vec::new(alloc);
+    children.push(numbers(alloc, values)?)?;
+    Ok(children)
+}
+
+pub(crate) fn dense(alloc: Global, places: &[i32], values: &[i32]) -> Result<UnionArray, Error> {
+    let data_type = union_of_numbers(alloc, UnionMode::Dense)?;
+    let types = Buffer::from_vec(Vec::from_slice(alloc, &[0i8, 0])?)?;
+    let offsets = Buffer::from_vec(Vec::from_slice(alloc, places)?)?;
+    UnionArray::try_new(data_type, types, children(alloc, values)?, Some(offsets))
+}
+
+pub(crate) fn sparse(alloc: Global, values: &[i32]) -> Result<UnionArray, Error> {
+    let data_type = union_of_numbers(alloc, UnionMode::Sparse)?;
+    let types = Buffer::from_vec(Vec::from_slice(alloc, &[0i8, 0])?)?;
+    UnionArray::try_new(data_type, types, children(alloc, values)?, None)
+}

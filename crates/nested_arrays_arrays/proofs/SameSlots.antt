@@ -1,0 +1,139 @@
+-- Slots with slots inside that are the same, and how many stand in them.
+use Rattle.std.proofs.Common.{◌≡◌, ◌∙◌, ◌<◌, ◌≤◌, ◌+◌, ℕ, zero, suc, List, [], ◌∷◌, refl, sym, ap, arith, below_more, length, ◌-◌}
+use Rattle.std.specs.Prelude.{◌↔◌, sum_by}
+use Rattle.std.proofs.lemmas.List.Sums.{sum_by-cons}
+use Rattle.columnar_memory.specs.declared.DataType.{DataType}
+use Rattle.nested_arrays_columns.proofs.Windows.{window_same, length-window}
+use Rattle.nested_arrays_columns.specs.SlotNodes.{nodes_of, slot_nodes}
+use Rattle.nested_arrays_columns.specs.Slots.{Slot, Slots, null, truth, number, pair, triple, text, bytes, items, fields, pick, no_slot, slot_then}
+use Rattle.nested_arrays_columns.specs.Slots.{in_slots, window}
+use Rattle.nested_arrays_columns.specs.StoredColumns.{Column, column_len, column_type, slot_at, slots}
+use Rattle.nested_arrays_equal.specs.Ranges.{range_nodes, SameRanges}
+use Rattle.nested_arrays_arrays.specs.SameArrays.{AreEqual}
+
+-- ---- windows
+
+abbrev first_slot : Slots → Slot
+first_slot no_slot = null
+first_slot (slot_then slot slots) = slot
+
+abbrev other_slots : Slots → Slots
+other_slots no_slot = no_slot
+other_slots (slot_then slot slots) = slots
+
+abbrev slot_count : Slots → ℕ
+slot_count no_slot = 0
+slot_count (slot_then slot slots) = suc (slot_count slots)
+
+abbrev items_in : Slot → Slots
+items_in (items slots) = slots
+items_in _ = no_slot
+
+slot_count-window : (f : ℕ → Slot) (a n : ℕ) → slot_count (in_slots (window f a n)) ≡ n
+slot_count-window f a zero = refl
+slot_count-window f a (suc n) = ap suc (slot_count-window f (a + 1) n)
+
+each_same : (f g : ℕ → Slot) (a b n : ℕ) → in_slots (window f a n) ≡ in_slots (window g b n) → (k : ℕ) → k < n → f (a + k) ≡ g (b + k)
+each_same f g a b zero same k h = absurd (omega arith)
+each_same f g a b (suc n) same zero h = ap f (omega arith) ∙ ap first_slot same ∙ ap g (omega arith)
+each_same f g a b (suc n) same (suc k) h =
+    ap f (omega arith) ∙ each_same f g (a + 1) (b + 1) n (ap other_slots same) k (omega arith) ∙ ap g (omega arith)
+
+-- items are the same where they are as many and each is the same
+pub items_same : (l r : Column) (i j m n : ℕ) → m ≡ n → SameRanges l i r j m
+    ↔ (items (in_slots (window (slot_at l) i m)) ≡ items (in_slots (window (slot_at r) j n)))
+items_same l r i j m n is = (
+  λ same. ap (λ found. items (in_slots found)) (window_same (slot_at l) (slot_at r) i j m same)
+      ∙ ap (λ k. items (in_slots (window (slot_at r) j k))) is,
+  λ same. each_same (slot_at l) (slot_at r) i j m (ap items_in same ∙ ap (λ k. in_slots (window (slot_at r) j k)) (sym is)),
+)
+
+pub items_count : (l r : Column) (i j m n : ℕ)
+    → items (in_slots (window (slot_at l) i m)) ≡ items (in_slots (window (slot_at r) j n)) → m ≡ n
+items_count l r i j m n same =
+    sym (slot_count-window (slot_at l) i m) ∙ ap (λ slot. slot_count (items_in slot)) same ∙ slot_count-window (slot_at r) j n
+
+-- a pick tells the type and the slot
+pub pick_parts : (t u : DataType) (slot other : Slot) → pick t slot ≡ pick u other → (t ≡ u) × (slot ≡ other)
+pick_parts t u slot other same = (cc, cc)
+
+-- ---- counts
+
+node_some : (slot : Slot) → 1 ≤ slot_nodes slot
+node_some null = omega arith
+node_some (truth b) = omega arith
+node_some (number kind n) = omega arith
+node_some (pair kind a b) = omega arith
+node_some (triple kind a b c) = omega arith
+node_some (text content) = omega arith
+node_some (bytes content) = omega arith
+node_some (items slots) = omega arith
+node_some (fields slots) = omega arith
+node_some (pick data_type slot) = omega (arith, node_some slot)
+
+-- a range has a node for each slot at least
+pub nodes_some : (f : ℕ → Slot) (a n : ℕ) → n ≤ nodes_of (in_slots (window f a n))
+nodes_some f a zero = omega arith
+nodes_some f a (suc n) = omega (arith, node_some (f a), nodes_some f (a + 1) n)
+
+nodes_more : (f : ℕ → Slot) (a n : ℕ) → nodes_of (in_slots (window f a (suc n))) ≡ nodes_of (in_slots (window f a n)) + slot_nodes (f (a + n))
+nodes_more f a zero = let here : slot_nodes (f (a + 0)) ≡ slot_nodes (f a) = ap (λ k. slot_nodes (f k)) (omega arith) in omega (arith, here)
+nodes_more f a (suc n) =
+    let here : slot_nodes (f (a + 1 + n)) ≡ slot_nodes (f (a + suc n)) = ap (λ k. slot_nodes (f k)) (omega arith) in
+    omega (arith, here, nodes_more f (a + 1) n)
+
+nodes_grow : (f : ℕ → Slot) (a n m : ℕ) → nodes_of (in_slots (window f a n)) ≤ nodes_of (in_slots (window f a (n + m)))
+nodes_grow f a zero m = omega arith
+nodes_grow f a (suc n) m =
+    let len : suc n + m ≡ suc (n + m) = omega arith in
+    let more : nodes_of (in_slots (window f a (suc n + m))) ≡ nodes_of (in_slots (window f a (suc (n + m)))) =
+    ap (λ k. nodes_of (in_slots (window f a k))) len in
+    omega (arith, more, nodes_grow f (a + 1) n m)
+
+pub nodes_up_to : (f : ℕ → Slot) (a n m : ℕ) → n < m → nodes_of (in_slots (window f a n)) + slot_nodes (f (a + n)) ≤ nodes_of (in_slots (window f a m))
+nodes_up_to f a n m h =
+    let len : suc n + (m - suc n) ≡ m = omega arith in
+    let all : nodes_of (in_slots (window f a (suc n + (m - suc n)))) ≡ nodes_of (in_slots (window f a m)) =
+    ap (λ k. nodes_of (in_slots (window f a k))) len in
+    omega (arith, all, nodes_more f a n, nodes_grow f a (suc n) (m - suc n))
+
+-- a comparison of ranges as far as it has come: the slots before a place are the same, and each was counted
+pub record SoFar (l : Column) (i : ℕ) (r : Column) (j k before now : ℕ) : Type 0 where
+  pub same : SameRanges l i r j k
+  pub counted : now ≤ before + range_nodes l i k
+
+pub none_so_far : (l r : Column) (i j before : ℕ) → SoFar l i r j 0 before before
+none_so_far l r i j before = record { same = λ k h. absurd (omega arith); counted = omega arith }
+
+below_next : (P : ℕ → Type 0) (n : ℕ) → ((k : ℕ) → k < n → P k) → P n → (k : ℕ) → k < n + 1 → P k
+below_next P n below here k h = below_more P n below here k h
+
+pub one_more : (l r : Column) (i j k before now after : ℕ) → SoFar l i r j k before now → slot_at l (i + k) ≡ slot_at r (j + k)
+    → after ≤ now + slot_nodes (slot_at l (i + k)) → SoFar l i r j (k + 1) before after
+one_more l r i j k before now after far here counted =
+    let len : k + 1 ≡ suc k = omega arith in
+    let size : range_nodes l i (k + 1) ≡ range_nodes l i (suc k) = ap (range_nodes l i) len in record {
+      same = below_next (λ (m : ℕ). slot_at l (i + m) ≡ slot_at r (j + m)) k far.same here;
+      counted = omega (arith, size, counted, far.counted, nodes_more (slot_at l) i k);
+    }
+
+-- ---- whole columns
+
+nodes_sum : (found : List Slot) → nodes_of (in_slots found) ≡ sum_by slot_nodes found
+nodes_sum [] = refl
+nodes_sum (slot ∷ found) = omega (arith, nodes_sum found, sum_by-cons slot_nodes slot found)
+
+-- the nodes of all slots of a column
+pub all_nodes : (c : Column) → range_nodes c 0 (column_len c) ≡ sum_by slot_nodes (slots c)
+all_nodes c = nodes_sum (slots c)
+
+-- columns as long as one another have the same slots where the ranges are the same
+pub slots_same : (l r : Column) (n : ℕ) → n ≡ column_len l → n ≡ column_len r → SameRanges l 0 r 0 n ↔ (slots l ≡ slots r)
+slots_same l r n long as_long = (
+  λ same. ap (window (slot_at l) 0) (sym long) ∙ window_same (slot_at l) (slot_at r) 0 0 n same ∙ ap (window (slot_at r) 0) as_long,
+  λ same. each_same (slot_at l) (slot_at r) 0 0 n
+      (ap in_slots (ap (window (slot_at l) 0) long ∙ same ∙ ap (window (slot_at r) 0) (sym as_long))),
+)
+
+pub slots_count : (l r : Column) → slots l ≡ slots r → column_len l ≡ column_len r
+slots_count l r same = sym (length-window (slot_at l) 0 (column_len l)) ∙ ap length same ∙ length-window (slot_at r) 0 (column_len r)

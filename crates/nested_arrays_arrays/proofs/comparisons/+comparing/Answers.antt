@@ -1,0 +1,63 @@
+use Rattle.std.proofs.Common.{rules, ◌≡◌, ◌∙◌, ◌∷◌, ◌+◌, ap, arith, subst, sym, List}
+use Rattle.std.proofs.lemmas.Bool.{false≢true}
+use Rattle.nested_arrays_columns.proofs.ColumnSizes.{sizes_count}
+use Rattle.nested_arrays_columns.specs.Slots.{pick}
+use Rattle.nested_arrays_columns.specs.StoredColumns.{Column, column_size, columns_size, in_columns, slot_at}
+use Rattle.nested_arrays_arrays.proofs.SameSlots.{items_count, items_same, nodes_some, nodes_up_to, one_more, pick_parts}
+use Rattle.nested_arrays_arrays.specs.Places.{HavePlace}
+use Rattle.nested_arrays_arrays.proofs.comparisons.+comparing.Goals as goal
+
+pub same_fields-same_fields-requires : goal.same_fields-same_fields-requires
+same_fields-same_fields-requires t c =
+    let left : c.args.left.now ≡ c.in-Some.array.now ∷ c.in-Some.arrays.now = search rules in
+    let right : c.args.right.now ≡ c.in-Some-split_first.other.now ∷ c.in-Some-split_first.others.now = search rules in
+    let size : columns_size (in_columns c.args.left.now) ≡ column_size c.in-Some.array.now + columns_size (in_columns c.in-Some.arrays.now) =
+    ap (λ (xs : List Column). columns_size (in_columns xs)) left in
+    let some = sizes_count c.in-Some.array.now in (
+      search (rules, size, some),
+      (
+        (subst (λ (xs : List Column). HavePlace (in_columns xs) c.args.i) left c.requires.left_within).1,
+        (subst (λ (xs : List Column). HavePlace (in_columns xs) c.args.j) right c.requires.right_within).1,
+      ),
+    )
+
+pub same_items-returns-then-count-other_count-clause-same : goal.same_items-returns-then-count-other_count-clause-same
+same_items-returns-then-count-other_count-clause-same t c = (
+  λ is. absurd (false≢true is),
+  λ same. absurd (c.if-count-other_count.true
+      (items_count c.args.left.now c.args.right.now c.args.i c.args.j c.args.count c.args.other_count same)),
+)
+
+pub same_items-returns-clause-same : goal.same_items-returns-clause-same
+same_items-returns-clause-same t c =
+    let both = items_same c.args.left.now c.args.right.now c.args.i c.args.j c.args.count c.args.other_count c.if-count-other_count.false in
+    (λ is. both.0 (c.same_range.ensures.same.0 is), λ same. c.same_range.ensures.same.1 (both.1 same))
+
+pub same_pick-returns-then-not-same_types-clause-same : goal.same_pick-returns-then-not-same_types-clause-same
+same_pick-returns-then-not-same_types-clause-same t c = (
+  λ is. absurd (false≢true is),
+  λ same. absurd (false≢true (sym c.if-not-same_types.true ∙ c.same_types.ensures.1 (pick_parts _ _ _ _ same).0)),
+)
+
+pub same_pick-returns-clause-same : goal.same_pick-returns-clause-same
+same_pick-returns-clause-same t c =
+    let types = c.same_types.ensures.0 c.if-not-same_types.false in (
+      λ is j. pick (types j) (c.same_slot.ensures.same.0 is j),
+      λ same. c.same_slot.ensures.same.1 (pick_parts _ _ _ _ same).1,
+    )
+
+pub same_range-returns-in-Some-Some-clause-counted : goal.same_range-returns-in-Some-Some-clause-counted
+same_range-returns-in-Some-Some-clause-counted t c =
+    omega (arith, c.same_slots_counted.ensures.counted, nodes_some (slot_at c.args.left.now) c.args.i c.args.count)
+
+pub same_range-returns-then-not-same_slot-clause-counted : goal.same_range-returns-then-not-same_slot-clause-counted
+same_range-returns-then-not-same_slot-clause-counted t c = omega (
+  arith,
+  c.loop-k.invariant.counted,
+  c.same_slot.ensures.counted,
+  nodes_up_to (slot_at c.args.left.now) c.args.i c.loop-k.k c.args.count c.loop-k-test.true,
+)
+
+pub same_range-loop-k-preserved : goal.same_range-loop-k-preserved
+same_range-loop-k-preserved t c =
+    one_more _ _ _ _ _ _ _ _ c.loop-k.invariant (c.same_slot.ensures.same.0 c.if-not-same_slot.false) c.same_slot.ensures.counted

@@ -1,0 +1,179 @@
+//! Equality of arrays by their slots.
+ghost use Rattle.std.specs.Prelude.{◌≡◌, ◌+◌, ◌<◌, ◌≤◌, ◌↔◌, IfSome, IsTrue};
+ghost use Rattle.nested_arrays_columns.specs.SlotNodes.{nodes_of, slot_nodes};
+ghost use Rattle.nested_arrays_columns.specs.Slots.{in_slots, items, pick, window};
+ghost use Rattle.nested_arrays_columns.specs.StoredColumns.{column_len, column_type, in_columns, slot_at, slots_at};
+ghost use Rattle.nested_arrays_equal.specs.Ranges.{range_nodes, SameRanges};
+ghost use Rattle.nested_arrays_arrays.specs.Places.{HavePlace, IsKeyless};
+
+use crate::any::{AnyArray, Node};
+use crate::keys::value_of;
+use crate::places::{fields_at, items_at, pick_at, values_at};
+use columnar_memory::Steps;
+use nested_arrays_equal::{same_slots, same_slots_counted};
+use nested_arrays_parts::FlatArray;
+
+/// The array without children, if it is one.
+fn flat(array: &AnyArray) -> Option<&FlatArray>
+    ensures { IfSome result (λ values. values.now ≡ array.now) }
+{
+    match &array.node {
+        Node::Flat(values) => Some(values),
+        Node::List(_) => None,
+        Node::FixedSizeList(_) => None,
+        Node::Struct(_) => None,
+        Node::Map(_) => None,
+        Node::Union(_) => None,
+        Node::Dictionary(_) => None,
+    }
+}
+
+/// Whether two arrays have one data type.
+pub(crate) fn same_types(left: &AnyArray, right: &AnyArray) -> bool
+    ensures { IsTrue result ↔ (column_type left.now ≡ column_type right.now) }
+{
+    *left.data_type() == *right.data_type()
+}
+
+/// Whether so many slots of an array from a place on are those of another from a place on.
+#[cycle(comparing)]
+pub(crate) fn same_range(
+    left: &AnyArray,
+    i: usize,
+    right: &AnyArray,
+    j: usize,
+    count: usize,
+    steps: &mut Steps,
+) -> bool
+    requires left_within { i + count ≤ column_len left.now }
+    requires right_within { j + count ≤ column_len right.now }
+    ensures same { IsTrue result ↔ SameRanges left.now i right.now j count }
+    ensures counted { steps.new.count ≤ steps.old.count + range_nodes left.now i count }
+{
+    if let (Some(left), Some(right)) = (flat(left), flat(right)) {
+        return same_slots_counted(left, i, right, j, count, steps);
+    }
+    let _left = left.len();
+    let _right = right.len();
+    for k in 0..count {
+        if !same_slot(left, i + k, right, j + k, steps) {
+            return false;
+        }
+    }
+    true
+}
+
+/// Whether a slot of an array is that of another.
+#[cycle(comparing)]
+fn same_slot(left: &AnyArray, i: usize, right: &AnyArray, j: usize, steps: &mut Steps) -> bool
+    requires left_within { i < column_len left.now }
+    requires right_within { j < column_len right.now }
+    ensures same { IsTrue result ↔ (slot_at left.now i ≡ slot_at right.now j) }
+    ensures counted { steps.new.count ≤ steps.old.count + slot_nodes (slot_at left.now i) }
+{
+    let (values, place) = value_of(left, i);
+    let (others, other_place) = value_of(right, j);
+    same_value(values, place, others, other_place, steps)
+}
+
+/// The same of slots whose values no keys name.
+#[cycle(comparing)]
+fn same_value(left: &AnyArray, i: usize, right: &AnyArray, j: usize, steps: &mut Steps) -> bool
+    requires left_within { i < column_len left.now }
+    requires right_within { j < column_len right.now }
+    requires left_keyless { IsKeyless left.now i }
+    requires right_keyless { IsKeyless right.now j }
+    ensures same { IsTrue result ↔ (slot_at left.now i ≡ slot_at right.now j) }
+    ensures counted { steps.new.count ≤ steps.old.count + slot_nodes (slot_at left.now i) }
+{
+    steps.tick();
+    match (values_at(left, i), values_at(right, j)) {
+        (Some(values), Some(others)) => return same_slots(values, i, others, j, 1),
+        (None, None) => {}
+        _ => return false,
+    }
+    match (items_at(left, i), items_at(right, j)) {
+        (Some((child, start, len)), Some((other, other_start, other_len))) => {
+            return same_items(child, start, len, other, other_start, other_len, steps);
+        }
+        (None, None) => {}
+        _ => return false,
+    }
+    match (fields_at(left, i), fields_at(right, j)) {
+        (Some(children), Some(others)) => return same_fields(children, i, others, j, steps),
+        (None, None) => {}
+        _ => return false,
+    }
+    match (pick_at(left, i), pick_at(right, j)) {
+        (Some((child, place)), Some((other, other_place))) => same_pick(child, place, other, other_place, steps),
+        (None, None) => true,
+        _ => false,
+    }
+}
+
+/// Whether the items of a list, so many from a place on, are those of another.
+#[cycle(comparing)]
+fn same_items(
+    left: &AnyArray,
+    i: usize,
+    count: usize,
+    right: &AnyArray,
+    j: usize,
+    other_count: usize,
+    steps: &mut Steps,
+) -> bool
+    requires left_within { i + count ≤ column_len left.now }
+    requires right_within { j + other_count ≤ column_len right.now }
+    ensures same { IsTrue result ↔ (items (in_slots (window (slot_at left.now) i count)) ≡ items (in_slots (window (slot_at right.now) j other_count))) }
+    ensures counted { steps.new.count ≤ steps.old.count + range_nodes left.now i count }
+{
+    if count != other_count {
+        return false;
+    }
+    same_range(left, i, right, j, count, steps)
+}
+
+/// Whether the slots at a place of several arrays are those of as many others.
+#[cycle(comparing)]
+fn same_fields(
+    left: &[AnyArray],
+    i: usize,
+    right: &[AnyArray],
+    j: usize,
+    steps: &mut Steps,
+) -> bool
+    requires left_within { HavePlace (in_columns left.now) i }
+    requires right_within { HavePlace (in_columns right.now) j }
+    ensures same { IsTrue result ↔ (slots_at (in_columns left.now) i ≡ slots_at (in_columns right.now) j) }
+    ensures counted { steps.new.count ≤ steps.old.count + nodes_of (slots_at (in_columns left.now) i) }
+{
+    match left.split_first() {
+        Some((array, arrays)) => match right.split_first() {
+            Some((other, others)) => {
+                if !same_slot(array, i, other, j, steps) {
+                    return false;
+                }
+                same_fields(arrays, i, others, j, steps)
+            }
+            None => false,
+        },
+        None => match right.split_first() {
+            Some(_) => false,
+            None => true,
+        },
+    }
+}
+
+/// Whether a slot of an array and the array's type are those of another.
+#[cycle(comparing)]
+fn same_pick(left: &AnyArray, i: usize, right: &AnyArray, j: usize, steps: &mut Steps) -> bool
+    requires left_within { i < column_len left.now }
+    requires right_within { j < column_len right.now }
+    ensures same { IsTrue result ↔ (pick (column_type left.now) (slot_at left.now i) ≡ pick (column_type right.now) (slot_at right.now j)) }
+    ensures counted { steps.new.count ≤ steps.old.count + slot_nodes (slot_at left.now i) }
+{
+    if !same_types(left, right) {
+        return false;
+    }
+    same_slot(left, i, right, j, steps)
+}

@@ -1,0 +1,4 @@
+pub mod Marks
+pub mod SameForms
+pub mod SameNumbers
+pub mod StoredForms

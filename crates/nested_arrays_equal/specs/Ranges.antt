@@ -1,0 +1,27 @@
+-- Ranges of slots of two columns.
+use Rattle.std.specs.Prelude.{◌≡◌, ◌+◌, ◌<◌, ℕ}
+use Rattle.columnar_memory.specs.Numbers.{Numbers, first_number}
+use Rattle.columnar_memory.specs.declared.PrimitiveType.{PrimitiveType}
+use Rattle.columnar_memory.specs.declared.PrimitiveType.TheVariants as kinds
+use Rattle.nested_arrays_columns.specs.SlotNodes.{nodes_of}
+use Rattle.nested_arrays_columns.specs.Slots.{Slot, number, in_slots, window}
+use Rattle.nested_arrays_columns.specs.StoredColumns.{Column, Stored, slot_at, stored_at, pair_slot, triple_slot}
+use Rattle.nested_arrays_flat.specs.FlatColumns.{pair_of, triple_of}
+
+-- n slots of a column from place i on are those of another from place j on
+abbrev pub SameRanges : Column → ℕ → Column → ℕ → ℕ → Type 0
+SameRanges left i right j n = (k : ℕ) → k < n → slot_at left (i + k) ≡ slot_at right (j + k)
+
+-- how many slots stand in n slots from place i on, at every depth
+abbrev pub range_nodes : Column → ℕ → ℕ → ℕ
+range_nodes column i n = nodes_of (in_slots (window (slot_at column) i n))
+
+-- n stored values from place i on are other ones from place j on
+abbrev pub SameStored : Stored → ℕ → Stored → ℕ → ℕ → Type 0
+SameStored left i right j n = (k : ℕ) → k < n → stored_at left (i + k) ≡ stored_at right (j + k)
+
+-- the slot of a number of a kind
+abbrev pub number_slot : PrimitiveType → Numbers → Slot
+number_slot kinds.DaysMs n = pair_slot kinds.DaysMs (pair_of n)
+number_slot kinds.MonthDayNano n = triple_slot kinds.MonthDayNano (triple_of n)
+number_slot kind n = number kind (first_number n)

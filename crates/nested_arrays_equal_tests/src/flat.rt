@@ -1,0 +1,44 @@
+use columnar_memory::{Bitmap, Buffer, DataType, Error};
+use flat_arrays_values::PrimitiveArray;
+use nested_arrays_arrays::{AnyArray, equal};
+use nested_arrays_flat::AnyPrimitive;
+use nested_arrays_parts::FlatArray;
+use std::alloc::Global;
+use std::test::Fail;
+
+/// Numbers of a type, the second of which is null where the mask says so.
+fn numbers(alloc: Global, data_type: DataType, values: &[i32], mask: Option<Bitmap>) -> Result<AnyArray, Error> {
+    let values = Buffer::from_vec(Vec::from_slice(alloc, values)?)?;
+    let array = PrimitiveArray::try_new(data_type, values, mask)?;
+    Ok(AnyArray::from(FlatArray::from(AnyPrimitive::from_array(array))))
+}
+
+fn first_of_two(alloc: Global) -> Result<Bitmap, Error> {
+    Bitmap::from_u8_slice(alloc, &[1], 2)
+}
+
+#[test]
+fn a_value_under_a_null_is_not_seen(rt: HostRuntime) -> Result<(), Fail> {
+    let mask = Some(first_of_two(rt.alloc())?);
+    let other = Some(first_of_two(rt.alloc())?);
+    let left = numbers(rt.alloc(), DataType::Int32, &[1, 2], mask)?;
+    let right = numbers(rt.alloc(), DataType::Int32, &[1, 3], other)?;
+    assert!(rt; equal(&left, &right));
+    Ok(())
+}
+
+#[test]
+fn values_are_seen(rt: HostRuntime) -> Result<(), Fail> {
+    let left = numbers(rt.alloc(), DataType::Int32, &[1, 2], None)?;
+    let right = numbers(rt.alloc(), DataType::Int32, &[1, 3], None)?;
+    assert!(rt; left != right);
+    Ok(())
+}
+
+#[test]
+fn another_type_is_not_equal(rt: HostRuntime) -> Result<(), Fail> {
+    let left = numbers(rt.alloc(), DataType::Int32, &[1, 2], None)?;
+    let right = numbers(rt.alloc(), DataType::Date32, &[1, 2], None)?;
+    assert!(rt; !equal(&left, &right));
+    Ok(())
+}

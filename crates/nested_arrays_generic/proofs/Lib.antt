@@ -1,0 +1,2 @@
+pub mod DictionaryParts
+pub mod ListParts

@@ -1,0 +1,2 @@
+pub mod Dictionaries
+pub mod ListTypes

@@ -1,0 +1,134 @@
+//! Keys of dictionaries.
+ghost use Rattle.std.specs.Prelude.{◌≡◌, ◌<◌, ◌≤ℤ◌, length, map, pos, refl};
+ghost use Rattle.columnar_memory.specs.declared.IntegerType.{IntegerType};
+ghost use Rattle.columnar_memory.specs.declared.IntegerType.TheVariants as integers;
+ghost use Rattle.nested_arrays_columns.specs.SoundColumns.{has_value_at, holds_below};
+ghost use Rattle.nested_arrays_parts.specs.Keys.{kind_of_keys};
+ghost use Rattle.nested_arrays_generic.specs.Dictionaries.{has_no_sign};
+
+use columnar_memory::{Index, IntegerType};
+use flat_arrays_values::{PrimitiveArray, check_indexes};
+use nested_arrays_flat::{PrimitiveKind, mark_at};
+
+/// An integer that names a value of a dictionary by its place.
+pub trait DictionaryKey: Index + PrimitiveKind {
+    ghost KEY_TYPE: { IntegerType };
+
+    /// The integer type by which data types name such keys.
+    const KEY_TYPE: IntegerType;
+
+    // Keys are stored as values of one kind.
+    ghost key_law: { Self.PRIMITIVE ≡ kind_of_keys KEY_TYPE };
+
+    /// The place that a key names, which is not below zero.
+    final fn as_usize(self) -> usize
+        requires { pos 0 ≤ℤ Self.value self }
+        ensures { Self.value self ≡ pos result }
+    {
+        self.to_usize()
+    }
+
+    /// Whether each key is a number that `usize` has.
+    final fn always_fits_usize() -> bool
+        ensures { result ≡ has_no_sign KEY_TYPE }
+    {
+        match Self::KEY_TYPE {
+            IntegerType::UInt8 | IntegerType::UInt16 | IntegerType::UInt32 | IntegerType::UInt64 =>
+                true,
+            _ => false,
+        }
+    }
+}
+
+impl DictionaryKey for i8 {
+    ghost KEY_TYPE = { integers.Int8 };
+
+    const KEY_TYPE: IntegerType = IntegerType::Int8;
+
+    ghost key_law = { refl };
+}
+
+impl DictionaryKey for i16 {
+    ghost KEY_TYPE = { integers.Int16 };
+
+    const KEY_TYPE: IntegerType = IntegerType::Int16;
+
+    ghost key_law = { refl };
+}
+
+impl DictionaryKey for i32 {
+    ghost KEY_TYPE = { integers.Int32 };
+
+    const KEY_TYPE: IntegerType = IntegerType::Int32;
+
+    ghost key_law = { refl };
+}
+
+impl DictionaryKey for i64 {
+    ghost KEY_TYPE = { integers.Int64 };
+
+    const KEY_TYPE: IntegerType = IntegerType::Int64;
+
+    ghost key_law = { refl };
+}
+
+impl DictionaryKey for u8 {
+    ghost KEY_TYPE = { integers.UInt8 };
+
+    const KEY_TYPE: IntegerType = IntegerType::UInt8;
+
+    ghost key_law = { refl };
+}
+
+impl DictionaryKey for u16 {
+    ghost KEY_TYPE = { integers.UInt16 };
+
+    const KEY_TYPE: IntegerType = IntegerType::UInt16;
+
+    ghost key_law = { refl };
+}
+
+impl DictionaryKey for u32 {
+    ghost KEY_TYPE = { integers.UInt32 };
+
+    const KEY_TYPE: IntegerType = IntegerType::UInt32;
+
+    ghost key_law = { refl };
+}
+
+impl DictionaryKey for u64 {
+    ghost KEY_TYPE = { integers.UInt64 };
+
+    const KEY_TYPE: IntegerType = IntegerType::UInt64;
+
+    ghost key_law = { refl };
+}
+
+/// Whether each key but those under nulls is the place of one of so many values.
+pub(crate) fn name_values<K: DictionaryKey>(keys: &PrimitiveArray<K>, count: usize) -> bool
+    ensures { result ≡ holds_below (length keys.now.values) (has_value_at keys.now.validity (map K.value keys.now.values) count) }
+{
+    if check_indexes(keys.values().as_slice(), count).is_ok() {
+        return true;
+    }
+    for i in 0..keys.len() {
+        if !names_value(keys, i, count) {
+            return false;
+        }
+    }
+    true
+}
+
+/// Whether the key of a slot, if the slot is not null, is the place of one of so many values.
+fn names_value<K: DictionaryKey>(keys: &PrimitiveArray<K>, i: usize, count: usize) -> bool
+    requires { i < length keys.now.values }
+    ensures { result ≡ has_value_at keys.now.validity (map K.value keys.now.values) count i }
+{
+    if !mark_at(keys.validity(), i) {
+        return true;
+    }
+    match keys.value(i).try_to_usize() {
+        Some(place) => place < count,
+        None => false,
+    }
+}

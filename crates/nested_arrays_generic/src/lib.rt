@@ -1,0 +1,13 @@
+//! Arrays that are generic over the width of their offsets or over the type of their keys: lists and dictionaries.
+#![tactic(auto)]
+
+mod dictionaries;
+mod from;
+mod keys;
+mod lists;
+mod walks;
+
+pub use dictionaries::DictionaryArray;
+pub use keys::DictionaryKey;
+pub use lists::ListArray;
+pub use walks::{DictionaryKeys, DictionaryKeysIter};

@@ -1,0 +1,205 @@
+//! Lists of any length.
+ghost use Rattle.std.specs.Prelude.{◌≡◌, ◌+◌, ◌<◌, ◌≤◌, ◌↔◌, IsTrue, not, option_copied};
+ghost use Rattle.columnar_memory.specs.Spans.{offsets_of};
+ghost use Rattle.nested_arrays_columns.specs.StoredColumns.{column_len, column_type, cut, is_valid_at, lists, type_layer};
+ghost use Rattle.nested_arrays_flat.specs.ColumnMasks.{column_mask, unset_in};
+ghost use Rattle.nested_arrays_arrays.specs.Answers.{IsCheckedAs, LiesAs};
+ghost use Rattle.nested_arrays_generic.specs.ListTypes.{has_list_item_type, items_in, list_layout};
+
+use columnar_memory::{Bitmap, DataType, Error, Offset, OffsetsBuffer, Result};
+use nested_arrays_arrays::AnyArray;
+use nested_arrays_flat::{mark_at, slice_mask, slice_offsets, unset_marks};
+use nested_arrays_parts::{fits, last_of};
+use std::marker::Model;
+
+/// Lists of any length, one after another in a child, with offsets of one width (Arrow columnar format, "Variable-size List Layout"). A
+/// contract sees the column that it stores.
+#[derive(Drop)]
+pub struct ListArray<O: Offset> {
+    pub(crate) data_type: DataType,
+    pub(crate) offsets: OffsetsBuffer<O>,
+    pub(crate) values: Box<AnyArray>,
+    pub(crate) validity: Option<Bitmap>,
+}
+
+impl<O: Offset> Model for ListArray<O> {
+    ghost use Rattle.columnar_memory.specs.Spans.{offsets_of};
+    ghost use Rattle.nested_arrays_columns.specs.ColumnCodes.{column_code};
+    ghost use Rattle.nested_arrays_columns.specs.StoredColumns.{Column, lists};
+    ghost use Rattle.nested_arrays_arrays.specs.Answers.{LiesAs};
+    ghost use Rattle.nested_arrays_generic.specs.ListTypes.{list_layout};
+
+    ghost Value = { Column };
+
+    ghost coded = { column_code };
+
+    ghost view = { λ it. lists it.data_type it.validity (offsets_of it.offsets) it.values.value };
+
+    ghost invariant = { λ it. LiesAs (list_layout O.IS_LARGE) (lists it.data_type it.validity (offsets_of it.offsets) it.values.value) };
+}
+
+/// Whether lists of a data type, with offsets of this width, have items of another.
+fn has_items<O: Offset>(data_type: &DataType, item_type: &DataType) -> bool
+    ensures { result ≡ has_list_item_type O.IS_LARGE (type_layer data_type.now) item_type.now }
+{
+    match data_type.to_logical_type() {
+        DataType::List(item) => !O::IS_LARGE && item.get().data_type == *item_type,
+        DataType::LargeList(item) => O::IS_LARGE && item.get().data_type == *item_type,
+        _ => false,
+    }
+}
+
+/// Whether parts are those of an array of lists.
+fn are_lists<O: Offset>(
+    data_type: &DataType,
+    offsets: &OffsetsBuffer<O>,
+    values: &AnyArray,
+    validity: &Option<Bitmap>,
+) -> bool
+    ensures { IsTrue result ↔ LiesAs (list_layout O.IS_LARGE) (lists data_type.now validity.now (offsets_of offsets.now) values.now) }
+{
+    values.whole();
+    if !has_items::<O>(data_type, values.data_type()) {
+        return false;
+    }
+    if last_of(offsets) > values.len() {
+        return false;
+    }
+    fits(validity, offsets.len_proxy())
+}
+
+impl<O: Offset> ListArray<O> {
+    /// The array of a data type, offsets, items one list after another, and a mask. Takes no memory.
+    ///
+    /// # Errors
+    /// `OutOfSpec`: arrays of the data type are not of lists with such offsets, the items have another type, the last offset is past them, or
+    /// the mask has another length.
+    pub fn try_new(
+        data_type: DataType,
+        offsets: OffsetsBuffer<O>,
+        values: Box<AnyArray>,
+        validity: Option<Bitmap>,
+    ) -> Result<Self>
+        ensures { IsCheckedAs (list_layout O.IS_LARGE) (lists data_type validity (offsets_of offsets) values.value) result }
+    {
+        if !are_lists(&data_type, &offsets, &values, &validity) {
+            return Err(Error::OutOfSpec(
+                "a type, offsets, items and a mask that make no array of lists",
+            ));
+        }
+        Ok(ListArray {
+            data_type,
+            offsets,
+            values,
+            validity,
+        })
+    }
+
+    /// The array of parts that fit, as `try_new` tests.
+    pub fn new(
+        data_type: DataType,
+        offsets: OffsetsBuffer<O>,
+        values: Box<AnyArray>,
+        validity: Option<Bitmap>,
+    ) -> Self
+        requires { LiesAs (list_layout O.IS_LARGE) (lists data_type validity (offsets_of offsets) values.value) }
+        ensures { result ≡ lists data_type validity (offsets_of offsets) values.value }
+    {
+        ListArray {
+            data_type,
+            offsets,
+            values,
+            validity,
+        }
+    }
+
+    /// How many slots there are.
+    #[tactic(auto, using(nested_arrays_parts::proofs::OffsetLists::spans_count))]
+    pub fn len(&self) -> usize
+        ensures { result ≡ column_len self.now }
+    {
+        self.offsets.len_proxy()
+    }
+
+    pub fn is_empty(&self) -> bool
+        ensures { IsTrue result ↔ (column_len self.now ≡ 0) }
+    {
+        self.len() == 0
+    }
+
+    pub fn data_type(&self) -> &DataType
+        ensures { result.now ≡ column_type self.now }
+    {
+        &self.data_type
+    }
+
+    /// Where each list begins among the items, and the last one ends.
+    pub fn offsets(&self) -> &OffsetsBuffer<O>
+        ensures { lists (column_type self.now) (column_mask self.now) (offsets_of result.now) (items_in self.now) ≡ self.now }
+    {
+        &self.offsets
+    }
+
+    /// The items of all lists, those outside the offsets too.
+    pub fn values(&self) -> &AnyArray
+        ensures { result.now ≡ items_in self.now }
+    {
+        &self.values
+    }
+
+    /// The mask, where there is one: a bit is set where its slot is not null.
+    pub fn validity(&self) -> Option<&Bitmap>
+        ensures { option_copied result ≡ column_mask self.now }
+    {
+        self.validity.as_ref()
+    }
+
+    /// How many slots are null.
+    pub fn null_count(&self) -> usize
+        ensures { result ≡ unset_in (column_mask self.now) }
+    {
+        unset_marks(self.validity())
+    }
+
+    /// Whether a slot has a list.
+    pub fn is_valid(&self, i: usize) -> bool
+        requires { i < column_len self.now }
+        ensures { result ≡ is_valid_at (column_mask self.now) i }
+    {
+        self.whole();
+        mark_at(self.validity(), i)
+    }
+
+    /// Whether a slot is null.
+    pub fn is_null(&self, i: usize) -> bool
+        requires { i < column_len self.now }
+        ensures { result ≡ not (is_valid_at (column_mask self.now) i) }
+    {
+        !self.is_valid(i)
+    }
+
+    /// Hands to a proof what holds of every such array.
+    pub fn whole(&self)
+        ensures { LiesAs (list_layout O.IS_LARGE) self.now }
+    {
+        let _field = &self.offsets;
+    }
+
+    /// Narrows this to the `count` slots from `offset` on, with no copy.
+    pub fn slice(&mut self, offset: usize, count: usize)
+        requires { offset + count ≤ column_len self.old }
+        ensures { self.new ≡ cut self.old offset count }
+    {
+        slice_mask(&mut self.validity, offset, count);
+        slice_offsets(&mut self.offsets, offset, count);
+    }
+    /// The `count` slots from `offset` on, in the same memory.
+    pub fn sliced(self, offset: usize, count: usize) -> Self
+        requires { offset + count ≤ column_len self }
+        ensures { result ≡ cut self offset count }
+    {
+        let mut array = self;
+        array.slice(offset, count);
+        array
+    }
+}

@@ -1,0 +1,7 @@
+//! Tests of lists and dictionaries.
+#![tactic(auto)]
+
+#[cfg(test)]
+mod dictionaries;
+#[cfg(test)]
+mod lists;

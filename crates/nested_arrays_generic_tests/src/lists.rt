@@ -1,0 +1,43 @@
+use columnar_memory::{Boxed, DataType, Error, Field, OffsetsBuffer, Text};
+use flat_arrays_values::PrimitiveArray;
+use nested_arrays_arrays::AnyArray;
+use nested_arrays_flat::AnyPrimitive;
+use nested_arrays_generic::ListArray;
+use nested_arrays_parts::FlatArray;
+use std::alloc::Global;
+use std::test::Fail;
+
+/// The numbers 1 to 5.
+fn numbers(alloc: Global) -> Result<Box<AnyArray>, Error> {
+    let numbers = PrimitiveArray::from_slice(alloc, &[1i32, 2, 3, 4, 5])?;
+    let flat = FlatArray::from(AnyPrimitive::from_array(numbers));
+    Ok(Box::new(alloc, AnyArray::from(flat))?)
+}
+
+fn data_type(alloc: Global) -> Result<DataType, Error> {
+    let item = Field::new(alloc, Text::from_str(alloc, "item")?, DataType::Int32, true);
+    Ok(DataType::List(Boxed::new(alloc, item)?))
+}
+
+fn lists(alloc: Global, offsets: &[i32]) -> Result<ListArray<i32>, Error> {
+    let offsets = OffsetsBuffer::try_from(Vec::from_slice(alloc, offsets)?)?;
+    ListArray::try_new(data_type(alloc)?, offsets, numbers(alloc)?, None)
+}
+
+#[test]
+fn a_cut_has_the_lists_between_its_offsets(rt: HostRuntime) -> Result<(), Fail> {
+    let array = lists(rt.alloc(), &[0, 2, 2, 3, 5])?;
+    assert_eq!(rt; array.len(), 4);
+    let cut = array.sliced(2, 2);
+    assert_eq!(rt; cut.len(), 2);
+    assert!(rt; cut.offsets().as_slice() == [2i32, 3, 5].as_slice());
+    assert_eq!(rt; cut.values().len(), 5);
+    Ok(())
+}
+
+#[test]
+fn an_offset_past_the_items_is_refused(rt: HostRuntime) -> Result<(), Fail> {
+    let array = lists(rt.alloc(), &[0, 6]);
+    assert!(rt; matches!(array, Err(Error::OutOfSpec(_))));
+    Ok(())
+}
