@@ -12,7 +12,7 @@ use columnar_memory::{Bitmap, DataType, PhysicalType, Result};
 use nested_arrays_flat::{mark_at, unset_marks};
 
 /// An array of any type, of which a contract sees the column that it stores, a sound one.
-pub trait Array: Drop {
+pub trait Array: Drop + Sized {
     ghost column: { Self → Column };
 
     /// How many slots there are.
