@@ -50,7 +50,6 @@ pub trait Array: Drop + Sized {
     }
 
     /// How many slots are null.
-    #[tactic(auto, using(crate::proofs::NullColumns::tells_nulls))]
     fn null_count(&self) -> usize
         ensures { result ≡ null_count_of (column self.now) }
     {
@@ -62,7 +61,6 @@ pub trait Array: Drop + Sized {
     }
 
     /// Whether the slot at a place is null.
-    #[tactic(auto, using(crate::proofs::NullColumns::tells_nulls))]
     fn is_null(&self, i: usize) -> bool
         requires { i < column_len (column self.now) }
         ensures { result ≡ is_null_at (column self.now) i }
@@ -100,8 +98,10 @@ pub trait Array: Drop + Sized {
         ensures { IsMasked column self validity result }
     {
         let mut array = self;
-        array.set_validity(validity)?;
-        Ok(array)
+        match array.set_validity(validity) {
+            Ok(()) => Ok(array),
+            Err(error) => Err(error),
+        }
     }
 }
 
