@@ -1,8 +1,8 @@
 -- Which columns are of nulls alone.
-use Rattle.std.proofs.Common.{◌≡◌, true, false, refl}
-use Rattle.std.specs.Prelude.{ℕ, ℤ, Bool, ◌&&◌, ◌-◌, ◌/◌, List, Option, min, length, IsTrue, ◌↔◌}
+use Rattle.std.proofs.Common.{◌≡◌, ◌∙◌, true, false, refl, ap, subst}
+use Rattle.std.specs.Prelude.{ℕ, ℤ, Bool, ◌||◌, not, if◌then◌else◌, ◌-◌, ◌/◌, List, Option, min, length, IsTrue, ◌↔◌}
 use Rattle.std.specs.List.{list_all}
-use Rattle.std.proofs.lemmas.Bool.{and_parts, false≢true}
+use Rattle.std.proofs.lemmas.Bool.{false≢true}
 use Rattle.columnar_memory.specs.Layouts.{physical_type}
 use Rattle.columnar_memory.specs.declared.DataType.{DataType}
 use Rattle.columnar_memory.specs.declared.DataType.TheOpen as layer
@@ -14,10 +14,11 @@ use Rattle.nested_arrays_columns.specs.SoundColumns.{are_offsets, are_pieces, ar
 use Rattle.nested_arrays_columns.specs.SoundColumns.{has_fixed_item_type, has_item_type, has_places, has_size, has_value_at, has_value_type, have_len}
 use Rattle.nested_arrays_columns.specs.SoundColumns.{holds_below, is_null_type, is_sound, is_stored_as, mask_fits}
 use Rattle.nested_arrays_columns.specs.StoredColumns.{Column, Columns, Stored, nulls, flat, lists, fixed_lists, records, unions, dictionary, column_len}
-use Rattle.nested_arrays_columns.specs.StoredColumns.{bits, numbers, pairs, triples, texts, byte_strings, fixed_bytes, column_type, stored_len, type_layer}
+use Rattle.nested_arrays_columns.specs.StoredColumns.{bits, numbers, pairs, triples, texts, byte_strings, fixed_bytes, column_type, is_valid_at, stored_len, type_layer}
 use Rattle.nested_arrays_flat.proofs.Layers.{Layer}
 use Rattle.nested_arrays_flat.proofs.NullTypes.{null_types}
-use Rattle.nested_arrays_access.specs.Nulls.{is_nulls}
+use Rattle.nested_arrays_flat.specs.ColumnMasks.{column_mask, unset_in}
+use Rattle.nested_arrays_access.specs.Nulls.{is_nulls, is_null_at, null_count_of}
 
 -- nothing is stored of nulls, and they have no children
 no_stored : (layout : PhysicalType) (stored : Stored) → layout ≡ physical.Null → is_stored_as layout stored ≡ true → ⊥
@@ -82,10 +83,34 @@ type_of_nulls (nulls t n) sound is = (null_types t).1 sound
 type_of_nulls _ sound is = absurd (false≢true is)
 
 -- a test of the type of a sound column tells whether it is of nulls alone
-pub tells_nulls : (column : Column) (test : Bool) → is_sound column ≡ true → (IsTrue test ↔ (physical_type (column_type column) ≡ physical.Null))
+tells_nulls : (column : Column) (test : Bool) → is_sound column ≡ true → (IsTrue test ↔ (physical_type (column_type column) ≡ physical.Null))
     → is_nulls column ≡ test
 tells_nulls column true sound exact = nulls_by_type column sound (exact.0 refl)
 tells_nulls column false sound exact = elim (is_nulls column) as (λ b. is_nulls column ≡ b → b ≡ false) [
   | true ↦ λ is. absurd (false≢true (exact.1 (type_of_nulls column sound is)))
   | false ↦ λ is. refl
 ] refl
+
+told : (column : Column) (t : DataType) (test : Bool) → is_sound column ≡ true → t ≡ column_type column
+    → (IsTrue test ↔ (physical_type t ≡ physical.Null)) → is_nulls column ≡ test
+told column t test sound is exact =
+    tells_nulls column test sound (subst (λ (u : DataType). IsTrue test ↔ (physical_type u ≡ physical.Null)) is exact)
+
+-- all slots of nulls alone are null, and of others those that the mask says
+pub all_null : (column : Column) (t : DataType) (test : Bool) → is_sound column ≡ true → t ≡ column_type column
+    → (IsTrue test ↔ (physical_type t ≡ physical.Null)) → test ≡ true → null_count_of column ≡ column_len column
+all_null column t test sound is exact h =
+    ap (λ b. if b then column_len column else unset_in (column_mask column)) (told column t test sound is exact ∙ h)
+
+pub masked_null : (column : Column) (t : DataType) (test : Bool) → is_sound column ≡ true → t ≡ column_type column
+    → (IsTrue test ↔ (physical_type t ≡ physical.Null)) → test ≡ false → null_count_of column ≡ unset_in (column_mask column)
+masked_null column t test sound is exact h =
+    ap (λ b. if b then column_len column else unset_in (column_mask column)) (told column t test sound is exact ∙ h)
+
+pub each_null : (column : Column) (t : DataType) (test : Bool) (i : ℕ) → is_sound column ≡ true → t ≡ column_type column
+    → (IsTrue test ↔ (physical_type t ≡ physical.Null)) → test ≡ true → is_null_at column i ≡ true
+each_null column t test i sound is exact h = ap (λ b. b || not (is_valid_at (column_mask column) i)) (told column t test sound is exact ∙ h)
+
+pub marked_null : (column : Column) (t : DataType) (test : Bool) (i : ℕ) → is_sound column ≡ true → t ≡ column_type column
+    → (IsTrue test ↔ (physical_type t ≡ physical.Null)) → test ≡ false → is_null_at column i ≡ not (is_valid_at (column_mask column) i)
+marked_null column t test i sound is exact h = ap (λ b. b || not (is_valid_at (column_mask column) i)) (told column t test sound is exact ∙ h)

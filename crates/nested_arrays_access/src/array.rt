@@ -12,7 +12,7 @@ use columnar_memory::{Bitmap, DataType, PhysicalType, Result};
 use nested_arrays_flat::{mark_at, unset_marks};
 
 /// An array of any type, of which a contract sees the column that it stores, a sound one.
-pub trait Array: Drop {
+pub trait Array: Drop + Sized {
     ghost column: { Self → Column };
 
     /// How many slots there are.
@@ -50,7 +50,6 @@ pub trait Array: Drop {
     }
 
     /// How many slots are null.
-    #[tactic(auto, using(crate::proofs::NullColumns::tells_nulls))]
     fn null_count(&self) -> usize
         ensures { result ≡ null_count_of (column self.now) }
     {
@@ -62,7 +61,6 @@ pub trait Array: Drop {
     }
 
     /// Whether the slot at a place is null.
-    #[tactic(auto, using(crate::proofs::NullColumns::tells_nulls))]
     fn is_null(&self, i: usize) -> bool
         requires { i < column_len (column self.now) }
         ensures { result ≡ is_null_at (column self.now) i }
@@ -100,8 +98,10 @@ pub trait Array: Drop {
         ensures { IsMasked column self validity result }
     {
         let mut array = self;
-        array.set_validity(validity)?;
-        Ok(array)
+        match array.set_validity(validity) {
+            Ok(()) => Ok(array),
+            Err(error) => Err(error),
+        }
     }
 }
 
