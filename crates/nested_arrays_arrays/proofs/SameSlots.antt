@@ -7,9 +7,8 @@ use Rattle.nested_arrays_columns.proofs.Windows.{window_same, length-window}
 use Rattle.nested_arrays_columns.specs.SlotNodes.{nodes_of, slot_nodes}
 use Rattle.nested_arrays_columns.specs.Slots.{Slot, Slots, null, truth, number, pair, triple, text, bytes, items, fields, pick, no_slot, slot_then}
 use Rattle.nested_arrays_columns.specs.Slots.{in_slots, window}
-use Rattle.nested_arrays_columns.specs.StoredColumns.{Column, column_len, column_type, slot_at, slots}
+use Rattle.nested_arrays_columns.specs.StoredColumns.{Column, column_len, slot_at, slots}
 use Rattle.nested_arrays_equal.specs.Ranges.{range_nodes, SameRanges}
-use Rattle.nested_arrays_arrays.specs.SameArrays.{AreEqual}
 
 -- ---- windows
 

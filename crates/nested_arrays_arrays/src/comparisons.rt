@@ -105,7 +105,13 @@ fn same_value(left: &AnyArray, i: usize, right: &AnyArray, j: usize, steps: &mut
         _ => return false,
     }
     match (pick_at(left, i), pick_at(right, j)) {
-        (Some((child, place)), Some((other, other_place))) => same_pick(child, place, other, other_place, steps),
+        (Some((child, place)), Some((other, other_place))) => same_pick(
+            child,
+            place,
+            other,
+            other_place,
+            steps,
+        ),
         (None, None) => true,
         _ => false,
     }
@@ -135,13 +141,7 @@ fn same_items(
 
 /// Whether the slots at a place of several arrays are those of as many others.
 #[cycle(comparing)]
-fn same_fields(
-    left: &[AnyArray],
-    i: usize,
-    right: &[AnyArray],
-    j: usize,
-    steps: &mut Steps,
-) -> bool
+fn same_fields(left: &[AnyArray], i: usize, right: &[AnyArray], j: usize, steps: &mut Steps) -> bool
     requires left_within { HavePlace (in_columns left.now) i }
     requires right_within { HavePlace (in_columns right.now) j }
     ensures same { IsTrue result ↔ (slots_at (in_columns left.now) i ≡ slots_at (in_columns right.now) j) }

@@ -37,7 +37,11 @@ pub(crate) fn values_at(array: &AnyArray, i: usize) -> Option<&FlatArray>
     match &array.node {
         Node::Flat(values) => {
             holds_values(values);
-            if is_null(values, i) { None } else { Some(values) }
+            if is_null(values, i) {
+                None
+            } else {
+                Some(values)
+            }
         }
         Node::List(_) => None,
         Node::FixedSizeList(array) => {
