@@ -1,9 +1,10 @@
 -- What the parts of sound columns say of them.
-use Rattle.std.proofs.Common.{◌≡◌, ℕ, ◌-◌, List, length, true, Bool}
+use Rattle.std.proofs.Common.{◌≡◌, ◌∙◌, ℕ, ◌-◌, List, length, true, Bool, ap, refl}
 use Rattle.std.specs.Prelude.{◌&&◌, ◌==◌, ◌/◌, min, Option}
 use Rattle.std.proofs.lemmas.Bool.{and_from, and_parts, eqb-true, false≢true}
 use Rattle.columnar_memory.specs.Equality.{same_type}
 use Rattle.columnar_memory.specs.Layouts.{physical_type}
+use Rattle.columnar_memory.specs.Spans.{Spans, offsets_of}
 use Rattle.columnar_memory.specs.declared.DataType.{DataType}
 use Rattle.columnar_memory.specs.declared.DataType.TheOpen as layer
 use Rattle.nested_arrays_columns.specs.Kinds.{most_offset}
@@ -12,6 +13,8 @@ use Rattle.nested_arrays_columns.specs.SoundColumns.{have_len, is_sound, mask_fi
 use Rattle.nested_arrays_columns.specs.StoredColumns.{Column, Columns, lists, fixed_lists, records, column_len, column_type, type_layer}
 use Rattle.nested_arrays_columns.proofs.Conditions.{parts_of_4}
 use Rattle.nested_arrays_flat.proofs.Layers.{Layer}
+use Rattle.nested_arrays_flat.specs.ColumnMasks.{TakesMask}
+use Rattle.nested_arrays_parts.proofs.OffsetLists.{spans_count}
 use Rattle.nested_arrays_arrays.specs.Lengths.{layer_size, size_of}
 
 -- the size of lists of one size is the type's
@@ -50,3 +53,11 @@ pub records_masked : (t : DataType) (old mask : Option (List Bool)) (n : ℕ) (c
     → is_sound (records t old n children) ≡ true → mask_fits mask n ≡ true → is_sound (records t mask n children) ≡ true
 records_masked t old mask n children sound fits =
     other_third (has_field_types (type_layer t) children) (have_len children n) (mask_fits old n) (are_sound children) (mask_fits mask n) sound fits
+
+-- lists may have any mask of their length
+pub lists_take : (t : DataType) (old mask : Option (List Bool)) (s : Spans) (child : Column)
+    → is_sound (lists t old (offsets_of s) child) ≡ true → mask_fits mask (length s.lengths) ≡ true
+    → TakesMask (lists t old (offsets_of s) child) mask
+lists_take t old mask s child sound fits =
+    let whole : mask_fits mask (length (offsets_of s) - 1) ≡ true = ap (mask_fits mask) (spans_count s) ∙ fits in
+    (whole, refl, lists_masked t old mask (offsets_of s) child sound whole)

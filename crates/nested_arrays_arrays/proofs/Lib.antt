@@ -1,5 +1,6 @@
 pub mod ArrayParts
 pub mod CutNodes
+pub mod KeyMasks
 pub mod KeyPlaces
 pub mod ListParts
 pub mod SameSlots

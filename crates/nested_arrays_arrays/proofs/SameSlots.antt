@@ -136,3 +136,11 @@ slots_same l r n long as_long = (
 
 pub slots_count : (l r : Column) → slots l ≡ slots r → column_len l ≡ column_len r
 slots_count l r same = sym (length-window (slot_at l) 0 (column_len l)) ∙ ap length same ∙ length-window (slot_at r) 0 (column_len r)
+
+-- the same, place by place
+pub slots_by_place : (l r : Column) (n : ℕ) → n ≡ column_len l → n ≡ column_len r → ((k : ℕ) → k < n → slot_at l k ≡ slot_at r k) ↔ (slots l ≡ slots r)
+slots_by_place l r n long as_long =
+    let both = slots_same l r n long as_long in (
+      λ same. both.0 (λ k h. ap (slot_at l) (omega arith) ∙ same k h ∙ ap (slot_at r) (omega arith)),
+      λ same k h. ap (slot_at l) (omega arith) ∙ both.1 same k h ∙ ap (slot_at r) (omega arith),
+    )

@@ -2,6 +2,7 @@ pub mod AnyColumns
 pub mod Answers
 pub mod Entries
 pub mod Lengths
+pub mod NamedValues
 pub mod Parts
 pub mod Places
 pub mod SameArrays
