@@ -10,7 +10,6 @@ mod from;
 mod key_masks;
 mod keys;
 mod layouts;
-mod lists;
 mod maps;
 mod picks;
 mod places;

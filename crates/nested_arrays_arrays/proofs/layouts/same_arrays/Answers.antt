@@ -1,4 +1,4 @@
-use Rattle.std.proofs.Common.{◌∙◌, below_more, refl, sym}
+use Rattle.std.proofs.Common.{◌∙◌, arith, refl, sym}
 use Rattle.std.proofs.lemmas.Bool.{false≢true}
 use Rattle.nested_arrays_arrays.proofs.SameSlots.{slots_by_place, slots_count}
 use Rattle.nested_arrays_arrays.proofs.layouts.same_arrays.Goals as goal
@@ -26,6 +26,6 @@ returns g c =
     let left = g.A.Layout.column c.args.left.now in
     let right = g.A.Layout.column c.args.right.now in
     let both = slots_by_place left right c.count-slots.result c.count-slots.ensures (c.if-slots-count.false ∙ c.count.ensures) in (
-      λ is. record { types = c.has_type_of.ensures.0 c.if-not-has_type_of.false; slots = both.0 c.loop-i.invariant },
+      λ is. record { types = c.has_type_of.ensures.0 c.if-not-has_type_of.false; slots = both.0 (λ k h. c.loop-i.invariant k (omega arith)) },
       λ equal. refl,
     )
