@@ -1,5 +1,5 @@
 -- The places that keys name.
-use Rattle.std.proofs.Common.{◌≡◌, ◌∙◌, ◌<◌, ◌≤◌, ◌+◌, ℕ, ℤ, zero, suc, List, Bool, true, false, refl, sym, ap, arith, get_or, length, map}
+use Rattle.std.proofs.Common.{◌≡◌, ◌∙◌, ◌<◌, ◌≤◌, ℕ, ℤ, List, Bool, true, refl, sym, ap, arith, length, map}
 use Rattle.std.specs.Prelude.{◌&&◌, ◌||◌, not, pos, Some, Option, option_map, slice_get, slice_index_or, nat_lt, int_le}
 use Rattle.std.proofs.lemmas.Bool.{and_parts, ltb-true}
 use Rattle.std.proofs.lemmas.Option.{get_or_from_slice_get, slice_get-map}
@@ -9,11 +9,10 @@ use Rattle.columnar_memory.specs.declared.IntegerType.{IntegerType}
 use Rattle.columnar_memory.specs.declared.IntegerType.TheVariants as integers
 use Rattle.columnar_memory.specs.declared.PhysicalType.{PhysicalType}
 use Rattle.columnar_memory.specs.declared.PhysicalType.TheVariants as physical
-use Rattle.columnar_memory.specs.declared.PrimitiveType.{PrimitiveType}
 use Rattle.columnar_memory.specs.declared.PrimitiveType.TheVariants as kinds
 use Rattle.nested_arrays_columns.proofs.Conditions.{parts_of_4, holds_at}
 use Rattle.nested_arrays_columns.specs.SoundColumns.{has_value_at, has_value_type, holds_below, is_sound, mask_fits}
-use Rattle.nested_arrays_columns.specs.StoredColumns.{Column, Stored, numbers, flat, dictionary, column_len, column_size, column_type, is_valid_at}
+use Rattle.nested_arrays_columns.specs.StoredColumns.{Column, numbers, flat, dictionary, column_len, column_type, is_valid_at}
 use Rattle.nested_arrays_columns.specs.StoredColumns.{place_of, slot_at, type_layer}
 use Rattle.nested_arrays_equal.proofs.SameForms.{valid_slot}
 use Rattle.nested_arrays_flat.specs.ColumnMasks.{column_mask}

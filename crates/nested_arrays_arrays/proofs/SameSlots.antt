@@ -7,9 +7,8 @@ use Rattle.nested_arrays_columns.proofs.Windows.{window_same, length-window}
 use Rattle.nested_arrays_columns.specs.SlotNodes.{nodes_of, slot_nodes}
 use Rattle.nested_arrays_columns.specs.Slots.{Slot, Slots, null, truth, number, pair, triple, text, bytes, items, fields, pick, no_slot, slot_then}
 use Rattle.nested_arrays_columns.specs.Slots.{in_slots, window}
-use Rattle.nested_arrays_columns.specs.StoredColumns.{Column, column_len, column_type, slot_at, slots}
+use Rattle.nested_arrays_columns.specs.StoredColumns.{Column, column_len, slot_at, slots}
 use Rattle.nested_arrays_equal.specs.Ranges.{range_nodes, SameRanges}
-use Rattle.nested_arrays_arrays.specs.SameArrays.{AreEqual}
 
 -- ---- windows
 
@@ -137,3 +136,11 @@ slots_same l r n long as_long = (
 
 pub slots_count : (l r : Column) → slots l ≡ slots r → column_len l ≡ column_len r
 slots_count l r same = sym (length-window (slot_at l) 0 (column_len l)) ∙ ap length same ∙ length-window (slot_at r) 0 (column_len r)
+
+-- the same, place by place
+pub slots_by_place : (l r : Column) (n : ℕ) → n ≡ column_len l → n ≡ column_len r → ((k : ℕ) → k < n → slot_at l k ≡ slot_at r k) ↔ (slots l ≡ slots r)
+slots_by_place l r n long as_long =
+    let both = slots_same l r n long as_long in (
+      λ same. both.0 (λ k h. ap (slot_at l) (omega arith) ∙ same k h ∙ ap (slot_at r) (omega arith)),
+      λ same k h. ap (slot_at l) (omega arith) ∙ both.1 same k h ∙ ap (slot_at r) (omega arith),
+    )

@@ -1,7 +1,7 @@
 -- Where the slots inside a slot stand, and of which class slots are.
 use Rattle.std.proofs.Common.{◌≡◌, ◌∙◌, ◌<◌, ◌≤◌, ◌+◌, ◌-◌, ◌*◌, ℕ, ℤ, zero, suc, List, [], ◌∷◌, Bool, true, false, refl, sym, ap, arith, subst}
 use Rattle.std.proofs.Common.{get_or, length}
-use Rattle.std.specs.Prelude.{◌⊎◌, ◌&&◌, ◌==◌, ◌/◌, Option, pos, slice_index, slice_index_or, if◌then◌else◌, nat_lt}
+use Rattle.std.specs.Prelude.{◌⊎◌, ◌==◌, ◌/◌, Option, pos, slice_index, slice_index_or, if◌then◌else◌}
 use Rattle.std.proofs.lemmas.Bool.{and_parts, eqb-true, ltb-true}
 use mathlib.Core.Logic.{inl, inr}
 use Rattle.columnar_memory.specs.declared.DataType.{DataType}

@@ -105,7 +105,13 @@ fn same_value(left: &AnyArray, i: usize, right: &AnyArray, j: usize, steps: &mut
         _ => return false,
     }
     match (pick_at(left, i), pick_at(right, j)) {
-        (Some((child, place)), Some((other, other_place))) => same_pick(child, place, other, other_place, steps),
+        (Some((child, place)), Some((other, other_place))) => same_pick(
+            child,
+            place,
+            other,
+            other_place,
+            steps,
+        ),
         (None, None) => true,
         _ => false,
     }
@@ -113,7 +119,7 @@ fn same_value(left: &AnyArray, i: usize, right: &AnyArray, j: usize, steps: &mut
 
 /// Whether the items of a list, so many from a place on, are those of another.
 #[cycle(comparing)]
-fn same_items(
+pub(crate) fn same_items(
     left: &AnyArray,
     i: usize,
     count: usize,
@@ -135,7 +141,7 @@ fn same_items(
 
 /// Whether the slots at a place of several arrays are those of as many others.
 #[cycle(comparing)]
-fn same_fields(
+pub(crate) fn same_fields(
     left: &[AnyArray],
     i: usize,
     right: &[AnyArray],
@@ -166,7 +172,13 @@ fn same_fields(
 
 /// Whether a slot of an array and the array's type are those of another.
 #[cycle(comparing)]
-fn same_pick(left: &AnyArray, i: usize, right: &AnyArray, j: usize, steps: &mut Steps) -> bool
+pub(crate) fn same_pick(
+    left: &AnyArray,
+    i: usize,
+    right: &AnyArray,
+    j: usize,
+    steps: &mut Steps,
+) -> bool
     requires left_within { i < column_len left.now }
     requires right_within { j < column_len right.now }
     ensures same { IsTrue result ↔ (pick (column_type left.now) (slot_at left.now i) ≡ pick (column_type right.now) (slot_at right.now j)) }

@@ -9,6 +9,7 @@ mod fixed_lists;
 mod from;
 mod key_masks;
 mod keys;
+mod layouts;
 mod maps;
 mod picks;
 mod places;

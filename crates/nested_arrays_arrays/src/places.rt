@@ -1,6 +1,7 @@
 //! Where the slots inside a slot stand.
 ghost use Rattle.std.specs.Prelude.{◌≡◌, ◌≢◌, ◌+◌, ◌<◌, ◌≤◌, length, MatchOption, true};
 ghost use Rattle.columnar_memory.specs.Spans.{last_of, offset_at};
+ghost use Rattle.nested_arrays_columns.specs.Slots.{null};
 ghost use Rattle.nested_arrays_columns.specs.SoundColumns.{is_sound};
 ghost use Rattle.nested_arrays_columns.specs.StoredColumns.{column_len, in_columns, is_valid_at, slot_at};
 ghost use Rattle.nested_arrays_flat.specs.ColumnMasks.{column_mask};
@@ -37,7 +38,11 @@ pub(crate) fn values_at(array: &AnyArray, i: usize) -> Option<&FlatArray>
     match &array.node {
         Node::Flat(values) => {
             holds_values(values);
-            if is_null(values, i) { None } else { Some(values) }
+            if is_null(values, i) {
+                None
+            } else {
+                Some(values)
+            }
         }
         Node::List(_) => None,
         Node::FixedSizeList(array) => {
@@ -110,6 +115,33 @@ fn map_items(array: &MapArray, i: usize) -> (&AnyArray, usize, usize)
     (entries, start, stop - start)
 }
 
+/// The items of a list of one size, and none where it is null.
+pub(crate) fn fixed_items_at(
+    array: &FixedSizeListArray,
+    i: usize,
+) -> Option<(&AnyArray, usize, usize)>
+    requires { i < column_len array.now }
+    ensures { MatchOption result (slot_at array.now i ≡ null) (λ found. AreItems array.now i found.0.now found.1 found.2) }
+{
+    array.whole();
+    if !mark_at(array.validity(), i) {
+        return None;
+    }
+    Some(fixed_items(array, i))
+}
+
+/// The entries of a map, and none where it is null.
+pub(crate) fn entries_at(array: &MapArray, i: usize) -> Option<(&AnyArray, usize, usize)>
+    requires { i < column_len array.now }
+    ensures { MatchOption result (slot_at array.now i ≡ null) (λ found. AreItems array.now i found.0.now found.1 found.2) }
+{
+    array.whole();
+    if !mark_at(array.validity(), i) {
+        return None;
+    }
+    Some(map_items(array, i))
+}
+
 /// The items of a slot, if it is a list.
 #[tactic(auto, using(crate::proofs::SlotPlaces::classes))]
 pub(crate) fn items_at(array: &AnyArray, i: usize) -> Option<(&AnyArray, usize, usize)>
@@ -151,6 +183,18 @@ fn struct_fields(array: &StructArray, i: usize) -> &[AnyArray]
     array.values()
 }
 
+/// The children of a struct, and none where the slot is null.
+pub(crate) fn record_at(array: &StructArray, i: usize) -> Option<&[AnyArray]>
+    requires { i < column_len array.now }
+    ensures { MatchOption result (slot_at array.now i ≡ null) (λ children. AreFields array.now i (in_columns children.now)) }
+{
+    array.whole();
+    if !mark_at(array.validity(), i) {
+        return None;
+    }
+    Some(struct_fields(array, i))
+}
+
 /// The arrays whose slots at a place are the fields of the slot, if it is a record.
 #[tactic(auto, using(crate::proofs::SlotPlaces::classes))]
 pub(crate) fn fields_at(array: &AnyArray, i: usize) -> Option<&[AnyArray]>
@@ -185,7 +229,7 @@ pub(crate) fn fields_at(array: &AnyArray, i: usize) -> Option<&[AnyArray]>
 }
 
 /// The child of a union that a slot picks, and its place there.
-fn union_pick(array: &UnionArray, i: usize) -> Option<(&AnyArray, usize)>
+pub(crate) fn union_pick(array: &UnionArray, i: usize) -> Option<(&AnyArray, usize)>
     requires { i < column_len array.now }
     ensures { MatchOption result (slot_class (slot_at array.now i) ≢ 4) (λ found. IsPick array.now i found.0.now found.1) }
 {

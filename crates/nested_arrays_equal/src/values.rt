@@ -11,13 +11,7 @@ use flat_arrays_values::BooleanArray;
 use nested_arrays_parts::FlatArray;
 
 /// Whether so many stored booleans from a place on are those of another array from a place on.
-fn same_truths(
-    left: &BooleanArray,
-    i: usize,
-    right: &BooleanArray,
-    j: usize,
-    count: usize,
-) -> bool
+fn same_truths(left: &BooleanArray, i: usize, right: &BooleanArray, j: usize, count: usize) -> bool
     requires left_within { i + count ≤ length left.now.values }
     requires right_within { j + count ≤ length right.now.values }
     ensures { IsTrue result ↔ SameRanges (bare (boolean_column left.now)) i (bare (boolean_column right.now)) j count }

@@ -1,6 +1,5 @@
-use Rattle.std.proofs.Common.{◌+◌, ◌*◌, ◌≤◌}
+use Rattle.std.proofs.Common.{◌+◌, ◌*◌}
 use Rattle.nested_arrays_columns.specs.StoredColumns.{column_size, columns_size, in_columns}
-use Rattle.nested_arrays_equal.specs.Ranges.{range_nodes, SameRanges}
 use Rattle.nested_arrays_arrays.proofs.SameSlots.{SoFar}
 use Rattle.nested_arrays_arrays.proofs.comparisons.+comparing.Given as goal
 

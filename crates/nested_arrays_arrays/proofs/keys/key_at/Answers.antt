@@ -1,4 +1,4 @@
-use Rattle.std.proofs.Common.{◌≡◌, ◌∙◌, ap, sym, pos, List}
+use Rattle.std.proofs.Common.{◌∙◌, ap, sym, pos, List}
 use Rattle.std.specs.Prelude.{ℤ, slice_index_or}
 use Rattle.nested_arrays_columns.specs.StoredColumns.{place_of}
 use Rattle.nested_arrays_flat.specs.Primitives.{column_of}

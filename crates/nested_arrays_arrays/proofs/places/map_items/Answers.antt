@@ -1,5 +1,4 @@
-use Rattle.std.proofs.Common.{◌≡◌, ◌∙◌, ap, arith, sym}
-use Rattle.columnar_memory.specs.Spans.{offsets_of}
+use Rattle.std.proofs.Common.{◌∙◌, ap, arith, sym}
 use Rattle.nested_arrays_arrays.proofs.SlotPlaces.{map_items}
 use Rattle.nested_arrays_columns.specs.StoredColumns.{column_len, column_type, lists}
 use Rattle.nested_arrays_flat.specs.ColumnMasks.{column_mask}

@@ -11,7 +11,7 @@ returns-then-not-same_number g c =
     let right = value_there kind number c.args.right.now (c.args.j + c.loop-k.k) c.index-right-j.result (omega arith) c.index-right-j.is in (
       λ is. absurd (false≢true is),
       λ same. absurd (false≢true (sym c.if-not-same_number.true
-      ∙ c.same_number.ensures.1 (sym left ∙ same c.loop-k.k c.loop-k-test.true ∙ right))),
+          ∙ c.same_number.ensures.1 (sym left ∙ same c.loop-k.k c.loop-k-test.true ∙ right))),
     )
 
 pub loop-k-preserved : goal.loop-k-preserved

@@ -1,0 +1,223 @@
+//! `==` of arrays of one layout: of their data types and their slots.
+ghost use Rattle.std.specs.Prelude.{◌≡◌, ◌<◌, ◌↔◌, IsTrue};
+ghost use Rattle.nested_arrays_columns.specs.StoredColumns.{Column, column_len, column_type, slot_at};
+ghost use Rattle.nested_arrays_arrays.specs.SameArrays.{AreEqual, same_column, same_column-equivalence, same_column-per};
+
+use crate::comparisons::{same_fields, same_items, same_pick};
+use crate::fixed_lists::FixedSizeListArray;
+use crate::maps::MapArray;
+use crate::places::{entries_at, fixed_items_at, record_at, union_pick};
+use crate::records::StructArray;
+use crate::unions::UnionArray;
+use columnar_memory::Steps;
+
+/// An array of one layout, whose slots are compared with those of another.
+trait Layout {
+    ghost column: { Self → Column };
+
+    /// How many slots there are.
+    fn count(&self) -> usize
+        ensures { result ≡ column_len (column self.now) };
+
+    /// Whether the data type is another's.
+    fn has_type_of(&self, other: &Self) -> bool
+        ensures { IsTrue result ↔ (column_type (column self.now) ≡ column_type (column other.now)) };
+
+    /// Whether a slot is the same as another's at its place.
+    fn has_slot_of(&self, other: &Self, i: usize) -> bool
+        requires own { i < column_len (column self.now) }
+        requires others { i < column_len (column other.now) }
+        ensures { IsTrue result ↔ (slot_at (column self.now) i ≡ slot_at (column other.now) i) };
+}
+
+/// Whether two arrays have one data type and the same slots.
+fn same_arrays<A: Layout>(left: &A, right: &A) -> bool
+    ensures { IsTrue result ↔ AreEqual (A.column left.now) (A.column right.now) }
+{
+    if !left.has_type_of(right) {
+        return false;
+    }
+    let slots = left.count();
+    if slots != right.count() {
+        return false;
+    }
+    for i in 0..slots {
+        if !left.has_slot_of(right, i) {
+            return false;
+        }
+    }
+    true
+}
+
+impl Layout for StructArray {
+    ghost column = { λ array. array };
+
+    fn count(&self) -> usize {
+        self.len()
+    }
+
+    fn has_type_of(&self, other: &Self) -> bool {
+        *self.data_type() == *other.data_type()
+    }
+
+    fn has_slot_of(&self, other: &Self, i: usize) -> bool {
+        match (record_at(self, i), record_at(other, i)) {
+            (Some(fields), Some(others)) => same_fields(fields, i, others, i, &mut Steps::new()),
+            (None, None) => true,
+            _ => false,
+        }
+    }
+}
+
+impl Layout for FixedSizeListArray {
+    ghost column = { λ array. array };
+
+    fn count(&self) -> usize {
+        self.len()
+    }
+
+    fn has_type_of(&self, other: &Self) -> bool {
+        *self.data_type() == *other.data_type()
+    }
+
+    fn has_slot_of(&self, other: &Self, i: usize) -> bool {
+        match (fixed_items_at(self, i), fixed_items_at(other, i)) {
+            (Some((items, start, len)), Some((others, other_start, other_len))) => {
+                same_items(
+                    items,
+                    start,
+                    len,
+                    others,
+                    other_start,
+                    other_len,
+                    &mut Steps::new(),
+                )
+            }
+            (None, None) => true,
+            _ => false,
+        }
+    }
+}
+
+impl Layout for MapArray {
+    ghost column = { λ array. array };
+
+    fn count(&self) -> usize {
+        self.len()
+    }
+
+    fn has_type_of(&self, other: &Self) -> bool {
+        *self.data_type() == *other.data_type()
+    }
+
+    fn has_slot_of(&self, other: &Self, i: usize) -> bool {
+        match (entries_at(self, i), entries_at(other, i)) {
+            (Some((entries, start, len)), Some((others, other_start, other_len))) => {
+                same_items(
+                    entries,
+                    start,
+                    len,
+                    others,
+                    other_start,
+                    other_len,
+                    &mut Steps::new(),
+                )
+            }
+            (None, None) => true,
+            _ => false,
+        }
+    }
+}
+
+impl Layout for UnionArray {
+    ghost column = { λ array. array };
+
+    fn count(&self) -> usize {
+        self.len()
+    }
+
+    fn has_type_of(&self, other: &Self) -> bool {
+        *self.data_type() == *other.data_type()
+    }
+
+    #[tactic(auto, using(crate::proofs::SlotPlaces::classes))]
+    fn has_slot_of(&self, other: &Self, i: usize) -> bool {
+        let _fields = self.fields();
+        let _others = other.fields();
+        match (union_pick(self, i), union_pick(other, i)) {
+            (Some((child, place)), Some((other, other_place))) => {
+                same_pick(child, place, other, other_place, &mut Steps::new())
+            }
+            (None, None) => true,
+            _ => false,
+        }
+    }
+}
+
+impl PartialEq for StructArray {
+    ghost eq = { same_column };
+
+    ghost laws = { same_column-per };
+
+    fn eq(&self, other: &Self) -> bool
+        ensures value { result ≡ same_column self.now other.now }
+        ensures exact { IsTrue result ↔ AreEqual self.now other.now }
+    {
+        same_arrays(self, other)
+    }
+}
+
+impl Eq for StructArray {
+    ghost laws = { same_column-equivalence };
+}
+
+impl PartialEq for FixedSizeListArray {
+    ghost eq = { same_column };
+
+    ghost laws = { same_column-per };
+
+    fn eq(&self, other: &Self) -> bool
+        ensures value { result ≡ same_column self.now other.now }
+        ensures exact { IsTrue result ↔ AreEqual self.now other.now }
+    {
+        same_arrays(self, other)
+    }
+}
+
+impl Eq for FixedSizeListArray {
+    ghost laws = { same_column-equivalence };
+}
+
+impl PartialEq for MapArray {
+    ghost eq = { same_column };
+
+    ghost laws = { same_column-per };
+
+    fn eq(&self, other: &Self) -> bool
+        ensures value { result ≡ same_column self.now other.now }
+        ensures exact { IsTrue result ↔ AreEqual self.now other.now }
+    {
+        same_arrays(self, other)
+    }
+}
+
+impl Eq for MapArray {
+    ghost laws = { same_column-equivalence };
+}
+
+impl PartialEq for UnionArray {
+    ghost eq = { same_column };
+
+    ghost laws = { same_column-per };
+
+    fn eq(&self, other: &Self) -> bool
+        ensures value { result ≡ same_column self.now other.now }
+        ensures exact { IsTrue result ↔ AreEqual self.now other.now }
+    {
+        same_arrays(self, other)
+    }
+}
+
+impl Eq for UnionArray {
+    ghost laws = { same_column-equivalence };
+}
