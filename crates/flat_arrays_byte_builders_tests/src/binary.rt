@@ -30,6 +30,7 @@ fn slots_are_pushed(rt: HostRuntime) -> Result<(), Fail> {
     builder.push_null()?;
     assert_eq!(rt; builder.len(), 2);
     assert!(rt; builder.value(0) == [1u8, 2].as_slice() && !builder.is_valid(1));
+    assert!(rt; builder.pop()?.is_none());
     Ok(())
 }
 
