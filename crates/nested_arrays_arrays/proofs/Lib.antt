@@ -1,3 +1,4 @@
 pub mod CutNodes
+pub mod LaidNodes
 pub mod ListParts
 pub mod StructParts

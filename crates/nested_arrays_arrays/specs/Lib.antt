@@ -3,3 +3,4 @@ pub mod Answers
 pub mod Entries
 pub mod Lengths
 pub mod Sizes
+pub mod Variants

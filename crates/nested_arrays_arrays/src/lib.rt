@@ -7,6 +7,7 @@ mod fixed_lists;
 mod from;
 mod maps;
 mod records;
+mod try_from;
 mod unions;
 
 pub use any::{AnyArray, DictionaryNode, ListNode, Node};

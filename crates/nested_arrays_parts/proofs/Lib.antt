@@ -1,3 +1,4 @@
 pub mod FlatCuts
 pub mod KeyCuts
+pub mod LaidFlats
 pub mod OffsetLists
