@@ -2,6 +2,7 @@ pub mod ArrayParts
 pub mod CutNodes
 pub mod KeyMasks
 pub mod KeyPlaces
+pub mod LaidNodes
 pub mod ListParts
 pub mod SameSlots
 pub mod SlotPlaces

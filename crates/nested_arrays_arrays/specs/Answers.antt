@@ -6,6 +6,7 @@ use Rattle.columnar_memory.specs.declared.Error.{Error}
 use Rattle.columnar_memory.specs.declared.PhysicalType.{PhysicalType}
 use Rattle.nested_arrays_columns.specs.SoundColumns.{is_sound}
 use Rattle.nested_arrays_columns.specs.StoredColumns.{Column, column_type}
+use Rattle.nested_arrays_parts.specs.Childless.{is_childless}
 
 -- the array of these parts, if they are those of an array, or a refusal
 abbrev pub IsChecked : Column → Result Column Error → Type 0
@@ -18,3 +19,13 @@ LiesAs layout parts = (is_sound parts ≡ true) × (physical_type (column_type p
 -- the array of these parts, if they are those of an array that lies in memory so, or a refusal
 abbrev pub IsCheckedAs : PhysicalType → Column → Result Column Error → Type 0
 IsCheckedAs layout parts r = MatchResult r (λ a. (a ≡ parts) × LiesAs layout parts) (λ e. IsOutOfSpec e × ¬ LiesAs layout parts)
+
+-- the array of the same column, where it lies in memory so, or what was given
+abbrev pub TakesAs : PhysicalType → Column → Result Column Column → Type 0
+TakesAs layout any r = MatchResult r (λ array. (array ≡ any) × (physical_type (column_type any) ≡ layout))
+    (λ left. (left ≡ any) × ¬ (physical_type (column_type any) ≡ layout))
+
+-- the same of arrays without children
+abbrev pub TakesChildless : Column → Result Column Column → Type 0
+TakesChildless any r = MatchResult r (λ array. (array ≡ any) × (is_childless (physical_type (column_type any)) ≡ true))
+    (λ left. (left ≡ any) × ¬ (is_childless (physical_type (column_type any)) ≡ true))

@@ -7,3 +7,4 @@ pub mod Parts
 pub mod Places
 pub mod SameArrays
 pub mod Sizes
+pub mod Variants

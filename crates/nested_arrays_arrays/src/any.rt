@@ -2,6 +2,8 @@
 ghost use Rattle.std.specs.Prelude.{◌≡◌, ◌+◌, ◌≤◌, true};
 ghost use Rattle.nested_arrays_columns.specs.SoundColumns.{is_sound};
 ghost use Rattle.nested_arrays_columns.specs.StoredColumns.{column_len, column_type, cut};
+ghost use Rattle.nested_arrays_arrays.specs.AnyColumns.{FitsWidth};
+ghost use Rattle.nested_arrays_arrays.specs.Variants.{lies_well};
 
 use crate::fixed_lists::FixedSizeListArray;
 use crate::maps::MapArray;
@@ -71,6 +73,24 @@ impl Model for AnyArray {
     ghost use Rattle.nested_arrays_arrays.specs.Sizes.{node_is_deep};
 
     ghost size_decreases = { λ a h. node_is_deep a.node };
+}
+
+impl Node {
+    /// Hands to a proof how the array of a variant lies in memory.
+    pub fn lies(&self)
+        requires { FitsWidth self.now }
+        ensures { lies_well self.now ≡ true }
+    {
+        match self {
+            Node::Flat(array) => array.lies(),
+            Node::List(_) => {}
+            Node::FixedSizeList(array) => array.lies(),
+            Node::Struct(array) => array.lies(),
+            Node::Map(array) => array.whole(),
+            Node::Union(array) => array.lies(),
+            Node::Dictionary(_) => {}
+        }
+    }
 }
 
 impl AnyArray {

@@ -1,5 +1,7 @@
 //! Lists of one size.
 ghost use Rattle.std.specs.Prelude.{◌≡◌, ◌+◌, ◌<◌, ◌≤◌, ◌↔◌, IsTrue, true, option_copied};
+ghost use Rattle.columnar_memory.specs.Layouts.{physical_type};
+ghost use Rattle.columnar_memory.specs.declared.PhysicalType.TheVariants as physical;
 ghost use Rattle.nested_arrays_columns.specs.SoundColumns.{is_sound, has_fixed_item_type};
 ghost use Rattle.nested_arrays_columns.specs.StoredColumns.{column_len, column_type, cut, fixed_lists, type_layer};
 ghost use Rattle.nested_arrays_arrays.specs.Answers.{IsChecked};
@@ -174,6 +176,13 @@ impl FixedSizeListArray {
     /// Hands to a proof what holds of every such array.
     pub fn whole(&self)
         ensures { is_sound self.now ≡ true }
+    {
+        let _field = &self.size;
+    }
+
+    /// Hands to a proof how every such array lies in memory.
+    pub fn lies(&self)
+        ensures { physical_type (column_type self.now) ≡ physical.FixedSizeList }
     {
         let _field = &self.size;
     }

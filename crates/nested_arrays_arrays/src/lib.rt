@@ -14,6 +14,7 @@ mod maps;
 mod picks;
 mod places;
 mod records;
+mod try_from;
 mod unions;
 mod validity;
 

@@ -1,5 +1,7 @@
 //! Structs.
 ghost use Rattle.std.specs.Prelude.{◌≡◌, ◌+◌, ◌≤◌, ◌↔◌, IsTrue, true, map, All, option_copied};
+ghost use Rattle.columnar_memory.specs.Layouts.{physical_type};
+ghost use Rattle.columnar_memory.specs.declared.PhysicalType.TheVariants as physical;
 ghost use Rattle.nested_arrays_columns.specs.SoundColumns.{is_sound};
 ghost use Rattle.nested_arrays_columns.specs.StoredColumns.{column_len, column_type, cut, records, in_columns};
 ghost use Rattle.nested_arrays_arrays.specs.Answers.{IsChecked};
@@ -172,6 +174,13 @@ impl StructArray {
     /// Hands to a proof what holds of every such array.
     pub fn whole(&self)
         ensures { is_sound self.now ≡ true }
+    {
+        let _field = &self.length;
+    }
+
+    /// Hands to a proof how every such array lies in memory.
+    pub fn lies(&self)
+        ensures { physical_type (column_type self.now) ≡ physical.Struct }
     {
         let _field = &self.length;
     }

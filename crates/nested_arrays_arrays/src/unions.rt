@@ -6,6 +6,8 @@ ghost use Rattle.nested_arrays_columns.specs.StoredColumns.{picked_at, union_pla
 ghost use Rattle.nested_arrays_arrays.specs.Answers.{IsChecked};
 ghost use Rattle.nested_arrays_arrays.specs.Parts.{column_children, column_ids, column_places};
 ghost use Rattle.nested_arrays_flat.specs.ColumnMasks.{column_mask, ReplacesMask};
+ghost use Rattle.columnar_memory.specs.Layouts.{physical_type};
+ghost use Rattle.columnar_memory.specs.declared.PhysicalType.TheVariants as physical;
 
 use crate::any::AnyArray;
 use crate::children::are_whole;
@@ -184,6 +186,13 @@ impl UnionArray {
     /// Hands to a proof what holds of every such array.
     pub fn whole(&self)
         ensures { is_sound self.now ≡ true }
+    {
+        let _field = &self.types;
+    }
+
+    /// Hands to a proof how every such array lies in memory.
+    pub fn lies(&self)
+        ensures { physical_type (column_type self.now) ≡ physical.Union }
     {
         let _field = &self.types;
     }

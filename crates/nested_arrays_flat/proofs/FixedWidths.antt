@@ -66,6 +66,14 @@ stored_layout : (layout : PhysicalType) (size : ℕ) (content : List ℕ) → is
 stored_layout physical.FixedSizeBinary size content h = refl
 stored_layout _ size content h = absurd (false≢true h)
 
+-- byte strings of one size lie in memory so
+pub fixed_laid : (t : DataType) (size : ℕ) (content : List ℕ) (mask : Option (List Bool)) → is_sound (fixed_column t size content mask) ≡ true
+    → physical_type t ≡ physical.FixedSizeBinary
+fixed_laid t size content mask h =
+    let stored = fixed_bytes size content in
+    stored_layout (physical_type t) size content
+    (parts_of_3 (is_stored_as (physical_type t) stored) (has_size (type_layer t) stored) (mask_fits mask (length content / size)) h).0
+
 -- ---- parts
 
 -- what is known of the parts of a sound column

@@ -1,13 +1,13 @@
 -- Which types are of nulls alone.
 use Rattle.std.proofs.Common.{◌≡◌, ◌∙◌, refl, sym, true, false}
-use Rattle.std.specs.Prelude.{◌↔◌}
+use Rattle.std.specs.Prelude.{◌↔◌, ℕ}
 use Rattle.columnar_memory.specs.declared.DataType.{DataType}
 use Rattle.columnar_memory.specs.declared.DataType.TheOpen as layer
 use Rattle.columnar_memory.specs.declared.IntervalUnit.TheVariants as intervals
 use Rattle.columnar_memory.specs.declared.PhysicalType.TheVariants as physical
 use Rattle.columnar_memory.specs.Layouts.{physical_type}
-use Rattle.nested_arrays_columns.specs.SoundColumns.{is_null_type}
-use Rattle.nested_arrays_columns.specs.StoredColumns.{type_layer}
+use Rattle.nested_arrays_columns.specs.SoundColumns.{is_null_type, is_sound}
+use Rattle.nested_arrays_columns.specs.StoredColumns.{nulls, type_layer}
 use Rattle.nested_arrays_flat.proofs.Layers.{Layer, is_extension, layer_layout, type_lies}
 
 layer_of_nulls : (x : Layer) → is_extension x ≡ false → layer_layout x ≡ physical.Null → is_null_type x ≡ true
@@ -26,3 +26,6 @@ pub null_types : (t : DataType) → (physical_type t ≡ physical.Null) ↔ (is_
 null_types t =
     let lies = type_lies t in
     (λ is. layer_of_nulls (type_layer t) lies.1 (sym lies.0 ∙ is), λ is. lies.0 ∙ layout_of_nulls (type_layer t) is)
+
+pub nulls_laid : (t : DataType) (n : ℕ) → is_sound (nulls t n) ≡ true → physical_type t ≡ physical.Null
+nulls_laid t n h = (null_types t).1 h

@@ -7,6 +7,7 @@ use Rattle.std.proofs.lemmas.List.{length-map, take-map, drop-map}
 use Rattle.columnar_memory.specs.Window.{window}
 use Rattle.columnar_memory.specs.Layouts.{physical_type}
 use Rattle.columnar_memory.specs.declared.DataType.TheOpen as layer
+use Rattle.columnar_memory.specs.declared.PhysicalType.{PhysicalType}
 use Rattle.columnar_memory.specs.declared.PhysicalType.TheVariants as physical
 use Rattle.columnar_memory.specs.declared.PrimitiveType.{PrimitiveType}
 use Rattle.columnar_memory.specs.declared.PrimitiveType.TheVariants as kinds
@@ -21,7 +22,7 @@ use Rattle.nested_arrays_columns.specs.StoredColumns as StoredColumns
 use Rattle.nested_arrays_columns.specs.StoredColumns.{Stored, Column, cut_list, cut_mask, cut_stored, stored_len, cut, numbers, pairs, triples}
 use Rattle.nested_arrays_columns.specs.StoredColumns.{column_len, type_layer}
 use Rattle.nested_arrays_flat.proofs.ColumnParts.{is_flat}
-use Rattle.nested_arrays_flat.specs.Primitives.{column_of}
+use Rattle.nested_arrays_flat.specs.Primitives.{column_of, is_primitive}
 use Rattle.nested_arrays_flat.specs.declared.primitive.PrimitiveNode.{PrimitiveNode}
 use Rattle.nested_arrays_flat.specs.declared.primitive.PrimitiveNode.TheVariants as variant
 use Rattle.nested_arrays_flat.specs.FlatColumns.{is_native, pair_of, triple_of, stored_numbers, primitive_column, boolean_column}
@@ -233,3 +234,7 @@ boolean_sound a fits =
     (and_from (is_stored_as (physical_type t) stored) (has_size (type_layer t) stored)
     (ap (λ layout. is_stored_as layout stored) fits.fits) (sized_bits (type_layer t) a.values))
     (masked a.validity (length a.values) fits.masked)
+
+-- arrays of a kind are of numbers
+pub primitive_fits : (layout : PhysicalType) (kind : PrimitiveType) → layout ≡ physical.Primitive kind → is_primitive layout ≡ true
+primitive_fits layout kind is = ap is_primitive is

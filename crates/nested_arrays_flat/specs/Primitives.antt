@@ -1,5 +1,7 @@
 -- The columns of arrays of numbers of any kind.
-use Rattle.std.specs.Prelude.{pos}
+use Rattle.std.specs.Prelude.{Bool, true, false, pos}
+use Rattle.columnar_memory.specs.declared.PhysicalType.{PhysicalType}
+use Rattle.columnar_memory.specs.declared.PhysicalType.TheVariants as physical
 use Rattle.columnar_memory.specs.declared.PrimitiveType.TheVariants as kinds
 use Rattle.columnar_memory.specs.Numbers.{one, two, three}
 use Rattle.nested_arrays_columns.specs.StoredColumns.{Column}
@@ -20,3 +22,8 @@ column_of (variant.UInt32 array) = primitive_column kinds.UInt32 (λ x. one (pos
 column_of (variant.UInt64 array) = primitive_column kinds.UInt64 (λ x. one (pos x)) array
 column_of (variant.DaysMs array) = primitive_column kinds.DaysMs (λ x. two x.0 x.1) array
 column_of (variant.MonthsDaysNs array) = primitive_column kinds.MonthDayNano (λ x. three x.0 x.1 x.2) array
+
+-- whether arrays that lie in memory so are of numbers
+abbrev pub is_primitive : PhysicalType → Bool
+is_primitive (physical.Primitive kind) = true
+is_primitive _ = false

@@ -1,7 +1,9 @@
 //! Arrays of byte strings of one size.
 ghost use Rattle.std.specs.Prelude.{◌≡◌, ◌+◌, ◌*◌, ◌/◌, ◌^◌, ◌<◌, ◌≤◌, [], length, replicate};
 ghost use Rattle.std.specs.Prelude.{false, true, MatchOption, None, Some, option_copied};
+ghost use Rattle.columnar_memory.specs.Layouts.{physical_type};
 ghost use Rattle.columnar_memory.specs.Results.{OrOutOfMemory};
+ghost use Rattle.columnar_memory.specs.declared.PhysicalType.TheVariants as physical;
 ghost use Rattle.nested_arrays_columns.specs.Slots.{bytes, null};
 ghost use Rattle.nested_arrays_columns.specs.SoundColumns.{is_sound, mask_fits};
 ghost use Rattle.nested_arrays_columns.specs.StoredColumns.{column_len, column_type, cut, cut_list, is_valid_at, slot_at};
@@ -148,8 +150,10 @@ impl FixedSizeBinaryArray {
         self.values.len() / self.size
     }
 
+    #[tactic(auto, using(crate::proofs::FixedWidths::fixed_laid))]
     pub fn data_type(&self) -> &DataType
-        ensures { result.now ≡ column_type self.now }
+        ensures value { result.now ≡ column_type self.now }
+        ensures fits { physical_type result.now ≡ physical.FixedSizeBinary }
     {
         &self.data_type
     }

@@ -86,7 +86,8 @@ impl NullArray {
     }
 
     pub fn data_type(&self) -> &DataType
-        ensures { result.now ≡ column_type self.now }
+        ensures value { result.now ≡ column_type self.now }
+        ensures fits { physical_type result.now ≡ physical.Null }
     {
         &self.data_type
     }

@@ -1,11 +1,13 @@
 //! Arrays of numbers of any kind.
 ghost use Rattle.std.specs.Prelude.{◌≡◌, ◌+◌, ◌<◌, ◌≤◌, ◌↔◌, IsTrue, MatchResult, option_copied, true};
+ghost use Rattle.columnar_memory.specs.Layouts.{physical_type};
 ghost use Rattle.columnar_memory.specs.declared.PhysicalType.TheVariants as physical;
 ghost use Rattle.flat_arrays_values.specs.Flat.{flat, IsFlat};
 ghost use Rattle.nested_arrays_columns.specs.SoundColumns.{is_sound, mask_fits};
 ghost use Rattle.nested_arrays_columns.specs.StoredColumns.{column_len, column_type, cut, is_valid_at};
 ghost use Rattle.nested_arrays_flat.specs.ColumnMasks.{column_mask, unset_in, with_mask, ReplacesMask};
 ghost use Rattle.nested_arrays_flat.specs.FlatColumns.{primitive_column};
+ghost use Rattle.nested_arrays_flat.specs.Primitives.{is_primitive};
 ghost use Rattle.nested_arrays_flat.specs.Taken.{ArePartsOf, IsLeft, Shows, Takes};
 
 use crate::masks::{is_mask_of, mark_at, unset_marks};
@@ -111,8 +113,10 @@ impl AnyPrimitive {
         self.len() == 0
     }
 
+    #[tactic(auto, using(crate::proofs::SoundFlats::primitive_fits))]
     pub fn data_type(&self) -> &DataType
-        ensures { result.now ≡ column_type self.now }
+        ensures value { result.now ≡ column_type self.now }
+        ensures fits { is_primitive (physical_type result.now) ≡ true }
     {
         with_array!(&self.node, array => array.data_type())
     }

@@ -1,4 +1,5 @@
 pub mod FlatCuts
 pub mod FlatMasks
 pub mod KeyCuts
+pub mod LaidFlats
 pub mod OffsetLists

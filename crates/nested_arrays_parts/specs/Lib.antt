@@ -1,3 +1,4 @@
+pub mod Childless
 pub mod FlatNodes
 pub mod Keys
 pub mod Widths

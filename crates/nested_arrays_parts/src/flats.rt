@@ -1,8 +1,10 @@
 //! Arrays without children.
 ghost use Rattle.std.specs.Prelude.{◌≡◌, ◌+◌, ◌≤◌, true};
+ghost use Rattle.columnar_memory.specs.Layouts.{physical_type};
 ghost use Rattle.nested_arrays_columns.specs.SoundColumns.{is_sound};
 ghost use Rattle.nested_arrays_columns.specs.StoredColumns.{column_len, column_type, cut};
 ghost use Rattle.nested_arrays_flat.specs.FlatColumns.{binary_column, boolean_column, text_column};
+ghost use Rattle.nested_arrays_parts.specs.Childless.{is_childless};
 
 use columnar_memory::{DataType, Offset};
 use flat_arrays_bytes::{BinaryArray, Utf8Array};
@@ -84,6 +86,22 @@ impl FlatArray {
         ensures { is_sound self.now ≡ true }
     {
         let _node = &self.node;
+    }
+
+    /// Hands to a proof how every such array lies in memory.
+    pub fn lies(&self)
+        ensures { is_childless (physical_type (column_type self.now)) ≡ true }
+    {
+        let _data_type = match &self.node {
+            FlatNode::Null(array) => array.data_type(),
+            FlatNode::Boolean(array) => array.data_type(),
+            FlatNode::Primitive(array) => array.data_type(),
+            FlatNode::Binary(array) => array.data_type(),
+            FlatNode::LargeBinary(array) => array.data_type(),
+            FlatNode::FixedSizeBinary(array) => array.data_type(),
+            FlatNode::Utf8(array) => array.data_type(),
+            FlatNode::LargeUtf8(array) => array.data_type(),
+        };
     }
 
     /// Narrows this to the `count` slots from `offset` on, with no copy.

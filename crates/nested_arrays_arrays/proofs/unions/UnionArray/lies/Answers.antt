@@ -1,0 +1,9 @@
+use Rattle.std.proofs.Common.{◌∙◌, ap, sym}
+use Rattle.columnar_memory.specs.Layouts.{physical_type}
+use Rattle.nested_arrays_columns.specs.StoredColumns.{column_type, in_columns}
+use Rattle.nested_arrays_arrays.proofs.LaidNodes.{unions_laid}
+use Rattle.nested_arrays_arrays.proofs.unions.UnionArray.lies.Goals as goal
+
+pub returns : goal.returns
+returns c = ap (λ column. physical_type (column_type column)) (sym c.self.view_is)
+    ∙ unions_laid c.self.inside.data_type c.self.inside.types c.self.inside.offsets (in_columns c.self.inside.fields.items) c.self.invariant
