@@ -1,7 +1,7 @@
 -- Dictionaries are sound where their parts are, and what is cut out of keys is cut out of the dictionary.
-use Rattle.std.proofs.Common.{◌≡◌, ◌∙◌, ℕ, zero, suc, ◌+◌, ◌<◌, ◌≤◌, List, [], ◌∷◌, length, map, refl, sym, ap, subst, arith, get_or, true, false, take, drop}
+use Rattle.std.proofs.Common.{◌≡◌, ◌∙◌, ℕ, zero, suc, ◌<◌, List, [], ◌∷◌, length, map, refl, sym, ap, subst, arith, get_or, true, false, take, drop}
 use Rattle.std.specs.Prelude.{Result, Ok, Err, is_ok}
-use Rattle.std.specs.Prelude.{ℤ, pos, Bool, ◌&&◌, ◌||◌, not, ◌==◌, Option, int_le, nat_lt, slice_index_or, T, ◌≤ℤ◌}
+use Rattle.std.specs.Prelude.{ℤ, pos, Bool, ◌&&◌, ◌||◌, not, Option, int_le, nat_lt, slice_index_or, T, ◌≤ℤ◌}
 use Rattle.std.specs.List.{All, list_all}
 use mathlib.Core.Logic.{inl}
 use lib.Signed.{le_z_yes}
@@ -23,7 +23,7 @@ use Rattle.columnar_memory.specs.declared.PrimitiveType.{PrimitiveType}
 use Rattle.flat_arrays_values.specs.Flat as arrays
 use Rattle.flat_arrays_values.specs.Flat.{Flat, IsFlat, IsMaskOf}
 use Rattle.flat_arrays_values.specs.Results.{AreChecked, IsPlaceBelow}
-use Rattle.nested_arrays_columns.specs.Kinds.{in_kind, is_key, numbers_of_kind, same_kind}
+use Rattle.nested_arrays_columns.specs.Kinds.{is_key}
 use Rattle.nested_arrays_columns.specs.SoundColumns.{has_size, has_value_at, has_value_type, holds_below, is_sound, is_stored_as, mask_fits}
 use Rattle.nested_arrays_columns.specs.StoredColumns.{Column, flat, dictionary, column_len, column_type, cut, is_valid_at, place_of, stored_len, type_layer}
 use Rattle.nested_arrays_columns.proofs.Conditions.{holds_at, holds_from, parts_of_3, parts_of_4}

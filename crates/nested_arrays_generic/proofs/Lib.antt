@@ -1,2 +1,3 @@
 pub mod DictionaryParts
 pub mod ListParts
+pub mod TakenKeys

@@ -6,7 +6,6 @@ use Rattle.columnar_memory.specs.Layouts.{physical_type}
 use Rattle.columnar_memory.specs.Spans.{Spans, offsets_of, last_of}
 use Rattle.columnar_memory.specs.declared.DataType.{DataType}
 use Rattle.columnar_memory.specs.declared.DataType.TheOpen as layer
-use Rattle.columnar_memory.specs.declared.PhysicalType.TheVariants as physical
 use Rattle.nested_arrays_columns.specs.Kinds.{most_offset}
 use Rattle.nested_arrays_columns.specs.SoundColumns.{has_item_type, mask_fits, is_sound}
 use Rattle.nested_arrays_columns.specs.StoredColumns.{Column, column_len, column_type, lists, type_layer}

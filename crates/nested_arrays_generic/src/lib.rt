@@ -5,6 +5,7 @@ mod dictionaries;
 mod from;
 mod keys;
 mod lists;
+mod try_from;
 mod walks;
 
 pub use dictionaries::DictionaryArray;

@@ -41,3 +41,11 @@ fn an_offset_past_the_items_is_refused(rt: HostRuntime) -> Result<(), Fail> {
     assert!(rt; matches!(array, Err(Error::OutOfSpec(_))));
     Ok(())
 }
+
+#[test]
+fn another_width_is_given_back(rt: HostRuntime) -> Result<(), Fail> {
+    let any = AnyArray::from(lists(rt.alloc(), &[0, 2])?);
+    let left = ListArray::<i64>::try_from(any).err();
+    assert!(rt; left.is_some_and(|any| any.len() == 1));
+    Ok(())
+}
