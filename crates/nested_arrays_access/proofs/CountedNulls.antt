@@ -1,14 +1,14 @@
 -- The laws of nulls, as the functions of the crate promise them.
-use Rattle.std.proofs.Common.{◌≡◌, ◌∙◌, ◌<◌, ◌+◌, ℕ, zero, suc, List, [], ◌∷◌, length, get_or, cond, true, false, refl, sym, ap, subst, arith}
-use Rattle.std.specs.Prelude.{Bool, ℤ, pos, not, ◌-◌, Option, Some, None, if◌then◌else◌, slice_index, slice_index_or}
+use Rattle.std.proofs.Common.{◌≡◌, ◌∙◌, ◌<◌, ◌+◌, ℕ, zero, suc, List, [], ◌∷◌, length, get_or, cond, true, false, refl, sym, ap, arith}
+use Rattle.std.specs.Prelude.{Bool, pos, not, ◌-◌, Option, Some, None, if◌then◌else◌, slice_index, slice_index_or}
 use Rattle.std.specs.List.{count_by, list_all}
 use Rattle.std.proofs.lemmas.List.Sums.{sum_by-cons}
 use Rattle.std.proofs.lemmas.Bool.{eqb-true, false≢true, ltb-true}
 use Rattle.nested_arrays_columns.proofs.Conditions.{holds_at, parts_of_5}
 use Rattle.nested_arrays_columns.specs.Kinds.{is_signed}
 use Rattle.nested_arrays_columns.specs.Slots.{Slot, null, window}
-use Rattle.nested_arrays_columns.specs.SoundColumns.{are_sound, column_lens, has_child_at, has_child_types, has_places, holds_below, is_sound, mask_fits}
-use Rattle.nested_arrays_columns.specs.StoredColumns.{Column, Columns, nulls, flat, lists, fixed_lists, records, unions, dictionary, no_column}
+use Rattle.nested_arrays_columns.specs.SoundColumns.{are_sound, column_lens, has_child_at, has_child_types, has_places, holds_below, mask_fits}
+use Rattle.nested_arrays_columns.specs.StoredColumns.{Columns, nulls, flat, lists, fixed_lists, records, unions, dictionary, no_column}
 use Rattle.nested_arrays_columns.specs.StoredColumns.{column_then, Stored, bits, numbers, pairs, triples, texts, byte_strings, fixed_bytes, stored_at}
 use Rattle.nested_arrays_columns.specs.StoredColumns.{child_number, column_len, is_valid_at, picked_at, type_layer, union_place, unless_null}
 use Rattle.nested_arrays_flat.proofs.ColumnParts.{sound_mask}

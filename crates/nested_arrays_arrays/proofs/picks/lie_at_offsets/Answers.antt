@@ -1,4 +1,4 @@
-use Rattle.std.proofs.Common.{◌≡◌, ◌<◌, length, sym, rules, arith}
+use Rattle.std.proofs.Common.{◌≡◌, ◌<◌, length, rules, arith}
 use Rattle.std.specs.Prelude.{pos, slice_index, slice_index_or}
 use Rattle.nested_arrays_columns.specs.SoundColumns.{column_lens}
 use Rattle.nested_arrays_columns.specs.StoredColumns.{child_number, in_columns, type_layer}
