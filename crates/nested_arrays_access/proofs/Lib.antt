@@ -1,1 +1,2 @@
+pub mod CountedNulls
 pub mod NullColumns

@@ -1,2 +1,3 @@
 pub mod MaskedArrays
+pub mod NullLaws
 pub mod Nulls

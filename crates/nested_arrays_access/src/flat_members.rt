@@ -225,7 +225,7 @@ fn mask_numbers<T: NativeType>(
     array: &mut PrimitiveArray<T>,
     validity: Option<Bitmap>,
 ) -> Result<()>
-    ensures { ReplacesMask (primitive_column T.PRIMITIVE T.numbers array.old) validity (primitive_column T.PRIMITIVE T.numbers array.new) result }
+    ensures { let column = primitive_column T.PRIMITIVE T.numbers in ReplacesMask (column array.old) validity (column array.new) result }
 {
     primitive_is_sound(array);
     if !fits(&validity, array.len()) {

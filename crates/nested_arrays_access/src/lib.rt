@@ -4,5 +4,7 @@
 mod array;
 mod flat_members;
 mod members;
+mod null_laws;
 
 pub use array::Array;
+pub use null_laws::{a_null_slot_has_no_value, a_slot_without_a_value_is_null, nulls_are_counted};

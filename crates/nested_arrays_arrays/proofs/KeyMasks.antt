@@ -1,7 +1,7 @@
 -- Keys that name values under a mask.
-use Rattle.std.proofs.Common.{◌≡◌, ◌∙◌, ◌<◌, ◌≤◌, ℕ, List, true, false, refl, sym, ap, subst, arith, length, map, rules}
-use Rattle.std.specs.Prelude.{ℤ, pos, negsuc, ◌<ℤ◌, ◌&&◌, Bool, Option, Result, Ok, Err, Some, int_le, nat_lt, option_map, slice_get, slice_index_or}
-use Rattle.std.proofs.lemmas.Bool.{and_from, and_parts, le-leb, false≢true}
+use Rattle.std.proofs.Common.{◌≡◌, ◌∙◌, ℕ, List, true, false, refl, sym, ap, subst, arith, length, map, rules}
+use Rattle.std.specs.Prelude.{ℤ, pos, negsuc, ◌<ℤ◌, ◌&&◌, Bool, Option, Result, Ok, Err, Some, nat_lt, option_map, slice_get, slice_index_or}
+use Rattle.std.proofs.lemmas.Bool.{and_from, le-leb}
 use Rattle.std.proofs.lemmas.List.{length-map}
 use Rattle.std.proofs.lemmas.Option.{get_or_from_slice_get, slice_get-map}
 use Rattle.columnar_memory.specs.Numbers.{Numbers, one, first_number}
@@ -11,7 +11,6 @@ use Rattle.columnar_memory.specs.declared.IntegerType.{IntegerType}
 use Rattle.columnar_memory.specs.declared.IntegerType.TheVariants as integers
 use Rattle.columnar_memory.specs.declared.PhysicalType.{PhysicalType}
 use Rattle.columnar_memory.specs.declared.PhysicalType.TheVariants as physical
-use Rattle.columnar_memory.specs.declared.PrimitiveType.{PrimitiveType}
 use Rattle.columnar_memory.specs.declared.PrimitiveType.TheVariants as kinds
 use Rattle.nested_arrays_columns.proofs.Conditions.{parts_of_4}
 use Rattle.nested_arrays_columns.specs.SoundColumns.{has_value_at, has_value_type, holds_below, is_sound, mask_fits}

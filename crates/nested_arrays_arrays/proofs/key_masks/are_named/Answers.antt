@@ -1,4 +1,4 @@
-use Rattle.std.proofs.Common.{◌≡◌, ◌∙◌, ◌<◌, length, sym, arith, rules, false}
+use Rattle.std.proofs.Common.{◌∙◌, ◌<◌, length, sym, arith}
 use Rattle.nested_arrays_columns.specs.SoundColumns.{has_value_at}
 use Rattle.nested_arrays_arrays.specs.NamedValues.{firsts}
 use Rattle.nested_arrays_arrays.proofs.KeyMasks.{firsts_count}
