@@ -90,7 +90,8 @@ key_within t keys values i place sound h valid is =
     let there = holds_at (length numbers) (has_value_at mask numbers (column_len values)) i parts.2 h in
     let named : (int_le (pos 0) key && nat_lt (place_of key) (column_len values)) ≡ true =
     ap (λ b. not b || (int_le (pos 0) key && nat_lt (place_of key) (column_len values))) (sym valid) ∙ there in
-    omega (arith, is, ltb-true (place_of key) (column_len values) (and_parts (int_le (pos 0) key) (nat_lt (place_of key) (column_len values)) named).1)
+    let below = nat_lt (place_of key) (column_len values) in
+    omega (arith, is, ltb-true (place_of key) (column_len values) (and_parts (int_le (pos 0) key) below named).1)
 
 -- the value that a key names is the slot's
 pub named_value : (t : DataType) (keys values found : Column) (i place at : ℕ) → is_valid_at (column_mask keys) i ≡ true

@@ -89,26 +89,24 @@ nodes_grow f a (suc n) m =
     ap (λ k. nodes_of (in_slots (window f a k))) len in
     omega (arith, more, nodes_grow f (a + 1) n m)
 
-pub nodes_up_to : (f : ℕ → Slot) (a n m : ℕ) → n < m → nodes_of (in_slots (window f a n)) + slot_nodes (f (a + n)) ≤ nodes_of (in_slots (window f a m))
+pub nodes_up_to : (f : ℕ → Slot) (a n m : ℕ) → n < m
+    → nodes_of (in_slots (window f a n)) + slot_nodes (f (a + n)) ≤ nodes_of (in_slots (window f a m))
 nodes_up_to f a n m h =
     let len : suc n + (m - suc n) ≡ m = omega arith in
     let all : nodes_of (in_slots (window f a (suc n + (m - suc n)))) ≡ nodes_of (in_slots (window f a m)) =
     ap (λ k. nodes_of (in_slots (window f a k))) len in
     omega (arith, all, nodes_more f a n, nodes_grow f a (suc n) (m - suc n))
 
--- a comparison of ranges as far as it has come: the slots before a place are the same, and each was counted
-pub record SoFar (l : Column) (i : ℕ) (r : Column) (j k before now : ℕ) : Type 0 where
+-- ranges that were compared up to a place: the slots before it are the same, and each was counted
+pub record Compared (l : Column) (i : ℕ) (r : Column) (j k before now : ℕ) : Type 0 where
   pub same : SameRanges l i r j k
   pub counted : now ≤ before + range_nodes l i k
-
-pub none_so_far : (l r : Column) (i j before : ℕ) → SoFar l i r j 0 before before
-none_so_far l r i j before = record { same = λ k h. absurd (omega arith); counted = omega arith }
 
 below_next : (P : ℕ → Type 0) (n : ℕ) → ((k : ℕ) → k < n → P k) → P n → (k : ℕ) → k < n + 1 → P k
 below_next P n below here k h = below_more P n below here k h
 
-pub one_more : (l r : Column) (i j k before now after : ℕ) → SoFar l i r j k before now → slot_at l (i + k) ≡ slot_at r (j + k)
-    → after ≤ now + slot_nodes (slot_at l (i + k)) → SoFar l i r j (k + 1) before after
+pub one_more : (l r : Column) (i j k before now after : ℕ) → Compared l i r j k before now → slot_at l (i + k) ≡ slot_at r (j + k)
+    → after ≤ now + slot_nodes (slot_at l (i + k)) → Compared l i r j (k + 1) before after
 one_more l r i j k before now after far here counted =
     let len : k + 1 ≡ suc k = omega arith in
     let size : range_nodes l i (k + 1) ≡ range_nodes l i (suc k) = ap (range_nodes l i) len in record {
@@ -138,7 +136,8 @@ pub slots_count : (l r : Column) → slots l ≡ slots r → column_len l ≡ co
 slots_count l r same = sym (length-window (slot_at l) 0 (column_len l)) ∙ ap length same ∙ length-window (slot_at r) 0 (column_len r)
 
 -- the same, place by place
-pub slots_by_place : (l r : Column) (n : ℕ) → n ≡ column_len l → n ≡ column_len r → ((k : ℕ) → k < n → slot_at l k ≡ slot_at r k) ↔ (slots l ≡ slots r)
+pub slots_by_place : (l r : Column) (n : ℕ) → n ≡ column_len l → n ≡ column_len r
+    → ((k : ℕ) → k < n → slot_at l k ≡ slot_at r k) ↔ (slots l ≡ slots r)
 slots_by_place l r n long as_long =
     let both = slots_same l r n long as_long in (
       λ same. both.0 (λ k h. ap (slot_at l) (omega arith) ∙ same k h ∙ ap (slot_at r) (omega arith)),

@@ -130,7 +130,8 @@ pub(crate) fn same_items(
 ) -> bool
     requires left_within { i + count ≤ column_len left.now }
     requires right_within { j + other_count ≤ column_len right.now }
-    ensures same { IsTrue result ↔ (items (in_slots (window (slot_at left.now) i count)) ≡ items (in_slots (window (slot_at right.now) j other_count))) }
+    ensures same { IsTrue result
+        ↔ (items (in_slots (window (slot_at left.now) i count)) ≡ items (in_slots (window (slot_at right.now) j other_count))) }
     ensures counted { steps.new.count ≤ steps.old.count + range_nodes left.now i count }
 {
     if count != other_count {

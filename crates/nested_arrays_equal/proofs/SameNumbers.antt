@@ -118,7 +118,8 @@ layout_kind : (layout : PhysicalType) (stored : Stored) (i : ℕ) → is_stored_
     → stored_form stored ≡ 2 → layout ≡ physical.Primitive (kind_in (stored_at stored i))
 layout_kind layout (bits values) i h is = absurd (omega arith)
 layout_kind (physical.Primitive kind) (numbers own values) i h is =
-    ap physical.Primitive (same_kind-implies kind own (parts_of_3 (same_kind kind own) (numbers_of_kind own == 1) (list_all (in_kind own) values) h).0)
+    let parts = parts_of_3 (same_kind kind own) (numbers_of_kind own == 1) (list_all (in_kind own) values) h in
+    ap physical.Primitive (same_kind-implies kind own parts.0)
 layout_kind (physical.Primitive kind) (pairs own values) i h is =
     ap physical.Primitive (same_kind-implies kind own (parts_of_3 (same_kind kind own) (numbers_of_kind own == 2) (are_pairs values) h).0)
 layout_kind (physical.Primitive kind) (triples own values) i h is =

@@ -1,6 +1,6 @@
 use Rattle.std.proofs.Common.{◌+◌, ◌*◌}
 use Rattle.nested_arrays_columns.specs.StoredColumns.{column_size, columns_size, in_columns}
-use Rattle.nested_arrays_arrays.proofs.SameSlots.{SoFar}
+use Rattle.nested_arrays_arrays.proofs.SameSlots.{Compared}
 use Rattle.nested_arrays_arrays.proofs.comparisons.+comparing.Given as goal
 
 abbrev pub decreases-same_range : goal.decreases-same_range
@@ -23,4 +23,4 @@ decreases-same_pick l = 4 * column_size l.left.now + 4
 
 -- the slots before are the same, and each was counted once
 abbrev pub invariant-same_range-loop-k : goal.invariant-same_range-loop-k
-invariant-same_range-loop-k l = SoFar l.left l.i l.right l.j l.k l.initial.steps.count l.steps.count
+invariant-same_range-loop-k l = Compared l.left l.i l.right l.j l.k l.initial.steps.count l.steps.count
