@@ -1,5 +1,5 @@
 -- Lists and maps are sound where their parts are.
-use Rattle.std.proofs.Common.{◌≡◌, ◌∙◌, sym, ap, ◌≤◌, ◌-◌, ◌^◌, ℕ, List, true, Bool, arith, refl, length}
+use Rattle.std.proofs.Common.{◌≡◌, ◌∙◌, sym, ap, ◌≤◌, ◌-◌, ◌^◌, List, true, Bool, arith, refl, length}
 use Rattle.std.specs.Prelude.{◌&&◌, min, Option}
 use Rattle.std.proofs.lemmas.Bool.{and_from, false≢true}
 use Rattle.columnar_memory.specs.Layouts.{physical_type}
