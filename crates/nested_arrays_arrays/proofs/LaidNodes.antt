@@ -8,7 +8,6 @@ use Rattle.columnar_memory.specs.declared.DataType.{DataType}
 use Rattle.columnar_memory.specs.declared.DataType.TheOpen as layer
 use Rattle.columnar_memory.specs.declared.PhysicalType.{PhysicalType}
 use Rattle.columnar_memory.specs.declared.PhysicalType.TheVariants as physical
-use Rattle.columnar_memory.specs.declared.UnionMode.TheVariants as modes
 use Rattle.nested_arrays_columns.proofs.Conditions.{parts_of_4, parts_of_5}
 use Rattle.nested_arrays_columns.specs.Kinds.{is_signed}
 use Rattle.nested_arrays_columns.specs.SoundColumns.{are_pieces, are_sound, has_child_at, has_child_types, has_field_types, has_fixed_item_type}
@@ -59,7 +58,8 @@ unions_laid t ids offsets children h =
     (holds_below (length ids) (has_child_at (type_layer t) ids offsets children)) (are_sound children) h in
     (type_lies t).0 ∙ union_layer (type_layer t) offsets children parts.0
 
-pub fixed_lists_lies : (node : Node) (array : Column) → node ≡ variant.FixedSizeList array → layout_in array ≡ physical.FixedSizeList → lies_well node ≡ true
+pub fixed_lists_lies : (node : Node) (array : Column) → node ≡ variant.FixedSizeList array → layout_in array ≡ physical.FixedSizeList
+    → lies_well node ≡ true
 fixed_lists_lies node array is lies = ap lies_well is ∙ ap (may_lie (variant.FixedSizeList array)) lies
 
 pub struct_lies : (node : Node) (array : Column) → node ≡ variant.Struct array → layout_in array ≡ physical.Struct → lies_well node ≡ true

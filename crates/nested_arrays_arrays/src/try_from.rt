@@ -25,7 +25,8 @@ impl Node {
 
     /// What this holds where it is lists, else this.
     pub fn into_list(self) -> Result<ListNode, Node>
-        ensures { MatchResult result (λ inside. self ≡ Node.List inside) (λ node. (node ≡ self) × (may_lie self physical.List ≡ false) × (may_lie self physical.LargeList ≡ false)) }
+        ensures { MatchResult result (λ inside. self ≡ Node.List inside)
+            (λ node. (node ≡ self) × (may_lie self physical.List ≡ false) × (may_lie self physical.LargeList ≡ false)) }
     {
         match self {
             Node::List(inside) => Ok(inside),
@@ -35,7 +36,8 @@ impl Node {
 
     /// What this holds where it is lists of one size, else this.
     pub fn into_fixed_size_list(self) -> Result<FixedSizeListArray, Node>
-        ensures { MatchResult result (λ inside. self ≡ Node.FixedSizeList inside) (λ node. (node ≡ self) × (may_lie self physical.FixedSizeList ≡ false)) }
+        ensures { MatchResult result (λ inside. self ≡ Node.FixedSizeList inside)
+            (λ node. (node ≡ self) × (may_lie self physical.FixedSizeList ≡ false)) }
     {
         match self {
             Node::FixedSizeList(inside) => Ok(inside),
@@ -75,7 +77,8 @@ impl Node {
 
     /// What this holds where it is a dictionary, else this.
     pub fn into_dictionary(self) -> Result<DictionaryNode, Node>
-        ensures { MatchResult result (λ inside. self ≡ Node.Dictionary inside) (λ node. (node ≡ self) × ((key : IntegerType) → may_lie self (physical.Dictionary key) ≡ false)) }
+        ensures { MatchResult result (λ inside. self ≡ Node.Dictionary inside)
+            (λ node. (node ≡ self) × ((key : IntegerType) → may_lie self (physical.Dictionary key) ≡ false)) }
     {
         match self {
             Node::Dictionary(inside) => Ok(inside),
