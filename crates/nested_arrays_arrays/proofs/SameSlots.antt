@@ -7,8 +7,9 @@ use Rattle.nested_arrays_columns.proofs.Windows.{window_same, length-window}
 use Rattle.nested_arrays_columns.specs.SlotNodes.{nodes_of, slot_nodes}
 use Rattle.nested_arrays_columns.specs.Slots.{Slot, Slots, null, truth, number, pair, triple, text, bytes, items, fields, pick, no_slot, slot_then}
 use Rattle.nested_arrays_columns.specs.Slots.{in_slots, window}
-use Rattle.nested_arrays_columns.specs.StoredColumns.{Column, column_len, slot_at, slots}
+use Rattle.nested_arrays_columns.specs.StoredColumns.{Column, Columns, no_column, column_then, column_len, in_columns, slot_at, slots, slots_at}
 use Rattle.nested_arrays_equal.specs.Ranges.{range_nodes, SameRanges}
+use Rattle.nested_arrays_arrays.specs.Places.{AreRecords, SameFields, columns_nodes}
 
 -- ---- windows
 
@@ -27,6 +28,13 @@ slot_count (slot_then slot slots) = suc (slot_count slots)
 abbrev items_in : Slot → Slots
 items_in (items slots) = slots
 items_in _ = no_slot
+
+abbrev fields_in : Slot → Slots
+fields_in (fields slots) = slots
+fields_in _ = no_slot
+
+no_slots_then : (slot : Slot) (slots : Slots) → no_slot ≡ slot_then slot slots → ⊥
+no_slots_then slot slots is = cc
 
 slot_count-window : (f : ℕ → Slot) (a n : ℕ) → slot_count (in_slots (window f a n)) ≡ n
 slot_count-window f a zero = refl
@@ -143,3 +151,57 @@ slots_by_place l r n long as_long =
       λ same. both.0 (λ k h. ap (slot_at l) (omega arith) ∙ same k h ∙ ap (slot_at r) (omega arith)),
       λ same k h. ap (slot_at l) (omega arith) ∙ both.1 same k h ∙ ap (slot_at r) (omega arith),
     )
+
+-- ---- records
+
+-- the slots of several columns are the same where those of the first are, and those of the others
+pub fields_apart : (c d : Column) (cs ds : Columns) (i j n : ℕ)
+    → (SameRanges c i d j n × SameFields cs i ds j n) ↔ SameFields (column_then c cs) i (column_then d ds) j n
+fields_apart c d cs ds i j n = (
+  λ same k h l. slot_then (same.0 k h l) (same.1 k h l),
+  λ same. (λ k h. ap first_slot (same k h), λ k h. ap other_slots (same k h)),
+)
+
+-- the same of lists of columns
+pub fields_of_lists : (ls rs cs ds : List Column) (c d : Column) (i j n : ℕ) → ls ≡ c ∷ cs → rs ≡ d ∷ ds
+    → (SameRanges c i d j n × SameFields (in_columns cs) i (in_columns ds) j n) ↔ SameFields (in_columns ls) i (in_columns rs) j n
+fields_of_lists ls rs cs ds c d i j n left right =
+    let apart = fields_apart c d (in_columns cs) (in_columns ds) i j n in (
+      λ same k h. ap (λ (xs : List Column). slots_at (in_columns xs) (i + k)) left ∙ apart.0 same k h
+          ∙ ap (λ (xs : List Column). slots_at (in_columns xs) (j + k)) (sym right),
+      λ same. apart.1 (λ k h. ap (λ (xs : List Column). slots_at (in_columns xs) (i + k)) (sym left) ∙ same k h
+          ∙ ap (λ (xs : List Column). slots_at (in_columns xs) (j + k)) right),
+    )
+
+-- only no slots of none and of some columns are the same
+pub no_fields : (d : Column) (ds : Columns) (i j n : ℕ) → (n ≡ 0) ↔ SameFields no_column i (column_then d ds) j n
+no_fields d ds i j zero = (λ _ k h. absurd (omega arith), λ _. refl)
+no_fields d ds i j (suc n) = (λ is. absurd (omega arith), λ same. absurd (no_slots_then _ _ (same 0 (omega arith))))
+
+pub no_others : (c : Column) (cs : Columns) (i j n : ℕ) → (n ≡ 0) ↔ SameFields (column_then c cs) i no_column j n
+no_others c cs i j zero = (λ _ k h. absurd (omega arith), λ _. refl)
+no_others c cs i j (suc n) = (λ is. absurd (omega arith), λ same. absurd (no_slots_then _ _ (sym (same 0 (omega arith)))))
+
+-- records are the same where their fields are
+pub records_same : (l r : Column) (ls rs : Columns) (i j n : ℕ) → AreRecords l i n ls → AreRecords r j n rs
+    → SameFields ls i rs j n ↔ SameRanges l i r j n
+records_same l r ls rs i j n left right = (
+  λ same k h. left.shown k h ∙ ap fields (same k h) ∙ sym (right.shown k h),
+  λ same k h. ap fields_in (sym (left.shown k h) ∙ same k h ∙ right.shown k h),
+)
+
+columns_more : (cs : Columns) (i n : ℕ) → columns_nodes cs i (suc n) ≡ columns_nodes cs i n + nodes_of (slots_at cs (i + n))
+columns_more no_column i n = omega arith
+columns_more (column_then c cs) i n = omega (arith, nodes_more (slot_at c) i n, columns_more cs i n)
+
+-- a record is a node beside those of its fields
+records_nodes : (f : ℕ → Slot) (cs : Columns) (i n : ℕ) → ((k : ℕ) → k < n → f (i + k) ≡ fields (slots_at cs (i + k)))
+    → nodes_of (in_slots (window f i n)) ≡ n + columns_nodes cs i n
+records_nodes f no_column i zero shown = omega arith
+records_nodes f (column_then c cs) i zero shown = omega (arith, records_nodes f cs i zero (λ k h. absurd (omega arith)))
+records_nodes f cs i (suc n) shown =
+    let here : slot_nodes (f (i + n)) ≡ nodes_of (slots_at cs (i + n)) + 1 = ap slot_nodes (shown n (omega arith)) in
+    omega (arith, here, nodes_more f i n, columns_more cs i n, records_nodes f cs i n (λ k h. shown k (omega arith)))
+
+pub record_nodes : (l : Column) (ls : Columns) (i n : ℕ) → AreRecords l i n ls → range_nodes l i n ≡ n + columns_nodes ls i n
+record_nodes l ls i n left = records_nodes (slot_at l) ls i n left.shown

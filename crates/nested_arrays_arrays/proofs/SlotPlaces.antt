@@ -22,7 +22,7 @@ use Rattle.nested_arrays_parts.proofs.OffsetLists.{spans_count}
 use Rattle.nested_arrays_arrays.proofs.CutNodes.{one_size}
 use Rattle.nested_arrays_arrays.proofs.ListParts.{lists_parts}
 use Rattle.nested_arrays_arrays.specs.Parts.{column_children, column_ids, column_places}
-use Rattle.nested_arrays_arrays.specs.Places.{AreFields, AreItems, HavePlace, IsKeyless, IsPick, column_class, slot_class}
+use Rattle.nested_arrays_arrays.specs.Places.{AreFields, AreItems, AreRecords, HavePlace, HaveRange, IsKeyless, IsPick, column_class, slot_class}
 
 -- ---- classes
 
@@ -182,3 +182,30 @@ union_pick c columns t ids offsets i k place child is slot room found =
       within = omega (arith, room, room_there columns k child h, len);
       smaller = omega (arith, size, same, one_size columns k child h);
     }
+
+-- ---- ranges of records
+
+each_range : (children : Columns) (len i n : ℕ) → have_len children len ≡ true → i + n ≤ len → HaveRange children i n
+each_range no_column len i n long h = tt
+each_range (column_then column columns) len i n long h =
+    let parts = and_parts (column_len column == len) (have_len columns len) long in
+    (omega (arith, h, eqb-true (column_len column) len parts.0), each_range columns len i n parts.1 h)
+
+range_there : (t : DataType) (mask : Option (List Bool)) (len : ℕ) (children : Columns) (i n : ℕ) → is_sound (records t mask len children) ≡ true
+    → i + n ≤ len → ((k : ℕ) → k < n → is_valid_at mask (i + k) ≡ true) → AreRecords (records t mask len children) i n children
+range_there t mask len children i n sound h valid =
+    let parts = parts_of_4 (has_field_types (type_layer t) children) (have_len children len) (mask_fits mask len) (are_sound children) sound in
+    record {
+      shown = λ k small. valid_slot (records t mask len children) (i + k) (valid k small);
+      ranges = each_range children len i n parts.1 h;
+      smaller = omega arith;
+    }
+
+pub struct_range : (c : Column) (t : DataType) (mask : Option (List Bool)) (len : ℕ) (children : Columns) (i n : ℕ)
+    → c ≡ records t mask len children → is_sound c ≡ true → i + n ≤ column_len c
+    → ((k : ℕ) → k < n → is_valid_at (column_mask c) (i + k) ≡ true) → AreRecords c i n children
+struct_range c t mask len children i n is sound h valid =
+    let same : column_len c ≡ len = ap column_len is in
+    subst (λ (d : Column). AreRecords d i n children) (sym is)
+    (range_there t mask len children i n (ap is_sound (sym is) ∙ sound) (omega (arith, h, same))
+    (λ k small. ap (λ d. is_valid_at (column_mask d) (i + k)) (sym is) ∙ valid k small))

@@ -3,6 +3,7 @@ use Rattle.std.specs.Prelude.{◌≡◌, ◌+◌, ◌<◌, ◌≤◌, ℕ, false
 use Rattle.nested_arrays_columns.specs.Slots.{Slot, null, truth, number, pair, triple, text, bytes, items, fields, pick, in_slots, window}
 use Rattle.nested_arrays_columns.specs.StoredColumns.{Column, Columns, nulls, flat, lists, fixed_lists, records, unions, dictionary, no_column}
 use Rattle.nested_arrays_columns.specs.StoredColumns.{column_then, column_len, column_size, columns_size, column_type, is_valid_at, slot_at, slots_at}
+use Rattle.nested_arrays_equal.specs.Ranges.{range_nodes}
 
 -- slots by what stands inside them, each class by its number: null, a value without slots inside, items, fields and a pick
 abbrev pub slot_class : Slot → ℕ
@@ -55,6 +56,26 @@ pub record AreFields (column : Column) (i : ℕ) (children : Columns) : Type 0 w
   pub shown : slot_at column i ≡ fields (slots_at children i)
   pub places : HavePlace children i
   pub smaller : columns_size children < column_size column
+
+-- each of several columns has so many slots from a place on
+abbrev pub HaveRange : Columns → ℕ → ℕ → Type 0
+HaveRange no_column i n = Unit {0}
+HaveRange (column_then column columns) i n = (i + n ≤ column_len column) × HaveRange columns i n
+
+-- so many slots from a place on are records of the slots of smaller columns at their places
+pub record AreRecords (column : Column) (i n : ℕ) (children : Columns) : Type 0 where
+  pub shown : (k : ℕ) → k < n → slot_at column (i + k) ≡ fields (slots_at children (i + k))
+  pub ranges : HaveRange children i n
+  pub smaller : columns_size children < column_size column
+
+-- so many slots of each of several columns, from a place on, are those of others from a place on
+abbrev pub SameFields : Columns → ℕ → Columns → ℕ → ℕ → Type 0
+SameFields left i right j n = (k : ℕ) → k < n → slots_at left (i + k) ≡ slots_at right (j + k)
+
+-- how many slots stand in them, at every depth
+abbrev pub columns_nodes : Columns → ℕ → ℕ → ℕ
+columns_nodes no_column i n = 0
+columns_nodes (column_then column columns) i n = range_nodes column i n + columns_nodes columns i n
 
 -- a slot picks a smaller column and a slot there
 pub record IsPick (column : Column) (i : ℕ) (child : Column) (place : ℕ) : Type 0 where

@@ -4,13 +4,13 @@ ghost use Rattle.nested_arrays_columns.specs.SlotNodes.{nodes_of, slot_nodes};
 ghost use Rattle.nested_arrays_columns.specs.Slots.{in_slots, items, pick, window};
 ghost use Rattle.nested_arrays_columns.specs.StoredColumns.{column_len, column_type, in_columns, slot_at, slots_at};
 ghost use Rattle.nested_arrays_equal.specs.Ranges.{range_nodes, SameRanges};
-ghost use Rattle.nested_arrays_arrays.specs.Places.{HavePlace, IsKeyless};
+ghost use Rattle.nested_arrays_arrays.specs.Places.{columns_nodes, HavePlace, HaveRange, IsKeyless, SameFields};
 
 use crate::any::{AnyArray, Node};
 use crate::keys::value_of;
-use crate::places::{fields_at, items_at, pick_at, values_at};
+use crate::places::{fields_at, items_at, pick_at, records_at, values_at};
 use columnar_memory::Steps;
-use nested_arrays_equal::{same_slots, same_slots_counted};
+use nested_arrays_equal::{count_each, same_slots, same_slots_counted};
 use nested_arrays_parts::FlatArray;
 
 /// The array without children, if it is one.
@@ -53,6 +53,13 @@ pub(crate) fn same_range(
     if let (Some(left), Some(right)) = (flat(left), flat(right)) {
         return same_slots_counted(left, i, right, j, count, steps);
     }
+    if let (Some(fields), Some(others)) = (
+        records_at(left, i, count),
+        records_at(right, j, count),
+    ) {
+        count_each(steps, count);
+        return same_columns(fields, i, others, j, count, steps);
+    }
     let _left = left.len();
     let _right = right.len();
     for k in 0..count {
@@ -61,6 +68,38 @@ pub(crate) fn same_range(
         }
     }
     true
+}
+
+/// Whether so many slots of several arrays from a place on are those of as many others.
+#[cycle(comparing)]
+fn same_columns(
+    left: &[AnyArray],
+    i: usize,
+    right: &[AnyArray],
+    j: usize,
+    count: usize,
+    steps: &mut Steps,
+) -> bool
+    requires left_within { HaveRange (in_columns left.now) i count }
+    requires right_within { HaveRange (in_columns right.now) j count }
+    ensures same { IsTrue result ↔ SameFields (in_columns left.now) i (in_columns right.now) j count }
+    ensures counted { steps.new.count ≤ steps.old.count + columns_nodes (in_columns left.now) i count }
+{
+    match left.split_first() {
+        Some((array, arrays)) => match right.split_first() {
+            Some((other, others)) => {
+                if !same_range(array, i, other, j, count, steps) {
+                    return false;
+                }
+                same_columns(arrays, i, others, j, count, steps)
+            }
+            None => count == 0,
+        },
+        None => match right.split_first() {
+            Some(_) => count == 0,
+            None => true,
+        },
+    }
 }
 
 /// Whether a slot of an array is that of another.

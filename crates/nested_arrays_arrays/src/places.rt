@@ -1,5 +1,5 @@
 //! Where the slots inside a slot stand.
-ghost use Rattle.std.specs.Prelude.{◌≡◌, ◌≢◌, ◌+◌, ◌<◌, ◌≤◌, length, MatchOption, true};
+ghost use Rattle.std.specs.Prelude.{◌≡◌, ◌≢◌, ◌+◌, ◌<◌, ◌≤◌, length, IfSome, MatchOption, true};
 ghost use Rattle.columnar_memory.specs.Spans.{last_of, offset_at};
 ghost use Rattle.nested_arrays_columns.specs.Slots.{null};
 ghost use Rattle.nested_arrays_columns.specs.SoundColumns.{is_sound};
@@ -7,14 +7,14 @@ ghost use Rattle.nested_arrays_columns.specs.StoredColumns.{column_len, in_colum
 ghost use Rattle.nested_arrays_flat.specs.ColumnMasks.{column_mask};
 ghost use Rattle.nested_arrays_parts.specs.Widths.{spans_in};
 ghost use Rattle.nested_arrays_arrays.specs.AnyColumns.{column_of};
-ghost use Rattle.nested_arrays_arrays.specs.Places.{AreFields, AreItems, IsKeyless, IsPick, slot_class};
+ghost use Rattle.nested_arrays_arrays.specs.Places.{AreFields, AreItems, AreRecords, IsKeyless, IsPick, slot_class};
 
 use crate::any::{AnyArray, ListNode, Node};
 use crate::fixed_lists::FixedSizeListArray;
 use crate::maps::MapArray;
 use crate::records::StructArray;
 use crate::unions::UnionArray;
-use nested_arrays_equal::{holds_values, is_null};
+use nested_arrays_equal::{has_no_nulls, holds_values, is_null};
 use nested_arrays_flat::mark_at;
 use nested_arrays_parts::{FlatArray, ListOffsets};
 
@@ -193,6 +193,34 @@ pub(crate) fn record_at(array: &StructArray, i: usize) -> Option<&[AnyArray]>
         return None;
     }
     Some(struct_fields(array, i))
+}
+
+/// The children of so many structs from a place on, if none of them is null.
+fn struct_range(array: &StructArray, i: usize, count: usize) -> Option<&[AnyArray]>
+    requires { i + count ≤ column_len array.now }
+    ensures { IfSome result (λ children. AreRecords array.now i count (in_columns children.now)) }
+{
+    array.whole();
+    if !has_no_nulls(array.validity(), i, count) {
+        return None;
+    }
+    Some(array.values())
+}
+
+/// The arrays whose slots are the fields of so many slots from a place on, if an array is of structs of which none there is null.
+pub(crate) fn records_at(array: &AnyArray, i: usize, count: usize) -> Option<&[AnyArray]>
+    requires { i + count ≤ column_len array.now }
+    ensures { IfSome result (λ children. AreRecords array.now i count (in_columns children.now)) }
+{
+    match &array.node {
+        Node::Flat(_) => None,
+        Node::List(_) => None,
+        Node::FixedSizeList(_) => None,
+        Node::Struct(array) => struct_range(array, i, count),
+        Node::Map(_) => None,
+        Node::Union(_) => None,
+        Node::Dictionary(_) => None,
+    }
 }
 
 /// The arrays whose slots at a place are the fields of the slot, if it is a record.

@@ -1,11 +1,10 @@
 -- Slots that are the same, by their forms.
-use Rattle.std.proofs.Common.{◌≡◌, ◌≢◌, ◌∙◌, ◌<◌, ◌≤◌, ◌+◌, ℕ, zero, suc, List, Bool, true, false, refl, sym, ap, arith}
-use Rattle.std.specs.Prelude.{◌↔◌, IsTrue, nat_eq, ◌==◌, Option, Some, None, if◌then◌else◌}
-use Rattle.std.proofs.lemmas.Bool.{eq-eqb, eqb-true, false≢true}
-use Rattle.nested_arrays_columns.specs.Slots.{Slot, null, text, bytes, truth}
+use Rattle.std.proofs.Common.{◌≡◌, ◌∙◌, ◌<◌, ◌≤◌, ◌+◌, ℕ, zero, suc, Bool, true, false, refl, sym, ap, arith}
+use Rattle.std.specs.Prelude.{◌↔◌, None, if◌then◌else◌}
+use Rattle.nested_arrays_columns.specs.Slots.{null}
 use Rattle.nested_arrays_columns.specs.StoredColumns.{Column, nulls, flat, lists, fixed_lists, records, unions, dictionary}
 use Rattle.nested_arrays_columns.specs.StoredColumns.{Stored, bits, numbers, pairs, triples, texts, byte_strings, fixed_bytes}
-use Rattle.nested_arrays_columns.specs.StoredColumns.{is_valid_at, slot_at, stored_at, unless_null}
+use Rattle.nested_arrays_columns.specs.StoredColumns.{is_valid_at, slot_at, stored_at}
 use Rattle.nested_arrays_equal.specs.Forms.{bare, column_form, slot_form, stored_form}
 use Rattle.nested_arrays_equal.specs.Ranges.{SameRanges}
 use Rattle.nested_arrays_flat.specs.ColumnMasks.{column_mask}

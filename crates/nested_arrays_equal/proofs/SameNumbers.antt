@@ -1,17 +1,15 @@
 -- Stored numbers that are the same.
-use Rattle.std.proofs.Common.{◌≡◌, ◌∙◌, ◌<◌, ◌+◌, ℕ, ℤ, List, Bool, true, false, refl, sym, ap, arith, length, map, get_or}
-use Rattle.std.specs.Prelude.{◌&&◌, ◌==◌, ◌↔◌, pos, Some, None, Option, option_map, slice_get}
+use Rattle.std.proofs.Common.{◌≡◌, ◌∙◌, ◌<◌, ◌+◌, ℕ, ℤ, List, true, refl, sym, ap, arith, length, map, get_or}
+use Rattle.std.specs.Prelude.{◌==◌, ◌↔◌, pos, Some, option_map, slice_get}
 use Rattle.std.specs.List.{list_all}
 use Rattle.std.proofs.lemmas.Bool.{false≢true}
-use Rattle.std.proofs.lemmas.Option.{get_or_from_slice_get, slice_get-map, slice_get-get_or, slice_get_within}
-use Rattle.columnar_memory.specs.declared.DataType.{DataType}
+use Rattle.std.proofs.lemmas.Option.{get_or_from_slice_get, slice_get-map, slice_get-get_or}
 use Rattle.columnar_memory.specs.declared.PhysicalType.{PhysicalType}
 use Rattle.columnar_memory.specs.declared.PhysicalType.TheVariants as physical
 use Rattle.columnar_memory.specs.declared.PrimitiveType.{PrimitiveType}
 use Rattle.columnar_memory.specs.declared.PrimitiveType.TheVariants as kinds
 use Rattle.columnar_memory.specs.Layouts.{physical_type}
 use Rattle.columnar_memory.specs.Numbers.{Numbers, one, two, three, first_number, IsNative}
-use Rattle.flat_arrays_values.specs.Flat as arrays
 use Rattle.flat_arrays_values.specs.Flat.{Flat}
 use Rattle.nested_arrays_columns.proofs.Conditions.{parts_of_3}
 use Rattle.nested_arrays_columns.proofs.SameSlotsDecide.{same_kind-implies}

@@ -1,6 +1,6 @@
 -- What columns without children store, by its form.
-use Rattle.std.proofs.Common.{◌≡◌, ◌∙◌, ◌<◌, ◌+◌, ℕ, List, refl, sym, ap, arith, get_or}
-use Rattle.std.specs.Prelude.{Some, slice_get, slice_range, unwrap_or}
+use Rattle.std.proofs.Common.{◌≡◌, ◌∙◌, ◌<◌, ◌+◌, ℕ, List, refl, sym, ap, arith}
+use Rattle.std.specs.Prelude.{Some, slice_get, slice_range}
 use Rattle.columnar_memory.specs.Spans.{offsets_of, offset_at}
 use Rattle.flat_arrays_byte_columns.proofs.Places.{value_between}
 use Rattle.flat_arrays_byte_columns.specs.ByteStrings.{ByteStrings, len_of, values_of}

@@ -6,5 +6,5 @@ mod ranges;
 mod stored;
 mod values;
 
-pub use ranges::{has_no_nulls, is_null, is_valid, same_slots, same_slots_counted};
+pub use ranges::{count_each, has_no_nulls, is_null, is_valid, same_slots, same_slots_counted};
 pub use stored::holds_values;

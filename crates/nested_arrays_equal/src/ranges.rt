@@ -113,6 +113,15 @@ pub fn same_slots(left: &FlatArray, i: usize, right: &FlatArray, j: usize, count
     true
 }
 
+/// So many steps more.
+pub fn count_each(steps: &mut Steps, count: usize)
+    ensures { steps.new.count ≡ steps.old.count + count }
+{
+    for _ in 0..count {
+        steps.tick();
+    }
+}
+
 /// The same, with a step for each slot of the left array that is compared.
 pub fn same_slots_counted(
     left: &FlatArray,
@@ -127,8 +136,6 @@ pub fn same_slots_counted(
     ensures same { IsTrue result ↔ SameRanges left.now i right.now j count }
     ensures counted { steps.new.count ≡ steps.old.count + count }
 {
-    for _ in 0..count {
-        steps.tick();
-    }
+    count_each(steps, count);
     same_slots(left, i, right, j, count)
 }

@@ -3,8 +3,8 @@ use Rattle.std.proofs.lemmas.Bool.{false≢true}
 use Rattle.nested_arrays_columns.proofs.ColumnSizes.{sizes_count}
 use Rattle.nested_arrays_columns.specs.Slots.{pick}
 use Rattle.nested_arrays_columns.specs.StoredColumns.{Column, column_size, columns_size, in_columns, slot_at}
-use Rattle.nested_arrays_arrays.proofs.SameSlots.{items_count, items_same, nodes_some, nodes_up_to, one_more, pick_parts}
-use Rattle.nested_arrays_arrays.specs.Places.{HavePlace}
+use Rattle.nested_arrays_arrays.proofs.SameSlots.{fields_of_lists, items_count, items_same, nodes_some, nodes_up_to, one_more, pick_parts, record_nodes, records_same}
+use Rattle.nested_arrays_arrays.specs.Places.{HavePlace, HaveRange}
 use Rattle.nested_arrays_arrays.proofs.comparisons.+comparing.Goals as goal
 
 pub same_fields-same_fields-requires : goal.same_fields-same_fields-requires
@@ -19,6 +19,40 @@ same_fields-same_fields-requires t c =
         (subst (λ (xs : List Column). HavePlace (in_columns xs) c.args.i) left c.requires.left_within).1,
         (subst (λ (xs : List Column). HavePlace (in_columns xs) c.args.j) right c.requires.right_within).1,
       ),
+    )
+
+pub same_columns-same_columns-requires : goal.same_columns-same_columns-requires
+same_columns-same_columns-requires t c =
+    let left : c.args.left.now ≡ c.in-Some.array.now ∷ c.in-Some.arrays.now = search rules in
+    let right : c.args.right.now ≡ c.in-Some-split_first.other.now ∷ c.in-Some-split_first.others.now = search rules in
+    let size : columns_size (in_columns c.args.left.now) ≡ column_size c.in-Some.array.now + columns_size (in_columns c.in-Some.arrays.now) =
+    ap (λ (xs : List Column). columns_size (in_columns xs)) left in
+    let some = sizes_count c.in-Some.array.now in (
+      search (rules, size, some),
+      (
+        (subst (λ (xs : List Column). HaveRange (in_columns xs) c.args.i c.args.count) left c.requires.left_within).1,
+        (subst (λ (xs : List Column). HaveRange (in_columns xs) c.args.j c.args.count) right c.requires.right_within).1,
+      ),
+    )
+
+pub same_columns-returns-then-not-same_range-clause-same : goal.same_columns-returns-then-not-same_range-clause-same
+same_columns-returns-then-not-same_range-clause-same t c =
+    let left : c.args.left.now ≡ c.in-Some.array.now ∷ c.in-Some.arrays.now = search rules in
+    let right : c.args.right.now ≡ c.in-Some-split_first.other.now ∷ c.in-Some-split_first.others.now = search rules in
+    let whole = fields_of_lists c.args.left.now c.args.right.now c.in-Some.arrays.now c.in-Some-split_first.others.now c.in-Some.array.now
+    c.in-Some-split_first.other.now c.args.i c.args.j c.args.count left right in (
+      λ is. absurd (false≢true is),
+      λ same. absurd (false≢true (sym c.if-not-same_range.true ∙ c.same_range.ensures.same.1 (whole.1 same).0)),
+    )
+
+pub same_columns-returns-else-not-same_range-clause-same : goal.same_columns-returns-else-not-same_range-clause-same
+same_columns-returns-else-not-same_range-clause-same t c =
+    let left : c.args.left.now ≡ c.in-Some.array.now ∷ c.in-Some.arrays.now = search rules in
+    let right : c.args.right.now ≡ c.in-Some-split_first.other.now ∷ c.in-Some-split_first.others.now = search rules in
+    let whole = fields_of_lists c.args.left.now c.args.right.now c.in-Some.arrays.now c.in-Some-split_first.others.now c.in-Some.array.now
+    c.in-Some-split_first.other.now c.args.i c.args.j c.args.count left right in (
+      λ is. whole.0 (c.same_range.ensures.same.0 c.if-not-same_range.false, c.same_columns.ensures.same.0 is),
+      λ same. c.same_columns.ensures.same.1 (whole.1 same).1,
     )
 
 pub same_items-returns-then-count-other_count-clause-same : goal.same_items-returns-then-count-other_count-clause-same
@@ -61,3 +95,17 @@ same_range-returns-then-not-same_slot-clause-counted t c = omega (
 pub same_range-loop-k-preserved : goal.same_range-loop-k-preserved
 same_range-loop-k-preserved t c =
     one_more _ _ _ _ _ _ _ _ c.loop-k.invariant (c.same_slot.ensures.same.0 c.if-not-same_slot.false) c.same_slot.ensures.counted
+
+pub same_range-returns-in-Some-Some-2-clause-same : goal.same_range-returns-in-Some-Some-2-clause-same
+same_range-returns-in-Some-Some-2-clause-same t c =
+    let both = records_same c.args.left.now c.args.right.now (in_columns c.in-Some-Some-2.fields.now) (in_columns c.in-Some-Some-2.others.now)
+    c.args.i c.args.j c.args.count c.in-Some-Some-2.ensures c.in-Some-Some-2.ensures' in
+    (λ is. both.0 (c.same_columns.ensures.same.0 is), λ same. c.same_columns.ensures.same.1 (both.1 same))
+
+pub same_range-returns-in-Some-Some-2-clause-counted : goal.same_range-returns-in-Some-Some-2-clause-counted
+same_range-returns-in-Some-Some-2-clause-counted t c = omega (
+  arith,
+  c.count_each.ensures,
+  c.same_columns.ensures.counted,
+  record_nodes c.args.left.now (in_columns c.in-Some-Some-2.fields.now) c.args.i c.args.count c.in-Some-Some-2.ensures,
+)

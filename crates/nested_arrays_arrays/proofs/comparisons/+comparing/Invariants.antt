@@ -24,3 +24,6 @@ decreases-same_pick l = 4 * column_size l.left.now + 4
 -- the slots before are the same, and each was counted once
 abbrev pub invariant-same_range-loop-k : goal.invariant-same_range-loop-k
 invariant-same_range-loop-k l = Compared l.left l.i l.right l.j l.k l.initial.steps.count l.steps.count
+
+abbrev pub decreases-same_columns : goal.decreases-same_columns
+decreases-same_columns l = 4 * columns_size (in_columns l.left.now) + 4

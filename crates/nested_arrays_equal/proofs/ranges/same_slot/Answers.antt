@@ -1,5 +1,4 @@
-use Rattle.std.proofs.Common.{◌≡◌, ◌∙◌, sym, true}
-use Rattle.nested_arrays_columns.specs.StoredColumns.{is_valid_at}
+use Rattle.std.proofs.Common.{◌∙◌, sym}
 use Rattle.nested_arrays_equal.proofs.SameForms.{one_slot, valid_slot}
 use Rattle.nested_arrays_equal.specs.Forms.{bare}
 use Rattle.nested_arrays_equal.proofs.ranges.same_slot.Goals as goal
