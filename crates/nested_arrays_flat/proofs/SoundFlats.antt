@@ -31,7 +31,7 @@ use Rattle.nested_arrays_flat.specs.FlatColumns.{is_native, pair_of, triple_of, 
 pub window-cut_list : {A : Type 0} (xs : List A) (o n : ℕ) → cut_list xs o n ≡ window xs o n
 window-cut_list xs o n = ap (λ k. take k (drop o xs)) (omega arith)
 
-window-map : {A B : Type 0} (f : A → B) (xs : List A) (o n : ℕ) → map f (window xs o n) ≡ window (map f xs) o n
+pub window-map : {A B : Type 0} (f : A → B) (xs : List A) (o n : ℕ) → map f (window xs o n) ≡ window (map f xs) o n
 window-map f xs o n = sym (take-map f n (drop o xs)) ∙ ap (take n) (sym (drop-map f o xs))
 
 -- the elements of a part, each changed

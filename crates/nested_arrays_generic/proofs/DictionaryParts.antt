@@ -1,13 +1,12 @@
 -- Dictionaries are sound where their parts are, and what is cut out of keys is cut out of the dictionary.
-use Rattle.std.proofs.Common.{◌≡◌, ◌∙◌, ℕ, zero, suc, ◌<◌, List, [], ◌∷◌, length, map, refl, sym, ap, subst, arith, get_or, true, false, take, drop}
+use Rattle.std.proofs.Common.{◌≡◌, ◌∙◌, ℕ, zero, suc, ◌<◌, List, [], ◌∷◌, length, map, refl, sym, ap, subst, arith, get_or, true, false}
 use Rattle.std.specs.Prelude.{Result, Ok, Err, is_ok}
 use Rattle.std.specs.Prelude.{ℤ, pos, Bool, ◌&&◌, ◌||◌, not, Option, int_le, nat_lt, slice_index_or, T, ◌≤ℤ◌}
 use Rattle.std.specs.List.{All, list_all}
 use mathlib.Core.Logic.{inl}
 use lib.Signed.{le_z_yes}
 use Rattle.std.proofs.lemmas.Bool.{and_from, and_parts, le-leb, lt-ltb, false≢true}
-use Rattle.std.proofs.lemmas.List.{length-map, take-map, drop-map}
-use Rattle.columnar_memory.specs.Window.{window}
+use Rattle.std.proofs.lemmas.List.{length-map}
 use Rattle.columnar_memory.specs.Equality.{same_type}
 use Rattle.columnar_memory.specs.Error.{IsOutOfSpec}
 use Rattle.columnar_memory.specs.Layouts.{physical_type}
@@ -31,7 +30,7 @@ use Rattle.nested_arrays_flat.specs.ColumnMasks.{column_mask}
 use Rattle.nested_arrays_flat.specs.FlatColumns.{primitive_column, stored_numbers}
 use Rattle.nested_arrays_flat.proofs.ColumnParts.{sound_mask}
 use Rattle.nested_arrays_flat.proofs.Layers.{Layer, layer_layout, type_lies}
-use Rattle.nested_arrays_flat.proofs.SoundFlats.{cut_masks, primitive_len, window-cut_list}
+use Rattle.nested_arrays_flat.proofs.SoundFlats.{cut_masks, primitive_len, window-cut_list, window-map}
 use Rattle.nested_arrays_arrays.specs.Answers.{IsCheckedAs, LiesAs}
 use Rattle.nested_arrays_parts.specs.Keys.{AreKeysOf, keyed, kind_of_keys, numbers_in}
 use Rattle.nested_arrays_generic.specs.Dictionaries.{IsDictionaryOf, dictionary_type, is_value_type, keyed_by, raw_key}
@@ -214,9 +213,6 @@ dictionary_parts key value data_type keys values lies =
       layer_value (type_layer data_type) numbers (column_type values) parts.0,
       ap (λ n. holds_below n test) (sym (length-map keys.values value)) ∙ parts.2,
     )
-
-window-map : {A B : Type 0} (f : A → B) (xs : List A) (o n : ℕ) → map f (window xs o n) ≡ window (map f xs) o n
-window-map f xs o n = sym (take-map f n (drop o xs)) ∙ ap (take n) (sym (drop-map f o xs))
 
 -- what is cut out of keys is cut out of the dictionary
 pub keyed_by_cut : {K : Type 0} (value : K → ℤ) (c : Column) (data_type : DataType) (keys some : Flat K) (values : Column) (o n : ℕ)
