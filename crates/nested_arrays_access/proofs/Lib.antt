@@ -1,2 +1,3 @@
 pub mod CountedNulls
 pub mod NullColumns
+pub mod NumberMasks

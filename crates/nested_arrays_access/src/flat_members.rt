@@ -220,7 +220,7 @@ impl<O: Offset> Array for Utf8Array<O> {
 ///
 /// # Errors
 /// `InvalidArgumentError`: the mask has another length than the array, which is as it was.
-#[tactic(auto, using(nested_arrays_flat::proofs::SoundFlats::primitive_len, nested_arrays_parts::proofs::FlatMasks::masked_from, nested_arrays_parts::proofs::FlatMasks::flat_takes))]
+#[tactic(auto, using(crate::proofs::NumberMasks::masking))]
 fn mask_numbers<T: NativeType>(
     array: &mut PrimitiveArray<T>,
     validity: Option<Bitmap>,
