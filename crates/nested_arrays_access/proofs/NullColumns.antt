@@ -13,8 +13,9 @@ use Rattle.nested_arrays_columns.specs.Kinds.{is_signed, most_offset}
 use Rattle.nested_arrays_columns.specs.SoundColumns.{are_offsets, are_pieces, are_sound, has_child_at, has_child_types, has_field_types}
 use Rattle.nested_arrays_columns.specs.SoundColumns.{has_fixed_item_type, has_item_type, has_places, has_size, has_value_at, has_value_type, have_len}
 use Rattle.nested_arrays_columns.specs.SoundColumns.{holds_below, is_null_type, is_sound, is_stored_as, mask_fits}
-use Rattle.nested_arrays_columns.specs.StoredColumns.{Column, Columns, Stored, nulls, flat, lists, fixed_lists, records, unions, dictionary, column_len}
-use Rattle.nested_arrays_columns.specs.StoredColumns.{bits, numbers, pairs, triples, texts, byte_strings, fixed_bytes, column_type, is_valid_at, stored_len, type_layer}
+use Rattle.nested_arrays_columns.specs.StoredColumns.{Column, Columns, Stored, nulls, flat, lists, fixed_lists, records, unions, dictionary}
+use Rattle.nested_arrays_columns.specs.StoredColumns.{bits, numbers, pairs, triples, texts, byte_strings, fixed_bytes, column_len, column_type}
+use Rattle.nested_arrays_columns.specs.StoredColumns.{is_valid_at, stored_len, type_layer}
 use Rattle.nested_arrays_flat.proofs.Layers.{Layer}
 use Rattle.nested_arrays_flat.proofs.NullTypes.{null_types}
 use Rattle.nested_arrays_flat.specs.ColumnMasks.{column_mask, unset_in}

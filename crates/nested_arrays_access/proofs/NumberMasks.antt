@@ -1,5 +1,5 @@
--- What replacing the mask of an array of numbers rests on.
-use Rattle.nested_arrays_flat.proofs.SoundFlats.{primitive_len}
-use Rattle.nested_arrays_parts.proofs.FlatMasks.{masked_from, flat_takes}
+-- Masks of arrays of numbers.
+use Rattle.nested_arrays_flat.proofs.ColumnParts.{flat_takes}
+use Rattle.nested_arrays_flat.proofs.SoundFlats.{masked_from, primitive_len}
 
-pub ruleset numbers_masked = (primitive_len, masked_from, flat_takes)
+pub ruleset masking = (primitive_len, masked_from, flat_takes)

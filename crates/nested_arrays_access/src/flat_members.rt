@@ -220,7 +220,7 @@ impl<O: Offset> Array for Utf8Array<O> {
 ///
 /// # Errors
 /// `InvalidArgumentError`: the mask has another length than the array, which is as it was.
-#[tactic(auto, using(crate::proofs::NumberMasks::numbers_masked))]
+#[tactic(auto, using(crate::proofs::NumberMasks::masking))]
 fn mask_numbers<T: NativeType>(
     array: &mut PrimitiveArray<T>,
     validity: Option<Bitmap>,
