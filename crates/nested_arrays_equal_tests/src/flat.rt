@@ -7,7 +7,12 @@ use std::alloc::Global;
 use std::test::Fail;
 
 /// Numbers of a type, the second of which is null where the mask says so.
-fn numbers(alloc: Global, data_type: DataType, values: &[i32], mask: Option<Bitmap>) -> Result<AnyArray, Error> {
+fn numbers(
+    alloc: Global,
+    data_type: DataType,
+    values: &[i32],
+    mask: Option<Bitmap>,
+) -> Result<AnyArray, Error> {
     let values = Buffer::from_vec(Vec::from_slice(alloc, values)?)?;
     let array = PrimitiveArray::try_new(data_type, values, mask)?;
     Ok(AnyArray::from(FlatArray::from(AnyPrimitive::from_array(array))))

@@ -47,7 +47,11 @@ fn letters(alloc: Global, keys: &[i8], texts: &[&str]) -> Result<AnyArray, Error
     let texts: Utf8Array<i32> = Utf8Array::from_slice(alloc, texts)?;
     let texts = Box::new(alloc, AnyArray::from(FlatArray::from(texts)))?;
     let keys = PrimitiveArray::from_slice(alloc, keys)?;
-    let data_type = DataType::Dictionary(IntegerType::Int8, Boxed::new(alloc, DataType::Utf8)?, false);
+    let data_type = DataType::Dictionary(
+        IntegerType::Int8,
+        Boxed::new(alloc, DataType::Utf8)?,
+        false,
+    );
     Ok(AnyArray::from(DictionaryArray::try_new(data_type, keys, texts)?))
 }
 
