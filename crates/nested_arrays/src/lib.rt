@@ -1,0 +1,26 @@
+//! Nested arrays under one name: arrays of any type, which a contract sees as the column that they store, their cuts, and their equality by
+//! slots; and the definitions of slots, columns and tables, with their laws.
+#![tactic(auto)]
+
+pub use nested_arrays_access::{
+    Array, a_null_slot_has_no_value, a_slot_without_a_value_is_null, nulls_are_counted,
+};
+pub use nested_arrays_arrays::{
+    AnyArray, DictionaryNode, FixedSizeListArray, ListNode, MapArray, Node, StructArray, UnionArray,
+    equal, equal_counted,
+};
+pub use nested_arrays_columns::{
+    a_beginning_of_what_fits_fits, a_choice_of_a_part_is_the_part_of_the_choice,
+    a_column_has_a_size, a_column_has_its_length, a_cut_has_a_range_of_the_slots,
+    a_cut_has_its_length, a_cut_is_sound, a_cut_keeps_its_size, a_cut_of_a_cut_is_one_cut,
+    a_limit_is_a_part, a_part_of_a_part_is_one_part, a_slot_has_its_place_among_distinct_ones,
+    distinct_slots_are_distinct, joins_are_associative, null_fits_every_type,
+    sameness_decides_equality, two_parts_make_the_whole,
+};
+pub use nested_arrays_flat::{
+    AnyPrimitive, FixedSizeBinaryArray, NullArray, PrimitiveKind, PrimitiveNode,
+};
+pub use nested_arrays_generic::{
+    DictionaryArray, DictionaryKey, DictionaryKeys, DictionaryKeysIter, ListArray,
+};
+pub use nested_arrays_parts::{FlatArray, FlatNode, ListOffsets};
