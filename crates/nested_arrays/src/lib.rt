@@ -6,8 +6,8 @@ pub use nested_arrays_access::{
     Array, a_null_slot_has_no_value, a_slot_without_a_value_is_null, nulls_are_counted,
 };
 pub use nested_arrays_arrays::{
-    AnyArray, DictionaryNode, FixedSizeListArray, ListNode, MapArray, Node, StructArray, UnionArray,
-    equal, equal_counted,
+    AnyArray, DictionaryNode, FixedSizeListArray, ListNode, MapArray, Node, StructArray,
+    UnionArray, equal, equal_counted,
 };
 pub use nested_arrays_columns::{
     a_beginning_of_what_fits_fits, a_choice_of_a_part_is_the_part_of_the_choice,
