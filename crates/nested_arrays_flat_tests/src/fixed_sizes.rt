@@ -35,3 +35,13 @@ fn nulls_have_no_value(rt: HostRuntime) -> Result<(), Fail> {
     );
     Ok(())
 }
+
+#[test]
+fn an_empty_array_has_no_place(rt: HostRuntime) -> Result<(), Fail> {
+    let data_type = DataType::FixedSizeBinary(2);
+    assert_eq!(rt; FixedSizeBinaryArray::get_size(&data_type), 2);
+    let array = FixedSizeBinaryArray::new_empty(rt.alloc(), data_type)?;
+    assert_eq!(rt; array.len(), 0);
+    assert!(rt; array.get(0).is_none());
+    Ok(())
+}
