@@ -31,7 +31,7 @@ impl<T> Model for Items<T> {
 }
 
 impl<T> Items<T> {
-    /// No elements yet, which takes no memory.
+    /// No elements, which take no memory.
     pub fn new(alloc: Global) -> Self
         ensures { result ≡ [] }
     {

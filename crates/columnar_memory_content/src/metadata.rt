@@ -31,7 +31,7 @@ impl Model for Metadata {
 }
 
 impl Metadata {
-    /// No pairs yet, which takes no memory.
+    /// No pairs, which take no memory.
     pub fn new(alloc: Global) -> Self
         ensures { result ≡ [] }
     {
@@ -76,7 +76,7 @@ impl Metadata {
         self.map.get(key)
     }
 
-    /// The value at a key that is no `Text` yet, found pair by pair.
+    /// The value at a key that is a plain `str`, found pair by pair.
     pub fn get_str(&self, key: &str) -> Option<&Text>
         ensures { option_copied result ≡ value_at key.now self.now }
     {

@@ -16,7 +16,7 @@ rest_step f xs i x lt is =
 pub rest_end : {A B : Type 0} (f : A → B) (xs : List A) (i : ℕ) → length xs ≤ i → drop i (map f xs) ≡ []
 rest_end f xs i h = drop_of_length-le (map f xs) (rw length-map h)
 
--- what was written so far with what is still to be written, after one more part
+-- what was written with what is still to be written, after one more part
 pub append_step : (out new part rest total : List ℕ) → new ≡ out ++ part → out ++ (part ++ rest) ≡ total → new ++ rest ≡ total
 append_step out new part rest total e h = rw e (append_assoc out part rest ∙ h)
 

@@ -23,7 +23,7 @@ padded bytes = bytes ++ replicate (next_multiple_of (length bytes) 8 - length by
 abbrev pub field_start : ℕ → Width → ℕ
 field_start at w = next_multiple_of at (byte_len w)
 
--- the vtable's entry for a slot, where the fields so far end at a place
+-- the vtable's entry for a slot, where the fields before it end at a place
 abbrev pub entry_of : ℕ → Slot → ℕ
 entry_of at absent = 0
 entry_of at (number w n) = field_start at w

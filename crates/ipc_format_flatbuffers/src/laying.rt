@@ -53,7 +53,7 @@ impl<T: Drop> From<AllocFailed<T>> for LayError {
     }
 }
 
-/// Where a slot's field begins in its table, 0 if it is absent, where the fields so far end at `at`.
+/// Where a slot's field begins in its table, 0 if it is absent, where the fields before it end at `at`.
 fn entry_of(at: usize, slot: &Slot<'_>) -> usize
     requires { at ≤ 256 }
     ensures { result ≡ layout.entry_of at (slot_view slot.now) }
@@ -155,7 +155,7 @@ fn put_vtable(out: &mut Vec<u8>, end: usize, slots: &[Slot<'_>]) -> Result<(), A
     put_zeros(out, len.next_multiple_of(8) - len)
 }
 
-/// Writes a slot's field and the zeros before it, where the fields so far end at `at` and the object that comes next in the table's
+/// Writes a slot's field and the zeros before it, where the fields before it end at `at` and the object that comes next in the table's
 /// bytes begins at `child`.
 fn put_field(out: &mut Vec<u8>, at: usize, child: usize, slot: &Slot<'_>) -> Result<(), AllocError>
     requires near { at ≤ 256 }

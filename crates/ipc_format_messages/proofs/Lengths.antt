@@ -11,7 +11,7 @@ use Rattle.ipc_format_messages.specs.BufferLengths.{length_at, IsNoneOrLong}
 unfoldable pub lengths_left : List ℕ → Vector → ℕ → ℕ → Option ℕ
 lengths_left bytes v k m = lengths_from bytes (v.place + 16 * k) m
 
--- what was added so far, and what is left to add from buffer k on, make the sum
+-- what was added of the first k buffers, and what is left to add from buffer k on, make the sum
 abbrev pub IsLeft : List ℕ → Vector → ℕ → ℕ → Type 0
 IsLeft bytes v sum k = (m : ℕ) → k + m ≡ v.count → lengths_sum bytes v ≡ option_map (λ n. sum + n) (lengths_left bytes v k m)
 

@@ -12,10 +12,10 @@ use std::io::{Cursor, Read, Seek, SeekFrom, Write};
 pub trait Faults {
     ghost use Rattle.std.specs.Prelude.{ℕ};
 
-    // How often the device has failed so far.
+    // How often the device has failed.
     ghost failures: { Self → ℕ };
 
-    /// How often the device has failed so far. At its greatest number the count stays.
+    /// How often the device has failed. At its greatest number the count stays.
     fn faults(&self) -> u64
         ensures { result ≡ failures self.now };
 }
@@ -62,7 +62,7 @@ pub struct Counting<T> {
 }
 
 impl<T> Counting<T> {
-    /// The device, which has not failed so far.
+    /// The device, with a count of no failures.
     pub fn new(device: T) -> Counting<T>
         ensures device { result.device ≡ device }
         ensures failures { result.failures ≡ 0 }

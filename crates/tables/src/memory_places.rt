@@ -29,7 +29,7 @@ impl Model for MemoryPlaces {
 }
 
 impl MemoryPlaces {
-    /// No name yet, which takes no memory.
+    /// No names, which take no memory.
     pub fn new(alloc: Global) -> Self
         ensures { result ≡ map.empty }
     {

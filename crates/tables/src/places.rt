@@ -41,7 +41,7 @@ pub struct FilePlaces<'a, R> {
 }
 
 impl<'a, R> FilePlaces<'a, R> {
-    /// The files that the runtime reaches; nothing is opened yet.
+    /// The files that the runtime reaches; nothing is opened.
     pub fn new(rt: &'a R) -> Self {
         FilePlaces { rt }
     }

@@ -23,11 +23,11 @@ use Rattle.tables_stream.specs.Int32.{int32_columns, agreeing, behind}
 abbrev pub Cells : Type 0
 Cells = List (Option ℤ)
 
--- what is read of all columns is what was read so far, and then what the columns from the k-th on give
+-- what is read of all columns is what was read of the first k, and then what the columns from the k-th on give
 abbrev pub ColumnsLeft : Source → ℕ → List Cells → ℕ → Type 0
 ColumnsLeft batch width columns k = (m : ℕ) → k + m ≡ width → int32_columns batch 0 width ≡ behind (batch_slots columns) (int32_columns batch k m)
 
--- the columns that were read so far: each is as long as the first
+-- the columns that were read: each is as long as the first
 pub record Gathered (batch : Source) (width : ℕ) (columns : List Cells) (k : ℕ) : Type 0 where
   pub counted : length columns ≡ k
   pub long : All (λ (column : Cells). length column ≡ rows_of_cells columns) columns

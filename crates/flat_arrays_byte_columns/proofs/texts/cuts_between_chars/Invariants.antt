@@ -3,7 +3,7 @@ use Rattle.std.specs.Prelude.{◌↔◌}
 use Rattle.flat_arrays_byte_columns.specs.Texts.{CutsBetweenChars}
 use Rattle.flat_arrays_byte_columns.proofs.texts.cuts_between_chars.Given as goal
 
--- what is left is cut between characters exactly where the whole is, if the spans so far begin between characters
+-- what is left is cut between characters exactly where the whole is, if the spans before it begin between characters
 abbrev pub invariant-loop-length : goal.invariant-loop-length
 invariant-loop-length g l = record {
   same : CutsBetweenChars l.offsets.lengths l.window ↔ CutsBetweenChars l.length-iterator l.rest;

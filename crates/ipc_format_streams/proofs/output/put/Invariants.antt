@@ -1,4 +1,4 @@
--- What is written so far stands before the rest, which gets shorter with each write.
+-- What is written stands before the rest, which gets shorter with each write.
 use Rattle.std.proofs.Common.{◌≡◌, ◌++◌, List, ℕ, length}
 use Rattle.std.specs.Io.KnownBytes.{Appends}
 use Rattle.ipc_format_streams.proofs.output.put.Given as goal

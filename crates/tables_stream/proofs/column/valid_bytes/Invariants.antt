@@ -1,4 +1,4 @@
--- The bytes so far are those of the values so far.
+-- The bytes are those of the values before the place.
 use Rattle.std.proofs.Common.{◌≡◌, ◌+◌, ◌-◌, ◌*◌, ◌≤◌, take, length}
 use Rattle.std.specs.Prelude.{slice_range}
 use Rattle.tables_stream.proofs.Cells.{bytes_of_both}

@@ -1,4 +1,4 @@
--- The bytes so far are those of the numbers so far.
+-- The bytes are those of the numbers before the place.
 use Rattle.std.proofs.Common.{◌≡◌, ◌*◌, take}
 use Rattle.std.specs.List.{flat_map}
 use Rattle.tables_stream.specs.Cells.{int32_bytes}

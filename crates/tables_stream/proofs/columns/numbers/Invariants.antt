@@ -1,4 +1,4 @@
--- The numbers so far are those of the values so far.
+-- The numbers are those of the values before the place.
 use Rattle.std.proofs.Common.{◌≡◌}
 use Rattle.nested_arrays_columns.specs.Slots.{window}
 use Rattle.tables_stream.specs.Int32Values as int32

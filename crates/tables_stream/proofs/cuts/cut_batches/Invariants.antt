@@ -1,4 +1,4 @@
--- No more is skipped or taken than was asked for, the rows taken are those of the windows so far, and the cut is the windows so far and
+-- No more is skipped or taken than was asked for, the rows taken are those of the windows that were cut, and the cut is these windows and
 -- the cut of what is left.
 use Rattle.std.proofs.Common.{◌≡◌, ◌≤◌, ◌-◌, ◌++◌, drop, map, sum_by}
 use Rattle.tables_stream.specs.Batches.{rows_of_cells}

@@ -1,4 +1,4 @@
--- All columns are those so far and those that are left.
+-- All columns are those that were read and those that are left.
 use Rattle.tables_stream.specs.Cells.{batch_of}
 use Rattle.tables_stream.proofs.ColumnLists.{Gathered}
 use Rattle.tables_stream.proofs.reading.columns_of.Given as goal

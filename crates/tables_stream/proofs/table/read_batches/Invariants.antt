@@ -1,4 +1,4 @@
--- The rows so far are those of the batches so far, which fit the fields, and the batches are those so far and those of the messages that are
+-- The rows are those of the batches that were read, which fit the fields, and the batches are these and those of the messages that are
 -- left.
 use Rattle.std.proofs.Common.{◌≡◌, ◌-◌, ◌<◌, ◌^◌, length, map, sum_by}
 use Rattle.tables_stream.specs.Batches.{rows_of_cells}

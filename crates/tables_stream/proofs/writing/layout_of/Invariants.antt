@@ -1,4 +1,4 @@
--- The columns so far are laid out.
+-- The columns before the place are laid out.
 use Rattle.std.proofs.Common.{◌≡◌, ◌%◌, length, map, take}
 use Rattle.ipc_format_message_writing.specs.MessageWriting.{node_pair, buffer_pair}
 use Rattle.ipc_format_grammar.specs.Buffers as buffers_format

@@ -1,4 +1,4 @@
--- The buffers of the columns so far are written.
+-- The buffers of the columns before the place are written.
 use Rattle.std.proofs.Common.{take}
 use Rattle.std.specs.Io.KnownBytes.{Appends}
 use Rattle.ipc_format_grammar.specs.WrittenMessages as messages_format

@@ -1,4 +1,4 @@
--- The schema and the batches so far are written.
+-- The schema and the batches before the place are written.
 use Rattle.std.proofs.Common.{take}
 use Rattle.tables_stream.proofs.Messages.{Wrote, messages_for}
 use Rattle.tables_stream.proofs.writing.put_stream.Given as goal

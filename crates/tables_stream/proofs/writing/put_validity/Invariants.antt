@@ -1,4 +1,4 @@
--- What was written so far; what is left to write gets less with each block.
+-- What was written; what is left to write gets less with each block.
 use Rattle.std.proofs.Common.{◌≡◌, ◌≤◌, ◌<◌, ◌+◌, ◌-◌, ◌%◌, map}
 use Rattle.std.specs.Prelude.{slice_range}
 use Rattle.std.specs.Io.KnownBytes.{Appends}

@@ -2,7 +2,7 @@ use Rattle.std.proofs.Common.{◌≡◌}
 use Rattle.columnar_memory_content.specs.Pairs.{value_at}
 use Rattle.columnar_memory_content.proofs.metadata.Metadata.get_str.Given as goal
 
--- the pairs passed so far have other keys
+-- the pairs that were passed have other keys
 abbrev pub invariant-loop-name : goal.invariant-loop-name
 invariant-loop-name l =
     (goal.iterator-loop-name).can_next l.name-iterator ×

@@ -1,4 +1,4 @@
--- The bytes so far hold the bits so far, in whole words but for the last.
+-- The bytes hold the bits before the place, in whole words but for the last.
 use Rattle.std.proofs.Common.{◌≡◌, ◌+◌, ◌-◌, ◌/◌, ◌%◌, ◌≤◌, ◌<◌, take}
 use Rattle.tables_stream.specs.Int32Written.{bitmap_bytes}
 use Rattle.tables_stream.proofs.Padded.{slots_between}
