@@ -1,4 +1,5 @@
 pub mod Childless
+pub mod FlatLayouts
 pub mod FlatNodes
 pub mod Keys
 pub mod Widths

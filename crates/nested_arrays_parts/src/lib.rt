@@ -5,6 +5,7 @@ mod flats;
 mod from;
 mod masks;
 mod offsets;
+mod try_from;
 mod validity;
 
 pub use flats::{FlatArray, FlatNode};
