@@ -108,13 +108,13 @@ nodes_up_to f a n m h =
 -- ranges that were compared up to a place: the slots before it are the same, and each was counted
 pub record Compared (l : Column) (i : ℕ) (r : Column) (j k before now : ℕ) : Type 0 where
   pub same : SameRanges l i r j k
-  pub counted : now ≤ before + range_nodes l i k
+  pub counted : now ≡ before + range_nodes l i k
 
 below_next : (P : ℕ → Type 0) (n : ℕ) → ((k : ℕ) → k < n → P k) → P n → (k : ℕ) → k < n + 1 → P k
 below_next P n below here k h = below_more P n below here k h
 
 pub one_more : (l r : Column) (i j k before now after : ℕ) → Compared l i r j k before now → slot_at l (i + k) ≡ slot_at r (j + k)
-    → after ≤ now + slot_nodes (slot_at l (i + k)) → Compared l i r j (k + 1) before after
+    → after ≡ now + slot_nodes (slot_at l (i + k)) → Compared l i r j (k + 1) before after
 one_more l r i j k before now after far here counted =
     let len : k + 1 ≡ suc k = omega arith in
     let size : range_nodes l i (k + 1) ≡ range_nodes l i (suc k) = ap (range_nodes l i) len in record {
@@ -189,6 +189,10 @@ records_same l r ls rs i j n left right = (
   λ same k h. left.shown k h ∙ ap fields (same k h) ∙ sym (right.shown k h),
   λ same k h. ap fields_in (sym (left.shown k h) ∙ same k h ∙ right.shown k h),
 )
+
+pub no_columns_nodes : (cs : Columns) (i : ℕ) → columns_nodes cs i 0 ≡ 0
+no_columns_nodes no_column i = refl
+no_columns_nodes (column_then c cs) i = omega (arith, no_columns_nodes cs i)
 
 columns_more : (cs : Columns) (i n : ℕ) → columns_nodes cs i (suc n) ≡ columns_nodes cs i n + nodes_of (slots_at cs (i + n))
 columns_more no_column i n = omega arith

@@ -5,6 +5,8 @@ pub mod Lengths
 pub mod NamedValues
 pub mod Parts
 pub mod Places
+pub mod Rooms
 pub mod SameArrays
 pub mod Sizes
 pub mod Variants
+pub mod UnionFields

@@ -1,4 +1,5 @@
-//! Equality of arrays by their slots.
+//! Equality of arrays by their slots. A step is counted for each slot of the left side that is compared with one of the right; a run of slots of
+//! arrays without children, and one of records, is counted as a whole before it is compared.
 ghost use Rattle.std.specs.Prelude.{◌≡◌, ◌+◌, ◌<◌, ◌≤◌, ◌↔◌, IfSome, IsTrue};
 ghost use Rattle.nested_arrays_columns.specs.SlotNodes.{nodes_of, slot_nodes};
 ghost use Rattle.nested_arrays_columns.specs.Slots.{in_slots, items, pick, window};
@@ -49,6 +50,7 @@ pub(crate) fn same_range(
     requires right_within { j + count ≤ column_len right.now }
     ensures same { IsTrue result ↔ SameRanges left.now i right.now j count }
     ensures counted { steps.new.count ≤ steps.old.count + range_nodes left.now i count }
+    ensures used { IsTrue result → steps.new.count ≡ steps.old.count + range_nodes left.now i count }
 {
     if let (Some(left), Some(right)) = (flat(left), flat(right)) {
         return same_slots_counted(left, i, right, j, count, steps);
@@ -84,6 +86,7 @@ fn same_columns(
     requires right_within { HaveRange (in_columns right.now) j count }
     ensures same { IsTrue result ↔ SameFields (in_columns left.now) i (in_columns right.now) j count }
     ensures counted { steps.new.count ≤ steps.old.count + columns_nodes (in_columns left.now) i count }
+    ensures used { IsTrue result → steps.new.count ≡ steps.old.count + columns_nodes (in_columns left.now) i count }
 {
     match left.split_first() {
         Some((array, arrays)) => match right.split_first() {
@@ -109,6 +112,7 @@ fn same_slot(left: &AnyArray, i: usize, right: &AnyArray, j: usize, steps: &mut 
     requires right_within { j < column_len right.now }
     ensures same { IsTrue result ↔ (slot_at left.now i ≡ slot_at right.now j) }
     ensures counted { steps.new.count ≤ steps.old.count + slot_nodes (slot_at left.now i) }
+    ensures used { IsTrue result → steps.new.count ≡ steps.old.count + slot_nodes (slot_at left.now i) }
 {
     let (values, place) = value_of(left, i);
     let (others, other_place) = value_of(right, j);
@@ -124,6 +128,7 @@ fn same_value(left: &AnyArray, i: usize, right: &AnyArray, j: usize, steps: &mut
     requires right_keyless { IsKeyless right.now j }
     ensures same { IsTrue result ↔ (slot_at left.now i ≡ slot_at right.now j) }
     ensures counted { steps.new.count ≤ steps.old.count + slot_nodes (slot_at left.now i) }
+    ensures used { IsTrue result → steps.new.count ≡ steps.old.count + slot_nodes (slot_at left.now i) }
 {
     steps.tick();
     match (values_at(left, i), values_at(right, j)) {
@@ -172,6 +177,7 @@ pub(crate) fn same_items(
     ensures same { IsTrue result
         ↔ (items (in_slots (window (slot_at left.now) i count)) ≡ items (in_slots (window (slot_at right.now) j other_count))) }
     ensures counted { steps.new.count ≤ steps.old.count + range_nodes left.now i count }
+    ensures used { IsTrue result → steps.new.count ≡ steps.old.count + range_nodes left.now i count }
 {
     if count != other_count {
         return false;
@@ -192,6 +198,7 @@ pub(crate) fn same_fields(
     requires right_within { HavePlace (in_columns right.now) j }
     ensures same { IsTrue result ↔ (slots_at (in_columns left.now) i ≡ slots_at (in_columns right.now) j) }
     ensures counted { steps.new.count ≤ steps.old.count + nodes_of (slots_at (in_columns left.now) i) }
+    ensures used { IsTrue result → steps.new.count ≡ steps.old.count + nodes_of (slots_at (in_columns left.now) i) }
 {
     match left.split_first() {
         Some((array, arrays)) => match right.split_first() {
@@ -223,6 +230,7 @@ pub(crate) fn same_pick(
     requires right_within { j < column_len right.now }
     ensures same { IsTrue result ↔ (pick (column_type left.now) (slot_at left.now i) ≡ pick (column_type right.now) (slot_at right.now j)) }
     ensures counted { steps.new.count ≤ steps.old.count + slot_nodes (slot_at left.now i) }
+    ensures used { IsTrue result → steps.new.count ≡ steps.old.count + slot_nodes (slot_at left.now i) }
 {
     if !same_types(left, right) {
         return false;

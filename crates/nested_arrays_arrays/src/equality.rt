@@ -16,10 +16,12 @@ pub fn equal(left: &AnyArray, right: &AnyArray) -> bool
     equal_counted(left, right, &mut Steps::new())
 }
 
-/// The same, with a step for each pair of slots, one of each array, that is compared, at any depth.
+/// The same, with a step for each pair of slots, one of each array, that is compared, at any depth: where the arrays are equal, as many as slots
+/// stand in one of them, and where they are not, no more.
 pub fn equal_counted(left: &AnyArray, right: &AnyArray, steps: &mut Steps) -> bool
     ensures same { IsTrue result ↔ AreEqual left.now right.now }
     ensures counted { steps.new.count ≤ steps.old.count + sum_by slot_nodes (slots left.now) }
+    ensures used { IsTrue result → steps.new.count ≡ steps.old.count + sum_by slot_nodes (slots left.now) }
 {
     if !same_types(left, right) {
         return false;

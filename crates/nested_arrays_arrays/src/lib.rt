@@ -15,6 +15,7 @@ mod picks;
 mod places;
 mod records;
 mod try_from;
+mod try_from_flat;
 mod unions;
 mod validity;
 

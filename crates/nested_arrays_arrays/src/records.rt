@@ -130,6 +130,19 @@ impl StructArray {
         self.values.as_slice()
     }
 
+    /// The data type, the children and the mask.
+    pub fn into_data(self) -> (DataType, Vec<AnyArray>, Option<Bitmap>)
+        ensures { self ≡ records result.0 result.2 (column_len self) (in_columns result.1.items) }
+    {
+        let StructArray {
+            data_type,
+            values,
+            validity,
+            length: _,
+        } = self;
+        (data_type, values, validity)
+    }
+
     /// The mask, where there is one: a bit is set where its slot is not null.
     pub fn validity(&self) -> Option<&Bitmap>
         ensures { option_copied result ≡ column_mask self.now }

@@ -4,6 +4,7 @@ ghost use Rattle.nested_arrays_columns.specs.SoundColumns.{has_child_at, is_soun
 ghost use Rattle.nested_arrays_columns.specs.StoredColumns.{child_number, column_len, column_type, cut, in_columns, slot_at, type_layer};
 ghost use Rattle.nested_arrays_columns.specs.StoredColumns.{picked_at, union_place, unions};
 ghost use Rattle.nested_arrays_arrays.specs.Answers.{IsChecked};
+ghost use Rattle.nested_arrays_arrays.specs.UnionFields.{layer_choices};
 ghost use Rattle.nested_arrays_arrays.specs.Parts.{column_children, column_ids, column_places};
 ghost use Rattle.nested_arrays_flat.specs.ColumnMasks.{column_mask, ReplacesMask};
 ghost use Rattle.columnar_memory.specs.Layouts.{physical_type};
@@ -13,7 +14,7 @@ use crate::any::AnyArray;
 use crate::children::are_whole;
 use crate::picks::{are_children_of, child_number, have_slots, read_ids};
 use crate::records::slice_each;
-use columnar_memory::{Bitmap, Buffer, DataType, Error, Result};
+use columnar_memory::{Bitmap, Buffer, DataType, Error, Field, Result};
 use std::marker::Model;
 
 /// Slots each of one of several types, by its id: in a sparse union each child is as long as the union, in a dense one each slot has its
@@ -96,6 +97,16 @@ impl UnionArray {
             types,
             offsets,
             fields,
+        }
+    }
+
+    /// The fields of the type of a union, none where a type is no union.
+    pub fn get_fields(data_type: &DataType) -> &[Field]
+        ensures { result.now ≡ layer_choices (type_layer data_type.now) }
+    {
+        match data_type.to_logical_type() {
+            DataType::Union(fields, _, _) => fields.as_slice(),
+            _ => &[],
         }
     }
 

@@ -1,4 +1,5 @@
 pub mod Marks
 pub mod SameForms
 pub mod SameNumbers
+pub mod SlotCounts
 pub mod StoredForms

@@ -4,7 +4,7 @@ ghost use Rattle.std.specs.Option.{ForSome};
 ghost use Rattle.nested_arrays_columns.specs.Slots.{null};
 ghost use Rattle.nested_arrays_columns.specs.StoredColumns.{column_len, is_valid_at, slot_at};
 ghost use Rattle.nested_arrays_equal.specs.Forms.{column_form};
-ghost use Rattle.nested_arrays_equal.specs.Ranges.{SameRanges};
+ghost use Rattle.nested_arrays_equal.specs.Ranges.{range_nodes, SameRanges};
 ghost use Rattle.nested_arrays_flat.specs.ColumnMasks.{column_mask};
 
 use crate::stored::{holds_numbers, holds_values};
@@ -61,10 +61,9 @@ pub fn is_null(array: &FlatArray, i: usize) -> bool
 }
 
 /// Whether no mark of a mask, if there is one, from a place on is unset, of so many.
-#[tactic(auto, using(crate::proofs::Marks::set_marks))]
 pub fn has_no_nulls(validity: Option<&Bitmap>, i: usize, count: usize) -> bool
     requires { ForSome (option_copied validity) (λ mask. i + count ≤ length mask) }
-    ensures { IsTrue result → (k : ℕ) → k < count → is_valid_at (option_copied validity.entry) (i + k) ≡ true }
+    ensures { IsTrue result ↔ ((k : ℕ) → k < count → is_valid_at (option_copied validity.entry) (i + k) ≡ true) }
 {
     match validity {
         Some(mask) => mask.null_count_range(i, count) == 0,
@@ -122,7 +121,7 @@ pub fn count_each(steps: &mut Steps, count: usize)
     }
 }
 
-/// The same, with a step for each slot of the left array that is compared.
+/// The same, with a step for each slot of the left array that is asked for, whatever the answer.
 pub fn same_slots_counted(
     left: &FlatArray,
     i: usize,
@@ -135,7 +134,9 @@ pub fn same_slots_counted(
     requires right_within { j + count ≤ column_len right.now }
     ensures same { IsTrue result ↔ SameRanges left.now i right.now j count }
     ensures counted { steps.new.count ≡ steps.old.count + count }
+    ensures used { IsTrue result → steps.new.count ≡ steps.old.count + range_nodes left.now i count }
 {
+    holds_values(left);
     count_each(steps, count);
     same_slots(left, i, right, j, count)
 }

@@ -1,10 +1,12 @@
 use Rattle.std.proofs.Common.{rules, ◌≡◌, ◌∙◌, ◌∷◌, ◌+◌, ap, arith, subst, sym, List}
-use Rattle.std.proofs.lemmas.Bool.{false≢true}
+use Rattle.std.proofs.lemmas.Bool.{eqb-true, false≢true}
 use Rattle.nested_arrays_columns.proofs.ColumnSizes.{sizes_count}
 use Rattle.nested_arrays_columns.specs.Slots.{pick}
 use Rattle.nested_arrays_columns.specs.StoredColumns.{Column, column_size, columns_size, in_columns, slot_at}
-use Rattle.nested_arrays_arrays.proofs.SameSlots.{fields_of_lists, items_count, items_same, nodes_some, nodes_up_to, one_more, pick_parts, record_nodes, records_same}
-use Rattle.nested_arrays_arrays.specs.Places.{HavePlace, HaveRange}
+use Rattle.nested_arrays_arrays.proofs.SameSlots.{fields_of_lists, items_count, items_same, no_columns_nodes, nodes_some, nodes_up_to}
+use Rattle.nested_arrays_arrays.proofs.SameSlots.{one_more, pick_parts, record_nodes, records_same}
+use Rattle.nested_arrays_equal.specs.Ranges.{range_nodes}
+use Rattle.nested_arrays_arrays.specs.Places.{HavePlace, HaveRange, columns_nodes}
 use Rattle.nested_arrays_arrays.proofs.comparisons.+comparing.Goals as goal
 
 pub same_fields-same_fields-requires : goal.same_fields-same_fields-requires
@@ -94,7 +96,8 @@ same_range-returns-then-not-same_slot-clause-counted t c = omega (
 
 pub same_range-loop-k-preserved : goal.same_range-loop-k-preserved
 same_range-loop-k-preserved t c =
-    one_more _ _ _ _ _ _ _ _ c.loop-k.invariant (c.same_slot.ensures.same.0 c.if-not-same_slot.false) c.same_slot.ensures.counted
+    one_more _ _ _ _ _ _ _ _ c.loop-k.invariant (c.same_slot.ensures.same.0 c.if-not-same_slot.false)
+    (c.same_slot.ensures.used c.if-not-same_slot.false)
 
 pub same_range-returns-in-Some-Some-2-clause-same : goal.same_range-returns-in-Some-Some-2-clause-same
 same_range-returns-in-Some-Some-2-clause-same t c =
@@ -109,3 +112,32 @@ same_range-returns-in-Some-Some-2-clause-counted t c = omega (
   c.same_columns.ensures.counted,
   record_nodes c.args.left.now (in_columns c.in-Some-Some-2.fields.now) c.args.i c.args.count c.in-Some-Some-2.ensures,
 )
+
+pub same_columns-returns-else-not-same_range-clause-used : goal.same_columns-returns-else-not-same_range-clause-used
+same_columns-returns-else-not-same_range-clause-used t c = λ is.
+    let left : c.args.left.now ≡ c.in-Some.array.now ∷ c.in-Some.arrays.now = search rules in
+    let parts : columns_nodes (in_columns c.args.left.now) c.args.i c.args.count ≡ range_nodes c.in-Some.array.now c.args.i c.args.count
+    + columns_nodes (in_columns c.in-Some.arrays.now) c.args.i c.args.count =
+    ap (λ (xs : List Column). columns_nodes (in_columns xs) c.args.i c.args.count) left in
+    omega (arith, parts, c.same_range.ensures.used c.if-not-same_range.false, c.same_columns.ensures.used is)
+
+pub same_range-returns-in-Some-Some-clause-used : goal.same_range-returns-in-Some-Some-clause-used
+same_range-returns-in-Some-Some-clause-used t c = λ is.
+    let nodes : range_nodes c.in-Some-Some.left.now c.args.i c.args.count ≡ range_nodes c.args.left.now c.args.i c.args.count =
+    ap (λ column. range_nodes column c.args.i c.args.count) c.in-Some-Some.ensures in
+    omega (arith, nodes, c.same_slots_counted.ensures.used is)
+
+pub same_range-returns-in-Some-Some-2-clause-used : goal.same_range-returns-in-Some-Some-2-clause-used
+same_range-returns-in-Some-Some-2-clause-used t c = λ is. omega (
+  arith,
+  c.count_each.ensures,
+  c.same_columns.ensures.used is,
+  record_nodes c.args.left.now (in_columns c.in-Some-Some-2.fields.now) c.args.i c.args.count c.in-Some-Some-2.ensures,
+)
+
+pub same_columns-returns-in-None-split_first-clause-used : goal.same_columns-returns-in-None-split_first-clause-used
+same_columns-returns-in-None-split_first-clause-used t c = λ is.
+    let none : c.args.count ≡ 0 = eqb-true c.args.count 0 is in
+    let all : columns_nodes (in_columns c.args.left.now) c.args.i c.args.count ≡ 0 =
+    ap (columns_nodes (in_columns c.args.left.now) c.args.i) none ∙ no_columns_nodes (in_columns c.args.left.now) c.args.i in
+    omega (arith, all)

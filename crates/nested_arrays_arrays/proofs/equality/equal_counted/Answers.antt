@@ -23,3 +23,9 @@ returns-clause-counted c =
     let left = c.args.left.now in
     let size : range_nodes left 0 c.len-count.result ≡ range_nodes left 0 (column_len left) = ap (range_nodes left 0) c.len-count.ensures in
     omega (arith, c.same_range.ensures.counted, size, all_nodes left)
+
+pub returns-clause-used : goal.returns-clause-used
+returns-clause-used c = λ is.
+    let left = c.args.left.now in
+    let size : range_nodes left 0 c.len-count.result ≡ range_nodes left 0 (column_len left) = ap (range_nodes left 0) c.len-count.ensures in
+    omega (arith, c.same_range.ensures.used is, size, all_nodes left)

@@ -1,23 +1,9 @@
-use Rattle.std.proofs.Common.{◌≡◌, ◌<◌, length, rules, arith}
-use Rattle.std.specs.Prelude.{pos, slice_index, slice_index_or}
+use Rattle.std.proofs.Common.{◌∙◌, ap, arith, sym}
+use Rattle.std.specs.Prelude.{slice_index}
 use Rattle.nested_arrays_columns.specs.SoundColumns.{column_lens}
-use Rattle.nested_arrays_columns.specs.StoredColumns.{child_number, in_columns, type_layer}
-use Rattle.nested_arrays_arrays.proofs.UnionParts.{dense_more, dense_past}
+use Rattle.nested_arrays_columns.specs.StoredColumns.{in_columns}
 use Rattle.nested_arrays_arrays.proofs.picks.lie_at_offsets.Goals as goal
 
-pub loop-i-preserved : goal.loop-i-preserved
-loop-i-preserved c =
-    let room : c.room_of.result ≡ slice_index (column_lens (in_columns c.args.arrays.now))
-    (child_number (type_layer c.args.data_type.now) (slice_index_or c.args.ids.now c.loop-i.i (pos 0))) = search rules in
-    let small : c.loop-i.i < length c.args.offsets.now = omega (arith, c.loop-i-test.true, c.requires) in
-    let more = dense_more (type_layer c.args.data_type.now) c.args.ids.now c.args.offsets.now (in_columns c.args.arrays.now) c.loop-i.i
-    c.in-Some.place c.room_of.result small c.in-Some.ensures.number.0 c.in-Some.ensures.number.1 room c.if-place-room_of.false
-    c.loop-i.invariant.placed c.loop-i.invariant.whole in
-    record { placed = more.0; whole = more.1 }
-
-pub returns-then-place-room_of : goal.returns-then-place-room_of
-returns-then-place-room_of c =
-    let room : c.room_of.result ≡ slice_index (column_lens (in_columns c.args.arrays.now))
-    (child_number (type_layer c.args.data_type.now) (slice_index_or c.args.ids.now c.loop-i.i (pos 0))) = search rules in
-    dense_past (type_layer c.args.data_type.now) c.args.ids.now c.args.offsets.now (in_columns c.args.arrays.now) c.loop-i.i c.in-Some.place
-    c.room_of.result c.loop-i-test.true c.in-Some.ensures.number.0 room c.if-place-room_of.true
+pub rooms_hold_offsets-requires-clause-rooms : goal.rooms_hold_offsets-requires-clause-rooms
+rooms_hold_offsets-requires-clause-rooms c = λ id fits small.
+    c.rooms_by_id.ensures id fits ∙ ap (slice_index (column_lens (in_columns c.args.arrays.now))) (sym (c.in-Some.ensures id))

@@ -1,13 +1,9 @@
-use Rattle.std.proofs.Common.{◌≡◌, sym, rules}
-use Rattle.std.specs.Prelude.{None, pos, slice_index, slice_index_or}
+use Rattle.std.proofs.Common.{◌∙◌, ap, arith, sym}
+use Rattle.std.specs.Prelude.{slice_index}
 use Rattle.nested_arrays_columns.specs.SoundColumns.{column_lens}
-use Rattle.nested_arrays_columns.specs.StoredColumns.{child_number, in_columns, type_layer}
-use Rattle.nested_arrays_arrays.proofs.UnionParts.{past_child}
+use Rattle.nested_arrays_columns.specs.StoredColumns.{in_columns}
 use Rattle.nested_arrays_arrays.proofs.picks.lie_in_place.Goals as goal
 
-pub returns-then-i-room_of : goal.returns-then-i-room_of
-returns-then-i-room_of c =
-    let room : c.room_of.result ≡ slice_index (column_lens (in_columns c.args.arrays.now))
-    (child_number (type_layer c.args.data_type.now) (slice_index_or c.args.ids.now c.loop-i.i (pos 0))) = search rules in
-    sym (past_child (type_layer c.args.data_type.now) c.args.ids.now None (in_columns c.args.arrays.now) c.loop-i.i c.room_of.result room
-    c.if-i-room_of.true c.loop-i-test.true)
+pub rooms_hold_places-requires : goal.rooms_hold_places-requires
+rooms_hold_places-requires c = λ id fits small.
+    c.rooms_by_id.ensures id fits ∙ ap (slice_index (column_lens (in_columns c.args.arrays.now))) (sym (c.in-Some.ensures id))

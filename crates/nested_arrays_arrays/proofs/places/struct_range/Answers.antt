@@ -10,4 +10,4 @@ has_no_nulls-requires c =
 
 pub returns : goal.returns
 returns c = struct_range _ _ _ _ _ c.args.i c.args.count c.values.ensures c.whole.ensures c.requires
-    (λ k h. ap (λ mask. is_valid_at mask (c.args.i + k)) (sym c.validity.ensures) ∙ c.has_no_nulls.ensures c.if-not-has_no_nulls.false k h)
+    (λ k h. ap (λ mask. is_valid_at mask (c.args.i + k)) (sym c.validity.ensures) ∙ c.has_no_nulls.ensures.0 c.if-not-has_no_nulls.false k h)

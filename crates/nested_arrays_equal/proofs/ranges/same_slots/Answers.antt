@@ -16,7 +16,7 @@ has_no_nulls-requires-then-has_no_nulls c =
 pub returns-then-has_no_nulls-2 : goal.returns-then-has_no_nulls-2
 returns-then-has_no_nulls-2 c =
     let whole = bare_ranges c.args.left.now c.args.right.now c.args.i c.args.j c.args.count
-    (λ k h. ap (λ mask. is_valid_at mask (c.args.i + k)) (sym c.validity.ensures) ∙ c.has_no_nulls.ensures c.if-has_no_nulls.true k h)
+    (λ k h. ap (λ mask. is_valid_at mask (c.args.i + k)) (sym c.validity.ensures) ∙ c.has_no_nulls.ensures.0 c.if-has_no_nulls.true k h)
     (λ k h. ap (λ mask. is_valid_at mask (c.args.j + k)) (sym c.validity-then-has_no_nulls.ensures)
-    ∙ c.has_no_nulls-then-has_no_nulls.ensures c.if-has_no_nulls-2.true k h) in
+    ∙ c.has_no_nulls-then-has_no_nulls.ensures.0 c.if-has_no_nulls-2.true k h) in
     (λ is. whole.0 (c.same_values.ensures.0 is), λ same. c.same_values.ensures.1 (whole.1 same))
