@@ -20,6 +20,7 @@ pub use Rattle.nested_arrays_flat.specs.FlatColumns
 pub use Rattle.nested_arrays_flat.specs.Primitives
 pub use Rattle.nested_arrays_flat.specs.Taken
 pub use Rattle.nested_arrays_parts.specs.Childless
+pub use Rattle.nested_arrays_parts.specs.FlatLayouts
 pub use Rattle.nested_arrays_parts.specs.FlatNodes
 pub use Rattle.nested_arrays_parts.specs.Keys
 pub use Rattle.nested_arrays_parts.specs.Widths
@@ -34,6 +35,7 @@ pub use Rattle.nested_arrays_arrays.specs.Parts
 pub use Rattle.nested_arrays_arrays.specs.Places
 pub use Rattle.nested_arrays_arrays.specs.SameArrays
 pub use Rattle.nested_arrays_arrays.specs.Sizes
+pub use Rattle.nested_arrays_arrays.specs.UnionFields
 pub use Rattle.nested_arrays_arrays.specs.Variants
 pub use Rattle.nested_arrays_generic.specs.Dictionaries
 pub use Rattle.nested_arrays_generic.specs.ListTypes

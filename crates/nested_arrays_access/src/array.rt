@@ -38,8 +38,8 @@ pub trait Array: Drop + Sized {
     /// Replaces the mask.
     ///
     /// # Errors
-    /// `InvalidArgumentError`: the mask has another length than the array, or the array may have none, as nulls alone and unions. The array is
-    /// as it was.
+    /// `InvalidArgumentError`: the mask has another length than the array; or the array may have none, as nulls alone and unions; or a key of a
+    /// dictionary that the mask says is valid names no value. The array is as it was.
     fn set_validity(&mut self, validity: Option<Bitmap>) -> Result<()>
         ensures { ReplacesMask (column self.old) validity (column self.new) result };
 

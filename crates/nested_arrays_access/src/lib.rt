@@ -3,6 +3,7 @@
 
 mod array;
 mod flat_members;
+mod generic_members;
 mod members;
 mod null_laws;
 

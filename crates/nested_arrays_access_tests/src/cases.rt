@@ -1,7 +1,11 @@
-use columnar_memory::{Buffer, DataType, Error, Field, Items, Text, UnionMode};
+use columnar_memory::{
+    Bitmap, Boxed, Buffer, DataType, Error, Field, Items, OffsetsBuffer, Text, UnionMode,
+};
+use flat_arrays_bytes::Utf8Array;
 use flat_arrays_values::PrimitiveArray;
 use nested_arrays_arrays::{AnyArray, UnionArray};
 use nested_arrays_flat::AnyPrimitive;
+use nested_arrays_generic::{DictionaryArray, ListArray};
 use nested_arrays_parts::FlatArray;
 use std::alloc::Global;
 
@@ -34,4 +38,30 @@ pub(crate) fn sparse(alloc: Global, values: &[i32]) -> Result<UnionArray, Error>
     let data_type = union_of_numbers(alloc, UnionMode::Sparse)?;
     let types = Buffer::from_vec(Vec::from_slice(alloc, &[0i8, 0])?)?;
     UnionArray::try_new(data_type, types, children(alloc, values)?, None)
+}
+
+/// Lists of the numbers 1, 2 and 3 between offsets.
+pub(crate) fn lists(alloc: Global, offsets: &[i32]) -> Result<ListArray<i32>, Error> {
+    let item = Field::new(alloc, Text::from_str(alloc, "item")?, DataType::Int32, true);
+    let offsets = OffsetsBuffer::try_from(Vec::from_slice(alloc, offsets)?)?;
+    let items = Box::new(alloc, numbers(alloc, &[1, 2, 3])?)?;
+    ListArray::try_new(
+        DataType::List(Boxed::new(alloc, item)?),
+        offsets,
+        items,
+        None,
+    )
+}
+
+/// Keys over two texts.
+pub(crate) fn letters(
+    alloc: Global,
+    keys: &[i8],
+    validity: Option<Bitmap>,
+) -> Result<DictionaryArray<i8>, Error> {
+    let texts: Utf8Array<i32> = Utf8Array::from_slice(alloc, &["a", "b"])?;
+    let values = Box::new(alloc, AnyArray::from(FlatArray::from(texts)))?;
+    let keys = Buffer::from_vec(Vec::from_slice(alloc, keys)?)?;
+    let keys = PrimitiveArray::try_new(DataType::Int8, keys, validity)?;
+    DictionaryArray::try_from_keys(alloc, keys, values)
 }

@@ -4,6 +4,8 @@
 #[cfg(test)]
 mod cases;
 #[cfg(test)]
+mod generic;
+#[cfg(test)]
 mod masks;
 #[cfg(test)]
 mod unions;

@@ -6,3 +6,5 @@ mod counts;
 mod flat;
 #[cfg(test)]
 mod nested;
+#[cfg(test)]
+mod records;

@@ -1,3 +1,4 @@
 pub mod DictionaryParts
+pub mod KeyedMasks
 pub mod ListParts
 pub mod TakenKeys

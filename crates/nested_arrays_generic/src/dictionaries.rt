@@ -3,7 +3,7 @@ ghost use Rattle.std.specs.Prelude.{◌≡◌, ◌+◌, ◌<◌, ◌≤◌, ◌�
 ghost use Rattle.columnar_memory.specs.Layouts.{physical_type};
 ghost use Rattle.columnar_memory.specs.declared.PhysicalType.TheVariants as physical;
 ghost use Rattle.nested_arrays_columns.specs.StoredColumns.{column_len, column_type, cut, is_valid_at, type_layer};
-ghost use Rattle.nested_arrays_flat.specs.ColumnMasks.{column_mask, unset_in};
+ghost use Rattle.nested_arrays_flat.specs.ColumnMasks.{column_mask, unset_in, ReplacesMask};
 ghost use Rattle.nested_arrays_arrays.specs.Answers.{IsCheckedAs, LiesAs};
 ghost use Rattle.nested_arrays_generic.specs.Dictionaries.{has_order, is_value_type, key_at, keyed_by, raw_key, values_of};
 ghost use Rattle.nested_arrays_generic.specs.Dictionaries.{IsDictionaryOf};
@@ -13,6 +13,7 @@ use columnar_memory::{Bitmap, Boxed, DataType, Error, PhysicalType, Result};
 use flat_arrays_values::PrimitiveArray;
 use nested_arrays_arrays::AnyArray;
 use nested_arrays_flat::{mark_at, primitive_is_sound, unset_marks};
+use nested_arrays_parts::fits;
 use std::alloc::Global;
 use std::marker::Model;
 
@@ -75,7 +76,7 @@ fn are_parts<K: DictionaryKey>(
     if !has_values(data_type, values.data_type()) {
         return false;
     }
-    name_values(keys, values.len())
+    name_values(keys, keys.validity(), values.len())
 }
 
 impl<K: DictionaryKey> DictionaryArray<K> {
@@ -169,6 +170,27 @@ impl<K: DictionaryKey> DictionaryArray<K> {
         ensures { option_copied result ≡ column_mask self.now }
     {
         self.keys.validity()
+    }
+
+    /// Replaces the mask, which is that of the keys.
+    ///
+    /// # Errors
+    /// `InvalidArgumentError`: the mask has another length than the array, or a key that it says is valid names no value. The array is as it
+    /// was.
+    pub fn set_validity(&mut self, validity: Option<Bitmap>) -> Result<()>
+        ensures { ReplacesMask self.old validity self.new result }
+    {
+        if !fits(&validity, self.len()) {
+            return Err(Error::InvalidArgumentError("a mask of another length than the array"));
+        }
+        let count = self.values.len();
+        if !name_values(&self.keys, validity.as_ref(), count) {
+            return Err(Error::InvalidArgumentError(
+                "a mask that makes a key valid that names no value",
+            ));
+        }
+        self.keys.set_validity(validity);
+        Ok(())
     }
 
     /// How many slots are null by the mask.

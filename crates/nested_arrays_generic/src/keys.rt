@@ -1,12 +1,12 @@
 //! Keys of dictionaries.
-ghost use Rattle.std.specs.Prelude.{◌≡◌, ◌<◌, ◌≤ℤ◌, length, map, pos, refl};
+ghost use Rattle.std.specs.Prelude.{◌≡◌, ◌<◌, ◌≤ℤ◌, length, map, option_copied, pos, refl, true};
 ghost use Rattle.columnar_memory.specs.declared.IntegerType.{IntegerType};
 ghost use Rattle.columnar_memory.specs.declared.IntegerType.TheVariants as integers;
-ghost use Rattle.nested_arrays_columns.specs.SoundColumns.{has_value_at, holds_below};
+ghost use Rattle.nested_arrays_columns.specs.SoundColumns.{has_value_at, holds_below, mask_fits};
 ghost use Rattle.nested_arrays_parts.specs.Keys.{kind_of_keys};
 ghost use Rattle.nested_arrays_generic.specs.Dictionaries.{has_no_sign};
 
-use columnar_memory::{Index, IntegerType};
+use columnar_memory::{Bitmap, Index, IntegerType};
 use flat_arrays_values::{PrimitiveArray, check_indexes};
 use nested_arrays_flat::{PrimitiveKind, mark_at};
 
@@ -104,27 +104,39 @@ impl DictionaryKey for u64 {
     ghost key_law = { refl };
 }
 
-/// Whether each key but those under nulls is the place of one of so many values.
-pub(crate) fn name_values<K: DictionaryKey>(keys: &PrimitiveArray<K>, count: usize) -> bool
-    ensures { result ≡ holds_below (length keys.now.values) (has_value_at keys.now.validity (map K.value keys.now.values) count) }
+/// Whether each key that a mask says is valid is the place of one of so many values.
+pub(crate) fn name_values<K: DictionaryKey>(
+    keys: &PrimitiveArray<K>,
+    validity: Option<&Bitmap>,
+    count: usize,
+) -> bool
+    requires { mask_fits (option_copied validity) (length keys.now.values) ≡ true }
+    ensures { result ≡ holds_below (length keys.now.values)
+        (has_value_at (option_copied validity.entry) (map K.value keys.now.values) count) }
 {
     if check_indexes(keys.values().as_slice(), count).is_ok() {
         return true;
     }
     for i in 0..keys.len() {
-        if !names_value(keys, i, count) {
+        if !names_value(keys, validity, i, count) {
             return false;
         }
     }
     true
 }
 
-/// Whether the key of a slot, if the slot is not null, is the place of one of so many values.
-fn names_value<K: DictionaryKey>(keys: &PrimitiveArray<K>, i: usize, count: usize) -> bool
-    requires { i < length keys.now.values }
-    ensures { result ≡ has_value_at keys.now.validity (map K.value keys.now.values) count i }
+/// Whether the key of a slot, if a mask says that it is valid, is the place of one of so many values.
+fn names_value<K: DictionaryKey>(
+    keys: &PrimitiveArray<K>,
+    validity: Option<&Bitmap>,
+    i: usize,
+    count: usize,
+) -> bool
+    requires within { i < length keys.now.values }
+    requires masked { mask_fits (option_copied validity) (length keys.now.values) ≡ true }
+    ensures { result ≡ has_value_at (option_copied validity.entry) (map K.value keys.now.values) count i }
 {
-    if !mark_at(keys.validity(), i) {
+    if !mark_at(validity, i) {
         return true;
     }
     match keys.value(i).try_to_usize() {

@@ -2,7 +2,7 @@
 ghost use Rattle.std.specs.Prelude.{◌≡◌, ◌+◌, ◌<◌, ◌≤◌, ◌↔◌, IsTrue, not, option_copied};
 ghost use Rattle.columnar_memory.specs.Spans.{offsets_of};
 ghost use Rattle.nested_arrays_columns.specs.StoredColumns.{column_len, column_type, cut, is_valid_at, lists, type_layer};
-ghost use Rattle.nested_arrays_flat.specs.ColumnMasks.{column_mask, unset_in};
+ghost use Rattle.nested_arrays_flat.specs.ColumnMasks.{column_mask, unset_in, ReplacesMask};
 ghost use Rattle.nested_arrays_arrays.specs.Answers.{IsCheckedAs, LiesAs};
 ghost use Rattle.nested_arrays_generic.specs.ListTypes.{has_list_item_type, items_in, list_layout};
 
@@ -154,6 +154,21 @@ impl<O: Offset> ListArray<O> {
         self.validity.as_ref()
     }
 
+    /// Replaces the mask.
+    ///
+    /// # Errors
+    /// `InvalidArgumentError`: the mask has another length than the array, which is as it was.
+    #[tactic(auto, using(nested_arrays_arrays::proofs::ArrayParts::lists_masked))]
+    pub fn set_validity(&mut self, validity: Option<Bitmap>) -> Result<()>
+        ensures { ReplacesMask self.old validity self.new result }
+    {
+        if !fits(&validity, self.len()) {
+            return Err(Error::InvalidArgumentError("a mask of another length than the array"));
+        }
+        self.validity = validity;
+        Ok(())
+    }
+
     /// How many slots are null.
     pub fn null_count(&self) -> usize
         ensures { result ≡ unset_in (column_mask self.now) }
@@ -193,6 +208,7 @@ impl<O: Offset> ListArray<O> {
         slice_mask(&mut self.validity, offset, count);
         slice_offsets(&mut self.offsets, offset, count);
     }
+
     /// The `count` slots from `offset` on, in the same memory.
     pub fn sliced(self, offset: usize, count: usize) -> Self
         requires { offset + count ≤ column_len self }
