@@ -1,8 +1,9 @@
 # make demo    builds the proved program as bin/tables and cuts the samples with it
 # make test    the whole gate: every proof from nothing, each test, each program, the must-fail edits
-# make bench   measures bin/tables against cp and plain Rust on a stream of about 250 MB, and on a tenth of it, after the three below
+# make bench   measures bin/tables against cp and plain Rust on a stream of about 250 MB, and on a tenth of it, after the four below
 # make bench-memory   measures jobs of the memory layer against plain Rust
 # make bench-flat   measures jobs of flat arrays and their builders against plain Rust
+# make bench-nested   measures jobs of nested arrays against plain Rust
 # make bench-metadata   measures schemas read from and written as metadata against a copy of its bytes
 # make definitions   runs the definitions of specs/ on worked values, and on laid and damaged inputs against an independent reader
 
@@ -11,9 +12,11 @@ PYTHON ?= python3 -B
 PROGRAM = crates/tables_program
 MEMORY = crates/columnar_memory_bench
 FLAT = crates/flat_arrays_bench
+NESTED = crates/nested_arrays_bench
 METADATA = crates/ipc_format_bench
 
-.PHONY: demo test bench bench-memory bench-flat bench-metadata definitions program memory-program flat-program metadata-program clean
+.PHONY: demo test bench bench-memory bench-flat bench-nested bench-metadata definitions clean
+.PHONY: program memory-program flat-program nested-program metadata-program
 
 # How many inputs `make definitions` compares, and from which seed.
 COUNT ?= 20000
@@ -53,7 +56,7 @@ definitions:
 	$(PYTHON) tools/worked.py
 	$(PYTHON) tools/compare.py --count $(COUNT) --seed $(SEED)
 
-bench: program bench-memory bench-flat bench-metadata
+bench: program bench-memory bench-flat bench-nested bench-metadata
 	$(PYTHON) tools/bench.py cut bin/tables bin
 
 bench-memory: memory-program
@@ -75,6 +78,16 @@ flat-program:
 	@echo "proving and building $(FLAT); bin/flat.log says how far it is"
 	@cd $(FLAT) && $(RT) run > ../../bin/flat.log 2>&1 || { tail -n 20 ../../bin/flat.log; exit 1; }
 	cp $(FLAT)/out/flat_arrays_bench bin/flat_arrays_bench
+
+bench-nested: nested-program
+	$(PYTHON) tools/bench.py nested bin/nested_arrays_bench bin
+
+nested-program:
+	@mkdir -p bin
+	@rm -f bin/nested_arrays_bench $(NESTED)/out/nested_arrays_bench
+	@echo "proving and building $(NESTED); bin/nested.log says how far it is"
+	@cd $(NESTED) && $(RT) run > ../../bin/nested.log 2>&1 || { tail -n 20 ../../bin/nested.log; exit 1; }
+	cp $(NESTED)/out/nested_arrays_bench bin/nested_arrays_bench
 
 bench-metadata: metadata-program
 	$(PYTHON) tools/bench.py metadata bin/ipc_format_bench bin

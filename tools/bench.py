@@ -4,6 +4,7 @@
     bench.py cut PROGRAM FOLDER        `tables cut` on nearly all of a large stream, against plain_cut.rs and `cp` of the same file
     bench.py memory PROGRAM FOLDER     the jobs of `columnar_memory_bench`, against plain_memory.rs, as a table
     bench.py flat PROGRAM FOLDER       the jobs of `flat_arrays_bench`, against plain_flat.rs, as a table
+    bench.py nested PROGRAM FOLDER     the jobs of `nested_arrays_bench`, against plain_nested.rs, as a table
     bench.py metadata PROGRAM FOLDER   the jobs of `ipc_format_bench` at three sizes, against a copy of the metadata's bytes, as a table
 
 What is made stands in FOLDER; streams are taken away at the end. Times of a cut are the best of five rounds, those of the jobs
@@ -51,6 +52,16 @@ FLAT_JOBS = [
     ("push_texts", "short texts by `push`", 23),
     ("from_slice", "short texts by `from_slice`", 23),
     ("try_new", "short texts by `try_new`, against `from_utf8` of all bytes at once", 23),
+]
+
+# The same of nested arrays. The struct has 50 columns of numbers, one in eight null, and 50 of short texts; each cut takes its first row away.
+NESTED_JOBS = [
+    ("cut", "a struct of 100 columns, by `slice` in place", 20),
+    ("numbers", "`equal` of numbers", 24),
+    ("slots", "`equal` of numbers, one in eight null", 24),
+    ("texts", "`equal` of short texts", 22),
+    ("lists", "`equal` of lists at other places of their items", 22),
+    ("dictionaries", "`equal` of dictionaries with values in another order", 22),
 ]
 
 
@@ -144,6 +155,10 @@ def measure_flat(program, folder):
     measure_jobs(program, folder, "plain_flat", FLAT_JOBS)
 
 
+def measure_nested(program, folder):
+    measure_jobs(program, folder, "plain_nested", NESTED_JOBS)
+
+
 def measure_metadata(program, folder):
     least = {}
     print("| fields | metadata, kB | read, ms | write, ms | copy, ms | read / copy | write / copy |")
@@ -160,7 +175,13 @@ def measure_metadata(program, folder):
 
 
 if __name__ == "__main__":
-    measures = {"cut": measure_cut, "memory": measure_memory, "flat": measure_flat, "metadata": measure_metadata}
+    measures = {
+        "cut": measure_cut,
+        "memory": measure_memory,
+        "flat": measure_flat,
+        "nested": measure_nested,
+        "metadata": measure_metadata,
+    }
     if len(sys.argv) != 4 or sys.argv[1] not in measures:
         sys.exit(__doc__)
     measures[sys.argv[1]](sys.argv[2], sys.argv[3])
