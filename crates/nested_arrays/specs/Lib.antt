@@ -18,6 +18,7 @@ pub use Rattle.nested_arrays_flat.specs.Checked
 pub use Rattle.nested_arrays_flat.specs.ColumnMasks
 pub use Rattle.nested_arrays_flat.specs.FlatColumns
 pub use Rattle.nested_arrays_flat.specs.Primitives
+pub use Rattle.nested_arrays_flat.specs.SameArrays
 pub use Rattle.nested_arrays_flat.specs.Taken
 pub use Rattle.nested_arrays_parts.specs.Childless
 pub use Rattle.nested_arrays_parts.specs.FlatLayouts
@@ -33,7 +34,6 @@ pub use Rattle.nested_arrays_arrays.specs.Lengths
 pub use Rattle.nested_arrays_arrays.specs.NamedValues
 pub use Rattle.nested_arrays_arrays.specs.Parts
 pub use Rattle.nested_arrays_arrays.specs.Places
-pub use Rattle.nested_arrays_arrays.specs.SameArrays
 pub use Rattle.nested_arrays_arrays.specs.Sizes
 pub use Rattle.nested_arrays_arrays.specs.UnionFields
 pub use Rattle.nested_arrays_arrays.specs.Variants
@@ -42,3 +42,7 @@ pub use Rattle.nested_arrays_generic.specs.ListTypes
 pub use Rattle.nested_arrays_access.specs.MaskedArrays
 pub use Rattle.nested_arrays_access.specs.NullLaws
 pub use Rattle.nested_arrays_access.specs.Nulls
+pub use Rattle.nested_arrays_walks.specs.NamedValues as ValuesByKeys
+pub use Rattle.nested_arrays_walks.specs.ReadValues
+pub use Rattle.nested_arrays_walks.specs.StringParts
+pub use Rattle.nested_arrays_walks.specs.WalkLaws

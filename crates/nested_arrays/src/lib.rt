@@ -17,6 +17,7 @@ pub use nested_arrays_columns::{
     distinct_slots_are_distinct, joins_are_associative, null_fits_every_type,
     sameness_decides_equality, two_parts_make_the_whole,
 };
+pub use nested_arrays_copies::ToBoxed;
 pub use nested_arrays_flat::{
     AnyPrimitive, FixedSizeBinaryArray, NullArray, PrimitiveKind, PrimitiveNode,
 };
@@ -24,3 +25,9 @@ pub use nested_arrays_generic::{
     DictionaryArray, DictionaryKey, DictionaryKeys, DictionaryKeysIter, ListArray,
 };
 pub use nested_arrays_parts::{FlatArray, FlatNode, ListOffsets};
+pub use nested_arrays_walks::{
+    ArrayPart, ArraySlot, ArrayValues, DictionaryValues, DictionaryValuesIter,
+    FixedSizeBinaryValues, FixedSizeListValuesIter, GenericBinaryArray, KeyPlaces, KeyedSlots,
+    KeyedValues, ListValuesIter, MapValuesIter, Slots, StructSlot, StructValueIter, UnionIter,
+    Values, a_walk_over_places_gives_each_value_once,
+};

@@ -7,11 +7,10 @@ use crate::array::Array;
 use columnar_memory::{Bitmap, DataType, Error, NativeType, Offset, Result};
 use flat_arrays_bytes::{BinaryArray, Utf8Array};
 use flat_arrays_values::{BooleanArray, PrimitiveArray};
-use nested_arrays_flat::{
-    AnyPrimitive, FixedSizeBinaryArray, NullArray, binary_is_sound, boolean_is_sound,
-    primitive_is_sound, text_is_sound,
+use nested_arrays_flat::{AnyPrimitive, FixedSizeBinaryArray, NullArray, primitive_is_sound};
+use nested_arrays_parts::{
+    binary_is_sound, boolean_is_sound, fits, mask_booleans, mask_strings, mask_texts, text_is_sound,
 };
-use nested_arrays_parts::{fits, mask_booleans, mask_strings, mask_texts};
 
 impl Array for NullArray {
     ghost column = { λ array. array };

@@ -3,7 +3,6 @@
 
 mod array;
 mod flat_members;
-mod generic_members;
 mod members;
 mod null_laws;
 

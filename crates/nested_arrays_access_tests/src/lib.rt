@@ -1,10 +1,14 @@
-//! Tests of arrays of any type: which parts are accepted, and masks replaced through the trait.
+//! Tests of arrays of any type: which parts are accepted, masks replaced through the trait, and copies.
 #![tactic(auto)]
 
 #[cfg(test)]
 mod cases;
 #[cfg(test)]
+mod copies;
+#[cfg(test)]
 mod generic;
+#[cfg(test)]
+mod kinds;
 #[cfg(test)]
 mod masks;
 #[cfg(test)]

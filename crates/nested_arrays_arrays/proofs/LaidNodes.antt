@@ -20,7 +20,8 @@ use Rattle.nested_arrays_parts.specs.Widths.{layout_of}
 use Rattle.nested_arrays_parts.specs.declared.offsets.ListOffsets.{ListOffsets}
 use Rattle.nested_arrays_parts.specs.declared.offsets.ListOffsets.TheVariants as width
 use Rattle.nested_arrays_arrays.specs.AnyColumns.{column_of}
-use Rattle.nested_arrays_arrays.specs.Variants.{is_flat_node, is_keyed, layout_in, lies_well, may_lie}
+use Rattle.nested_arrays_arrays.specs.Variants.{is_flat_node, is_keyed, lies_well, may_lie}
+use Rattle.nested_arrays_parts.specs.FlatLayouts.{layout_in}
 use Rattle.nested_arrays_arrays.specs.declared.any.ListNode.{ListNode}
 use Rattle.nested_arrays_arrays.specs.declared.any.Node.{Node}
 use Rattle.nested_arrays_arrays.specs.declared.any.Node.TheVariants as variant

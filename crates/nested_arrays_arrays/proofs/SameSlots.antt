@@ -8,18 +8,12 @@ use Rattle.nested_arrays_columns.specs.SlotNodes.{nodes_of, slot_nodes}
 use Rattle.nested_arrays_columns.specs.Slots.{Slot, Slots, null, truth, number, pair, triple, text, bytes, items, fields, pick, no_slot, slot_then}
 use Rattle.nested_arrays_columns.specs.Slots.{in_slots, window}
 use Rattle.nested_arrays_columns.specs.StoredColumns.{Column, Columns, no_column, column_then, column_len, in_columns, slot_at, slots, slots_at}
+pub use Rattle.nested_arrays_flat.proofs.SamePlaces.{slots_by_place, slots_count, slots_same}
+use Rattle.nested_arrays_flat.proofs.SamePlaces.{each_same, first_slot, other_slots}
 use Rattle.nested_arrays_equal.specs.Ranges.{range_nodes, SameRanges}
 use Rattle.nested_arrays_arrays.specs.Places.{AreRecords, SameFields, columns_nodes}
 
 -- ---- windows
-
-abbrev first_slot : Slots → Slot
-first_slot no_slot = null
-first_slot (slot_then slot slots) = slot
-
-abbrev other_slots : Slots → Slots
-other_slots no_slot = no_slot
-other_slots (slot_then slot slots) = slots
 
 abbrev slot_count : Slots → ℕ
 slot_count no_slot = 0
@@ -39,12 +33,6 @@ no_slots_then slot slots is = cc
 slot_count-window : (f : ℕ → Slot) (a n : ℕ) → slot_count (in_slots (window f a n)) ≡ n
 slot_count-window f a zero = refl
 slot_count-window f a (suc n) = ap suc (slot_count-window f (a + 1) n)
-
-each_same : (f g : ℕ → Slot) (a b n : ℕ) → in_slots (window f a n) ≡ in_slots (window g b n) → (k : ℕ) → k < n → f (a + k) ≡ g (b + k)
-each_same f g a b zero same k h = absurd (omega arith)
-each_same f g a b (suc n) same zero h = ap f (omega arith) ∙ ap first_slot same ∙ ap g (omega arith)
-each_same f g a b (suc n) same (suc k) h =
-    ap f (omega arith) ∙ each_same f g (a + 1) (b + 1) n (ap other_slots same) k (omega arith) ∙ ap g (omega arith)
 
 -- items are the same where they are as many and each is the same
 pub items_same : (l r : Column) (i j m n : ℕ) → m ≡ n → SameRanges l i r j m
@@ -131,26 +119,6 @@ nodes_sum (slot ∷ found) = omega (arith, nodes_sum found, sum_by-cons slot_nod
 -- the nodes of all slots of a column
 pub all_nodes : (c : Column) → range_nodes c 0 (column_len c) ≡ sum_by slot_nodes (slots c)
 all_nodes c = nodes_sum (slots c)
-
--- columns as long as one another have the same slots where the ranges are the same
-pub slots_same : (l r : Column) (n : ℕ) → n ≡ column_len l → n ≡ column_len r → SameRanges l 0 r 0 n ↔ (slots l ≡ slots r)
-slots_same l r n long as_long = (
-  λ same. ap (window (slot_at l) 0) (sym long) ∙ window_same (slot_at l) (slot_at r) 0 0 n same ∙ ap (window (slot_at r) 0) as_long,
-  λ same. each_same (slot_at l) (slot_at r) 0 0 n
-      (ap in_slots (ap (window (slot_at l) 0) long ∙ same ∙ ap (window (slot_at r) 0) (sym as_long))),
-)
-
-pub slots_count : (l r : Column) → slots l ≡ slots r → column_len l ≡ column_len r
-slots_count l r same = sym (length-window (slot_at l) 0 (column_len l)) ∙ ap length same ∙ length-window (slot_at r) 0 (column_len r)
-
--- the same, place by place
-pub slots_by_place : (l r : Column) (n : ℕ) → n ≡ column_len l → n ≡ column_len r
-    → ((k : ℕ) → k < n → slot_at l k ≡ slot_at r k) ↔ (slots l ≡ slots r)
-slots_by_place l r n long as_long =
-    let both = slots_same l r n long as_long in (
-      λ same. both.0 (λ k h. ap (slot_at l) (omega arith) ∙ same k h ∙ ap (slot_at r) (omega arith)),
-      λ same k h. ap (slot_at l) (omega arith) ∙ both.1 same k h ∙ ap (slot_at r) (omega arith),
-    )
 
 -- ---- records
 

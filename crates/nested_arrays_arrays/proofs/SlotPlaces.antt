@@ -7,7 +7,7 @@ use mathlib.Core.Logic.{inl, inr}
 use Rattle.columnar_memory.specs.declared.DataType.{DataType}
 use Rattle.columnar_memory.specs.Spans.{Spans, offsets_of, offset_at, last_of}
 use Rattle.nested_arrays_columns.proofs.Conditions.{parts_of_4}
-use Rattle.nested_arrays_columns.specs.Slots.{Slot, null, items, fields, pick, in_slots, window}
+use Rattle.nested_arrays_columns.specs.Slots.{Slot, null, truth, number, pair, triple, text, bytes, items, fields, pick, in_slots, window}
 use Rattle.nested_arrays_columns.specs.SoundColumns.{are_sound, column_lens, has_child_at, has_field_types, have_len, is_sound, mask_fits}
 use Rattle.nested_arrays_columns.specs.StoredColumns.{Column, Columns, nulls, flat, lists, fixed_lists, records, unions, dictionary, no_column}
 use Rattle.nested_arrays_columns.specs.StoredColumns.{column_then, column_len, column_size, column_type, columns_size, in_columns, is_valid_at}
@@ -70,6 +70,19 @@ unset_class c i h = ap slot_class (null_slot c i h)
 pub null_class : (slot : Slot) → slot_class slot ≡ 0 → slot ≡ null
 null_class null h = refl
 null_class _ h = absurd (omega arith)
+
+-- the slots of a column that no key names are of four classes, or null
+pub class_bound : (slot : Slot) → slot_class slot ≤ 4
+class_bound null = omega arith
+class_bound (truth b) = omega arith
+class_bound (number kind n) = omega arith
+class_bound (pair kind a b) = omega arith
+class_bound (triple kind a b c) = omega arith
+class_bound (text content) = omega arith
+class_bound (bytes content) = omega arith
+class_bound (items slots) = omega arith
+class_bound (fields slots) = omega arith
+class_bound (pick data_type slot) = omega arith
 
 pub ruleset classes = (null_or_class, flat_class, unset_class, null_class)
 

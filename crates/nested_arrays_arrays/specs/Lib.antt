@@ -6,7 +6,6 @@ pub mod NamedValues
 pub mod Parts
 pub mod Places
 pub mod Rooms
-pub mod SameArrays
 pub mod Sizes
 pub mod Variants
 pub mod UnionFields

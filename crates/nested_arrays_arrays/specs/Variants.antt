@@ -1,13 +1,12 @@
 -- How the arrays of each variant may lie in memory.
 use Rattle.std.specs.Prelude.{Bool, true, false}
-use Rattle.columnar_memory.specs.Layouts.{physical_type}
 use Rattle.columnar_memory.specs.declared.PhysicalType.{PhysicalType}
 use Rattle.columnar_memory.specs.declared.PhysicalType.TheVariants as physical
-use Rattle.nested_arrays_columns.specs.StoredColumns.{Column, column_type}
 use Rattle.nested_arrays_arrays.specs.AnyColumns.{column_of}
 use Rattle.nested_arrays_arrays.specs.declared.any.Node.{Node}
 use Rattle.nested_arrays_arrays.specs.declared.any.Node.TheVariants as variant
 use Rattle.nested_arrays_parts.specs.Childless.{is_childless}
+use Rattle.nested_arrays_parts.specs.FlatLayouts.{layout_in}
 
 -- whether arrays that lie in memory so are dictionaries
 abbrev pub is_keyed : PhysicalType → Bool
@@ -30,10 +29,6 @@ may_lie _ layout = false
 abbrev pub is_flat_node : Node → Bool
 is_flat_node (variant.Flat array) = true
 is_flat_node _ = false
-
--- how an array lies in memory, by its column
-abbrev pub layout_in : Column → PhysicalType
-layout_in column = physical_type (column_type column)
 
 -- whether an array lies in memory as its variant says
 abbrev pub lies_well : Node → Bool

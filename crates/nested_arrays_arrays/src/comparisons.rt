@@ -2,7 +2,7 @@
 //! arrays without children, and one of records, is counted as a whole before it is compared.
 ghost use Rattle.std.specs.Prelude.{◌≡◌, ◌+◌, ◌<◌, ◌≤◌, ◌↔◌, IfSome, IsTrue};
 ghost use Rattle.nested_arrays_columns.specs.SlotNodes.{nodes_of, slot_nodes};
-ghost use Rattle.nested_arrays_columns.specs.Slots.{in_slots, items, pick, window};
+ghost use Rattle.nested_arrays_columns.specs.Slots.{in_slots, items, null, pick, window};
 ghost use Rattle.nested_arrays_columns.specs.StoredColumns.{column_len, column_type, in_columns, slot_at, slots_at};
 ghost use Rattle.nested_arrays_equal.specs.Ranges.{range_nodes, SameRanges};
 ghost use Rattle.nested_arrays_arrays.specs.Places.{columns_nodes, HavePlace, HaveRange, IsKeyless, SameFields};
@@ -107,7 +107,7 @@ fn same_columns(
 
 /// Whether a slot of an array is that of another.
 #[cycle(comparing)]
-fn same_slot(left: &AnyArray, i: usize, right: &AnyArray, j: usize, steps: &mut Steps) -> bool
+pub fn same_slot(left: &AnyArray, i: usize, right: &AnyArray, j: usize, steps: &mut Steps) -> bool
     requires left_within { i < column_len left.now }
     requires right_within { j < column_len right.now }
     ensures same { IsTrue result ↔ (slot_at left.now i ≡ slot_at right.now j) }
@@ -163,7 +163,7 @@ fn same_value(left: &AnyArray, i: usize, right: &AnyArray, j: usize, steps: &mut
 
 /// Whether the items of a list, so many from a place on, are those of another.
 #[cycle(comparing)]
-pub(crate) fn same_items(
+pub fn same_items(
     left: &AnyArray,
     i: usize,
     count: usize,
@@ -236,4 +236,17 @@ pub(crate) fn same_pick(
         return false;
     }
     same_slot(left, i, right, j, steps)
+}
+
+/// Whether a slot is null, or a valid key names a value that is.
+#[tactic(auto, using(crate::proofs::SlotPlaces::classes, crate::proofs::SlotPlaces::class_bound))]
+pub fn is_null_slot(array: &AnyArray, i: usize) -> bool
+    requires { i < column_len array.now }
+    ensures { IsTrue result ↔ (slot_at array.now i ≡ null) }
+{
+    let (values, place) = value_of(array, i);
+    values_at(values, place).is_none()
+        && items_at(values, place).is_none()
+        && fields_at(values, place).is_none()
+        && pick_at(values, place).is_none()
 }

@@ -18,10 +18,10 @@ use std::marker::Model;
 #[cycle(arrays)]
 #[derive(Drop)]
 pub struct FixedSizeListArray {
-    data_type: DataType,
-    size: usize,
-    values: Box<AnyArray>,
-    validity: Option<Bitmap>,
+    pub(crate) data_type: DataType,
+    pub(crate) size: usize,
+    pub(crate) values: Box<AnyArray>,
+    pub(crate) validity: Option<Bitmap>,
 }
 
 impl Model for FixedSizeListArray {

@@ -1,7 +1,7 @@
 //! `==` of arrays of one layout: of their data types and their slots.
 ghost use Rattle.std.specs.Prelude.{◌≡◌, ◌<◌, ◌↔◌, IsTrue};
-ghost use Rattle.nested_arrays_columns.specs.StoredColumns.{Column, column_len, column_type, slot_at};
-ghost use Rattle.nested_arrays_arrays.specs.SameArrays.{AreEqual, same_column, same_column-equivalence, same_column-per};
+ghost use Rattle.nested_arrays_columns.specs.StoredColumns.{Column, column_len, column_type, slot_at, slots};
+ghost use Rattle.nested_arrays_flat.specs.SameArrays.{AreEqual, same_column, same_column-equivalence, same_column-per};
 
 use crate::comparisons::{same_fields, same_items, same_pick};
 use crate::fixed_lists::FixedSizeListArray;
@@ -9,19 +9,18 @@ use crate::maps::MapArray;
 use crate::places::{entries_at, fixed_items_at, record_at, union_pick};
 use crate::records::StructArray;
 use crate::unions::UnionArray;
-use columnar_memory::Steps;
+use columnar_memory::{DataType, Steps};
 
 /// An array of one layout, whose slots are compared with those of another.
-trait Layout {
+pub trait CompareSlots {
     ghost column: { Self → Column };
 
     /// How many slots there are.
     fn count(&self) -> usize
         ensures { result ≡ column_len (column self.now) };
 
-    /// Whether the data type is another's.
-    fn has_type_of(&self, other: &Self) -> bool
-        ensures { IsTrue result ↔ (column_type (column self.now) ≡ column_type (column other.now)) };
+    fn array_type(&self) -> &DataType
+        ensures { result.now ≡ column_type (column self.now) };
 
     /// Whether a slot is the same as another's at its place.
     fn has_slot_of(&self, other: &Self, i: usize) -> bool
@@ -30,13 +29,10 @@ trait Layout {
         ensures { IsTrue result ↔ (slot_at (column self.now) i ≡ slot_at (column other.now) i) };
 }
 
-/// Whether two arrays have one data type and the same slots.
-fn same_arrays<A: Layout>(left: &A, right: &A) -> bool
-    ensures { IsTrue result ↔ AreEqual (A.column left.now) (A.column right.now) }
+/// Whether two arrays have the same slots.
+fn same_places<A: CompareSlots>(left: &A, right: &A) -> bool
+    ensures { IsTrue result ↔ (slots (A.column left.now) ≡ slots (A.column right.now)) }
 {
-    if !left.has_type_of(right) {
-        return false;
-    }
     let slots = left.count();
     if slots != right.count() {
         return false;
@@ -49,15 +45,23 @@ fn same_arrays<A: Layout>(left: &A, right: &A) -> bool
     true
 }
 
-impl Layout for StructArray {
+/// Whether two arrays have one data type and the same slots.
+pub fn same_arrays<A: CompareSlots>(left: &A, right: &A) -> bool
+    ensures value { result ≡ same_column (A.column left.now) (A.column right.now) }
+    ensures exact { IsTrue result ↔ AreEqual (A.column left.now) (A.column right.now) }
+{
+    *left.array_type() == *right.array_type() && same_places(left, right)
+}
+
+impl CompareSlots for StructArray {
     ghost column = { λ array. array };
 
     fn count(&self) -> usize {
         self.len()
     }
 
-    fn has_type_of(&self, other: &Self) -> bool {
-        *self.data_type() == *other.data_type()
+    fn array_type(&self) -> &DataType {
+        self.data_type()
     }
 
     fn has_slot_of(&self, other: &Self, i: usize) -> bool {
@@ -69,15 +73,15 @@ impl Layout for StructArray {
     }
 }
 
-impl Layout for FixedSizeListArray {
+impl CompareSlots for FixedSizeListArray {
     ghost column = { λ array. array };
 
     fn count(&self) -> usize {
         self.len()
     }
 
-    fn has_type_of(&self, other: &Self) -> bool {
-        *self.data_type() == *other.data_type()
+    fn array_type(&self) -> &DataType {
+        self.data_type()
     }
 
     fn has_slot_of(&self, other: &Self, i: usize) -> bool {
@@ -99,15 +103,15 @@ impl Layout for FixedSizeListArray {
     }
 }
 
-impl Layout for MapArray {
+impl CompareSlots for MapArray {
     ghost column = { λ array. array };
 
     fn count(&self) -> usize {
         self.len()
     }
 
-    fn has_type_of(&self, other: &Self) -> bool {
-        *self.data_type() == *other.data_type()
+    fn array_type(&self) -> &DataType {
+        self.data_type()
     }
 
     fn has_slot_of(&self, other: &Self, i: usize) -> bool {
@@ -129,15 +133,15 @@ impl Layout for MapArray {
     }
 }
 
-impl Layout for UnionArray {
+impl CompareSlots for UnionArray {
     ghost column = { λ array. array };
 
     fn count(&self) -> usize {
         self.len()
     }
 
-    fn has_type_of(&self, other: &Self) -> bool {
-        *self.data_type() == *other.data_type()
+    fn array_type(&self) -> &DataType {
+        self.data_type()
     }
 
     #[tactic(auto, using(crate::proofs::SlotPlaces::classes))]

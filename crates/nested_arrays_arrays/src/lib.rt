@@ -4,6 +4,7 @@
 mod any;
 mod children;
 mod comparisons;
+mod copies;
 mod equality;
 mod fixed_lists;
 mod from;
@@ -20,8 +21,10 @@ mod unions;
 mod validity;
 
 pub use any::{AnyArray, DictionaryNode, ListNode, Node};
+pub use comparisons::{is_null_slot, same_items, same_slot};
 pub use equality::{equal, equal_counted};
 pub use fixed_lists::FixedSizeListArray;
+pub use layouts::{CompareSlots, same_arrays};
 pub use maps::MapArray;
 pub use records::StructArray;
 pub use unions::UnionArray;

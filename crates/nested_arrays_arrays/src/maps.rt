@@ -12,8 +12,8 @@ ghost use Rattle.nested_arrays_flat.specs.ColumnMasks.{column_mask, ReplacesMask
 
 use crate::any::AnyArray;
 use columnar_memory::{Bitmap, DataType, Error, OffsetsBuffer, Result};
-use nested_arrays_flat::{slice_mask, slice_offsets};
-use nested_arrays_parts::{fits, last_of};
+use nested_arrays_flat::slice_mask;
+use nested_arrays_parts::{fits, last_of, slice_offsets};
 use std::marker::Model;
 
 /// Maps, each a list of entries, structs of a key and a value, one after another in a child (Arrow columnar format, "Map"). A contract sees
@@ -21,10 +21,10 @@ use std::marker::Model;
 #[cycle(arrays)]
 #[derive(Drop)]
 pub struct MapArray {
-    data_type: DataType,
-    offsets: OffsetsBuffer<i32>,
-    field: Box<AnyArray>,
-    validity: Option<Bitmap>,
+    pub(crate) data_type: DataType,
+    pub(crate) offsets: OffsetsBuffer<i32>,
+    pub(crate) field: Box<AnyArray>,
+    pub(crate) validity: Option<Bitmap>,
 }
 
 impl Model for MapArray {

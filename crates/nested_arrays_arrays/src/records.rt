@@ -20,10 +20,10 @@ use std::marker::Model;
 #[cycle(arrays)]
 #[derive(Drop)]
 pub struct StructArray {
-    data_type: DataType,
-    values: Vec<AnyArray>,
-    validity: Option<Bitmap>,
-    length: usize,
+    pub(crate) data_type: DataType,
+    pub(crate) values: Vec<AnyArray>,
+    pub(crate) validity: Option<Bitmap>,
+    pub(crate) length: usize,
 }
 
 impl Model for StructArray {

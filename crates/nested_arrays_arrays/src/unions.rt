@@ -22,10 +22,10 @@ use std::marker::Model;
 #[cycle(arrays)]
 #[derive(Drop)]
 pub struct UnionArray {
-    data_type: DataType,
-    types: Buffer<i8>,
-    offsets: Option<Buffer<i32>>,
-    fields: Vec<AnyArray>,
+    pub(crate) data_type: DataType,
+    pub(crate) types: Buffer<i8>,
+    pub(crate) offsets: Option<Buffer<i32>>,
+    pub(crate) fields: Vec<AnyArray>,
 }
 
 impl Model for UnionArray {

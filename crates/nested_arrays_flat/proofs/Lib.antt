@@ -5,5 +5,6 @@ pub mod InRange
 pub mod Layers
 pub mod NullTypes
 pub mod Offsets
+pub mod SamePlaces
 pub mod SoundFlats
 pub mod SoundStrings

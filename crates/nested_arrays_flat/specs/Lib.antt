@@ -2,4 +2,5 @@ pub mod Checked
 pub mod ColumnMasks
 pub mod FlatColumns
 pub mod Primitives
+pub mod SameArrays
 pub mod Taken

@@ -1,15 +1,16 @@
 //! Arrays of byte strings of one size.
-ghost use Rattle.std.specs.Prelude.{◌≡◌, ◌+◌, ◌*◌, ◌/◌, ◌^◌, ◌<◌, ◌≤◌, [], length, replicate};
+ghost use Rattle.std.specs.Prelude.{◌≡◌, ◌+◌, ◌*◌, ◌/◌, ◌^◌, ◌<◌, ◌≤◌, ◌↔◌, IsTrue, [], length, replicate};
 ghost use Rattle.std.specs.Prelude.{false, true, MatchOption, None, Some, option_copied};
 ghost use Rattle.columnar_memory.specs.Layouts.{physical_type};
 ghost use Rattle.columnar_memory.specs.Results.{OrOutOfMemory};
 ghost use Rattle.columnar_memory.specs.declared.PhysicalType.TheVariants as physical;
 ghost use Rattle.nested_arrays_columns.specs.Slots.{bytes, null};
 ghost use Rattle.nested_arrays_columns.specs.SoundColumns.{is_sound, mask_fits};
-ghost use Rattle.nested_arrays_columns.specs.StoredColumns.{column_len, column_type, cut, cut_list, is_valid_at, slot_at};
+ghost use Rattle.nested_arrays_columns.specs.StoredColumns.{column_len, column_type, cut, cut_list, is_valid_at, slot_at, slots};
 ghost use Rattle.nested_arrays_flat.specs.Checked.{IsChecked};
 ghost use Rattle.nested_arrays_flat.specs.ColumnMasks.{column_mask, unset_in, with_mask, ReplacesMask};
 ghost use Rattle.nested_arrays_flat.specs.FlatColumns.{byte_width, fixed_column};
+ghost use Rattle.nested_arrays_flat.specs.SameArrays.{AreEqual, same_column, same_column-equivalence, same_column-per};
 
 use crate::masks::{is_mask_of, mark_at, slice_mask, unset_marks};
 use crate::ranges::read_bytes;
@@ -297,4 +298,52 @@ impl Clone for FixedSizeBinaryArray {
             validity: self.validity.clone()?,
         })
     }
+}
+
+impl FixedSizeBinaryArray {
+    /// Whether a slot is the same as another's at its place.
+    fn has_slot_of(&self, other: &FixedSizeBinaryArray, i: usize) -> bool
+        requires own { i < column_len self.now }
+        requires others { i < column_len other.now }
+        ensures { IsTrue result ↔ (slot_at self.now i ≡ slot_at other.now i) }
+    {
+        match (self.get(i), other.get(i)) {
+            (Some(value), Some(other)) => *value == *other,
+            (None, None) => true,
+            _ => false,
+        }
+    }
+
+    /// Whether the slots are the same as another's.
+    fn has_slots_of(&self, other: &FixedSizeBinaryArray) -> bool
+        ensures { IsTrue result ↔ (slots self.now ≡ slots other.now) }
+    {
+        let count = self.len();
+        if count != other.len() {
+            return false;
+        }
+        for i in 0..count {
+            if !self.has_slot_of(other, i) {
+                return false;
+            }
+        }
+        true
+    }
+}
+
+impl PartialEq for FixedSizeBinaryArray {
+    ghost eq = { same_column };
+
+    ghost laws = { same_column-per };
+
+    fn eq(&self, other: &Self) -> bool
+        ensures value { result ≡ same_column self.now other.now }
+        ensures exact { IsTrue result ↔ AreEqual self.now other.now }
+    {
+        self.data_type == other.data_type && self.has_slots_of(other)
+    }
+}
+
+impl Eq for FixedSizeBinaryArray {
+    ghost laws = { same_column-equivalence };
 }

@@ -10,8 +10,8 @@ mod ranges;
 mod sound;
 
 pub use fixed_size_binary::FixedSizeBinaryArray;
-pub use masks::{is_mask_of, mark_at, slice_mask, slice_offsets, unset_marks};
+pub use masks::{is_mask_of, mark_at, slice_mask, unset_marks};
 pub use null::NullArray;
 pub use primitive::{AnyPrimitive, Parts, PrimitiveKind, PrimitiveNode};
 pub use ranges::read_bytes;
-pub use sound::{binary_is_sound, boolean_is_sound, primitive_is_sound, text_is_sound};
+pub use sound::primitive_is_sound;

@@ -2,12 +2,11 @@
 //! "Validity bitmaps").
 ghost use Rattle.std.specs.Prelude.{◌≡◌, ◌+◌, ◌<◌, ◌≤◌, ◌↔◌, IsTrue, length, option_copied, true};
 ghost use Rattle.std.specs.Option.{ForSome};
-ghost use Rattle.columnar_memory.specs.Spans.{spans_between};
 ghost use Rattle.nested_arrays_columns.specs.SoundColumns.{mask_fits};
 ghost use Rattle.nested_arrays_columns.specs.StoredColumns.{cut_mask, is_valid_at};
 ghost use Rattle.nested_arrays_flat.specs.ColumnMasks.{unset_in};
 
-use columnar_memory::{Bitmap, Offset, OffsetsBuffer};
+use columnar_memory::Bitmap;
 
 /// Narrows a mask, if there is one, to the `count` marks from `offset` on.
 #[tactic(auto, using(crate::proofs::CutMasks::cut_window))]
@@ -18,15 +17,6 @@ pub fn slice_mask(validity: &mut Option<Bitmap>, offset: usize, count: usize)
     if let Some(mask) = validity {
         mask.slice(offset, count);
     }
-}
-
-/// Narrows offsets to those of the `count` spans from `offset` on.
-pub fn slice_offsets<O: Offset>(offsets: &mut OffsetsBuffer<O>, offset: usize, count: usize)
-    requires { offset + count ≤ length offsets.old.lengths }
-    ensures { offsets.new ≡ spans_between offsets.old offset count }
-{
-    let _all = offsets.len();
-    offsets.slice(offset, count + 1);
 }
 
 /// Whether a mask, if there is one, has `len` marks.

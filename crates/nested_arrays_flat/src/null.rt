@@ -6,6 +6,7 @@ ghost use Rattle.nested_arrays_columns.specs.SoundColumns.{is_sound};
 ghost use Rattle.nested_arrays_columns.specs.StoredColumns.{column_len, column_type, cut, nulls};
 ghost use Rattle.nested_arrays_flat.specs.Checked.{IsChecked};
 ghost use Rattle.nested_arrays_flat.specs.ColumnMasks.{column_mask, ReplacesMask};
+ghost use Rattle.nested_arrays_flat.specs.SameArrays.{AreEqual, same_column, same_column-equivalence, same_column-per};
 
 use columnar_memory::{Bitmap, DataType, Error, PhysicalType, Result};
 use std::alloc::AllocError;
@@ -158,4 +159,21 @@ impl Clone for NullArray {
             length: self.length,
         })
     }
+}
+
+impl PartialEq for NullArray {
+    ghost eq = { same_column };
+
+    ghost laws = { same_column-per };
+
+    fn eq(&self, other: &Self) -> bool
+        ensures value { result ≡ same_column self.now other.now }
+        ensures exact { IsTrue result ↔ AreEqual self.now other.now }
+    {
+        self.data_type == other.data_type && self.length == other.length
+    }
+}
+
+impl Eq for NullArray {
+    ghost laws = { same_column-equivalence };
 }

@@ -107,12 +107,6 @@ impl AnyPrimitive {
         with_array!(&self.node, array => array.len())
     }
 
-    pub fn is_empty(&self) -> bool
-        ensures { IsTrue result ↔ (column_len self.now ≡ 0) }
-    {
-        self.len() == 0
-    }
-
     #[tactic(auto, using(crate::proofs::SoundFlats::primitive_fits))]
     pub fn data_type(&self) -> &DataType
         ensures value { result.now ≡ column_type self.now }
@@ -157,16 +151,6 @@ impl AnyPrimitive {
         ensures { self.new ≡ cut self.old offset count }
     {
         with_array!(&mut self.node, array => slice_numbers(array, offset, count))
-    }
-
-    /// The `count` slots from `offset` on, in the same memory.
-    pub fn sliced(self, offset: usize, count: usize) -> Self
-        requires { offset + count ≤ column_len self }
-        ensures { result ≡ cut self offset count }
-    {
-        let mut array = self;
-        array.slice(offset, count);
-        array
     }
 
     /// Replaces the mask.

@@ -45,3 +45,11 @@ fn an_empty_array_has_no_place(rt: HostRuntime) -> Result<(), Fail> {
     assert!(rt; array.get(0).is_none());
     Ok(())
 }
+
+#[test]
+fn strings_are_equal_by_their_bytes(rt: HostRuntime) -> Result<(), Fail> {
+    let array = pairs(rt.alloc(), &[1, 2])?;
+    let other = pairs(rt.alloc(), &[1, 3])?;
+    assert!(rt; array != other);
+    Ok(())
+}

@@ -8,8 +8,8 @@ ghost use Rattle.nested_arrays_generic.specs.ListTypes.{has_list_item_type, item
 
 use columnar_memory::{Bitmap, DataType, Error, Offset, OffsetsBuffer, Result};
 use nested_arrays_arrays::AnyArray;
-use nested_arrays_flat::{mark_at, slice_mask, slice_offsets, unset_marks};
-use nested_arrays_parts::{fits, last_of};
+use nested_arrays_flat::{mark_at, slice_mask, unset_marks};
+use nested_arrays_parts::{fits, last_of, slice_offsets};
 use std::marker::Model;
 
 /// Lists of any length, one after another in a child, with offsets of one width (Arrow columnar format, "Variable-size List Layout"). A

@@ -49,3 +49,11 @@ fn another_width_is_given_back(rt: HostRuntime) -> Result<(), Fail> {
     assert!(rt; left.is_some_and(|any| any.len() == 1));
     Ok(())
 }
+
+#[test]
+fn lists_are_equal_by_their_items(rt: HostRuntime) -> Result<(), Fail> {
+    let array = lists(rt.alloc(), &[0, 2])?;
+    let other = lists(rt.alloc(), &[3, 5])?;
+    assert!(rt; array != other);
+    Ok(())
+}

@@ -3,11 +3,10 @@ ghost use Rattle.std.specs.Prelude.{◌≡◌};
 ghost use Rattle.nested_arrays_flat.specs.FlatColumns.{binary_column, boolean_column, text_column};
 
 use crate::flats::{FlatArray, FlatNode};
+use crate::sound::{binary_is_sound, boolean_is_sound, text_is_sound};
 use flat_arrays_bytes::{BinaryArray, Utf8Array};
 use flat_arrays_values::BooleanArray;
-use nested_arrays_flat::{
-    AnyPrimitive, FixedSizeBinaryArray, NullArray, binary_is_sound, boolean_is_sound, text_is_sound,
-};
+use nested_arrays_flat::{AnyPrimitive, FixedSizeBinaryArray, NullArray};
 
 impl From<NullArray> for FlatArray {
     ghost from_gives = { λ array flat. flat ≡ array };

@@ -3,8 +3,16 @@ ghost use Rattle.std.specs.Prelude.{◌≡◌, ◌+◌, ◌≤◌, length};
 ghost use Rattle.columnar_memory.specs.Spans.{spans_between};
 ghost use Rattle.nested_arrays_parts.specs.Widths.{spans_in, layout_of};
 
-use columnar_memory::OffsetsBuffer;
-use nested_arrays_flat::slice_offsets;
+use columnar_memory::{Offset, OffsetsBuffer};
+
+/// Narrows offsets to those of the `count` spans from `offset` on.
+pub fn slice_offsets<O: Offset>(offsets: &mut OffsetsBuffer<O>, offset: usize, count: usize)
+    requires { offset + count ≤ length offsets.old.lengths }
+    ensures { offsets.new ≡ spans_between offsets.old offset count }
+{
+    let _all = offsets.len();
+    offsets.slice(offset, count + 1);
+}
 
 /// The offsets of lists, of 32 or of 64 bits.
 #[derive(Drop)]

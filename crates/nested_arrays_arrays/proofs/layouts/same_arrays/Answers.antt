@@ -1,31 +1,21 @@
-use Rattle.std.proofs.Common.{◌∙◌, arith, refl, sym}
-use Rattle.std.proofs.lemmas.Bool.{false≢true}
-use Rattle.nested_arrays_arrays.proofs.SameSlots.{slots_by_place, slots_count}
+use Rattle.std.proofs.Common.{◌≡◌, ◌∙◌, refl, sym, rules}
+use Rattle.std.proofs.lemmas.Bool.Decides.{same_from_decides}
+use Rattle.columnar_memory.specs.Equality.{same_type, same_type-Decides}
+use Rattle.nested_arrays_columns.specs.StoredColumns.{column_type}
+use Rattle.nested_arrays_flat.proofs.SamePlaces.{equal_then}
+use Rattle.nested_arrays_flat.specs.SameArrays.{same_column, same_column-Decides}
 use Rattle.nested_arrays_arrays.proofs.layouts.same_arrays.Goals as goal
 
-pub returns-then-slots-count : goal.returns-then-slots-count
-returns-then-slots-count g c =
-    let left = g.A.Layout.column c.args.left.now in
-    let right = g.A.Layout.column c.args.right.now in (
-      λ is. absurd (false≢true is),
-      λ equal. absurd (c.if-slots-count.true (c.count-slots.ensures ∙ slots_count left right equal.slots ∙ sym c.count.ensures)),
-    )
+pub returns-then-eq-clause-exact : goal.returns-then-eq-clause-exact
+returns-then-eq-clause-exact g c =
+    let a = g.A.CompareSlots.column c.args.left.now in
+    let b = g.A.CompareSlots.column c.args.right.now in
+    let same : c.eq.result ≡ same_type (column_type a) (column_type b) = search rules in
+    equal_then a b (column_type a) (column_type b) refl refl ((same_type-Decides (column_type a) (column_type b)).0 (sym same ∙ c.if-eq.true))
+    c.same_places.result c.same_places.ensures
 
-pub returns-then-not-has_slot_of : goal.returns-then-not-has_slot_of
-returns-then-not-has_slot_of g c =
-    let left = g.A.Layout.column c.args.left.now in
-    let right = g.A.Layout.column c.args.right.now in
-    let both = slots_by_place left right c.count-slots.result c.count-slots.ensures (c.if-slots-count.false ∙ c.count.ensures) in (
-      λ is. absurd (false≢true is),
-      λ equal. absurd (false≢true (sym c.if-not-has_slot_of.true
-          ∙ c.has_slot_of.ensures.1 (both.1 equal.slots c.loop-i.i c.loop-i-test.true))),
-    )
-
-pub returns : goal.returns
-returns g c =
-    let left = g.A.Layout.column c.args.left.now in
-    let right = g.A.Layout.column c.args.right.now in
-    let both = slots_by_place left right c.count-slots.result c.count-slots.ensures (c.if-slots-count.false ∙ c.count.ensures) in (
-      λ is. record { types = c.has_type_of.ensures.0 c.if-not-has_type_of.false; slots = both.0 (λ k h. c.loop-i.invariant k (omega arith)) },
-      λ equal. refl,
-    )
+pub returns-then-eq-clause-value : goal.returns-then-eq-clause-value
+returns-then-eq-clause-value g c =
+    let a = g.A.CompareSlots.column c.args.left.now in
+    let b = g.A.CompareSlots.column c.args.right.now in
+    same_from_decides c.same_places.result (same_column a b) (returns-then-eq-clause-exact g c) (same_column-Decides a b)

@@ -1,0 +1,13 @@
+use Rattle.std.proofs.Common.{rules, ◌≡◌, ◌≤◌, true}
+use Rattle.std.specs.List.{list_all}
+use Rattle.columnar_memory.specs.Spans.{last_of}
+use Rattle.nested_arrays_columns.specs.SoundColumns.{is_byte}
+use Rattle.nested_arrays_flat.proofs.SoundStrings.{binary_sound}
+use Rattle.nested_arrays_parts.proofs.sound.binary_is_sound.Goals as goal
+
+pub returns : goal.returns
+returns g c =
+    let array = c.args.array.now in
+    let small : last_of array.offsets ≤ g.O.Index.greatest = search rules in
+    let bytes : list_all is_byte array.bytes ≡ true = search rules in
+    binary_sound g.O.Offset.IS_LARGE g.O.Index.greatest array g.met.O.Offset.large_law c.len-slots.ensures.whole small bytes

@@ -1,0 +1,3 @@
+pub mod NamedSlots
+pub mod ReadSlots
+pub mod Walks

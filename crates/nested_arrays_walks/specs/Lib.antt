@@ -1,0 +1,4 @@
+pub mod NamedValues
+pub mod ReadValues
+pub mod StringParts
+pub mod WalkLaws
