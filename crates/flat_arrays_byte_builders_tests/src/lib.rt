@@ -1,11 +1,7 @@
-//! Tests of builders of byte strings and of texts.
+//! Tests of builders of byte strings and of texts with nulls.
 #![tactic(auto)]
 
 #[cfg(test)]
 mod binary;
 #[cfg(test)]
-mod binary_values;
-#[cfg(test)]
 mod utf8;
-#[cfg(test)]
-mod utf8_values;
