@@ -36,7 +36,7 @@ impl<'a> ArraySlot<'a> {
         ArraySlot { array, place }
     }
 
-    /// The array that has the slot.
+    /// The array that has the slot, and the place in it.
     pub fn parts(&self) -> (&'a AnyArray, usize)
         ensures slot { slot_at result.0.now result.1 ≡ self.now }
         ensures within { result.1 < column_len result.0.now }
