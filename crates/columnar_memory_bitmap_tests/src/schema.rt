@@ -1,3 +1,4 @@
+//! A data type is let go by `drop`, a call: at the end of a scope each variant of it is let go in turn, which costs much more to prove.
 use crate::cases::hash_of;
 use columnar_memory_content::{Boxed, Items, Metadata, Text};
 use columnar_memory_schema::{
@@ -24,9 +25,10 @@ fn list_of(alloc: Global, item: DataType) -> Result<DataType, AllocError> {
 }
 
 fn union_of(alloc: Global, child: DataType, id: i32) -> Result<DataType, AllocError> {
+    let fields = fields_of(alloc, child)?;
     let mut ids = Items::new(alloc);
     ids.push(id)?;
-    Ok(DataType::Union(fields_of(alloc, child)?, Some(ids), UnionMode::Sparse))
+    Ok(DataType::Union(fields, Some(ids), UnionMode::Sparse))
 }
 
 fn dictionary_of(alloc: Global, values: DataType) -> Result<DataType, AllocError> {
@@ -34,19 +36,14 @@ fn dictionary_of(alloc: Global, values: DataType) -> Result<DataType, AllocError
 }
 
 fn extension_of(alloc: Global, name: &str, stored: DataType) -> Result<DataType, AllocError> {
+    let stored = Boxed::new(alloc, stored)?;
     let name = Text::from_str(alloc, name)?;
-    Ok(DataType::Extension(name, Boxed::new(alloc, stored)?, None))
+    Ok(DataType::Extension(name, stored, None))
 }
 
 fn zoned(alloc: Global, zone: &str) -> Result<DataType, AllocError> {
     let zone = Text::from_str(alloc, zone)?;
     Ok(DataType::Timestamp(TimeUnit::Millisecond, Some(zone)))
-}
-
-fn record_of(alloc: Global, first: DataType, second: DataType) -> Result<DataType, AllocError> {
-    let mut fields = fields_of(alloc, first)?;
-    fields.push(field_of(alloc, "second", second)?)?;
-    Ok(DataType::Struct(fields))
 }
 
 fn lists_of_times(alloc: Global) -> Result<DataType, AllocError> {
@@ -59,7 +56,9 @@ fn union_of_texts(alloc: Global) -> Result<DataType, AllocError> {
 
 /// A struct of a list of times and a union of a dictionary.
 fn nested(alloc: Global) -> Result<DataType, AllocError> {
-    record_of(alloc, lists_of_times(alloc)?, union_of_texts(alloc)?)
+    let mut fields = fields_of(alloc, lists_of_times(alloc)?)?;
+    fields.push(field_of(alloc, "second", union_of_texts(alloc)?)?)?;
+    Ok(DataType::Struct(fields))
 }
 
 #[test]
@@ -68,25 +67,48 @@ fn a_nested_type_equals_its_clone(rt: HostRuntime) -> Result<(), Fail> {
     let copied = data_type.clone()?;
     assert!(rt; copied == data_type);
     assert!(rt; hash_of(&copied) == hash_of(&data_type));
+    drop(copied);
+    drop(data_type);
     Ok(())
 }
 
+/// Whether two types were made and are not equal.
+fn differ(first: Result<DataType, AllocError>, second: Result<DataType, AllocError>) -> bool {
+    let differ = match (&first, &second) {
+        (Ok(first), Ok(second)) => first != second,
+        _ => false,
+    };
+    drop(first);
+    drop(second);
+    differ
+}
+
 #[test]
-fn types_differ_where_a_part_does(rt: HostRuntime) -> Result<(), Fail> {
+fn types_differ_where_a_part_does(rt: HostRuntime) {
     let alloc = rt.alloc();
-    assert!(rt; zoned(alloc, "UTC")? != zoned(alloc, "+01:00")?);
-    assert!(rt; list_of(alloc, DataType::Int8)? != list_of(alloc, DataType::Int16)?);
-    assert!(rt; union_of(alloc, DataType::Int8, 5)? != union_of(alloc, DataType::Int8, 6)?);
-    assert!(rt; DataType::Decimal(9, 2) != DataType::Decimal(9, 3));
-    Ok(())
+    assert!(rt; differ(zoned(alloc, "UTC"), zoned(alloc, "+01:00")));
+    assert!(rt;
+        differ(
+            list_of(alloc, DataType::Int8),
+            list_of(alloc, DataType::Int16)
+        )
+    );
+    assert!(rt;
+        differ(
+            union_of(alloc, DataType::Int8, 5),
+            union_of(alloc, DataType::Int8, 6)
+        )
+    );
+    assert!(rt; differ(Ok(DataType::Decimal(9, 2)), Ok(DataType::Decimal(9, 3))));
 }
 
 #[test]
 fn extensions_are_laid_out_as_what_they_are_over(rt: HostRuntime) -> Result<(), Fail> {
     let inner = extension_of(rt.alloc(), "day", DataType::Date32)?;
     let outer = extension_of(rt.alloc(), "holiday", inner)?;
-    assert!(rt; *outer.to_logical_type() == DataType::Date32);
+    assert!(rt; matches!(outer.to_logical_type(), DataType::Date32));
     assert!(rt; outer.to_physical_type() == PhysicalType::Primitive(PrimitiveType::Int32));
+    drop(outer);
     Ok(())
 }
 
@@ -94,12 +116,25 @@ fn extensions_are_laid_out_as_what_they_are_over(rt: HostRuntime) -> Result<(), 
 fn months_are_laid_out_as_integers(rt: HostRuntime) {
     let months = DataType::Interval(IntervalUnit::YearMonth);
     assert!(rt; months.to_physical_type().eq_primitive(PrimitiveType::Int32));
+    drop(months);
+}
+
+fn are_equal(first: DataType, second: DataType) -> bool {
+    let are_equal = first == second;
+    drop(first);
+    drop(second);
+    are_equal
 }
 
 #[test]
 fn types_of_integers(rt: HostRuntime) {
-    assert!(rt; DataType::from(PrimitiveType::Int256) == DataType::Decimal256(32, 32));
-    assert!(rt; DataType::from(IntegerType::UInt8) == DataType::UInt8);
+    assert!(rt;
+        are_equal(
+            DataType::from(PrimitiveType::Int256),
+            DataType::Decimal256(32, 32)
+        )
+    );
+    assert!(rt; are_equal(DataType::from(IntegerType::UInt8), DataType::UInt8));
 }
 
 /// A pair.
@@ -111,9 +146,9 @@ fn pair(alloc: Global, key: &str, value: &str) -> Result<Metadata, AllocError> {
 
 /// One field with metadata, in a schema with metadata.
 fn heights(alloc: Global) -> Result<Schema, AllocError> {
-    let height = field_of(alloc, "height", DataType::Float32)?;
-    let height = height.with_metadata(pair(alloc, "unit", "m")?);
-    Ok(Schema::from(vec![in alloc; height]?).with_metadata(pair(alloc, "source", "survey")?))
+    let (unit, source) = (pair(alloc, "unit", "m")?, pair(alloc, "source", "survey")?);
+    let height = field_of(alloc, "height", DataType::Float32)?.with_metadata(unit);
+    Ok(Schema::from(vec![in alloc; height]?).with_metadata(source))
 }
 
 #[test]
@@ -122,7 +157,10 @@ fn a_schema_equals_its_clone(rt: HostRuntime) -> Result<(), Fail> {
     let copied = schema.clone()?;
     assert!(rt; copied == schema);
     assert!(rt; hash_of(&copied) == hash_of(&schema));
-    assert!(rt; Schema::from_fields(copied.fields) != schema);
+    let bare = Schema::from_fields(copied.fields);
+    assert!(rt; bare != schema);
+    drop(bare);
+    drop(schema);
     Ok(())
 }
 
@@ -143,9 +181,11 @@ fn three_fields(alloc: Global) -> Result<Schema, AllocError> {
 #[test]
 fn a_schema_keeps_the_columns_asked_for(rt: HostRuntime) -> Result<(), Fail> {
     let schema = three_fields(rt.alloc())?;
-    let kept = schema.filter(|index, field| index < 2 && *field.data_type() == DataType::Int8)?;
+    let kept = schema.filter(|index, field| index < 2
+        && matches!(field.data_type(), DataType::Int8))?;
     assert!(rt; kept.fields.len() == 1);
     assert!(rt; kept.fields.get(0).map(|field| field.name.as_str()) == Some("a"));
+    drop(kept);
     Ok(())
 }
 
@@ -153,6 +193,7 @@ fn a_schema_keeps_the_columns_asked_for(rt: HostRuntime) -> Result<(), Fail> {
 fn metadata_of_an_extension_alone_names_none(rt: HostRuntime) -> Result<(), Fail> {
     let pairs = pair(rt.alloc(), EXTENSION_METADATA, "{}")?;
     assert!(rt; get_extension(&pairs).is_none());
+    drop(pairs);
     Ok(())
 }
 
@@ -169,5 +210,6 @@ fn a_field_may_name_an_extension(rt: HostRuntime) -> Result<(), Fail> {
     let (name, more) = get_extension(&pairs).ok_or("no extension")?;
     assert!(rt; name.as_str() == "uuid");
     assert!(rt; more.map(|text| text.as_str()) == Some("{}"));
+    drop(pairs);
     Ok(())
 }

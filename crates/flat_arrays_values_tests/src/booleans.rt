@@ -16,32 +16,39 @@ fn slots_are_gathered(rt: HostRuntime) -> Result<(), Fail> {
         (Some(true), None, Some(false))
     );
     assert!(rt; array.get(3).is_none());
+    drop(array);
+    Ok(())
+}
+
+#[test]
+fn a_new_array_has_no_slot(rt: HostRuntime) -> Result<(), Fail> {
+    let array = BooleanArray::new_empty(rt.alloc(), DataType::Boolean)?;
+    assert_eq!(rt; array.len(), 0);
+    drop(array);
     Ok(())
 }
 
 #[test]
 fn an_array_of_nulls_has_no_value(rt: HostRuntime) -> Result<(), Fail> {
-    assert_eq!(rt;
-        BooleanArray::new_empty(rt.alloc(), DataType::Boolean)?.len(),
-        0
-    );
-    assert_eq!(rt;
-        BooleanArray::new_null(rt.alloc(), DataType::Boolean, 2)?.null_count(),
-        2
-    );
+    let array = BooleanArray::new_null(rt.alloc(), DataType::Boolean, 2)?;
+    assert_eq!(rt; array.null_count(), 2);
+    drop(array);
     Ok(())
 }
 
 #[test]
-fn values_are_copied(rt: HostRuntime) -> Result<(), Fail> {
-    assert_eq!(rt;
-        BooleanArray::from_slice(rt.alloc(), &[true, false])?.len(),
-        2
-    );
-    assert_eq!(rt;
-        BooleanArray::from_values(rt.alloc(), [true].into_iter())?.len(),
-        1
-    );
+fn a_slice_is_copied(rt: HostRuntime) -> Result<(), Fail> {
+    let array = BooleanArray::from_slice(rt.alloc(), &[true, false])?;
+    assert_eq!(rt; array.len(), 2);
+    drop(array);
+    Ok(())
+}
+
+#[test]
+fn values_of_an_iterator_are_copied(rt: HostRuntime) -> Result<(), Fail> {
+    let array = BooleanArray::from_values(rt.alloc(), [true].into_iter())?;
+    assert_eq!(rt; array.len(), 1);
+    drop(array);
     Ok(())
 }
 
@@ -49,7 +56,9 @@ fn values_are_copied(rt: HostRuntime) -> Result<(), Fail> {
 fn changed_values_are_the_arrays(rt: HostRuntime) -> Result<(), Fail> {
     let mut array = three(rt.alloc())?;
     let same = array.clone()?;
-    array.apply_values_mut(|values| values)?;
+    assert!(rt; array.apply_values_mut(|values| values).is_ok());
     assert!(rt; array == same);
+    drop(same);
+    drop(array);
     Ok(())
 }
