@@ -16,6 +16,8 @@ pub use Rattle.nested_arrays_columns.specs.TableLaws
 pub use Rattle.nested_arrays_columns.specs.Tables
 pub use Rattle.nested_arrays_flat.specs.Checked
 pub use Rattle.nested_arrays_flat.specs.ColumnMasks
+pub use Rattle.nested_arrays_flat.specs.ColumnTypes
+pub use Rattle.nested_arrays_flat.specs.FixedSizeItems
 pub use Rattle.nested_arrays_flat.specs.FlatColumns
 pub use Rattle.nested_arrays_flat.specs.Primitives
 pub use Rattle.nested_arrays_flat.specs.SameArrays
@@ -25,11 +27,12 @@ pub use Rattle.nested_arrays_parts.specs.FlatLayouts
 pub use Rattle.nested_arrays_parts.specs.FlatNodes
 pub use Rattle.nested_arrays_parts.specs.Keys
 pub use Rattle.nested_arrays_parts.specs.Widths
-pub use Rattle.nested_arrays_equal.specs.Forms
-pub use Rattle.nested_arrays_equal.specs.Ranges
+pub use Rattle.nested_arrays_parts.specs.Forms
+pub use Rattle.nested_arrays_parts.specs.Ranges
 pub use Rattle.nested_arrays_arrays.specs.AnyColumns
 pub use Rattle.nested_arrays_arrays.specs.Answers
 pub use Rattle.nested_arrays_arrays.specs.Entries
+pub use Rattle.nested_arrays_arrays.specs.ItemTypes
 pub use Rattle.nested_arrays_arrays.specs.Lengths
 pub use Rattle.nested_arrays_arrays.specs.NamedValues
 pub use Rattle.nested_arrays_arrays.specs.Parts
@@ -46,3 +49,7 @@ pub use Rattle.nested_arrays_walks.specs.NamedValues as ValuesByKeys
 pub use Rattle.nested_arrays_walks.specs.ReadValues
 pub use Rattle.nested_arrays_walks.specs.StringParts
 pub use Rattle.nested_arrays_walks.specs.WalkLaws
+pub use Rattle.nested_arrays_nulls.specs.Lengths as PartLengths
+pub use Rattle.nested_arrays_nulls.specs.NullAnswers
+pub use Rattle.nested_arrays_nulls.specs.NullColumns
+pub use Rattle.nested_arrays_nulls.specs.NullLaws as NullSlots

@@ -14,7 +14,7 @@ use Rattle.nested_arrays_columns.proofs.Conditions.{parts_of_4, holds_at}
 use Rattle.nested_arrays_columns.specs.SoundColumns.{has_value_at, has_value_type, holds_below, is_sound, mask_fits}
 use Rattle.nested_arrays_columns.specs.StoredColumns.{Column, numbers, flat, dictionary, column_len, column_type, is_valid_at}
 use Rattle.nested_arrays_columns.specs.StoredColumns.{place_of, slot_at, type_layer}
-use Rattle.nested_arrays_equal.proofs.SameForms.{valid_slot}
+use Rattle.nested_arrays_parts.proofs.SameForms.{valid_slot}
 use Rattle.nested_arrays_flat.specs.ColumnMasks.{column_mask}
 use Rattle.nested_arrays_parts.specs.Keys.{AreKeysOf, keyed, kind_of_keys, numbers_in}
 use Rattle.nested_arrays_arrays.specs.Places.{IsKeyless, IsValue, column_class}

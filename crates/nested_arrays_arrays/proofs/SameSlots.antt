@@ -10,7 +10,7 @@ use Rattle.nested_arrays_columns.specs.Slots.{in_slots, window}
 use Rattle.nested_arrays_columns.specs.StoredColumns.{Column, Columns, no_column, column_then, column_len, in_columns, slot_at, slots, slots_at}
 pub use Rattle.nested_arrays_flat.proofs.SamePlaces.{slots_by_place, slots_count, slots_same}
 use Rattle.nested_arrays_flat.proofs.SamePlaces.{each_same, first_slot, other_slots}
-use Rattle.nested_arrays_equal.specs.Ranges.{range_nodes, SameRanges}
+use Rattle.nested_arrays_parts.specs.Ranges.{range_nodes, SameRanges}
 use Rattle.nested_arrays_arrays.specs.Places.{AreRecords, SameFields, columns_nodes}
 
 -- ---- windows

@@ -13,8 +13,8 @@ use Rattle.nested_arrays_columns.specs.StoredColumns.{Column, Columns, nulls, fl
 use Rattle.nested_arrays_columns.specs.StoredColumns.{column_then, column_len, column_size, column_type, columns_size, in_columns, is_valid_at}
 use Rattle.nested_arrays_columns.specs.StoredColumns.{picked_at, slot_at, slots_at, type_layer, union_place, child_number}
 use Rattle.nested_arrays_columns.specs.StoredColumns.{Stored, bits, numbers, pairs, triples, texts, byte_strings, fixed_bytes, stored_at}
-use Rattle.nested_arrays_equal.proofs.SameForms.{valid_slot, null_slot}
-use Rattle.nested_arrays_equal.specs.Forms.{column_form}
+use Rattle.nested_arrays_parts.proofs.SameForms.{valid_slot, null_slot}
+use Rattle.nested_arrays_parts.specs.Forms.{column_form}
 use Rattle.nested_arrays_flat.proofs.FixedWidths.{string_within}
 use Rattle.nested_arrays_flat.proofs.Offsets.{get_or-offsets_of}
 use Rattle.nested_arrays_flat.specs.ColumnMasks.{column_mask}

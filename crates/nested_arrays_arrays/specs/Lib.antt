@@ -1,6 +1,7 @@
 pub mod AnyColumns
 pub mod Answers
 pub mod Entries
+pub mod ItemTypes
 pub mod Lengths
 pub mod NamedValues
 pub mod Parts

@@ -4,15 +4,14 @@ ghost use Rattle.std.specs.Prelude.{◌≡◌, ◌+◌, ◌<◌, ◌≤◌, ◌�
 ghost use Rattle.nested_arrays_columns.specs.SlotNodes.{nodes_of, slot_nodes};
 ghost use Rattle.nested_arrays_columns.specs.Slots.{in_slots, items, null, pick, window};
 ghost use Rattle.nested_arrays_columns.specs.StoredColumns.{column_len, column_type, in_columns, slot_at, slots_at};
-ghost use Rattle.nested_arrays_equal.specs.Ranges.{range_nodes, SameRanges};
+ghost use Rattle.nested_arrays_parts.specs.Ranges.{range_nodes, SameRanges};
 ghost use Rattle.nested_arrays_arrays.specs.Places.{columns_nodes, HavePlace, HaveRange, IsKeyless, SameFields};
 
 use crate::any::{AnyArray, Node};
 use crate::keys::value_of;
 use crate::places::{fields_at, items_at, pick_at, records_at, values_at};
 use columnar_memory::Steps;
-use nested_arrays_equal::{count_each, same_slots, same_slots_counted};
-use nested_arrays_parts::FlatArray;
+use nested_arrays_parts::{FlatArray, count_each, same_slots, same_slots_counted};
 
 /// The array without children, if it is one.
 fn flat(array: &AnyArray) -> Option<&FlatArray>

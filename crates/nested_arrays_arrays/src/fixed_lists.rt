@@ -1,17 +1,21 @@
 //! Lists of one size.
-ghost use Rattle.std.specs.Prelude.{◌≡◌, ◌+◌, ◌<◌, ◌≤◌, ◌↔◌, IsTrue, true, option_copied};
+ghost use Rattle.std.specs.Prelude.{◌≡◌, ◌+◌, ◌<◌, ◌≤◌, ◌↔◌, IsTrue, true, option_copied, MatchResult};
+ghost use Rattle.columnar_memory.specs.Error.{IsOutOfMemory};
 ghost use Rattle.columnar_memory.specs.Layouts.{physical_type};
 ghost use Rattle.columnar_memory.specs.declared.PhysicalType.TheVariants as physical;
 ghost use Rattle.nested_arrays_columns.specs.SoundColumns.{is_sound, has_fixed_item_type};
 ghost use Rattle.nested_arrays_columns.specs.StoredColumns.{column_len, column_type, cut, fixed_lists, type_layer};
 ghost use Rattle.nested_arrays_arrays.specs.Answers.{IsChecked};
+ghost use Rattle.nested_arrays_arrays.specs.ItemTypes.{fixed_list_type};
 ghost use Rattle.nested_arrays_arrays.specs.Lengths.{size_of};
 ghost use Rattle.nested_arrays_flat.specs.ColumnMasks.{column_mask, ReplacesMask};
 
 use crate::any::AnyArray;
+use crate::item_fields::item_field;
 use columnar_memory::{Bitmap, DataType, Error, Result};
 use nested_arrays_flat::slice_mask;
 use nested_arrays_parts::fits;
+use std::alloc::Global;
 use std::marker::Model;
 
 /// Lists of one size, one after another in a child (Arrow columnar format, "Fixed-Size List Layout"). A contract sees the column that it stores.
@@ -111,6 +115,16 @@ impl FixedSizeListArray {
             values,
             validity,
         }
+    }
+
+    /// The type of lists of a size, of items of a type, which are named "item" and may be null.
+    ///
+    /// # Errors
+    /// `OutOfMemory`: the items' name or their field's place found no memory.
+    pub fn default_datatype(alloc: Global, data_type: DataType, size: usize) -> Result<DataType>
+        ensures { MatchResult result (λ lists. lists ≡ fixed_list_type data_type size) IsOutOfMemory }
+    {
+        Ok(DataType::FixedSizeList(item_field(alloc, data_type)?, size))
     }
 
     /// How many items each list has, one at least.

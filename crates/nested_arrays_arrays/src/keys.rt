@@ -10,8 +10,8 @@ use crate::any::{AnyArray, DictionaryNode, Node};
 use crate::places::is_set;
 use columnar_memory::Index;
 use flat_arrays_values::PrimitiveArray;
-use nested_arrays_equal::holds_values;
 use nested_arrays_flat::PrimitiveNode;
+use nested_arrays_parts::holds_values;
 
 /// The place that a key names, and the first one where it is negative.
 fn place<K: Index>(key: K) -> usize

@@ -14,9 +14,8 @@ use crate::fixed_lists::FixedSizeListArray;
 use crate::maps::MapArray;
 use crate::records::StructArray;
 use crate::unions::UnionArray;
-use nested_arrays_equal::{has_no_nulls, holds_values, is_null};
 use nested_arrays_flat::mark_at;
-use nested_arrays_parts::{FlatArray, ListOffsets};
+use nested_arrays_parts::{FlatArray, ListOffsets, has_no_nulls, holds_values, is_null};
 
 /// Whether the mask, if there is one, says that a slot has a value.
 pub(crate) fn is_set(array: &AnyArray, i: usize) -> bool

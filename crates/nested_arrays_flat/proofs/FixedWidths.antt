@@ -79,18 +79,20 @@ fixed_laid t size content mask h =
 -- what is known of the parts of a sound column
 pub fixed_parts : (t : DataType) (size : ℕ) (content : List ℕ) (mask : Option (List Bool)) → is_sound (fixed_column t size content mask) ≡ true
     → (0 < size) × (size * (length content / size) ≡ length content) × (mask_fits mask (length content / size) ≡ true) × (byte_width t ≡ size)
+    × (list_all is_byte content ≡ true)
 fixed_parts t size content mask h =
     let stored = fixed_bytes size content in
     let parts = parts_of_3 (is_stored_as (physical_type t) stored) (has_size (type_layer t) stored) (mask_fits mask (length content / size)) h in
     let is = stored_layout (physical_type t) size content parts.0 in
     let here : (are_pieces size (length content) && list_all is_byte content) ≡ true = ap (λ layout. is_stored_as layout stored) (sym is) ∙ parts.0 in
-    let pieces = and_parts (nat_le 1 size) (size * (length content / size) == length content)
-    (and_parts (are_pieces size (length content)) (list_all is_byte content) here).0 in
+    let stored_parts = and_parts (are_pieces size (length content)) (list_all is_byte content) here in
+    let pieces = and_parts (nat_le 1 size) (size * (length content / size) == length content) stored_parts.0 in
     let lies = type_lies t in (
       leb-true 1 size pieces.0,
       eqb-true (size * (length content / size)) (length content) pieces.1,
       parts.2,
       layer_sized (type_layer t) size content lies.1 (sym lies.0 ∙ is) parts.1,
+      stored_parts.1,
     )
 
 pub fixed_sound : (t : DataType) (size : ℕ) (content : List ℕ) (mask : Option (List Bool)) → byte_width t ≡ size → 0 < size
@@ -156,6 +158,12 @@ masked_sound t size content old mask h fits =
     let stored = fixed_bytes size content in
     let typed = is_stored_as (physical_type t) stored && has_size (type_layer t) stored in
     and_from typed (mask_fits mask (length content / size)) (and_parts typed (mask_fits old (length content / size)) h).0 fits
+
+-- another type of strings of the same size
+pub retyped_sound : (t u : DataType) (size : ℕ) (content : List ℕ) (mask : Option (List Bool)) → is_sound (fixed_column t size content mask) ≡ true
+    → byte_width u ≡ byte_width t → is_sound (fixed_column u size content mask) ≡ true
+retyped_sound t u size content mask h same =
+    let parts = fixed_parts t size content mask h in fixed_sound u size content mask (same ∙ parts.3) parts.0 parts.1 parts.4 parts.2
 
 -- no strings
 pub none_sound : (t : DataType) → 0 < byte_width t → is_sound (fixed_column t (byte_width t) [] None) ≡ true

@@ -41,7 +41,7 @@ plain_layer y = map-DataType D F DataType Field (λ e. e.0) (λ e. e.0) y
 physical_roll : (x : Layer) → physical_type (roll-DataType x) ≡ layer_layout x
 physical_roll x = fold-roll-DataType PhysicalType (Unit {0}) physical_step (λ f. tt) x
 
-layer_itself : (x : Layer) → is_extension x ≡ false → type_layer (roll-DataType x) ≡ x
+pub layer_itself : (x : Layer) → is_extension x ≡ false → type_layer (roll-DataType x) ≡ x
 unfolding roll-DataType denote.Hole.Carrier.roll
 layer_itself (layer.Extension name inner metadata) plain = absurd cc
 layer_itself x plain =

@@ -1,5 +1,6 @@
 pub mod ColumnParts
 pub mod CutMasks
+pub mod FixedItems
 pub mod FixedWidths
 pub mod InRange
 pub mod Layers

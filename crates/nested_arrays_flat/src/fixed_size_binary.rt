@@ -9,6 +9,7 @@ ghost use Rattle.nested_arrays_columns.specs.SoundColumns.{is_sound, mask_fits};
 ghost use Rattle.nested_arrays_columns.specs.StoredColumns.{column_len, column_type, cut, cut_list, is_valid_at, slot_at, slots};
 ghost use Rattle.nested_arrays_flat.specs.Checked.{IsChecked};
 ghost use Rattle.nested_arrays_flat.specs.ColumnMasks.{column_mask, unset_in, with_mask, ReplacesMask};
+ghost use Rattle.nested_arrays_flat.specs.ColumnTypes.{with_type};
 ghost use Rattle.nested_arrays_flat.specs.FlatColumns.{byte_width, fixed_column};
 ghost use Rattle.nested_arrays_flat.specs.SameArrays.{AreEqual, same_column, same_column-equivalence, same_column-per};
 
@@ -264,6 +265,26 @@ impl FixedSizeBinaryArray {
         }
         self.validity = validity;
         Ok(())
+    }
+
+    /// The same slots under another data type whose arrays store byte strings of the same size.
+    #[tactic(auto, using(crate::proofs::FixedWidths::retyped_sound))]
+    pub fn to(self, data_type: DataType) -> Self
+        requires { byte_width data_type ≡ byte_width (column_type self) }
+        ensures { result ≡ with_type self data_type }
+    {
+        let FixedSizeBinaryArray {
+            data_type: _,
+            size,
+            values,
+            validity,
+        } = self;
+        FixedSizeBinaryArray {
+            data_type,
+            size,
+            values,
+            validity,
+        }
     }
 }
 

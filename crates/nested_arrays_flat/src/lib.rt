@@ -2,6 +2,7 @@
 #![tactic(auto)]
 
 mod fixed_size_binary;
+mod fixed_size_binary_from;
 mod kinds;
 mod masks;
 mod null;

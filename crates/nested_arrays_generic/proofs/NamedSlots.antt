@@ -7,7 +7,7 @@ use Rattle.nested_arrays_columns.proofs.Conditions.{parts_of_4, holds_at}
 use Rattle.nested_arrays_columns.specs.Slots.{null}
 use Rattle.nested_arrays_columns.specs.SoundColumns.{has_value_at, has_value_type, holds_below, is_sound, mask_fits}
 use Rattle.nested_arrays_columns.specs.StoredColumns.{Column, dictionary, column_len, column_type, is_valid_at, place_of, slot_at, type_layer}
-use Rattle.nested_arrays_equal.proofs.SameForms.{null_slot, valid_slot}
+use Rattle.nested_arrays_parts.proofs.SameForms.{null_slot, valid_slot}
 use Rattle.nested_arrays_flat.specs.ColumnMasks.{column_mask}
 use Rattle.nested_arrays_generic.specs.Dictionaries.{key_at, raw_key, values_of}
 

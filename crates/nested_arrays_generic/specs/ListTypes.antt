@@ -1,11 +1,16 @@
 -- What lists of a width have for their items.
-use Rattle.std.specs.Prelude.{Bool, true, false}
+use Rattle.std.specs.Prelude.{◌≡◌, Bool, true, false, Option, Some, None, Result, MatchResult}
+use Rattle.std.specs.Borrow.{Bor}
 use Rattle.columnar_memory.specs.Equality.{same_type}
+use Rattle.columnar_memory.specs.Error.{IsOutOfSpec}
 use Rattle.columnar_memory.specs.declared.DataType.{DataType}
 use Rattle.columnar_memory.specs.declared.DataType.TheOpen as layer
+use Rattle.columnar_memory.specs.declared.DataType.TheVariants as types
+use Rattle.columnar_memory.specs.declared.Error.{Error}
 use Rattle.columnar_memory.specs.declared.Field.{Field}
 use Rattle.columnar_memory.specs.declared.PhysicalType.{PhysicalType}
 use Rattle.columnar_memory.specs.declared.PhysicalType.TheVariants as physical
+use Rattle.nested_arrays_arrays.specs.ItemTypes.{item_field}
 use Rattle.nested_arrays_columns.specs.StoredColumns.{Column, lists}
 
 -- the items of lists
@@ -23,3 +28,19 @@ abbrev pub has_list_item_type : Bool → layer.DataType-F DataType Field → Dat
 has_list_item_type false (layer.List item) child = same_type item.data_type child
 has_list_item_type true (layer.LargeList item) child = same_type item.data_type child
 has_list_item_type _ _ child = false
+
+-- the type of lists with such offsets, of items of a type
+abbrev pub list_type : Bool → DataType → DataType
+list_type false data_type = types.List (item_field data_type)
+list_type true data_type = types.LargeList (item_field data_type)
+
+-- the field of the items of lists with such offsets, or none where a type is not of such lists
+abbrev pub items_field : Bool → layer.DataType-F DataType Field → Option Field
+items_field false (layer.List item) = Some item
+items_field true (layer.LargeList item) = Some item
+items_field _ _ = None
+
+-- that field, or a refusal where the type is not of such lists
+abbrev pub IsItemsField : Bool → layer.DataType-F DataType Field → Result (Bor Field) Error → Type 0
+IsItemsField is_large type r = MatchResult r (λ field. Some field.now ≡ items_field is_large type)
+    (λ e. IsOutOfSpec e × (None ≡ items_field is_large type))

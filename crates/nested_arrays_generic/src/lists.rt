@@ -1,15 +1,17 @@
 //! Lists of any length.
-ghost use Rattle.std.specs.Prelude.{◌≡◌, ◌+◌, ◌<◌, ◌≤◌, ◌↔◌, IsTrue, not, option_copied};
+ghost use Rattle.std.specs.Prelude.{◌≡◌, ◌+◌, ◌<◌, ◌≤◌, ◌↔◌, IsTrue, not, Some, is_some, option_copied, option_map, MatchResult};
+ghost use Rattle.columnar_memory.specs.Error.{IsOutOfMemory};
 ghost use Rattle.columnar_memory.specs.Spans.{offsets_of};
 ghost use Rattle.nested_arrays_columns.specs.StoredColumns.{column_len, column_type, cut, is_valid_at, lists, type_layer};
 ghost use Rattle.nested_arrays_flat.specs.ColumnMasks.{column_mask, unset_in, ReplacesMask};
 ghost use Rattle.nested_arrays_arrays.specs.Answers.{IsCheckedAs, LiesAs};
-ghost use Rattle.nested_arrays_generic.specs.ListTypes.{has_list_item_type, items_in, list_layout};
+ghost use Rattle.nested_arrays_generic.specs.ListTypes.{has_list_item_type, items_field, items_in, list_layout, list_type, IsItemsField};
 
-use columnar_memory::{Bitmap, DataType, Error, Offset, OffsetsBuffer, Result};
-use nested_arrays_arrays::AnyArray;
+use columnar_memory::{Bitmap, DataType, Error, Field, Offset, OffsetsBuffer, Result};
+use nested_arrays_arrays::{AnyArray, item_field};
 use nested_arrays_flat::{mark_at, slice_mask, unset_marks};
 use nested_arrays_parts::{fits, last_of, slice_offsets};
+use std::alloc::Global;
 use std::marker::Model;
 
 /// Lists of any length, one after another in a child, with offsets of one width (Arrow columnar format, "Variable-size List Layout"). A
@@ -46,6 +48,17 @@ fn has_items<O: Offset>(data_type: &DataType, item_type: &DataType) -> bool
         DataType::List(item) => !O::IS_LARGE && item.get().data_type == *item_type,
         DataType::LargeList(item) => O::IS_LARGE && item.get().data_type == *item_type,
         _ => false,
+    }
+}
+
+/// The field of the items of lists with offsets of this width, none where a type is not of such lists.
+fn items_field<O: Offset>(data_type: &DataType) -> Option<&Field>
+    ensures { option_copied result ≡ items_field O.IS_LARGE (type_layer data_type.now) }
+{
+    match data_type.to_logical_type() {
+        DataType::List(item) if !O::IS_LARGE => Some(item.get()),
+        DataType::LargeList(item) if O::IS_LARGE => Some(item.get()),
+        _ => None,
     }
 }
 
@@ -111,6 +124,49 @@ impl<O: Offset> ListArray<O> {
             values,
             validity,
         }
+    }
+
+    /// The type of lists with such offsets, of items of a type, which are named "item" and may be null.
+    ///
+    /// # Errors
+    /// `OutOfMemory`: the items' name or their field's place found no memory.
+    pub fn default_datatype(alloc: Global, data_type: DataType) -> Result<DataType>
+        ensures { MatchResult result (λ lists. lists ≡ list_type O.IS_LARGE data_type) IsOutOfMemory }
+    {
+        let item = item_field(alloc, data_type)?;
+        if O::IS_LARGE {
+            Ok(DataType::LargeList(item))
+        } else {
+            Ok(DataType::List(item))
+        }
+    }
+
+    /// The field of the items, by the type of lists with such offsets.
+    ///
+    /// # Errors
+    /// `OutOfSpec`: the type is not of such lists.
+    pub fn try_get_child(data_type: &DataType) -> Result<&Field>
+        ensures { IsItemsField O.IS_LARGE (type_layer data_type.now) result }
+    {
+        items_field::<O>(data_type).ok_or(Error::OutOfSpec(
+            "a type that is not of lists with such offsets",
+        ))
+    }
+
+    /// The field of the items, by a type of lists with such offsets, as `try_get_child` tests.
+    pub fn get_child_field(data_type: &DataType) -> &Field
+        requires { IsTrue (is_some (items_field O.IS_LARGE (type_layer data_type.now))) }
+        ensures { Some result.now ≡ items_field O.IS_LARGE (type_layer data_type.now) }
+    {
+        items_field::<O>(data_type).unwrap()
+    }
+
+    /// The type of the items, by a type of lists with such offsets, as `try_get_child` tests.
+    pub fn get_child_type(data_type: &DataType) -> &DataType
+        requires { IsTrue (is_some (items_field O.IS_LARGE (type_layer data_type.now))) }
+        ensures { Some result.now ≡ option_map (λ field. field.data_type) (items_field O.IS_LARGE (type_layer data_type.now)) }
+    {
+        &Self::get_child_field(data_type).data_type
     }
 
     /// How many slots there are.

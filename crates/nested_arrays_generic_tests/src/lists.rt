@@ -1,6 +1,6 @@
 use columnar_memory::{Boxed, DataType, Error, Field, OffsetsBuffer, Text};
 use flat_arrays_values::PrimitiveArray;
-use nested_arrays_arrays::AnyArray;
+use nested_arrays_arrays::{AnyArray, FixedSizeListArray};
 use nested_arrays_flat::AnyPrimitive;
 use nested_arrays_generic::ListArray;
 use nested_arrays_parts::FlatArray;
@@ -55,5 +55,34 @@ fn lists_are_equal_by_their_items(rt: HostRuntime) -> Result<(), Fail> {
     let array = lists(rt.alloc(), &[0, 2])?;
     let other = lists(rt.alloc(), &[3, 5])?;
     assert!(rt; array != other);
+    Ok(())
+}
+
+#[test]
+fn lists_have_items_that_may_be_null(rt: HostRuntime) -> Result<(), Fail> {
+    let lists = ListArray::<i32>::default_datatype(rt.alloc(), DataType::Int32)?;
+    assert!(rt; lists == data_type(rt.alloc())?);
+    Ok(())
+}
+
+#[test]
+fn lists_of_one_size_have_items_that_may_be_null(rt: HostRuntime) -> Result<(), Fail> {
+    let lists = FixedSizeListArray::default_datatype(rt.alloc(), DataType::Int32, 2)?;
+    assert!(rt; matches!(lists, DataType::FixedSizeList(_, 2)));
+    Ok(())
+}
+
+#[test]
+fn a_type_of_lists_has_a_field_of_items(rt: HostRuntime) -> Result<(), Fail> {
+    let lists = data_type(rt.alloc())?;
+    let item = ListArray::<i32>::try_get_child(&lists)?;
+    assert!(rt; item.data_type == DataType::Int32);
+    Ok(())
+}
+
+#[test]
+fn a_type_of_numbers_has_no_items(rt: HostRuntime) -> Result<(), Fail> {
+    let item = ListArray::<i32>::try_get_child(&DataType::Int32);
+    assert!(rt; matches!(item, Err(Error::OutOfSpec(_))));
     Ok(())
 }

@@ -3,4 +3,9 @@ pub mod FlatMasks
 pub mod KeyCuts
 pub mod LaidFlats
 pub mod LaidVariants
+pub mod Marks
 pub mod OffsetLists
+pub mod SameForms
+pub mod SameNumbers
+pub mod SlotCounts
+pub mod StoredForms

@@ -7,7 +7,7 @@ use Rattle.nested_arrays_columns.proofs.Conditions.{holds_at, parts_of_4}
 use Rattle.nested_arrays_columns.specs.SoundColumns.{has_value_at, has_value_type, holds_below, is_sound, mask_fits}
 use Rattle.nested_arrays_columns.specs.Slots.{null}
 use Rattle.nested_arrays_columns.specs.StoredColumns.{Column, dictionary, column_len, column_type, is_valid_at, place_of, slot_at, type_layer}
-use Rattle.nested_arrays_equal.proofs.SameForms.{valid_slot, null_slot}
+use Rattle.nested_arrays_parts.proofs.SameForms.{valid_slot, null_slot}
 use Rattle.nested_arrays_flat.specs.ColumnMasks.{column_mask}
 use Rattle.nested_arrays_generic.specs.Dictionaries.{key_at, raw_key}
 use Rattle.nested_arrays_walks.specs.NamedValues.{IsNamed}
@@ -48,8 +48,10 @@ named_place c t mask keys values i place is sound h found =
     let seen = place_or_none (is_valid_at (column_mask c) i) (place_of (raw_key c i)) (Some place) found in
     let within = key_within c t mask keys values i is sound h seen.0 in (
       omega (arith, within, seen.1),
-      (valid_slot c i seen.0, ap (slot_at values) seen.1 ∙ key_shows c t mask keys values i is),
+      (seen.0, valid_slot c i seen.0, ap (slot_at values) seen.1 ∙ key_shows c t mask keys values i is),
     )
 
-pub no_place : (c : Column) (i : ℕ) → None ≡ key_at c i → slot_at c i ≡ null
-no_place c i none = null_slot c i (place_or_none (is_valid_at (column_mask c) i) (place_of (raw_key c i)) None none)
+pub no_place : (c : Column) (i : ℕ) → None ≡ key_at c i → (is_valid_at (column_mask c) i ≡ false) × (slot_at c i ≡ null)
+no_place c i none =
+    let marked = place_or_none (is_valid_at (column_mask c) i) (place_of (raw_key c i)) None none in
+    (marked, null_slot c i marked)

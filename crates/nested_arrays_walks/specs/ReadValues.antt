@@ -1,11 +1,11 @@
 -- The values that stand at the places of arrays (Arrow columnar format, "Variable-size List Layout" to "Union Layout").
-use Rattle.std.specs.Prelude.{◌≡◌, ◌+◌, ◌-◌, ◌*◌, ◌<◌, ℕ, Bool, List, Option, Some, None, slice_index}
+use Rattle.std.specs.Prelude.{◌≡◌, ◌+◌, ◌-◌, ◌*◌, ◌<◌, ℕ, Bool, true, false, List, Option, Some, None, slice_index}
 use Rattle.std.specs.Borrow.{Bor}
 use Rattle.columnar_memory.specs.Spans.{Spans, offsets_of}
 use Rattle.columnar_memory.specs.declared.DataType.{DataType}
 use Rattle.nested_arrays_columns.specs.Slots.{Slot, null, bytes, items, fields, pick, in_slots}
-use Rattle.nested_arrays_columns.specs.StoredColumns.{Column, lists, fixed_lists, column_len, cut, slot_at, slots}
-use Rattle.nested_arrays_flat.specs.ColumnMasks.{with_mask}
+use Rattle.nested_arrays_columns.specs.StoredColumns.{Column, lists, fixed_lists, column_len, cut, is_valid_at, slot_at, slots}
+use Rattle.nested_arrays_flat.specs.ColumnMasks.{column_mask, with_mask}
 
 -- the value at a place, whatever the mask says
 abbrev pub value_at : Column → ℕ → Slot
@@ -42,12 +42,13 @@ IsByteString column i content = value_at column i ≡ bytes content.now
 
 -- ---- slots
 
--- what is read of a slot: its value, or none where it is null
+-- What is read of a slot: its value where the mask says that it has one, else none. In a dictionary that value may be a null.
 abbrev pub IsRead : {X : Type 0} → (Column → ℕ → X → Type 0) → Column → ℕ → Option X → Type 0
-IsRead is_value column i None = slot_at column i ≡ null
-IsRead is_value column i (Some x) = (slot_at column i ≡ value_at column i) × is_value column i x
+IsRead is_value column i None = (is_valid_at (column_mask column) i ≡ false) × (slot_at column i ≡ null)
+IsRead is_value column i (Some x) =
+    (is_valid_at (column_mask column) i ≡ true) × (slot_at column i ≡ value_at column i) × is_value column i x
 
 -- the same of any place: none where there is no such place
 abbrev pub IsReadWithin : {X : Type 0} → (Column → ℕ → X → Type 0) → Column → ℕ → Option X → Type 0
-IsReadWithin is_value column i None = i < column_len column → slot_at column i ≡ null
-IsReadWithin is_value column i (Some x) = (i < column_len column) × (slot_at column i ≡ value_at column i) × is_value column i x
+IsReadWithin is_value column i None = i < column_len column → IsRead is_value column i None
+IsReadWithin is_value column i (Some x) = (i < column_len column) × IsRead is_value column i (Some x)

@@ -5,7 +5,7 @@ use Rattle.nested_arrays_columns.specs.Slots.{pick}
 use Rattle.nested_arrays_columns.specs.StoredColumns.{Column, column_size, columns_size, in_columns, slot_at}
 use Rattle.nested_arrays_arrays.proofs.SameSlots.{fields_of_lists, items_count, items_same, no_columns_nodes, nodes_some, nodes_up_to}
 use Rattle.nested_arrays_arrays.proofs.SameSlots.{one_more, pick_parts, record_nodes, records_same}
-use Rattle.nested_arrays_equal.specs.Ranges.{range_nodes}
+use Rattle.nested_arrays_parts.specs.Ranges.{range_nodes}
 use Rattle.nested_arrays_arrays.specs.Places.{HavePlace, HaveRange, columns_nodes}
 use Rattle.nested_arrays_arrays.proofs.comparisons.+comparing.Goals as goal
 

@@ -13,4 +13,4 @@ pub returns-in-Some : goal.returns-in-Some
 returns-in-Some g c =
     let named = named_place c.args.array.now _ _ _ _ c.args.i c.in-Some.place c.keys-keys.ensures c.whole.ensures.0 c.requires
     (sym c.in-Some.is ∙ c.key.ensures) in
-    (named.1.0, c.new.ensures ∙ ap (λ values. slot_at values c.in-Some.place) c.values.ensures ∙ named.1.1)
+    (named.1.0, named.1.1, c.new.ensures ∙ ap (λ values. slot_at values c.in-Some.place) c.values.ensures ∙ named.1.2)

@@ -1,6 +1,0 @@
-use Rattle.nested_arrays_equal.specs.Ranges.{SameRanges}
-use Rattle.nested_arrays_equal.proofs.ranges.same_slots.Given as goal
-
--- the slots before are the same
-abbrev pub invariant-loop-k : goal.invariant-loop-k
-invariant-loop-k l = SameRanges l.left l.i l.right l.j l.k

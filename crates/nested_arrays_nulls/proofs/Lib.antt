@@ -1,0 +1,10 @@
+pub mod NullLayers
+pub mod NullLengths
+pub mod FlatNulls
+pub mod Made
+pub mod StoredTypes
+pub mod UnionPlaces
+pub mod NullSlots
+pub mod LayoutNulls
+pub mod Arms
+pub mod KeyedNulls

@@ -1,0 +1,10 @@
+use Rattle.std.proofs.Common.{◌∙◌}
+use Rattle.columnar_memory.specs.declared.PhysicalType.TheVariants as physical
+use Rattle.nested_arrays_nulls.specs.NullColumns.{flat_nulls}
+use Rattle.nested_arrays_nulls.proofs.FlatNulls.{no_strings_stored}
+use Rattle.nested_arrays_nulls.proofs.Made.{as_made}
+use Rattle.nested_arrays_nulls.proofs.flats.large_strings.Goals as goal
+
+pub returns : goal.returns
+returns c = as_made c.from-array.result (flat_nulls physical.LargeBinary c.args.data_type c.args.length)
+    (c.from-array.ensures ∙ no_strings_stored c.args.data_type c.args.length c.in_ok-strings.strings c.in_ok-strings.ensures) c.whole.ensures

@@ -1,0 +1,4 @@
+pub mod Lengths
+pub mod NullAnswers
+pub mod NullColumns
+pub mod NullLaws

@@ -1,0 +1,44 @@
+//! Nulls in place of lists and of keys, whose children are given.
+ghost use Rattle.std.specs.Prelude.{◌≡◌, pos, replicate};
+ghost use Rattle.columnar_memory.specs.Layouts.{physical_type};
+ghost use Rattle.columnar_memory.specs.declared.PhysicalType.TheVariants as physical;
+ghost use Rattle.nested_arrays_columns.specs.StoredColumns.{dictionary, lists};
+ghost use Rattle.nested_arrays_generic.specs.ListTypes.{list_layout};
+ghost use Rattle.nested_arrays_nulls.specs.NullAnswers.{IsMade};
+ghost use Rattle.nested_arrays_nulls.specs.NullColumns.{no_items, no_marks};
+
+use columnar_memory::{Bitmap, DataType, Offset, Offsets, Result};
+use flat_arrays_values::PrimitiveArray;
+use nested_arrays_arrays::AnyArray;
+use nested_arrays_generic::{DictionaryArray, DictionaryKey, ListArray};
+use std::alloc::Global;
+
+/// So many nulls in place of lists of these items.
+pub(crate) fn lists<O: Offset>(
+    alloc: Global,
+    data_type: DataType,
+    items: AnyArray,
+    length: usize,
+) -> Result<ListArray<O>>
+    requires { physical_type data_type ≡ list_layout O.IS_LARGE }
+    ensures { IsMade (lists data_type (no_marks length) (no_items length) items) result }
+{
+    let offsets = Offsets::<O>::new_zeroed(alloc, length)?.freeze()?;
+    let mask = Bitmap::new_zeroed(alloc, length)?;
+    ListArray::try_new(data_type, offsets, Box::new(alloc, items)?, Some(mask))
+}
+
+/// So many nulls in place of keys of these values.
+#[tactic(auto, using(flat_arrays_values::proofs::Layouts::plainest))]
+pub(crate) fn dictionary<K: DictionaryKey>(
+    alloc: Global,
+    data_type: DataType,
+    values: AnyArray,
+    length: usize,
+) -> Result<DictionaryArray<K>>
+    requires { physical_type data_type ≡ physical.Dictionary K.KEY_TYPE }
+    ensures { IsMade (dictionary data_type (no_marks length) (replicate length (pos 0)) values) result }
+{
+    let keys = PrimitiveArray::<K>::new_null(alloc, DataType::from(K::PRIMITIVE), length)?;
+    DictionaryArray::try_new(data_type, keys, Box::new(alloc, values)?)
+}

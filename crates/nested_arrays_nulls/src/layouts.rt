@@ -1,0 +1,104 @@
+//! Nulls with children, which are given.
+ghost use Rattle.std.specs.Prelude.{◌≡◌, ◌≤◌, ◌^◌, All, pos, replicate};
+ghost use Rattle.columnar_memory.specs.Layouts.{physical_type};
+ghost use Rattle.columnar_memory.specs.Results.{OrOutOfMemory};
+ghost use Rattle.columnar_memory.specs.declared.PhysicalType.TheVariants as physical;
+ghost use Rattle.nested_arrays_columns.specs.Slots.{window};
+ghost use Rattle.nested_arrays_columns.specs.StoredColumns.{column_len, fixed_lists, in_columns, lists, records, unions};
+ghost use Rattle.nested_arrays_arrays.specs.Lengths.{size_of};
+ghost use Rattle.nested_arrays_nulls.specs.NullAnswers.{IsMade};
+ghost use Rattle.nested_arrays_nulls.specs.NullColumns.{no_items, no_marks, null_places};
+
+use columnar_memory::{Bitmap, Buffer, DataType, Error, Offsets, Result, UnionMode};
+use nested_arrays_arrays::{AnyArray, FixedSizeListArray, MapArray, StructArray, UnionArray};
+use std::alloc::Global;
+
+/// How many slots a dense union may have, whose offsets have 31 bits.
+const DENSE_SLOTS: usize = 0x8000_0000;
+
+/// So many nulls in place of maps of these entries.
+pub(crate) fn maps(
+    alloc: Global,
+    data_type: DataType,
+    entries: AnyArray,
+    length: usize,
+) -> Result<MapArray>
+    requires { physical_type data_type ≡ physical.Map }
+    ensures { IsMade (lists data_type (no_marks length) (no_items length) entries) result }
+{
+    let offsets = Offsets::<i32>::new_zeroed(alloc, length)?.freeze()?;
+    let mask = Bitmap::new_zeroed(alloc, length)?;
+    MapArray::try_new(data_type, offsets, Box::new(alloc, entries)?, Some(mask))
+}
+
+/// So many nulls in place of lists of one size, of these items.
+pub(crate) fn fixed_lists(
+    alloc: Global,
+    data_type: DataType,
+    items: AnyArray,
+    length: usize,
+) -> Result<FixedSizeListArray>
+    ensures { IsMade (fixed_lists data_type (no_marks length) (size_of data_type) items) result }
+{
+    let mask = Bitmap::new_zeroed(alloc, length)?;
+    FixedSizeListArray::try_new(data_type, Box::new(alloc, items)?, Some(mask))
+}
+
+/// So many nulls in place of structs of these values, as many of each.
+pub(crate) fn structs(
+    alloc: Global,
+    data_type: DataType,
+    values: Vec<AnyArray>,
+    length: usize,
+) -> Result<StructArray>
+    requires { All (λ c. column_len c ≡ length) values.items }
+    ensures { IsMade (records data_type (no_marks length) length (in_columns values.items)) result }
+{
+    let mask = Bitmap::new_zeroed(alloc, length)?;
+    StructArray::try_new(data_type, values, Some(mask))
+}
+
+/// The id 0 for each of so many slots of a union.
+fn ids(alloc: Global, length: usize) -> Result<Buffer<i8>>
+    ensures { OrOutOfMemory result (λ ids. ids ≡ replicate length (pos 0)) }
+{
+    let mut ids: Vec<i8> = Vec::new(alloc);
+    ids.resize(length, 0)?;
+    Buffer::from_vec(ids)
+}
+
+/// For each of so many slots of a dense union its own place.
+#[tactic(auto, using(columnar_memory_bits::proofs::Windows::window_next))]
+fn places(alloc: Global, length: usize) -> Result<Buffer<i32>>
+    requires { length ≤ 2 ^ 31 }
+    ensures { OrOutOfMemory result (λ places. places ≡ window pos 0 length) }
+{
+    let mut places: Vec<i32> = Vec::with_capacity(alloc, length)?;
+    for place in 0..length {
+        places.push(place as i32)?;
+    }
+    Buffer::from_vec(places)
+}
+
+/// So many slots of a union, each of id 0 and at its own place of each of these children.
+pub(crate) fn unions(
+    alloc: Global,
+    data_type: DataType,
+    mode: UnionMode,
+    children: Vec<AnyArray>,
+    length: usize,
+) -> Result<UnionArray>
+    ensures { IsMade (unions data_type (replicate length (pos 0)) (null_places mode length) (in_columns children.items)) result }
+{
+    let ids = ids(alloc, length)?;
+    let places = match mode {
+        UnionMode::Sparse => None,
+        UnionMode::Dense => {
+            if length > DENSE_SLOTS {
+                return Err(Error::OutOfSpec("more slots of a dense union than offsets count"));
+            }
+            Some(places(alloc, length)?)
+        }
+    };
+    UnionArray::try_new(data_type, ids, children, places)
+}

@@ -1,0 +1,10 @@
+//! Arrays of nulls, and arrays without slots, of each type.
+#![tactic(auto)]
+
+mod flats;
+mod generic_layouts;
+mod layouts;
+mod nulls;
+mod wholes;
+
+pub use nulls::{new_empty_array, new_null_array};
