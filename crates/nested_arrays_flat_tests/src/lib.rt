@@ -6,4 +6,6 @@
 #[cfg(test)]
 mod fixed_sizes;
 #[cfg(test)]
+mod gathered;
+#[cfg(test)]
 mod numbers;

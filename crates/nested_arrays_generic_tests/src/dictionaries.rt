@@ -22,32 +22,43 @@ fn data_type(alloc: Global) -> Result<DataType, Error> {
     Ok(DataType::Dictionary(IntegerType::Int8, Boxed::new(alloc, DataType::Utf8)?, false))
 }
 
+fn dictionary(alloc: Global, keys: PrimitiveArray<i8>) -> Result<DictionaryArray<i8>, Error> {
+    DictionaryArray::try_new(data_type(alloc)?, keys, letters(alloc)?)
+}
+
 #[test]
 fn a_key_under_a_null_names_nothing(rt: HostRuntime) -> Result<(), Fail> {
     let mask = Bitmap::from_u8_slice(rt.alloc(), &[1], 2)?;
     let keys = keys(rt.alloc(), &[0, 9], Some(mask))?;
-    let array = DictionaryArray::try_new(data_type(rt.alloc())?, keys, letters(rt.alloc())?)?;
+    let array = dictionary(rt.alloc(), keys)?;
     assert_eq!(rt; (array.len(), array.null_count()), (2, 1));
     assert_eq!(rt; array.key(0), Some(0));
     assert_eq!(rt; array.key(1), None);
+    drop(array);
     Ok(())
 }
 
 #[test]
 fn a_key_past_the_values_is_refused(rt: HostRuntime) -> Result<(), Fail> {
     let keys = keys(rt.alloc(), &[2], None)?;
-    let array = DictionaryArray::try_new(data_type(rt.alloc())?, keys, letters(rt.alloc())?);
+    let array = dictionary(rt.alloc(), keys);
     assert!(rt; matches!(array, Err(Error::OutOfSpec(_))));
+    drop(array);
     Ok(())
+}
+
+fn dictionary_of(alloc: Global, keys: PrimitiveArray<i8>) -> Result<DictionaryArray<i8>, Error> {
+    DictionaryArray::try_from_keys(alloc, keys, letters(alloc)?)
 }
 
 #[test]
 fn keys_and_values_make_a_dictionary(rt: HostRuntime) -> Result<(), Fail> {
     let keys = keys(rt.alloc(), &[1, 0], None)?;
-    let array = DictionaryArray::try_from_keys(rt.alloc(), keys, letters(rt.alloc())?)?;
+    let array = dictionary_of(rt.alloc(), keys)?;
     assert_eq!(rt; array.len(), 2);
     let cut = array.sliced(1, 1);
     assert_eq!(rt; cut.len(), 1);
     assert_eq!(rt; cut.key(0), Some(0));
+    drop(cut);
     Ok(())
 }

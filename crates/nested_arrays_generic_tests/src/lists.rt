@@ -32,6 +32,7 @@ fn a_cut_has_the_lists_between_its_offsets(rt: HostRuntime) -> Result<(), Fail> 
     assert_eq!(rt; cut.len(), 2);
     assert!(rt; cut.offsets().as_slice() == [2i32, 3, 5].as_slice());
     assert_eq!(rt; cut.values().len(), 5);
+    drop(cut);
     Ok(())
 }
 
@@ -39,6 +40,7 @@ fn a_cut_has_the_lists_between_its_offsets(rt: HostRuntime) -> Result<(), Fail> 
 fn an_offset_past_the_items_is_refused(rt: HostRuntime) -> Result<(), Fail> {
     let array = lists(rt.alloc(), &[0, 6]);
     assert!(rt; matches!(array, Err(Error::OutOfSpec(_))));
+    drop(array);
     Ok(())
 }
 
@@ -46,22 +48,41 @@ fn an_offset_past_the_items_is_refused(rt: HostRuntime) -> Result<(), Fail> {
 fn another_width_is_given_back(rt: HostRuntime) -> Result<(), Fail> {
     let any = AnyArray::from(lists(rt.alloc(), &[0, 2])?);
     let left = ListArray::<i64>::try_from(any).err();
-    assert!(rt; left.is_some_and(|any| any.len() == 1));
+    assert!(rt; left.as_ref().is_some_and(|any| any.len() == 1));
+    drop(left);
     Ok(())
+}
+
+/// Whether an array differs from the lists between other offsets.
+fn differs(array: &ListArray<i32>, alloc: Global, offsets: &[i32]) -> Result<bool, Error> {
+    let other = lists(alloc, offsets)?;
+    let differs = *array != other;
+    drop(other);
+    Ok(differs)
 }
 
 #[test]
 fn lists_are_equal_by_their_items(rt: HostRuntime) -> Result<(), Fail> {
     let array = lists(rt.alloc(), &[0, 2])?;
-    let other = lists(rt.alloc(), &[3, 5])?;
-    assert!(rt; array != other);
+    let outcome = differs(&array, rt.alloc(), &[3, 5]);
+    drop(array);
+    assert!(rt; outcome?);
     Ok(())
+}
+
+fn is_of_lists(given: &DataType, alloc: Global) -> Result<bool, Error> {
+    let lists = data_type(alloc)?;
+    let is_of_lists = *given == lists;
+    drop(lists);
+    Ok(is_of_lists)
 }
 
 #[test]
 fn lists_have_items_that_may_be_null(rt: HostRuntime) -> Result<(), Fail> {
     let lists = ListArray::<i32>::default_datatype(rt.alloc(), DataType::Int32)?;
-    assert!(rt; lists == data_type(rt.alloc())?);
+    let outcome = is_of_lists(&lists, rt.alloc());
+    drop(lists);
+    assert!(rt; outcome?);
     Ok(())
 }
 
@@ -69,20 +90,34 @@ fn lists_have_items_that_may_be_null(rt: HostRuntime) -> Result<(), Fail> {
 fn lists_of_one_size_have_items_that_may_be_null(rt: HostRuntime) -> Result<(), Fail> {
     let lists = FixedSizeListArray::default_datatype(rt.alloc(), DataType::Int32, 2)?;
     assert!(rt; matches!(lists, DataType::FixedSizeList(_, 2)));
+    drop(lists);
     Ok(())
+}
+
+fn has_numbers(lists: &DataType) -> Result<bool, Error> {
+    let item = ListArray::<i32>::try_get_child(lists)?;
+    Ok(matches!(item.data_type, DataType::Int32))
 }
 
 #[test]
 fn a_type_of_lists_has_a_field_of_items(rt: HostRuntime) -> Result<(), Fail> {
     let lists = data_type(rt.alloc())?;
-    let item = ListArray::<i32>::try_get_child(&lists)?;
-    assert!(rt; item.data_type == DataType::Int32);
+    let outcome = has_numbers(&lists);
+    drop(lists);
+    assert!(rt; outcome?);
     Ok(())
+}
+
+fn has_no_items(data_type: &DataType) -> bool {
+    let item = ListArray::<i32>::try_get_child(data_type);
+    matches!(item, Err(Error::OutOfSpec(_)))
 }
 
 #[test]
 fn a_type_of_numbers_has_no_items(rt: HostRuntime) -> Result<(), Fail> {
-    let item = ListArray::<i32>::try_get_child(&DataType::Int32);
-    assert!(rt; matches!(item, Err(Error::OutOfSpec(_))));
+    let numbers = DataType::Int32;
+    let outcome = has_no_items(&numbers);
+    drop(numbers);
+    assert!(rt; outcome);
     Ok(())
 }
