@@ -24,7 +24,7 @@ pub use nested_arrays_flat::{
 pub use nested_arrays_generic::{
     DictionaryArray, DictionaryKey, DictionaryKeys, DictionaryKeysIter, ListArray,
 };
-pub use nested_arrays_nulls::{new_empty_array, new_null_array};
+pub use nested_arrays_nulls::{NullArrays, new_empty_array, new_null_array};
 pub use nested_arrays_parts::{FlatArray, FlatNode, ListOffsets};
 pub use nested_arrays_walks::{
     ArrayPart, ArraySlot, ArrayValues, DictionaryValues, DictionaryValuesIter,

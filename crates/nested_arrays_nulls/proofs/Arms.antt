@@ -19,7 +19,7 @@ use Rattle.nested_arrays_nulls.proofs.NullLayers.{struct_nulls, union_nulls}
 use Rattle.nested_arrays_nulls.proofs.NullLengths.{most_of_nulls}
 use Rattle.nested_arrays_nulls.specs.Lengths.{most_length, most_lengths}
 use Rattle.nested_arrays_nulls.specs.NullAnswers.{IsMade, IsRefused}
-use Rattle.nested_arrays_nulls.specs.NullColumns.{no_items, no_marks, null_column, null_columns, null_places, nulls_as}
+use Rattle.nested_arrays_nulls.specs.NullColumns.{first_id, no_items, no_marks, null_column, null_columns, null_places, nulls_as}
 
 -- why there is no array of a column
 abbrev pub IsUnmade : Column → Error → Type 0
@@ -107,26 +107,27 @@ pub values_made : (t whole : DataType) (n : ℕ) (fields : List Field) (values :
 values_made t whole n fields values r is made h =
     subst (λ (c : Column). IsMade c r) (ap (λ columns. records whole (no_marks n) n (in_columns columns)) made ∙ sym is) h
 
-abbrev pub IsOfChildren : DataType → DataType → ℕ → UnionMode → List Field → Type 0
-IsOfChildren t whole n mode fields =
-    nulls_as t whole n ≡ unions whole (replicate n (pos 0)) (null_places mode n) (in_columns (null_columns fields n))
+abbrev pub IsOfChildren : DataType → DataType → ℕ → ℤ → UnionMode → List Field → Type 0
+IsOfChildren t whole n id mode fields =
+    nulls_as t whole n ≡ unions whole (replicate n id) (null_places mode n) (in_columns (null_columns fields n))
 
-pub at_union : (t whole : DataType) (fields own : List Field) (ids : Option (List ℤ)) (mode : UnionMode) (n : ℕ)
-    → t ≡ types.Union fields ids mode → own ≡ fields → IsOfChildren t whole n mode own
-at_union t whole fields own ids mode n is got = ap (λ d. nulls_as d whole n) is ∙ union_nulls fields ids mode whole n
-    ∙ ap (λ (us : List Field). unions whole (replicate n (pos 0)) (null_places mode n) (in_columns (null_columns us n))) (sym got)
+pub at_union : (t whole : DataType) (fields own : List Field) (ids : Option (List ℤ)) (id : ℤ) (mode : UnionMode) (n : ℕ)
+    → t ≡ types.Union fields ids mode → own ≡ fields → id ≡ first_id ids → IsOfChildren t whole n id mode own
+at_union t whole fields own ids id mode n is got first = ap (λ d. nulls_as d whole n) is ∙ union_nulls fields ids mode whole n
+    ∙ ap (λ (us : List Field). unions whole (replicate n (first_id ids)) (null_places mode n) (in_columns (null_columns us n))) (sym got)
+    ∙ ap (λ (i : ℤ). unions whole (replicate n i) (null_places mode n) (in_columns (null_columns own n))) (sym first)
 
-pub children_unmade : (t whole : DataType) (n : ℕ) (mode : UnionMode) (fields : List Field) (e : Error) → IsOfChildren t whole n mode fields
-    → AreUnmade fields n e → IsUnmade (nulls_as t whole n) e
-children_unmade t whole n mode fields e is h = subst (λ (c : Column). IsUnmade c e) (sym is)
-    (unions_refused whole (replicate n (pos 0)) (null_places mode n) (in_columns (null_columns fields n)) e h)
+pub children_unmade : (t whole : DataType) (n : ℕ) (id : ℤ) (mode : UnionMode) (fields : List Field) (e : Error)
+    → IsOfChildren t whole n id mode fields → AreUnmade fields n e → IsUnmade (nulls_as t whole n) e
+children_unmade t whole n id mode fields e is h = subst (λ (c : Column). IsUnmade c e) (sym is)
+    (unions_refused whole (replicate n id) (null_places mode n) (in_columns (null_columns fields n)) e h)
 
-pub children_made : (t whole : DataType) (n : ℕ) (mode : UnionMode) (fields : List Field) (children : List Column) (r : Result Column Error)
-    → IsOfChildren t whole n mode fields → children ≡ null_columns fields n
-    → IsMade (unions whole (replicate n (pos 0)) (null_places mode n) (in_columns children)) r → IsMade (nulls_as t whole n) r
-children_made t whole n mode fields children r is made h =
+pub children_made : (t whole : DataType) (n : ℕ) (id : ℤ) (mode : UnionMode) (fields : List Field) (children : List Column)
+    (r : Result Column Error) → IsOfChildren t whole n id mode fields → children ≡ null_columns fields n
+    → IsMade (unions whole (replicate n id) (null_places mode n) (in_columns children)) r → IsMade (nulls_as t whole n) r
+children_made t whole n id mode fields children r is made h =
     subst (λ (c : Column). IsMade c r)
-    (ap (λ columns. unions whole (replicate n (pos 0)) (null_places mode n) (in_columns columns)) made ∙ sym is) h
+    (ap (λ columns. unions whole (replicate n id) (null_places mode n) (in_columns columns)) made ∙ sym is) h
 
 -- ---- dictionaries
 

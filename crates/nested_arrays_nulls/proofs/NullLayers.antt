@@ -11,7 +11,7 @@ use Rattle.columnar_memory.specs.declared.Field.{Field}
 use Rattle.columnar_memory.specs.declared.IntegerType.{IntegerType}
 use Rattle.columnar_memory.specs.declared.UnionMode.{UnionMode}
 use Rattle.nested_arrays_columns.specs.StoredColumns.{lists, fixed_lists, records, unions, dictionary, in_columns}
-use Rattle.nested_arrays_nulls.specs.NullColumns.{Maker, no_marks, no_items, null_places, null_step, null_field_step, field_nulls, flat_nulls}
+use Rattle.nested_arrays_nulls.specs.NullColumns.{Maker, first_id, no_marks, no_items, null_places, null_step, null_field_step, field_nulls, flat_nulls}
 use Rattle.nested_arrays_nulls.specs.NullColumns.{nulls_as, null_column, null_columns}
 use denote.Hole.Carrier
 
@@ -75,10 +75,10 @@ struct_nulls fields whole n = ap (λ (make : Maker). make whole n) (roll_makes (
 
 pub union_nulls : (fields : List Field) (ids : Option (List ℤ)) (mode : UnionMode) (whole : DataType) (n : ℕ)
     → nulls_as (types.Union fields ids mode) whole n
-    ≡ unions whole (replicate n (pos 0)) (null_places mode n) (in_columns (null_columns fields n))
+    ≡ unions whole (replicate n (first_id ids)) (null_places mode n) (in_columns (null_columns fields n))
 unfolding roll-DataType denote.Hole.Carrier.roll
 union_nulls fields ids mode whole n = ap (λ (make : Maker). make whole n) (roll_makes (layer.Union fields ids mode))
-    ∙ ap (λ children. unions whole (replicate n (pos 0)) (null_places mode n) (in_columns children)) (each_nulls n fields)
+    ∙ ap (λ children. unions whole (replicate n (first_id ids)) (null_places mode n) (in_columns children)) (each_nulls n fields)
 
 pub dictionary_nulls : (key : IntegerType) (value : DataType) (is_ordered : Bool) (whole : DataType) (n : ℕ)
     → nulls_as (types.Dictionary key value is_ordered) whole n

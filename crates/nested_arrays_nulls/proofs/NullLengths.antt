@@ -18,7 +18,7 @@ use Rattle.nested_arrays_columns.specs.StoredColumns.{stored_len}
 use Rattle.nested_arrays_flat.proofs.ColumnParts.{sound_mask}
 use Rattle.nested_arrays_nulls.proofs.NullLayers.{Layer, with_makers, roll_makes}
 use Rattle.nested_arrays_nulls.specs.Lengths.{marks_length, most_length}
-use Rattle.nested_arrays_nulls.specs.NullColumns.{Maker, no_marks, no_items, flat_nulls, null_step, nulls_as, null_column, null_columns}
+use Rattle.nested_arrays_nulls.specs.NullColumns.{Maker, no_marks, no_items, first_id, flat_nulls, null_step, nulls_as, null_column, null_columns}
 
 -- a column says of so many slots that they are null, or is a union of so many
 abbrev pub HasSlots : ℕ → Column → Type 0
@@ -27,7 +27,7 @@ HasSlots n (flat t mask stored) = mask ≡ no_marks n
 HasSlots n (lists t mask offsets child) = (mask ≡ no_marks n) × (offsets ≡ no_items n)
 HasSlots n (fixed_lists t mask size child) = mask ≡ no_marks n
 HasSlots n (records t mask k children) = (k ≡ n) × (mask ≡ no_marks n)
-HasSlots n (unions t ids offsets children) = ids ≡ replicate n (pos 0)
+HasSlots n (unions t ids offsets children) = length ids ≡ n
 HasSlots n (dictionary t mask keys values) = (mask ≡ no_marks n) × (keys ≡ replicate n (pos 0))
 
 flat_slots : (layout : PhysicalType) (t : DataType) (n : ℕ) → HasSlots n (flat_nulls layout t n)
@@ -55,7 +55,8 @@ layer_slots (layer.LargeList item) = at_roll (layer.LargeList item.0) (λ whole 
 layer_slots (layer.Map entry is_sorted) = at_roll (layer.Map entry.0 is_sorted) (λ whole n. (refl, refl))
 layer_slots (layer.FixedSizeList item size) = at_roll (layer.FixedSizeList item.0 size) (λ whole n. refl)
 layer_slots (layer.Struct fields) = at_roll (layer.Struct (map (λ (e : F). e.0) fields)) (λ whole n. (refl, refl))
-layer_slots (layer.Union fields ids mode) = at_roll (layer.Union (map (λ (e : F). e.0) fields) ids mode) (λ whole n. refl)
+layer_slots (layer.Union fields ids mode) =
+    at_roll (layer.Union (map (λ (e : F). e.0) fields) ids mode) (λ whole n. length-replicate n (first_id ids))
 layer_slots (layer.Dictionary key value is_ordered) = at_roll (layer.Dictionary key value.0 is_ordered) (λ whole n. (refl, refl))
 layer_slots (layer.Extension name inner more) = at_roll (layer.Extension name inner.0 more) inner.1
 layer_slots y = at_roll (plain_layer y) (λ whole n. flat_slots (physical_type whole) whole n)
@@ -75,7 +76,7 @@ most_of_slots n (flat t mask stored) h = omega (arith, marks_count mask n h)
 most_of_slots n (lists t mask offsets child) h = omega (arith, ap (λ (xs : List ℕ). length xs) h.1, length-replicate {A = ℕ} n 0)
 most_of_slots n (fixed_lists t mask size child) h = omega (arith, marks_count mask n h)
 most_of_slots n (records t mask k children) h = omega (arith, h.0)
-most_of_slots n (unions t ids offsets children) h = omega (arith, ap (λ (xs : List ℤ). length xs) h, length-replicate n (pos 0))
+most_of_slots n (unions t ids offsets children) h = omega (arith, h)
 most_of_slots n (dictionary t mask keys values) h = omega (arith, ap (λ (xs : List ℤ). length xs) h.1, length-replicate n (pos 0))
 
 pub most_of_nulls : (t : DataType) (n : ℕ) → n ≤ most_length (null_column t n)
@@ -94,7 +95,7 @@ len_of_slots n (lists t mask offsets child) h sound = masked_len mask n (length 
 len_of_slots n (fixed_lists t mask size child) h sound =
     masked_len mask n (column_len child / size) h (sound_mask (fixed_lists t mask size child) sound)
 len_of_slots n (records t mask k children) h sound = h.0
-len_of_slots n (unions t ids offsets children) h sound = ap (λ (xs : List ℤ). length xs) h ∙ length-replicate n (pos 0)
+len_of_slots n (unions t ids offsets children) h sound = h
 len_of_slots n (dictionary t mask keys values) h sound = ap (λ (xs : List ℤ). length xs) h.1 ∙ length-replicate n (pos 0)
 
 pub len_of_nulls : (t : DataType) (n : ℕ) → is_sound (null_column t n) ≡ true → column_len (null_column t n) ≡ n

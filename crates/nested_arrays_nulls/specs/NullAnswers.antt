@@ -3,6 +3,8 @@ use Rattle.std.specs.Prelude.{◌≡◌, ◌≤◌, ◌^◌, ℕ, true, List, Re
 use Rattle.columnar_memory.specs.declared.DataType.{DataType}
 use Rattle.columnar_memory.specs.declared.Error.{Error}
 use Rattle.columnar_memory.specs.declared.Error.TheVariants as errors
+use Rattle.columnar_memory.specs.declared.PhysicalType.{PhysicalType}
+use Rattle.nested_arrays_arrays.specs.Answers.{LiesAs}
 use Rattle.nested_arrays_columns.specs.SoundColumns.{is_sound, are_sound}
 use Rattle.nested_arrays_columns.specs.StoredColumns.{Column, in_columns}
 use Rattle.nested_arrays_nulls.specs.Lengths.{most_length, most_lengths}
@@ -27,3 +29,8 @@ AreMade {A} r arrays columns = MatchResult r (λ a. (arrays a ≡ columns) × (a
 -- the array of so many nulls of a type, or why there is none
 abbrev pub IsNullArray : DataType → ℕ → Result Column Error → Type 0
 IsNullArray data_type n r = IsMade (null_column data_type n) r
+
+-- the same where the array has to lie in memory so
+abbrev pub IsNullArrayAs : {A : Type 0} → (A → Column) → PhysicalType → DataType → ℕ → Result A Error → Type 0
+IsNullArrayAs column layout data_type n r = let whole = null_column data_type n in
+    MatchResult r (λ a. (column a ≡ whole) × LiesAs layout whole) (IsRefused (LiesAs layout whole) (most_length whole))

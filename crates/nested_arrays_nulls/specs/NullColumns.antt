@@ -1,6 +1,6 @@
 -- The column of so many nulls of each type (Arrow columnar format, "Physical Memory Layout"): a null still has its place in each part, where
 -- zeros stand.
-use Rattle.std.specs.Prelude.{ℕ, ◌*◌, min, ℤ, pos, Bool, false, List, [], ◌∷◌, map, replicate, Option, Some, None}
+use Rattle.std.specs.Prelude.{ℕ, ◌*◌, min, ℤ, pos, Bool, false, List, [], ◌∷◌, map, replicate, slice_index_or, Option, Some, None}
 use Rattle.columnar_memory.specs.Numbers.{zeros}
 use Rattle.columnar_memory.specs.Layouts.{physical_type}
 use Rattle.columnar_memory.specs.declared.DataType.{DataType}
@@ -44,6 +44,11 @@ abbrev pub null_places : UnionMode → ℕ → Option (List ℤ)
 null_places modes.Sparse n = None
 null_places modes.Dense n = Some (window pos 0 n)
 
+-- the id of the first child of unions: 0 where their type lists no ids
+abbrev pub first_id : Option (List ℤ) → ℤ
+first_id None = pos 0
+first_id (Some ids) = slice_index_or ids 0 (pos 0)
+
 -- the column of so many nulls under the name of a type that stores its arrays in the same way
 abbrev pub Maker : Type 0
 Maker = DataType → ℕ → Column
@@ -53,14 +58,15 @@ abbrev pub field_nulls : ℕ → Field × Maker → Column
 field_nulls n field = field.1 field.0.data_type n
 
 -- One layer of a type, where each type below stands beside its maker. Lists of any length have no items, a dictionary has a null as its
--- value if it has slots, and each slot of a union is of id 0.
+-- value if it has slots, and each slot of a union is of its first child.
 abbrev pub null_step : layer.DataType-F (DataType × Maker) (Field × Maker) → Maker
 null_step (layer.List item) whole n = lists whole (no_marks n) (no_items n) (field_nulls 0 item)
 null_step (layer.LargeList item) whole n = lists whole (no_marks n) (no_items n) (field_nulls 0 item)
 null_step (layer.Map entry is_sorted) whole n = lists whole (no_marks n) (no_items n) (field_nulls 0 entry)
 null_step (layer.FixedSizeList item size) whole n = fixed_lists whole (no_marks n) size (field_nulls (size * n) item)
 null_step (layer.Struct fields) whole n = records whole (no_marks n) n (in_columns (map (field_nulls n) fields))
-null_step (layer.Union fields ids mode) whole n = unions whole (replicate n (pos 0)) (null_places mode n) (in_columns (map (field_nulls n) fields))
+null_step (layer.Union fields ids mode) whole n =
+    unions whole (replicate n (first_id ids)) (null_places mode n) (in_columns (map (field_nulls n) fields))
 null_step (layer.Dictionary key value is_ordered) whole n = dictionary whole (no_marks n) (replicate n (pos 0)) (value.1 value.0 (min n 1))
 null_step (layer.Extension name inner metadata) whole n = inner.1 whole n
 null_step _ whole n = flat_nulls (physical_type whole) whole n

@@ -58,12 +58,12 @@ pub(crate) fn structs(
     StructArray::try_new(data_type, values, Some(mask))
 }
 
-/// The id 0 for each of so many slots of a union.
-fn ids(alloc: Global, length: usize) -> Result<Buffer<i8>>
-    ensures { OrOutOfMemory result (λ ids. ids ≡ replicate length (pos 0)) }
+/// The id of each of so many slots of a union.
+fn ids(alloc: Global, id: i8, length: usize) -> Result<Buffer<i8>>
+    ensures { OrOutOfMemory result (λ ids. ids ≡ replicate length id) }
 {
     let mut ids: Vec<i8> = Vec::new(alloc);
-    ids.resize(length, 0)?;
+    ids.resize(length, id)?;
     Buffer::from_vec(ids)
 }
 
@@ -80,17 +80,22 @@ fn places(alloc: Global, length: usize) -> Result<Buffer<i32>>
     Buffer::from_vec(places)
 }
 
-/// So many slots of a union, each of id 0 and at its own place of each of these children.
+/// So many slots of a union, each of this id and at its own place of each of these children.
 pub(crate) fn unions(
     alloc: Global,
     data_type: DataType,
+    id: i32,
     mode: UnionMode,
     children: Vec<AnyArray>,
     length: usize,
 ) -> Result<UnionArray>
-    ensures { IsMade (unions data_type (replicate length (pos 0)) (null_places mode length) (in_columns children.items)) result }
+    ensures { IsMade (unions data_type (replicate length id) (null_places mode length) (in_columns children.items)) result }
 {
-    let ids = ids(alloc, length)?;
+    let ids = match i8::try_from(id) {
+        Ok(id) => ids(alloc, id, length)?,
+        Err(_) if length == 0 => ids(alloc, 0, 0)?,
+        Err(_) => return Err(Error::OutOfSpec("an id of a union that has not 8 bits")),
+    };
     let places = match mode {
         UnionMode::Sparse => None,
         UnionMode::Dense => {

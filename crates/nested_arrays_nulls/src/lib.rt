@@ -3,8 +3,10 @@
 
 mod flats;
 mod generic_layouts;
+mod kinds;
 mod layouts;
 mod nulls;
 mod wholes;
 
+pub use kinds::NullArrays;
 pub use nulls::{new_empty_array, new_null_array};

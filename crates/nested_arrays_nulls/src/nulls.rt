@@ -11,11 +11,11 @@ use nested_arrays_arrays::AnyArray;
 use std::alloc::Global;
 
 /// An array of so many nulls of a type, of any depth: each slot is null. Only a union has no nulls of its own: its slots pick the nulls of
-/// the child that the id 0 means. What is stored for a null is zeros.
+/// its first child. What is stored for a null is zeros.
 ///
 /// # Errors
 /// `OutOfSpec`: the type has no arrays, at whatever depth: floats, byte strings or lists of size 0, structs without a field, maps whose entries
-/// are no structs of two, unions of which no child has the id 0, or dense ones of more than 2^31 slots.
+/// are no structs of two, unions without a child or whose first id is none, or dense ones of more than 2^31 slots.
 /// `Overflow`: a child would have 2^64 slots or more, or as many bytes.
 /// `OutOfMemory`: the array or a data type found no memory.
 #[tactic(auto, using(crate::proofs::NullSlots::made_slots))]
@@ -94,10 +94,11 @@ fn nulls_as(
                 length,
             )
         }
-        DataType::Union(fields, _, mode) => {
+        DataType::Union(fields, ids, mode) => {
             wholes::unions(
                 alloc,
                 whole,
+                ids,
                 *mode,
                 nulls_of(alloc, fields.as_slice(), length)?,
                 length,

@@ -5,10 +5,10 @@ ghost use Rattle.columnar_memory.specs.declared.PhysicalType.TheVariants as phys
 ghost use Rattle.nested_arrays_columns.specs.StoredColumns.{column_len, dictionary, fixed_lists, in_columns, lists, records, unions};
 ghost use Rattle.nested_arrays_arrays.specs.Lengths.{size_of};
 ghost use Rattle.nested_arrays_nulls.specs.NullAnswers.{IsMade};
-ghost use Rattle.nested_arrays_nulls.specs.NullColumns.{flat_nulls, no_items, no_marks, null_places};
+ghost use Rattle.nested_arrays_nulls.specs.NullColumns.{first_id, flat_nulls, no_items, no_marks, null_places};
 
 use crate::{flats, generic_layouts, layouts};
-use columnar_memory::{DataType, IntegerType, Result, UnionMode};
+use columnar_memory::{DataType, IntegerType, Items, Result, UnionMode};
 use nested_arrays_arrays::AnyArray;
 use nested_arrays_generic::DictionaryKey;
 use std::alloc::Global;
@@ -90,17 +90,31 @@ pub(crate) fn structs(
     Ok(AnyArray::from(array))
 }
 
-/// Slots of a type of unions, each the null of the child that the id 0 means.
+/// The id of the first child of unions: 0 where their type lists no ids.
+fn first_id(ids: &Option<Items<i32>>) -> i32
+    ensures { result ≡ first_id ids.now }
+{
+    match ids {
+        Some(ids) => match ids.as_slice().split_first() {
+            Some((id, _)) => *id,
+            None => 0,
+        },
+        None => 0,
+    }
+}
+
+/// Slots of a type of unions, each the null of the first child.
 pub(crate) fn unions(
     alloc: Global,
     whole: &DataType,
+    ids: &Option<Items<i32>>,
     mode: UnionMode,
     children: Vec<AnyArray>,
     length: usize,
 ) -> Result<AnyArray>
-    ensures { IsMade (unions whole.now (replicate length (pos 0)) (null_places mode length) (in_columns children.items)) result }
+    ensures { IsMade (unions whole.now (replicate length (first_id ids.now)) (null_places mode length) (in_columns children.items)) result }
 {
-    let array = layouts::unions(alloc, whole.clone()?, mode, children, length)?;
+    let array = layouts::unions(alloc, whole.clone()?, first_id(ids), mode, children, length)?;
     Ok(AnyArray::from(array))
 }
 

@@ -10,7 +10,7 @@ pub returns-then-length-gt-DENSE_SLOTS : goal.returns-then-length-gt-DENSE_SLOTS
 returns-then-length-gt-DENSE_SLOTS c = λ sound.
     let n = c.args.length in
     let children = in_columns c.args.children.items in
-    let ids = replicate n (pos 0) in
+    let ids = replicate n c.args.id in
     let few = few_slots c.args.data_type ids n children
     (ap (λ mode. is_sound (unions c.args.data_type ids (null_places mode n) children)) (sym c.in-Dense.is) ∙ sound) in
     absurd (omega (arith, few, c.if-length-gt-DENSE_SLOTS.true))

@@ -7,7 +7,7 @@ use Rattle.nested_arrays_nulls.proofs.Made.{field_refused}
 use Rattle.nested_arrays_nulls.proofs.NullLayers.{IsChildless, childless_nulls}
 use Rattle.nested_arrays_nulls.proofs.NullLengths.{lens_of_nulls}
 use Rattle.nested_arrays_nulls.proofs.StoredTypes as stored
-use Rattle.nested_arrays_nulls.specs.NullColumns.{null_column, nulls_as}
+use Rattle.nested_arrays_nulls.specs.NullColumns.{first_id, null_column, nulls_as}
 use Rattle.nested_arrays_nulls.proofs.nulls.+nulls.Goals as goal
 
 pub nulls_as-returns-in_err-field_nulls-in-List : goal.nulls_as-returns-in_err-field_nulls-in-List
@@ -141,8 +141,9 @@ nulls_as-returns-in_err-nulls_of-in-Union t c =
     let n = c.args.length in
     let own = c.as_slice-in-Union.result.now in
     let unmade : IsUnmade (nulls_as d whole n) c.in_err-nulls_of-in-Union.field-0.0 =
-    arm.children_unmade d whole n c.in-Union.mode own c.in_err-nulls_of-in-Union.field-0.0
-    (arm.at_union d whole c.in-Union.fields own c.in-Union.field-1 c.in-Union.mode n c.in-Union.is c.as_slice-in-Union.ensures)
+    arm.children_unmade d whole n (first_id c.in-Union.ids) c.in-Union.mode own c.in_err-nulls_of-in-Union.field-0.0
+    (arm.at_union d whole c.in-Union.fields own c.in-Union.ids (first_id c.in-Union.ids) c.in-Union.mode n c.in-Union.is c.as_slice-in-Union.ensures
+    refl)
     c.in_err-nulls_of-in-Union.ensures in
     search (rules, unmade)
 
@@ -152,8 +153,9 @@ nulls_as-returns-in_ok-nulls_of-in-Union t c =
     let whole = c.args.whole.now in
     let n = c.args.length in
     let own = c.as_slice-in-Union.result.now in
-    arm.children_made d whole n c.in-Union.mode own c.in_ok-nulls_of-in-Union.field-0.items c.unions.result
-    (arm.at_union d whole c.in-Union.fields own c.in-Union.field-1 c.in-Union.mode n c.in-Union.is c.as_slice-in-Union.ensures)
+    arm.children_made d whole n (first_id c.in-Union.ids) c.in-Union.mode own c.in_ok-nulls_of-in-Union.field-0.items c.unions.result
+    (arm.at_union d whole c.in-Union.fields own c.in-Union.ids (first_id c.in-Union.ids) c.in-Union.mode n c.in-Union.is c.as_slice-in-Union.ensures
+    refl)
     c.in_ok-nulls_of-in-Union.ensures.0 c.unions.ensures
 
 -- ---- dictionaries
