@@ -48,6 +48,8 @@ pub use Rattle.nested_arrays_access.specs.Nulls
 pub use Rattle.nested_arrays_walks.specs.NamedValues as ValuesByKeys
 pub use Rattle.nested_arrays_walks.specs.ReadValues
 pub use Rattle.nested_arrays_walks.specs.StringParts
+pub use Rattle.nested_arrays_walks.specs.TextItems
+pub use Rattle.nested_arrays_walks.specs.TypedValues
 pub use Rattle.nested_arrays_walks.specs.WalkLaws
 pub use Rattle.nested_arrays_nulls.specs.Lengths as PartLengths
 pub use Rattle.nested_arrays_nulls.specs.NullAnswers

@@ -27,8 +27,9 @@ pub use nested_arrays_generic::{
 pub use nested_arrays_nulls::{NullArrays, new_empty_array, new_null_array};
 pub use nested_arrays_parts::{FlatArray, FlatNode, ListOffsets};
 pub use nested_arrays_walks::{
-    ArrayPart, ArraySlot, ArrayValues, DictionaryValues, DictionaryValuesIter,
-    FixedSizeBinaryValues, FixedSizeListValuesIter, GenericBinaryArray, KeyPlaces, KeyedSlots,
-    KeyedValues, ListValuesIter, MapValuesIter, Slots, StructSlot, StructValueIter, UnionIter,
-    Values, a_walk_over_places_gives_each_value_once,
+    ArrayPart, ArraySlot, ArrayValues, DictValue, DictionaryValues, DictionaryValuesIter,
+    DictionaryValuesIterTyped, FixedSizeBinaryValues, FixedSizeListValuesIter, GenericBinaryArray,
+    KeyPlaces, KeyedSlots, KeyedValues, ListValuesIter, MapValuesIter, Slots, StructSlot,
+    StructValueIter, TypedDictionaryValues, TypedSlots, TypedValues, UnionIter, Values,
+    a_walk_over_places_gives_each_value_once, keys_name_values,
 };

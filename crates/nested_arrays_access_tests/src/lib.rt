@@ -12,4 +12,6 @@ mod kinds;
 #[cfg(test)]
 mod masks;
 #[cfg(test)]
+mod typed;
+#[cfg(test)]
 mod unions;

@@ -19,7 +19,7 @@ pub key_shows : (c : Column) (t : DataType) (mask : Option (List Bool)) (keys : 
 key_shows c t mask keys values i is = subst (λ (d : Column). slot_at values (place_of (raw_key d i)) ≡ value_at d i) is refl
 
 -- the key of a slot that is not null is the place of a value
-key_within : (c : Column) (t : DataType) (mask : Option (List Bool)) (keys : List ℤ) (values : Column) (i : ℕ) → dictionary t mask keys values ≡ c
+pub key_within : (c : Column) (t : DataType) (mask : Option (List Bool)) (keys : List ℤ) (values : Column) (i : ℕ) → dictionary t mask keys values ≡ c
     → is_sound c ≡ true → i < column_len c → is_valid_at (column_mask c) i ≡ true → place_of (raw_key c i) < column_len values
 key_within c t mask keys values i is sound h valid =
     let test = has_value_at mask keys (column_len values) in
@@ -34,7 +34,7 @@ key_within c t mask keys values i is sound h valid =
     (ltb-true (place_of key) (column_len values) (and_parts (int_le (pos 0) key) (nat_lt (place_of key) (column_len values)) named).1)
 
 -- a place that is there where a mark is true
-place_or_none : (b : Bool) (place : ℕ) (r : Option ℕ) → r ≡ (if b then Some place else None)
+pub place_or_none : (b : Bool) (place : ℕ) (r : Option ℕ) → r ≡ (if b then Some place else None)
     → MatchOption r (b ≡ false) (λ k. (b ≡ true) × (k ≡ place))
 place_or_none true place None is = absurd cc
 place_or_none true place (Some k) is = (refl, cc)

@@ -1,4 +1,6 @@
 pub mod NamedValues
 pub mod ReadValues
 pub mod StringParts
+pub mod TextItems
+pub mod TypedValues
 pub mod WalkLaws

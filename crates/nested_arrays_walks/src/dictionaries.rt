@@ -1,5 +1,5 @@
 //! The values that the slots of dictionaries name.
-ghost use Rattle.std.specs.Prelude.{◌≡◌, ◌<◌, pos};
+ghost use Rattle.std.specs.Prelude.{◌≡◌, ◌<◌, ◌↔◌, IsTrue, pos};
 ghost use Rattle.nested_arrays_columns.specs.StoredColumns.{Column, column_len};
 ghost use Rattle.nested_arrays_generic.specs.Dictionaries.{raw_key};
 ghost use Rattle.nested_arrays_walks.specs.NamedValues.{AreNamed, ArePlaces, IsNamed, NamesValue};
@@ -7,6 +7,7 @@ ghost use Rattle.nested_arrays_walks.specs.ReadValues.{IsRead, IsReadWithin};
 
 use crate::slots::ArraySlot;
 use flat_arrays_access::{ArrayAccessor, ArrayValuesIter};
+use flat_arrays_values::check_indexes;
 use nested_arrays_generic::{DictionaryArray, DictionaryKey};
 
 /// The slots of a dictionary: what its keys name, or none where a slot is null.
@@ -67,6 +68,15 @@ pub trait DictionaryValues {
         ensures array { result.array.array.now ≡ column self.now }
         ensures first { result.first ≡ 0 }
         ensures stop { result.stop ≡ column_len (column self.now) };
+}
+
+/// Whether each key of a dictionary names a value, those under nulls too.
+pub fn keys_name_values<K: DictionaryKey>(array: &DictionaryArray<K>) -> bool
+    ensures { IsTrue result ↔ AreNamed array.now }
+{
+    let count = array.values().len();
+    let keys = array.keys();
+    check_indexes(keys.values().as_slice(), count).is_ok()
 }
 
 impl<K: DictionaryKey> DictionaryValues for DictionaryArray<K> {

@@ -1,0 +1,87 @@
+ghost use Rattle.std.specs.Prelude.{◌≡◌, MatchResult};
+ghost use Rattle.flat_arrays_byte_columns.specs.ByteStrings.{len_of};
+ghost use Rattle.nested_arrays_columns.specs.StoredColumns.{column_len};
+ghost use Rattle.nested_arrays_generic.specs.Dictionaries.{values_of};
+
+use crate::cases::numbers;
+use columnar_memory::{Bitmap, Buffer, DataType, Error};
+use flat_arrays_bytes::Utf8Array;
+use flat_arrays_values::PrimitiveArray;
+use nested_arrays_arrays::AnyArray;
+use nested_arrays_generic::DictionaryArray;
+use nested_arrays_parts::FlatArray;
+use nested_arrays_walks::{DictValue, TypedDictionaryValues, keys_name_values};
+use std::alloc::Global;
+use std::test::Fail;
+
+/// Keys over some values, the third of which is null.
+fn keyed(alloc: Global, keys: &[i8], values: AnyArray) -> Result<DictionaryArray<i8>, Error> {
+    let keys = Buffer::from_vec(Vec::from_slice(alloc, keys)?)?;
+    let mask = Bitmap::from_u8_slice(alloc, &[0b1011], 4)?;
+    let keys = PrimitiveArray::try_new(DataType::Int8, keys, Some(mask))?;
+    DictionaryArray::try_from_keys(alloc, keys, Box::new(alloc, values)?)
+}
+
+/// Texts by keys, the third of which is null.
+fn letters(alloc: Global) -> Result<DictionaryArray<i8>, Error> {
+    let texts: Utf8Array<i32> = Utf8Array::from_slice(alloc, &["a", "bc"])?;
+    keyed(alloc, &[1, 0, 0, 1], AnyArray::from(FlatArray::from(texts)))
+}
+
+/// The values of a dictionary as texts.
+fn texts_of(array: &DictionaryArray<i8>) -> Result<&Utf8Array<i32>, Error>
+    ensures { MatchResult result (λ texts. len_of texts.now ≡ column_len (values_of array.now)) (λ _. Unit {0}) }
+{
+    <&Utf8Array<i32>>::downcast_values(array.values())
+}
+
+#[test]
+fn values_are_texts_under_nulls_too(rt: HostRuntime) -> Result<(), Fail> {
+    let array = letters(rt.alloc())?;
+    assert!(rt; keys_name_values(&array));
+    match texts_of(&array) {
+        Ok(texts) => {
+            let mut walk = array.values_iter_typed(texts);
+            assert_eq!(rt; walk.next(), Some("bc"));
+            assert_eq!(rt; walk.next_back(), Some("bc"));
+            assert_eq!(rt; walk.next_back(), Some("a"));
+        }
+        Err(_) => assert!(rt; false),
+    }
+    drop(array);
+    Ok(())
+}
+
+#[test]
+fn slots_are_texts_or_none(rt: HostRuntime) -> Result<(), Fail> {
+    let array = letters(rt.alloc())?;
+    match texts_of(&array) {
+        Ok(texts) => {
+            let mut walk = array.iter_typed(texts);
+            assert_eq!(rt; walk.next(), Some(Some("bc")));
+            assert_eq!(rt; walk.next_back(), Some(Some("bc")));
+            assert_eq!(rt; walk.next_back(), Some(None));
+        }
+        Err(_) => assert!(rt; false),
+    }
+    drop(array);
+    Ok(())
+}
+
+#[test]
+fn numbers_are_no_texts(rt: HostRuntime) -> Result<(), Fail> {
+    let array = keyed(rt.alloc(), &[1, 0, 0, 1], numbers(rt.alloc(), &[5, 7])?)?;
+    assert!(rt; matches!(texts_of(&array), Err(Error::InvalidArgumentError(_))));
+    drop(array);
+    Ok(())
+}
+
+#[test]
+fn texts_with_a_null_are_refused(rt: HostRuntime) -> Result<(), Fail> {
+    let texts: Utf8Array<i32> = Utf8Array::from(rt.alloc(), &[Some("a"), None])?;
+    let values = AnyArray::from(FlatArray::from(texts));
+    let array = keyed(rt.alloc(), &[1, 0, 0, 1], values)?;
+    assert!(rt; matches!(texts_of(&array), Err(Error::InvalidArgumentError(_))));
+    drop(array);
+    Ok(())
+}
