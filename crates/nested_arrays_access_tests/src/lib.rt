@@ -12,6 +12,4 @@ mod kinds;
 #[cfg(test)]
 mod masks;
 #[cfg(test)]
-mod typed;
-#[cfg(test)]
 mod unions;
