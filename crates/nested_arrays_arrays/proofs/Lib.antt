@@ -4,6 +4,7 @@ pub mod KeyMasks
 pub mod KeyPlaces
 pub mod LaidNodes
 pub mod ListParts
+pub mod ListRuns
 pub mod RoomTables
 pub mod SameSlots
 pub mod SlotPlaces

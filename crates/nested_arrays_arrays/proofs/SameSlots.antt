@@ -1,9 +1,9 @@
 -- Slots with slots inside that are the same, and how many stand in them.
-use Rattle.std.proofs.Common.{◌≡◌, ◌∙◌, ◌<◌, ◌≤◌, ◌+◌, ℕ, zero, suc, List, [], ◌∷◌, refl, sym, ap, arith, below_more, length, ◌-◌}
+use Rattle.std.proofs.Common.{◌≡◌, ◌∙◌, ◌<◌, ◌≤◌, ◌+◌, ℕ, zero, suc, List, [], ◌∷◌, refl, sym, ap, arith, below_more, ◌-◌}
 use Rattle.std.specs.Prelude.{◌↔◌, sum_by}
 use Rattle.std.proofs.lemmas.List.Sums.{sum_by-cons}
 use Rattle.columnar_memory.specs.declared.DataType.{DataType}
-use Rattle.nested_arrays_columns.proofs.Windows.{window_same, length-window}
+use Rattle.nested_arrays_columns.proofs.Windows.{window_same}
 use Rattle.nested_arrays_columns.specs.SlotNodes.{nodes_of, slot_nodes}
 use Rattle.nested_arrays_columns.specs.Slots.{Slot, Slots, null, truth, number, pair, triple, text, bytes, items, fields, pick, no_slot, slot_then}
 use Rattle.nested_arrays_columns.specs.Slots.{in_slots, window}
@@ -54,7 +54,7 @@ pick_parts t u slot other same = (cc, cc)
 
 -- ---- counts
 
-node_some : (slot : Slot) → 1 ≤ slot_nodes slot
+pub node_some : (slot : Slot) → 1 ≤ slot_nodes slot
 node_some null = omega arith
 node_some (truth b) = omega arith
 node_some (number kind n) = omega arith
@@ -71,13 +71,13 @@ pub nodes_some : (f : ℕ → Slot) (a n : ℕ) → n ≤ nodes_of (in_slots (wi
 nodes_some f a zero = omega arith
 nodes_some f a (suc n) = omega (arith, node_some (f a), nodes_some f (a + 1) n)
 
-nodes_more : (f : ℕ → Slot) (a n : ℕ) → nodes_of (in_slots (window f a (suc n))) ≡ nodes_of (in_slots (window f a n)) + slot_nodes (f (a + n))
+pub nodes_more : (f : ℕ → Slot) (a n : ℕ) → nodes_of (in_slots (window f a (suc n))) ≡ nodes_of (in_slots (window f a n)) + slot_nodes (f (a + n))
 nodes_more f a zero = let here : slot_nodes (f (a + 0)) ≡ slot_nodes (f a) = ap (λ k. slot_nodes (f k)) (omega arith) in omega (arith, here)
 nodes_more f a (suc n) =
     let here : slot_nodes (f (a + 1 + n)) ≡ slot_nodes (f (a + suc n)) = ap (λ k. slot_nodes (f k)) (omega arith) in
     omega (arith, here, nodes_more f (a + 1) n)
 
-nodes_grow : (f : ℕ → Slot) (a n m : ℕ) → nodes_of (in_slots (window f a n)) ≤ nodes_of (in_slots (window f a (n + m)))
+pub nodes_grow : (f : ℕ → Slot) (a n m : ℕ) → nodes_of (in_slots (window f a n)) ≤ nodes_of (in_slots (window f a (n + m)))
 nodes_grow f a zero m = omega arith
 nodes_grow f a (suc n) m =
     let len : suc n + m ≡ suc (n + m) = omega arith in
@@ -98,7 +98,7 @@ pub record Compared (l : Column) (i : ℕ) (r : Column) (j k before now : ℕ) :
   pub same : SameRanges l i r j k
   pub counted : now ≡ before + range_nodes l i k
 
-below_next : (P : ℕ → Type 0) (n : ℕ) → ((k : ℕ) → k < n → P k) → P n → (k : ℕ) → k < n + 1 → P k
+pub below_next : (P : ℕ → Type 0) (n : ℕ) → ((k : ℕ) → k < n → P k) → P n → (k : ℕ) → k < n + 1 → P k
 below_next P n below here k h = below_more P n below here k h
 
 pub one_more : (l r : Column) (i j k before now after : ℕ) → Compared l i r j k before now → slot_at l (i + k) ≡ slot_at r (j + k)

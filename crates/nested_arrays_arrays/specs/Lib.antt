@@ -3,6 +3,7 @@ pub mod Answers
 pub mod Entries
 pub mod ItemTypes
 pub mod Lengths
+pub mod ListRuns
 pub mod NamedValues
 pub mod Parts
 pub mod Places

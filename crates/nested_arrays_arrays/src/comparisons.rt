@@ -1,5 +1,5 @@
 //! Equality of arrays by their slots. A step is counted for each slot of the left side that is compared with one of the right; a run of slots of
-//! arrays without children, and one of records, is counted as a whole before it is compared.
+//! arrays without children, one of records and one of lists is counted as a whole before it is compared.
 ghost use Rattle.std.specs.Prelude.{◌≡◌, ◌+◌, ◌<◌, ◌≤◌, ◌↔◌, IfSome, IsTrue};
 ghost use Rattle.nested_arrays_columns.specs.SlotNodes.{nodes_of, slot_nodes};
 ghost use Rattle.nested_arrays_columns.specs.Slots.{in_slots, items, null, pick, window};
@@ -9,6 +9,7 @@ ghost use Rattle.nested_arrays_arrays.specs.Places.{columns_nodes, HavePlace, Ha
 
 use crate::any::{AnyArray, Node};
 use crate::keys::value_of;
+use crate::list_runs::list_run;
 use crate::places::{fields_at, items_at, pick_at, records_at, values_at};
 use columnar_memory::Steps;
 use nested_arrays_parts::{FlatArray, count_each, same_slots, same_slots_counted};
@@ -63,9 +64,29 @@ pub(crate) fn same_range(
     }
     let _left = left.len();
     let _right = right.len();
-    for k in 0..count {
-        if !same_slot(left, i + k, right, j + k, steps) {
-            return false;
+    let mut k = 0;
+    while k < count {
+        match list_run(left, i + k, right, j + k, count - k) {
+            Some(run) => {
+                count_each(steps, run.count);
+                if !same_range(
+                    run.items,
+                    run.start,
+                    run.others,
+                    run.other_start,
+                    run.len,
+                    steps,
+                ) {
+                    return false;
+                }
+                k += run.count;
+            }
+            None => {
+                if !same_slot(left, i + k, right, j + k, steps) {
+                    return false;
+                }
+                k += 1;
+            }
         }
     }
     true
@@ -115,6 +136,9 @@ pub fn same_slot(left: &AnyArray, i: usize, right: &AnyArray, j: usize, steps: &
 {
     let (values, place) = value_of(left, i);
     let (others, other_place) = value_of(right, j);
+    if let (Some(values), Some(others)) = (flat(values), flat(others)) {
+        return same_slots_counted(values, place, others, other_place, 1, steps);
+    }
     same_value(values, place, others, other_place, steps)
 }
 

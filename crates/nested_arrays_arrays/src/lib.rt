@@ -12,6 +12,7 @@ mod item_fields;
 mod key_masks;
 mod keys;
 mod layouts;
+mod list_runs;
 mod maps;
 mod picks;
 mod places;

@@ -65,7 +65,7 @@ pub(crate) fn values_at(array: &AnyArray, i: usize) -> Option<&FlatArray>
 }
 
 /// Where the items of a list begin and end.
-fn bounds(offsets: &ListOffsets, i: usize) -> (usize, usize)
+pub(crate) fn bounds(offsets: &ListOffsets, i: usize) -> (usize, usize)
     requires { i < length (spans_in offsets.now).lengths }
     ensures start { result.0 ≡ offset_at (spans_in offsets.now) i }
     ensures stop { result.1 ≡ offset_at (spans_in offsets.now) (i + 1) }

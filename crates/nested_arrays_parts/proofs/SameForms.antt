@@ -1,12 +1,12 @@
 -- Slots that are the same, by their forms.
-use Rattle.std.proofs.Common.{◌≡◌, ◌∙◌, ◌<◌, ◌≤◌, ◌+◌, ℕ, zero, suc, Bool, true, false, refl, sym, ap, arith}
-use Rattle.std.specs.Prelude.{◌↔◌, None, if◌then◌else◌}
+use Rattle.std.proofs.Common.{◌≡◌, ◌∙◌, ◌<◌, ◌≤◌, ◌+◌, ℕ, zero, suc, Bool, true, false, refl, sym, ap, arith, below_more, ◌-◌}
+use Rattle.std.specs.Prelude.{◌↔◌, IsTrue, None, if◌then◌else◌}
 use Rattle.nested_arrays_columns.specs.Slots.{null}
 use Rattle.nested_arrays_columns.specs.StoredColumns.{Column, nulls, flat, lists, fixed_lists, records, unions, dictionary}
 use Rattle.nested_arrays_columns.specs.StoredColumns.{Stored, bits, numbers, pairs, triples, texts, byte_strings, fixed_bytes}
 use Rattle.nested_arrays_columns.specs.StoredColumns.{is_valid_at, slot_at, stored_at}
 use Rattle.nested_arrays_parts.specs.Forms.{bare, column_form, slot_form, stored_form}
-use Rattle.nested_arrays_parts.specs.Ranges.{SameRanges}
+use Rattle.nested_arrays_parts.specs.Ranges.{SameMarks, SameRanges}
 use Rattle.nested_arrays_flat.specs.ColumnMasks.{column_mask}
 
 stored_slot : (stored : Stored) (i : ℕ) → slot_form (stored_at stored i) ≡ stored_form stored
@@ -102,4 +102,47 @@ pub bare_ranges : (l r : Column) (i j n : ℕ) → ((k : ℕ) → k < n → is_v
 bare_ranges l r i j n all every = (
   λ same k h. valid_slot l (i + k) (all k h) ∙ same k h ∙ sym (valid_slot r (j + k) (every k h)),
   λ same k h. sym (valid_slot l (i + k) (all k h)) ∙ same k h ∙ valid_slot r (j + k) (every k h),
+)
+
+-- the slot at a place is given by its mark and its stored value
+same_mark : (l r : Column) (i j : ℕ) → is_valid_at (column_mask l) i ≡ is_valid_at (column_mask r) j
+    → slot_at (bare l) i ≡ slot_at (bare r) j → slot_at l i ≡ slot_at r j
+same_mark l r i j marks same = by_mark (is_valid_at (column_mask l) i) refl where
+  by_mark : (mark : Bool) → is_valid_at (column_mask l) i ≡ mark → slot_at l i ≡ slot_at r j
+  by_mark true is = valid_slot l i is ∙ same ∙ sym (valid_slot r j (sym marks ∙ is))
+  by_mark false is = null_slot l i is ∙ sym (null_slot r j (sym marks ∙ is))
+
+-- ranges with the same marks and stored values
+pub marked_ranges : (l r : Column) (i j n : ℕ) → SameMarks (column_mask l) i (column_mask r) j n → SameRanges (bare l) i (bare r) j n
+    → SameRanges l i r j n
+marked_ranges l r i j n marks same k h = same_mark l r (i + k) (j + k) (marks k h) (same k h)
+
+-- a range and the one behind it
+pub joined : (l r : Column) (i j n m : ℕ) → SameRanges l i r j n → SameRanges l (i + n) r (j + n) m → SameRanges l i r j (n + m)
+joined l r i j n zero before after k h = before k (omega arith)
+joined l r i j n (suc m) before after k h =
+    below_more (λ k. slot_at l (i + k) ≡ slot_at r (j + k)) (n + m)
+    (joined l r i j n m before (λ k h. after k (omega arith)))
+    (ap (slot_at l) (omega arith) ∙ after m (omega arith) ∙ ap (slot_at r) (omega arith)) k (omega (arith, h))
+
+-- a part of a range
+pub behind_in : (l r : Column) (i j n m whole : ℕ) → n + m ≤ whole → SameRanges l i r j whole → SameRanges l (i + n) r (j + n) m
+behind_in l r i j n m whole within same k h =
+    ap (slot_at l) (omega arith) ∙ same (n + k) (omega (arith, h, within)) ∙ ap (slot_at r) (omega arith)
+
+-- a range whose beginning is the same is the same where the rest is
+pub rest_of : (l r : Column) (i j n whole : ℕ) → n ≤ whole
+    → (SameRanges l i r j n → SameRanges l (i + n) r (j + n) (whole - n) → SameRanges l i r j whole)
+    × (SameRanges l i r j whole → SameRanges l (i + n) r (j + n) (whole - n))
+rest_of l r i j n whole within = (
+  λ before after k h. joined l r i j n (whole - n) before after k (omega (arith, h, within)),
+  λ same. behind_in l r i j n (whole - n) whole (omega (arith, within)) same,
+)
+
+-- ranges of equal columns, where a test is of one
+pub moved_ranges : (l r own other : Column) (i j n : ℕ) (is : Bool) → l ≡ own → r ≡ other → IsTrue is ↔ SameRanges (bare l) i (bare r) j n
+    → IsTrue is ↔ SameRanges (bare own) i (bare other) j n
+moved_ranges l r own other i j n is left right tested = (
+  λ h. moved l r own other i j n left right (tested.0 h),
+  λ same. tested.1 (moved own other l r i j n (sym left) (sym right) same),
 )

@@ -1,16 +1,20 @@
 -- Ranges of slots of two columns.
-use Rattle.std.specs.Prelude.{◌≡◌, ◌+◌, ◌<◌, ℕ}
+use Rattle.std.specs.Prelude.{◌≡◌, ◌+◌, ◌<◌, ℕ, Bool, List, Option}
 use Rattle.columnar_memory.specs.Numbers.{Numbers, first_number}
 use Rattle.columnar_memory.specs.declared.PrimitiveType.{PrimitiveType}
 use Rattle.columnar_memory.specs.declared.PrimitiveType.TheVariants as kinds
 use Rattle.nested_arrays_columns.specs.SlotNodes.{nodes_of}
 use Rattle.nested_arrays_columns.specs.Slots.{Slot, number, in_slots, window}
-use Rattle.nested_arrays_columns.specs.StoredColumns.{Column, Stored, slot_at, stored_at, pair_slot, triple_slot}
+use Rattle.nested_arrays_columns.specs.StoredColumns.{Column, Stored, is_valid_at, slot_at, stored_at, pair_slot, triple_slot}
 use Rattle.nested_arrays_flat.specs.FlatColumns.{pair_of, triple_of}
 
 -- n slots of a column from place i on are those of another from place j on
 abbrev pub SameRanges : Column → ℕ → Column → ℕ → ℕ → Type 0
 SameRanges left i right j n = (k : ℕ) → k < n → slot_at left (i + k) ≡ slot_at right (j + k)
+
+-- n marks of a mask, if there is one, from place i on are those of another from place j on
+abbrev pub SameMarks : Option (List Bool) → ℕ → Option (List Bool) → ℕ → ℕ → Type 0
+SameMarks left i right j n = (k : ℕ) → k < n → is_valid_at left (i + k) ≡ is_valid_at right (j + k)
 
 -- how many slots stand in n slots from place i on, at every depth
 abbrev pub range_nodes : Column → ℕ → ℕ → ℕ

@@ -1,10 +1,10 @@
 //! Comparisons of slots.
-ghost use Rattle.std.specs.Prelude.{◌≡◌, ◌+◌, ◌<◌, ◌≤◌, ◌↔◌, ℕ, IsTrue, length, option_copied, true};
+ghost use Rattle.std.specs.Prelude.{◌≡◌, ◌+◌, ◌<◌, ◌≤◌, ◌↔◌, ℕ, IsTrue, length, option_copied, true, Some};
 ghost use Rattle.std.specs.Option.{ForSome};
 ghost use Rattle.nested_arrays_columns.specs.Slots.{null};
 ghost use Rattle.nested_arrays_columns.specs.StoredColumns.{column_len, is_valid_at, slot_at};
 ghost use Rattle.nested_arrays_parts.specs.Forms.{column_form};
-ghost use Rattle.nested_arrays_parts.specs.Ranges.{range_nodes, SameRanges};
+ghost use Rattle.nested_arrays_parts.specs.Ranges.{range_nodes, SameMarks, SameRanges};
 ghost use Rattle.nested_arrays_flat.specs.ColumnMasks.{column_mask};
 
 use crate::flats::{FlatArray, FlatNode};
@@ -91,6 +91,68 @@ fn same_slot(left: &FlatArray, i: usize, right: &FlatArray, j: usize) -> bool
     true
 }
 
+/// How many slots are compared at once by their marks and stored values, before those that differ are looked at one by one.
+const BLOCK: usize = 1024;
+
+/// Whether so many bits of a mask from a place on are those of another from a place on.
+#[tactic(auto, using(nested_arrays_flat::proofs::CutMasks::marked))]
+fn same_bits(left: &Bitmap, i: usize, right: &Bitmap, j: usize, count: usize) -> bool
+    requires left_within { i + count ≤ length left.now }
+    requires right_within { j + count ≤ length right.now }
+    ensures { IsTrue result → SameMarks (Some left.now) i (Some right.now) j count }
+{
+    let _left = left.len();
+    let _right = right.len();
+    for k in 0..count {
+        if left.get_bit(i + k) != right.get_bit(j + k) {
+            return false;
+        }
+    }
+    true
+}
+
+/// Whether two masks have the same marks for so many slots from a place on; where there is none, no slot is null.
+fn same_marks(
+    left: Option<&Bitmap>,
+    i: usize,
+    right: Option<&Bitmap>,
+    j: usize,
+    count: usize,
+) -> bool
+    requires left_within { ForSome (option_copied left) (λ mask. i + count ≤ length mask) }
+    requires right_within { ForSome (option_copied right) (λ mask. j + count ≤ length mask) }
+    ensures { IsTrue result → SameMarks (option_copied left.entry) i (option_copied right.entry) j count }
+{
+    if let (Some(left), Some(right)) = (left, right) {
+        return same_bits(left, i, right, j, count);
+    }
+    has_no_nulls(left, i, count) && has_no_nulls(right, j, count)
+}
+
+/// Whether so many slots of an array from a place on are those of another. Where marks and stored values are the same, so are the slots; else
+/// they are looked at one by one, since values under nulls may differ.
+fn same_block(left: &FlatArray, i: usize, right: &FlatArray, j: usize, count: usize) -> bool
+    requires left_within { i + count ≤ column_len left.now }
+    requires right_within { j + count ≤ column_len right.now }
+    ensures { IsTrue result ↔ SameRanges left.now i right.now j count }
+{
+    left.whole();
+    right.whole();
+    let _left = left.len();
+    let _right = right.len();
+    if same_marks(left.validity(), i, right.validity(), j, count)
+        && same_values(left, i, right, j, count)
+    {
+        return true;
+    }
+    for k in 0..count {
+        if !same_slot(left, i + k, right, j + k) {
+            return false;
+        }
+    }
+    true
+}
+
 /// Whether so many slots of an array from a place on are those of another from a place on. A value under a null is not seen.
 pub fn same_slots(left: &FlatArray, i: usize, right: &FlatArray, j: usize, count: usize) -> bool
     requires left_within { i + count ≤ column_len left.now }
@@ -104,12 +166,14 @@ pub fn same_slots(left: &FlatArray, i: usize, right: &FlatArray, j: usize, count
     if has_no_nulls(left.validity(), i, count) && has_no_nulls(right.validity(), j, count) {
         return same_values(left, i, right, j, count);
     }
-    for k in 0..count {
-        if !same_slot(left, i + k, right, j + k) {
+    let mut k = 0;
+    while count - k > BLOCK {
+        if !same_block(left, i + k, right, j + k, BLOCK) {
             return false;
         }
+        k += BLOCK;
     }
-    true
+    same_block(left, i + k, right, j + k, count - k)
 }
 
 /// So many steps more.

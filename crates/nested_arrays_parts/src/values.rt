@@ -3,11 +3,13 @@ ghost use Rattle.std.specs.Prelude.{◌≡◌, ◌≢◌, ◌+◌, ◌<◌, ◌�
 ghost use Rattle.nested_arrays_columns.specs.StoredColumns.{column_len, slot_at};
 ghost use Rattle.nested_arrays_parts.specs.Forms.{bare, column_form};
 ghost use Rattle.nested_arrays_parts.specs.Ranges.{SameRanges};
-ghost use Rattle.nested_arrays_flat.specs.FlatColumns.{boolean_column};
+ghost use Rattle.nested_arrays_flat.specs.FlatColumns.{binary_column, boolean_column, text_column};
 
-use crate::flats::FlatArray;
+use crate::flats::{FlatArray, FlatNode};
 use crate::numbers::same_numbers;
 use crate::stored::{booleans, bytes, holds_values, numbers, text};
+use columnar_memory::Offset;
+use flat_arrays_bytes::{BinaryArray, Utf8Array};
 use flat_arrays_values::BooleanArray;
 
 /// Whether so many stored booleans from a place on are those of another array from a place on.
@@ -50,6 +52,77 @@ fn same_string(left: &FlatArray, i: usize, right: &FlatArray, j: usize) -> bool
     }
 }
 
+/// Whether a stored text is that at a place of another array.
+#[tactic(auto, using(crate::proofs::StoredForms::text_stored))]
+fn same_text<O: Offset>(left: &Utf8Array<O>, i: usize, right: &Utf8Array<O>, j: usize) -> bool
+    requires left_within { i < column_len (text_column left.now) }
+    requires right_within { j < column_len (text_column right.now) }
+    ensures { IsTrue result ↔ (slot_at (bare (text_column left.now)) i ≡ slot_at (bare (text_column right.now)) j) }
+{
+    left.value(i) == right.value(j)
+}
+
+/// Whether so many stored texts from a place on are those of another array from a place on.
+#[tactic(auto, using(crate::proofs::StoredForms::text_stored))]
+fn same_texts<O: Offset>(
+    left: &Utf8Array<O>,
+    i: usize,
+    right: &Utf8Array<O>,
+    j: usize,
+    count: usize,
+) -> bool
+    requires left_within { i + count ≤ column_len (text_column left.now) }
+    requires right_within { j + count ≤ column_len (text_column right.now) }
+    ensures { IsTrue result ↔ SameRanges (bare (text_column left.now)) i (bare (text_column right.now)) j count }
+{
+    let _left = left.len();
+    let _right = right.len();
+    for k in 0..count {
+        if !same_text(left, i + k, right, j + k) {
+            return false;
+        }
+    }
+    true
+}
+
+/// Whether a stored byte string is that at a place of another array.
+#[tactic(auto, using(crate::proofs::StoredForms::bytes_stored))]
+fn same_byte_string<O: Offset>(
+    left: &BinaryArray<O>,
+    i: usize,
+    right: &BinaryArray<O>,
+    j: usize,
+) -> bool
+    requires left_within { i < column_len (binary_column left.now) }
+    requires right_within { j < column_len (binary_column right.now) }
+    ensures { IsTrue result ↔ (slot_at (bare (binary_column left.now)) i ≡ slot_at (bare (binary_column right.now)) j) }
+{
+    left.value(i) == right.value(j)
+}
+
+/// The same of byte strings.
+#[tactic(auto, using(crate::proofs::StoredForms::bytes_stored))]
+fn same_byte_strings<O: Offset>(
+    left: &BinaryArray<O>,
+    i: usize,
+    right: &BinaryArray<O>,
+    j: usize,
+    count: usize,
+) -> bool
+    requires left_within { i + count ≤ column_len (binary_column left.now) }
+    requires right_within { j + count ≤ column_len (binary_column right.now) }
+    ensures { IsTrue result ↔ SameRanges (bare (binary_column left.now)) i (bare (binary_column right.now)) j count }
+{
+    let _left = left.len();
+    let _right = right.len();
+    for k in 0..count {
+        if !same_byte_string(left, i + k, right, j + k) {
+            return false;
+        }
+    }
+    true
+}
+
 /// Whether so many of them from a place on are those of another array from a place on.
 fn same_strings(left: &FlatArray, i: usize, right: &FlatArray, j: usize, count: usize) -> bool
     requires left_within { i + count ≤ column_len left.now }
@@ -60,6 +133,21 @@ fn same_strings(left: &FlatArray, i: usize, right: &FlatArray, j: usize, count: 
     requires right_number { column_form right.now ≢ 2 }
     ensures { IsTrue result ↔ SameRanges (bare left.now) i (bare right.now) j count }
 {
+    match (&left.node, &right.node) {
+        (FlatNode::Utf8(left), FlatNode::Utf8(right)) => return same_texts(
+            left, i, right, j, count,
+        ),
+        (FlatNode::LargeUtf8(left), FlatNode::LargeUtf8(right)) => {
+            return same_texts(left, i, right, j, count);
+        }
+        (FlatNode::Binary(left), FlatNode::Binary(right)) => {
+            return same_byte_strings(left, i, right, j, count);
+        }
+        (FlatNode::LargeBinary(left), FlatNode::LargeBinary(right)) => {
+            return same_byte_strings(left, i, right, j, count);
+        }
+        _ => {}
+    }
     let _left = left.len();
     let _right = right.len();
     for k in 0..count {

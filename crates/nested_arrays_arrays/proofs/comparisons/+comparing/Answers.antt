@@ -3,8 +3,10 @@ use Rattle.std.proofs.lemmas.Bool.{eqb-true, false≢true}
 use Rattle.nested_arrays_columns.proofs.ColumnSizes.{sizes_count}
 use Rattle.nested_arrays_columns.specs.Slots.{pick}
 use Rattle.nested_arrays_columns.specs.StoredColumns.{Column, column_size, columns_size, in_columns, slot_at}
-use Rattle.nested_arrays_arrays.proofs.SameSlots.{fields_of_lists, items_count, items_same, no_columns_nodes, nodes_some, nodes_up_to}
+use Rattle.nested_arrays_arrays.proofs.SameSlots.{fields_of_lists, items_count, items_same, no_columns_nodes, node_some, nodes_some, nodes_up_to}
+use Rattle.nested_arrays_arrays.proofs.ListRuns.{run_compared, run_part, run_within}
 use Rattle.nested_arrays_arrays.proofs.SameSlots.{one_more, pick_parts, record_nodes, records_same}
+use Rattle.nested_arrays_parts.proofs.SameForms.{one_slot}
 use Rattle.nested_arrays_parts.specs.Ranges.{range_nodes}
 use Rattle.nested_arrays_arrays.specs.Places.{HavePlace, HaveRange, columns_nodes}
 use Rattle.nested_arrays_arrays.proofs.comparisons.+comparing.Goals as goal
@@ -86,19 +88,6 @@ pub same_range-returns-in-Some-Some-clause-counted : goal.same_range-returns-in-
 same_range-returns-in-Some-Some-clause-counted t c =
     omega (arith, c.same_slots_counted.ensures.counted, nodes_some (slot_at c.args.left.now) c.args.i c.args.count)
 
-pub same_range-returns-then-not-same_slot-clause-counted : goal.same_range-returns-then-not-same_slot-clause-counted
-same_range-returns-then-not-same_slot-clause-counted t c = omega (
-  arith,
-  c.loop-k.invariant.counted,
-  c.same_slot.ensures.counted,
-  nodes_up_to (slot_at c.args.left.now) c.args.i c.loop-k.k c.args.count c.loop-k-test.true,
-)
-
-pub same_range-loop-k-preserved : goal.same_range-loop-k-preserved
-same_range-loop-k-preserved t c =
-    one_more _ _ _ _ _ _ _ _ c.loop-k.invariant (c.same_slot.ensures.same.0 c.if-not-same_slot.false)
-    (c.same_slot.ensures.used c.if-not-same_slot.false)
-
 pub same_range-returns-in-Some-Some-2-clause-same : goal.same_range-returns-in-Some-Some-2-clause-same
 same_range-returns-in-Some-Some-2-clause-same t c =
     let both = records_same c.args.left.now c.args.right.now (in_columns c.in-Some-Some-2.fields.now) (in_columns c.in-Some-Some-2.others.now)
@@ -141,3 +130,58 @@ same_columns-returns-in-None-split_first-clause-used t c = λ is.
     let all : columns_nodes (in_columns c.args.left.now) c.args.i c.args.count ≡ 0 =
     ap (columns_nodes (in_columns c.args.left.now) c.args.i) none ∙ no_columns_nodes (in_columns c.args.left.now) c.args.i in
     omega (arith, all)
+
+pub same_range-returns-then-not-same_range-clause-same : goal.same_range-returns-then-not-same_range-clause-same
+same_range-returns-then-not-same_range-clause-same t c =
+    let run = c.in-Some.run' in
+    let part = run_part c.args.left.now c.args.right.now run.items.now run.others.now c.args.i c.args.j c.loop-k.k run.count c.args.count
+    run.start run.other_start run.len (omega (arith, c.in-Some.ensures.1, c.loop-k-test.true)) c.in-Some.ensures.2 in (
+      λ is. absurd (false≢true is),
+      λ same. absurd (false≢true (sym c.if-not-same_range.true ∙ c.same_range.ensures.same.1 (part same))),
+    )
+
+pub same_range-returns-then-not-same_range-clause-counted : goal.same_range-returns-then-not-same_range-clause-counted
+same_range-returns-then-not-same_range-clause-counted t c =
+    let run = c.in-Some.run' in
+    let most = run_within c.args.left.now c.args.right.now run.items.now run.others.now c.args.i c.args.j c.loop-k.k run.count c.args.count
+    run.start run.other_start run.len (omega (arith, c.in-Some.ensures.1, c.loop-k-test.true)) c.in-Some.ensures.2 in
+    omega (arith, most, c.loop-k.invariant.1.counted, c.count_each-in-Some.ensures, c.same_range.ensures.counted)
+
+pub same_range-loop-k-preserved-in-Some : goal.same_range-loop-k-preserved-in-Some
+same_range-loop-k-preserved-in-Some t c =
+    let run = c.in-Some.run' in (
+      omega (arith, c.in-Some.ensures.1, c.loop-k-test.true),
+      run_compared c.args.left.now c.args.right.now run.items.now run.others.now c.args.i c.args.j c.loop-k.k run.count run.start run.other_start
+          run.len _ _ _ _ c.loop-k.invariant.1 c.in-Some.ensures.2 (c.same_range.ensures.same.0 c.if-not-same_range.false)
+          c.count_each-in-Some.ensures (c.same_range.ensures.used c.if-not-same_range.false),
+    )
+
+pub same_range-returns-then-not-same_slot-clause-counted : goal.same_range-returns-then-not-same_slot-clause-counted
+same_range-returns-then-not-same_slot-clause-counted t c = omega (
+  arith,
+  c.loop-k.invariant.1.counted,
+  c.same_slot.ensures.counted,
+  nodes_up_to (slot_at c.args.left.now) c.args.i c.loop-k.k c.args.count c.loop-k-test.true,
+)
+
+pub same_range-loop-k-preserved : goal.same_range-loop-k-preserved
+same_range-loop-k-preserved t c = (
+  omega (arith, c.loop-k-test.true),
+  one_more _ _ _ _ _ _ _ _ c.loop-k.invariant.1 (c.same_slot.ensures.same.0 c.if-not-same_slot.false)
+      (c.same_slot.ensures.used c.if-not-same_slot.false),
+)
+
+pub same_slot-returns-in-Some-Some-clause-same : goal.same_slot-returns-in-Some-Some-clause-same
+same_slot-returns-in-Some-Some-clause-same t c =
+    let one = one_slot c.in-Some-Some.values.now c.in-Some-Some.others.now c.value_of-place.result.1 c.value_of-other_place.result.1 in
+    let left : slot_at c.args.left.now c.args.i ≡ slot_at c.in-Some-Some.values.now c.value_of-place.result.1 =
+    c.value_of-place.ensures.shown ∙ ap (λ column. slot_at column c.value_of-place.result.1) (sym c.in-Some-Some.ensures) in
+    let right : slot_at c.args.right.now c.args.j ≡ slot_at c.in-Some-Some.others.now c.value_of-other_place.result.1 =
+    c.value_of-other_place.ensures.shown ∙ ap (λ column. slot_at column c.value_of-other_place.result.1) (sym c.in-Some-Some.ensures') in (
+      λ is. left ∙ one.0 (c.same_slots_counted.ensures.same.0 is) ∙ sym right,
+      λ same. c.same_slots_counted.ensures.same.1 (one.1 (sym left ∙ same ∙ right)),
+    )
+
+pub same_slot-returns-in-Some-Some-clause-counted : goal.same_slot-returns-in-Some-Some-clause-counted
+same_slot-returns-in-Some-Some-clause-counted t c =
+    omega (arith, c.same_slots_counted.ensures.counted, node_some (slot_at c.args.left.now c.args.i))

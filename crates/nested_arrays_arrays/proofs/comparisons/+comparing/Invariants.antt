@@ -1,4 +1,4 @@
-use Rattle.std.proofs.Common.{◌+◌, ◌*◌}
+use Rattle.std.proofs.Common.{◌+◌, ◌*◌, ◌-◌, ◌≤◌}
 use Rattle.nested_arrays_columns.specs.StoredColumns.{column_size, columns_size, in_columns}
 use Rattle.nested_arrays_arrays.proofs.SameSlots.{Compared}
 use Rattle.nested_arrays_arrays.proofs.comparisons.+comparing.Given as goal
@@ -23,7 +23,10 @@ decreases-same_pick l = 4 * column_size l.left.now + 4
 
 -- the slots before are the same, and each was counted once
 abbrev pub invariant-same_range-loop-k : goal.invariant-same_range-loop-k
-invariant-same_range-loop-k l = Compared l.left l.i l.right l.j l.k l.initial.steps.count l.steps.count
+invariant-same_range-loop-k l = (l.k ≤ l.count) × Compared l.left l.i l.right l.j l.k l.initial.steps.count l.steps.count
+
+abbrev pub decreases-same_range-loop-k : goal.decreases-same_range-loop-k
+decreases-same_range-loop-k l = l.count - l.k
 
 abbrev pub decreases-same_columns : goal.decreases-same_columns
 decreases-same_columns l = 4 * columns_size (in_columns l.left.now) + 4

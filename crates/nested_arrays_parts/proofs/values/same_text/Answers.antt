@@ -1,0 +1,15 @@
+use Rattle.std.proofs.Common.{◌≡◌, ◌∙◌, List, ℕ, ap, sym, rules, IsTrue}
+use Rattle.std.specs.Prelude.{◌↔◌}
+use Rattle.nested_arrays_columns.specs.Slots.{text}
+use Rattle.nested_arrays_parts.proofs.StoredForms.{text_there}
+use Rattle.nested_arrays_parts.proofs.values.same_text.Goals as goal
+
+pub returns : goal.returns
+returns g c =
+    let left = text_there c.args.left.now c.args.i c.value.result.now c.requires.left_within c.value.ensures in
+    let right = text_there c.args.right.now c.args.j c.value-2.result.now c.requires.right_within c.value-2.ensures in
+    let same : IsTrue c.eq.result ↔ (c.value.result.now ≡ c.value-2.result.now) = search rules in
+    let injective : (a b : List ℕ) → text a ≡ text b → a ≡ b = λ a b h. cc in (
+      λ is. left ∙ ap text (same.0 is) ∙ sym right,
+      λ is. same.1 (injective c.value.result.now c.value-2.result.now (sym left ∙ is ∙ right)),
+    )
