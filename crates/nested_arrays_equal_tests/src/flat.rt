@@ -47,3 +47,39 @@ fn another_type_is_not_equal(rt: HostRuntime) -> Result<(), Fail> {
     assert!(rt; !equal(&left, &right));
     Ok(())
 }
+
+/// More slots than are compared at once.
+const LONG: usize = 3000;
+
+fn number_at(place: usize, hidden: i32, seen: i32, last: i32) -> i32 {
+    if place == LONG - 1 {
+        return last;
+    }
+    if place % 3 == 0 { hidden } else { seen }
+}
+
+/// More numbers than are compared at once, each third of them null: the number under the nulls, that of the others, and the last one.
+fn long(alloc: Global, hidden: i32, seen: i32, last: i32) -> Result<AnyArray, Error> {
+    let marks = Bitmap::from_iter(alloc, (0..LONG).map(|k| k % 3 > 0))?;
+    let values = (0..LONG)
+        .map(|k| number_at(k, hidden, seen, last))
+        .collect(alloc)?;
+    let array = PrimitiveArray::try_new(DataType::Int32, Buffer::from_vec(values)?, Some(marks))?;
+    Ok(AnyArray::from(FlatArray::from(AnyPrimitive::from_array(array))))
+}
+
+#[test]
+fn no_value_under_a_null_is_seen_in_a_long_array(rt: HostRuntime) -> Result<(), Fail> {
+    let left = long(rt.alloc(), 1, 5, 5)?;
+    let right = long(rt.alloc(), 2, 5, 5)?;
+    assert!(rt; equal(&left, &right));
+    Ok(())
+}
+
+#[test]
+fn the_last_value_of_a_long_array_is_seen(rt: HostRuntime) -> Result<(), Fail> {
+    let left = long(rt.alloc(), 1, 5, 5)?;
+    let right = long(rt.alloc(), 1, 5, 6)?;
+    assert!(rt; !equal(&left, &right));
+    Ok(())
+}
