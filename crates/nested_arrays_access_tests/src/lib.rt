@@ -1,4 +1,4 @@
-//! Tests of arrays of any type: which parts are accepted, masks replaced through the trait, and copies.
+//! Tests of arrays of any type: which parts are accepted, masks replaced through the trait, copies, and typed walks.
 #![tactic(auto)]
 
 #[cfg(test)]
@@ -11,5 +11,7 @@ mod generic;
 mod kinds;
 #[cfg(test)]
 mod masks;
+#[cfg(test)]
+mod typed;
 #[cfg(test)]
 mod unions;
