@@ -4,6 +4,7 @@ use nested_arrays_access::Array;
 use nested_arrays_arrays::{AnyArray, FixedSizeListArray, MapArray, StructArray, equal};
 use nested_arrays_copies::ToBoxed;
 use nested_arrays_generic::ListArray;
+use nested_arrays_walks::ArrayPart;
 use std::alloc::{AllocError, Global};
 use std::test::Fail;
 
@@ -125,5 +126,25 @@ fn lists_are_copied(rt: HostRuntime) -> Result<(), Fail> {
 fn dictionaries_are_copied(rt: HostRuntime) -> Result<(), Fail> {
     let array = letters(rt.alloc(), &[1, 0], None)?;
     assert!(rt; is_copied(rt.alloc(), array)?);
+    Ok(())
+}
+
+/// All slots but the first as an array of their own.
+fn behind_the_first(array: &AnyArray) -> Result<AnyArray, AllocError> {
+    if array.len() == 0 {
+        return array.clone();
+    }
+    ArrayPart::new(array, 1, array.len() - 1).to_array()
+}
+
+#[test]
+fn a_part_is_taken_out(rt: HostRuntime) -> Result<(), Fail> {
+    let array = numbers(rt.alloc(), &[1, 2, 3])?;
+    let part = behind_the_first(&array)?;
+    let other = numbers(rt.alloc(), &[2, 3])?;
+    assert!(rt; equal(&part, &other));
+    drop(part);
+    drop(other);
+    drop(array);
     Ok(())
 }

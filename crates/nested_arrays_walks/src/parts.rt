@@ -1,5 +1,5 @@
 //! Parts of arrays.
-ghost use Rattle.std.specs.Prelude.{◌≡◌, ◌+◌, ◌<◌, ◌≤◌, ◌↔◌, IsTrue, true, slice_get};
+ghost use Rattle.std.specs.Prelude.{◌≡◌, ◌+◌, ◌<◌, ◌≤◌, ◌↔◌, IfOk, IsTrue, true, slice_get};
 ghost use Rattle.nested_arrays_columns.specs.SoundColumns.{is_sound};
 ghost use Rattle.nested_arrays_columns.specs.StoredColumns.{column_len, column_type, cut, slot_at, slots};
 
@@ -7,6 +7,7 @@ use crate::slots::ArraySlot;
 use columnar_memory::DataType;
 use flat_arrays_access::{ArrayAccessor, ArrayValuesIter};
 use nested_arrays_arrays::AnyArray;
+use std::alloc::AllocError;
 use std::marker::Model;
 
 /// Some slots of an array of any type, one after another. A contract sees the column that is cut out of the array's.
@@ -88,6 +89,18 @@ impl<'a> ArrayPart<'a> {
             return None;
         }
         Some(self.value(i))
+    }
+
+    /// The part as an array of its own, which shares what is stored.
+    ///
+    /// # Errors
+    /// Its data type, or the places of its children, found no memory.
+    pub fn to_array(&self) -> Result<AnyArray, AllocError>
+        ensures { IfOk result (λ array. array ≡ self.now) }
+    {
+        let mut array = self.array.clone()?;
+        array.slice(self.start, self.count);
+        Ok(array)
     }
 
     /// The slots in order, from both ends.
