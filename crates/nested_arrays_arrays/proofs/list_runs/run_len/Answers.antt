@@ -1,4 +1,4 @@
-use Rattle.std.proofs.Common.{◌∙◌, ◌+◌, arith, sym}
+use Rattle.std.proofs.Common.{◌∙◌, arith, sym}
 use Rattle.nested_arrays_arrays.proofs.ListRuns.{runs_begin, runs_more}
 use Rattle.nested_arrays_arrays.proofs.list_runs.run_len.Goals as goal
 

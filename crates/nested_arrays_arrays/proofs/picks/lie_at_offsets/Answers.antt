@@ -1,4 +1,4 @@
-use Rattle.std.proofs.Common.{◌∙◌, ap, arith, sym}
+use Rattle.std.proofs.Common.{◌∙◌, ap, sym}
 use Rattle.std.specs.Prelude.{slice_index}
 use Rattle.nested_arrays_columns.specs.SoundColumns.{column_lens}
 use Rattle.nested_arrays_columns.specs.StoredColumns.{in_columns}
