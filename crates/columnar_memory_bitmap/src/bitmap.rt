@@ -117,6 +117,22 @@ impl Bitmap {
         self.unset_bits - before - after
     }
 
+    /// Whether the `count` bits from a place on are those of another bitmap from a place on.
+    #[tactic(auto, using(crate::proofs::Lists::windows))]
+    pub fn same_range(&self, i: usize, other: &Bitmap, j: usize, count: usize) -> bool
+        requires within { i + count ≤ length self.now }
+        requires other_within { j + count ≤ length other.now }
+        ensures { IsTrue result ↔ (slice_range self.now i (i + count) ≡ slice_range other.now j (j + count)) }
+    {
+        same_bits(
+            &self.bytes,
+            self.offset + i,
+            &other.bytes,
+            other.offset + j,
+            count,
+        )
+    }
+
     /// The bits, from both ends.
     pub fn iter(&self) -> BitmapIter<'_>
         ensures { result ≡ self.now }

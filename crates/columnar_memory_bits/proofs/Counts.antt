@@ -44,6 +44,10 @@ ones_next bytes first done n x e =
     ∙ set_count_append (bits_of bytes first done) (bits_of bytes (first + done) n)
     ∙ ap (λ m. set_count (bits_of bytes first done) + m) (sym (ones_word (bits_of bytes (first + done) n)) ∙ ap count_ones (sym e))
 
+-- the ones of the word that some bits make
+pub word_ones : (bytes : List ℕ) (first n : ℕ) (x : ℕ) → x ≡ word (bits_of bytes first n) → count_ones x ≡ set_count (bits_of bytes first n)
+word_ones bytes first n x e = ap count_ones e ∙ ones_word (bits_of bytes first n)
+
 pub set_count_most : (bytes : List ℕ) (first n : ℕ) → set_count (bits_of bytes first n) ≤ n
 set_count_most bytes first n = omega (arith, counts_all (bits_of bytes first n), length_window (bit_at bytes) first n)
 

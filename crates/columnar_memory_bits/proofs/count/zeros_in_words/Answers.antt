@@ -6,8 +6,8 @@ use Rattle.columnar_memory_bits.specs.Bits.{bits_of}
 use Rattle.columnar_memory_bits.specs.Words.{word}
 use Rattle.columnar_memory_bits.proofs.Counts.{set_count, ones_next, set_count_most, unset_from_set}
 use Rattle.columnar_memory_bits.proofs.WholeWords.{chunk_word}
-use Rattle.columnar_memory_bits.proofs.count.count_zeros.Goals as goal
-use Rattle.columnar_memory_bits.proofs.count.count_zeros.Goals.{After-from_le_bytes, After-load_word-rest}
+use Rattle.columnar_memory_bits.proofs.count.zeros_in_words.Goals as goal
+use Rattle.columnar_memory_bits.proofs.count.zeros_in_words.Goals.{After-from_le_bytes, After-load_word-rest}
 
 pub loop-word-init : goal.loop-word-init
 loop-word-init c =
