@@ -3,7 +3,7 @@
 #![tactic(auto)]
 
 pub use columnar_memory_bitmap::{
-    Bitmap, IntoIter as BitmapIntoIter, MutableBitmap, SlicesIterator,
+    BitGatherer, Bitmap, IntoIter as BitmapIntoIter, MutableBitmap, SlicesIterator,
 };
 pub use columnar_memory_bits::{
     BitChunk, BitChunkIter, BitChunkIterExact, BitChunkOnes, BitChunks, BitChunksExact,

@@ -8,6 +8,7 @@
 
 mod bitmap;
 mod equal;
+mod gatherer;
 mod into_iter;
 mod mutable;
 mod operators;
@@ -16,6 +17,7 @@ mod text;
 mod validity;
 
 pub use bitmap::Bitmap;
+pub use gatherer::BitGatherer;
 pub use into_iter::IntoIter;
 pub use mutable::MutableBitmap;
 pub use slices::SlicesIterator;

@@ -12,9 +12,9 @@ ghost use Rattle.columnar_memory_bitmap.specs.Operators.{pairwise, table};
 ghost use Rattle.columnar_memory_bitmap.specs.Edits.{Writes};
 ghost use Rattle.columnar_memory_bitmap.specs.Results.{TakesBits, Grows, OrOutOfMemory};
 
-use crate::Bitmap;
 use crate::equal::same_bits;
 use crate::operators::{Operator, combine_bits, invert_bytes};
+use crate::{BitGatherer, Bitmap};
 use columnar_memory_bits::{
     BitmapIter, append_bits, append_constant, append_word, bytes_for, count_zeros, get_bit,
     keep_bits, set_bit,
@@ -129,25 +129,17 @@ impl MutableBitmap {
         requires ends { IsFinite (I.remaining iter) }
         ensures { OrOutOfMemory result (λ b. WholeRun I.next_gives iter (λ p. b ≡ p.items)) }
     {
-        let mut bitmap = MutableBitmap::new(alloc);
-        let mut word = 0;
-        let mut count = 0;
+        let mut bits = BitGatherer::new(alloc);
         for bit in iter {
-            word = with_bit(word, count, bit);
-            count += 1;
-            if count == 64 {
-                bitmap.extend_word(word, count)?;
-                word = 0;
-                count = 0;
-            }
+            bits.push(bit)?;
         }
-        bitmap.extend_word(word, count)?;
+        let bitmap = bits.finish()?;
         Ok(bitmap)
     }
 
     /// Adds the first `count` bits of a word behind whole bytes.
     #[tactic(auto, using(crate::proofs::Lists::windows))]
-    fn extend_word(&mut self, word: u64, count: usize) -> Result<()>
+    pub(crate) fn extend_word(&mut self, word: u64, count: usize) -> Result<()>
         requires whole { length self.old % 8 ≡ 0 }
         requires few { count ≤ 64 }
         ensures { Grows result self.old self.new (self.old ++ word_bits count word) }
@@ -431,16 +423,6 @@ impl<'a> IntoIterator for &'a MutableBitmap {
     fn into_iter(self) -> BitmapIter<'a> {
         self.iter()
     }
-}
-
-/// A word of some bits, the first in its lowest bit, with one more bit behind them.
-fn with_bit(word: u64, count: usize, value: bool) -> u64
-    requires few { count < 64 }
-    requires small { word < 2 ^ count }
-    ensures small { result < 2 ^ (count + 1) }
-    ensures bits { word_bits (count + 1) result ≡ word_bits count word ++ value ∷ [] }
-{
-    word + (u64::from(value) << count)
 }
 
 /// Adds a bit behind the first `held` bits of a vector.

@@ -1,7 +1,7 @@
 -- Words of eight bytes that are read whole.
-use Rattle.std.proofs.Common.{◌≡◌, ◌∙◌, ℕ, zero, suc, ◌+◌, ◌-◌, ◌*◌, ◌/◌, ◌%◌, ◌^◌, ◌≤◌}
-use Rattle.std.proofs.Common.{◌<◌, List, [], ◌∷◌, length, take, drop, get_or, refl, ap, ap₂, sym}
-use Rattle.std.proofs.Common.{arith, ⊎_elim, min, length-take, length-drop}
+use Rattle.std.proofs.Common.{◌≡◌, ◌∙◌, ℕ, zero, suc, ◌+◌, ◌*◌, ◌/◌, ◌%◌, ◌^◌, ◌≤◌}
+use Rattle.std.proofs.Common.{◌<◌, List, length, take, drop, get_or, refl, ap, ap₂, sym}
+use Rattle.std.proofs.Common.{arith, ⊎_elim, length-take, length-drop}
 use Rattle.std.specs.Int as number
 use Rattle.std.specs.Int.{from_le_bytes, w64}
 use Rattle.std.specs.Simd.{first_chunks}

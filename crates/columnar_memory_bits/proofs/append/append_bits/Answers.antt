@@ -1,4 +1,4 @@
-use Rattle.std.proofs.Common.{◌≡◌, ◌∙◌, ◌++◌, ◌+◌, ◌-◌, ◌%◌, ◌≤◌, ℕ, Bool, List, ap, arith, rules, refl, length, vec_len}
+use Rattle.std.proofs.Common.{◌≡◌, ◌∙◌, ◌++◌, ◌+◌, ◌%◌, ◌≤◌, ℕ, Bool, List, ap, arith, rules, refl, length, vec_len}
 use Rattle.columnar_memory_bits.specs.Bits.{bit, bit_at, bits_of}
 use Rattle.columnar_memory_bits.specs.Appends.{AppendsBits}
 use Rattle.columnar_memory_bits.specs.Words.{word}

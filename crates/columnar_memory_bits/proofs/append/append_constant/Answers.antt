@@ -1,4 +1,4 @@
-use Rattle.std.proofs.Common.{◌≡◌, ◌+◌, ◌-◌, ◌%◌, ◌<◌, ◌≤◌, ℕ, Bool, List, arith, rules, refl, length, vec_len}
+use Rattle.std.proofs.Common.{◌≡◌, ◌+◌, ◌%◌, ◌<◌, ◌≤◌, ℕ, Bool, List, arith, rules, refl, length, vec_len}
 use Rattle.columnar_memory_bits.specs.Bits.{bit}
 use Rattle.columnar_memory_bits.specs.Appends.{AppendsBits}
 use Rattle.columnar_memory_bits.proofs.Appends.{appends_at, appends_none, appends_rest, appends_constant, appended_constant, constant_on_ok}

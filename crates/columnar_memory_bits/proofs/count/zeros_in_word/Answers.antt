@@ -1,6 +1,5 @@
-use Rattle.std.proofs.Common.{◌≡◌, ℕ, ◌+◌, ◌∙◌, ap, sym, arith, zero-add, add-zero, count_ones}
-use Rattle.columnar_memory_bits.specs.Bits.{bits_of}
-use Rattle.columnar_memory_bits.proofs.Counts.{set_count, set_count_most, word_ones, unset_from_set}
+use Rattle.std.proofs.Common.{arith, count_ones}
+use Rattle.columnar_memory_bits.proofs.Counts.{set_count_most, word_ones, unset_from_set}
 use Rattle.columnar_memory_bits.proofs.count.zeros_in_word.Goals as goal
 
 pub overflow_sub-result : goal.overflow_sub-result

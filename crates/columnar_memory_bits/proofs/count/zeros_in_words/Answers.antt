@@ -1,4 +1,4 @@
-use Rattle.std.proofs.Common.{◌≡◌, ℕ, List, ◌+◌, ◌*◌, ◌-◌, ◌/◌, ◌%◌, ◌^◌, ◌≤◌, ◌<◌, ◌∙◌, [], ap, sym, arith, length, take, drop, get_or, count_ones}
+use Rattle.std.proofs.Common.{◌≡◌, ℕ, List, ◌+◌, ◌*◌, ◌-◌, ◌/◌, ◌<◌, ◌∙◌, [], ap, sym, arith, length, take, drop, get_or, count_ones}
 use Rattle.std.proofs.Common.{length-take, length-drop, zero-add}
 use Rattle.std.specs.Int.{from_le_bytes, w64}
 use Rattle.std.specs.Simd.{first_chunks}
