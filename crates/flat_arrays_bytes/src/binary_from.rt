@@ -9,7 +9,7 @@ ghost use Rattle.flat_arrays_byte_columns.specs.Fits.{IsMaskOf, binary_type};
 
 use crate::binary::BinaryArray;
 use crate::gather::{push_value, stored_bytes};
-use columnar_memory::{Bitmap, Buffer, MutableBitmap, Offset, Offsets, Result};
+use columnar_memory::{BitGatherer, Bitmap, Buffer, Offset, Offsets, Result};
 use std::alloc::Global;
 use std::convert::AsSlice;
 
@@ -29,7 +29,7 @@ impl<O: Offset> BinaryArray<O> {
     {
         let mut offsets = Offsets::new(alloc)?;
         let mut values: Vec<u8> = Vec::new(alloc);
-        let mut mask = MutableBitmap::new(alloc);
+        let mut mask = BitGatherer::new(alloc);
         // An iterator that promises more than there is memory for may give fewer.
         let least = slots.size_hint().0;
         let _ = offsets.reserve(least);
@@ -38,7 +38,7 @@ impl<O: Offset> BinaryArray<O> {
             push_value(&mut offsets, &mut values, stored_bytes(&slot))?;
             mask.push(slot.is_some())?;
         }
-        let validity = Option::<Bitmap>::try_from(mask)?;
+        let validity = Option::<Bitmap>::try_from(mask.finish()?)?;
         BinaryArray::from_gathered(offsets, values, validity)
     }
 

@@ -10,7 +10,7 @@ ghost use Rattle.flat_arrays_byte_columns.specs.Texts.{AllTexts};
 
 use crate::gather::{bytes_of, push_value, stored_text};
 use crate::utf8::Utf8Array;
-use columnar_memory::{Bitmap, Buffer, MutableBitmap, Offset, Offsets, Result};
+use columnar_memory::{BitGatherer, Bitmap, Buffer, Offset, Offsets, Result};
 use std::alloc::Global;
 use std::convert::AsStr;
 
@@ -30,7 +30,7 @@ impl<O: Offset> Utf8Array<O> {
     {
         let mut offsets = Offsets::new(alloc)?;
         let mut values: Vec<u8> = Vec::new(alloc);
-        let mut mask = MutableBitmap::new(alloc);
+        let mut mask = BitGatherer::new(alloc);
         // An iterator that promises more than there is memory for may give fewer.
         let least = slots.size_hint().0;
         let _ = offsets.reserve(least);
@@ -39,7 +39,7 @@ impl<O: Offset> Utf8Array<O> {
             push_value(&mut offsets, &mut values, stored_text(&slot))?;
             mask.push(slot.is_some())?;
         }
-        let validity = Option::<Bitmap>::try_from(mask)?;
+        let validity = Option::<Bitmap>::try_from(mask.finish()?)?;
         Utf8Array::from_gathered(offsets, values, validity)
     }
 

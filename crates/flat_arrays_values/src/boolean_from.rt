@@ -9,7 +9,7 @@ ghost use Rattle.flat_arrays_values.specs.Flat.{flat, mask_of, nulls, of_slots};
 
 use crate::boolean::BooleanArray;
 use crate::masks::mask_from;
-use columnar_memory::{Bitmap, DataType, MutableBitmap, Result};
+use columnar_memory::{BitGatherer, Bitmap, DataType, MutableBitmap, Result};
 use std::alloc::Global;
 
 impl BooleanArray {
@@ -74,8 +74,8 @@ impl BooleanArray {
         requires ends { IsFinite (I.remaining slots) }
         ensures { OrOutOfMemory result (λ array. WholeRun I.next_gives slots (λ p. array ≡ of_slots DataType.Boolean false p.items)) }
     {
-        let mut values = MutableBitmap::new(alloc);
-        let mut mask = MutableBitmap::new(alloc);
+        let mut values = BitGatherer::new(alloc);
+        let mut mask = BitGatherer::new(alloc);
         // An iterator that promises more than there is memory for may give fewer.
         let least = slots.size_hint().0;
         let _ = values.reserve(least);
@@ -84,7 +84,7 @@ impl BooleanArray {
             values.push(slot.unwrap_or(false))?;
             mask.push(slot.is_some())?;
         }
-        BooleanArray::from_gathered(values, mask)
+        BooleanArray::from_gathered(values.finish()?, mask.finish()?)
     }
 
     /// The array of values and as many marks, with no mask where each mark is true.

@@ -11,7 +11,7 @@ ghost use Rattle.flat_arrays_values.specs.Results.{ForZero};
 
 use crate::masks::mask_from;
 use crate::primitive::PrimitiveArray;
-use columnar_memory::{Bitmap, Buffer, DataType, MutableBitmap, NativeType, Result};
+use columnar_memory::{BitGatherer, Bitmap, Buffer, DataType, MutableBitmap, NativeType, Result};
 use std::alloc::Global;
 
 impl<T: NativeType> PrimitiveArray<T> {
@@ -90,7 +90,7 @@ impl<T: NativeType> PrimitiveArray<T> {
     {
         let zero = T::default();
         let mut values: Vec<T> = Vec::new(alloc);
-        let mut mask = MutableBitmap::new(alloc);
+        let mut mask = BitGatherer::new(alloc);
         // An iterator that promises more than there is memory for may give fewer.
         let least = slots.size_hint().0;
         let _ = values.reserve(least);
@@ -99,7 +99,7 @@ impl<T: NativeType> PrimitiveArray<T> {
             values.push(slot.unwrap_or(zero))?;
             mask.push(slot.is_some())?;
         }
-        PrimitiveArray::from_gathered(values, mask)
+        PrimitiveArray::from_gathered(values, mask.finish()?)
     }
 
     /// The array of values and as many marks, under the plainest data type of such values, with no mask where each mark is true.

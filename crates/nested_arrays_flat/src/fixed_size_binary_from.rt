@@ -7,7 +7,7 @@ ghost use Rattle.nested_arrays_flat.specs.FixedSizeItems.{GathersAlong, HasSize,
 
 use crate::fixed_size_binary::FixedSizeBinaryArray;
 use crate::ranges::read_bytes;
-use columnar_memory::{Bitmap, Buffer, DataType, Error, MutableBitmap, Result};
+use columnar_memory::{BitGatherer, Bitmap, Buffer, DataType, Error, Result};
 use std::alloc::Global;
 use std::convert::AsSlice;
 
@@ -31,7 +31,7 @@ impl FixedSizeBinaryArray {
             return Err(Error::OutOfSpec("byte strings of no bytes"));
         }
         let mut values: Vec<u8> = Vec::new(alloc);
-        let mut mask = MutableBitmap::new(alloc);
+        let mut mask = BitGatherer::new(alloc);
         // An iterator that promises more than there is memory for may give fewer.
         let least = slots.size_hint().0;
         let _ = values.reserve(least.saturating_mul(size));
@@ -40,7 +40,7 @@ impl FixedSizeBinaryArray {
             push_slot(&mut values, size, &slot)?;
             mask.push(slot.is_some())?;
         }
-        let validity = Option::<Bitmap>::try_from(mask)?;
+        let validity = Option::<Bitmap>::try_from(mask.finish()?)?;
         FixedSizeBinaryArray::from_gathered(size, values, validity)
     }
 
@@ -71,14 +71,14 @@ impl FixedSizeBinaryArray {
         ensures { OrOutOfMemory result (λ array. array ≡ of_slots N slots.now) }
     {
         let mut values: Vec<u8> = Vec::new(alloc);
-        let mut mask = MutableBitmap::new(alloc);
+        let mut mask = BitGatherer::new(alloc);
         values.reserve(slots.len().saturating_mul(N))?;
         mask.reserve(slots.len())?;
         for slot in slots {
             push_array_slot(&mut values, slot)?;
             mask.push(slot.is_some())?;
         }
-        let validity = Option::<Bitmap>::try_from(mask)?;
+        let validity = Option::<Bitmap>::try_from(mask.finish()?)?;
         FixedSizeBinaryArray::from_gathered(N, values, validity)
     }
 
