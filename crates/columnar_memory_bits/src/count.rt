@@ -3,33 +3,16 @@ ghost use Rattle.columnar_memory_bits.specs.Bits.{bits_of, unset_count};
 
 use crate::load::load_word;
 
-/// How many of the bits from bit `offset` on, `len` of them, are not set.
+/// How many of the bits from bit `offset` on, `len` of them, are not set. Where one word does not hold them, those before the first whole byte
+/// are counted first, then whole words, then those behind.
 pub fn count_zeros(bytes: &[u8], offset: usize, len: usize) -> usize
     requires in_range { offset + len ≤ 8 * length bytes.now }
     requires fits { offset + len < 2 ^ 64 }
     ensures { result ≡ unset_count (bits_of bytes.now offset len) }
 {
     if len <= 64 {
-        return zeros_in_word(bytes, offset, len);
+        return len - load_word(bytes, offset, len).count_ones() as usize;
     }
-    zeros_in_words(bytes, offset, len)
-}
-
-/// The same of bits that one word holds.
-fn zeros_in_word(bytes: &[u8], offset: usize, len: usize) -> usize
-    requires few { len ≤ 64 }
-    requires in_range { offset + len ≤ 8 * length bytes.now }
-    ensures { result ≡ unset_count (bits_of bytes.now offset len) }
-{
-    len - load_word(bytes, offset, len).count_ones() as usize
-}
-
-/// The same of any bits. Those before the first whole byte are counted first, then whole words, then those behind.
-fn zeros_in_words(bytes: &[u8], offset: usize, len: usize) -> usize
-    requires in_range { offset + len ≤ 8 * length bytes.now }
-    requires fits { offset + len < 2 ^ 64 }
-    ensures { result ≡ unset_count (bits_of bytes.now offset len) }
-{
     let before = len.min((8 - offset % 8) % 8);
     let mut ones = load_word(bytes, offset, before).count_ones() as usize;
     let first = (offset + before) / 8;

@@ -1,3 +1,4 @@
+pub mod BitRanges
 pub mod FlatCuts
 pub mod FlatMasks
 pub mod KeyCuts

@@ -95,20 +95,12 @@ fn same_slot(left: &FlatArray, i: usize, right: &FlatArray, j: usize) -> bool
 const BLOCK: usize = 1024;
 
 /// Whether so many bits of a mask from a place on are those of another from a place on.
-#[tactic(auto, using(nested_arrays_flat::proofs::CutMasks::marked))]
 fn same_bits(left: &Bitmap, i: usize, right: &Bitmap, j: usize, count: usize) -> bool
     requires left_within { i + count ≤ length left.now }
     requires right_within { j + count ≤ length right.now }
     ensures { IsTrue result → SameMarks (Some left.now) i (Some right.now) j count }
 {
-    let _left = left.len();
-    let _right = right.len();
-    for k in 0..count {
-        if left.get_bit(i + k) != right.get_bit(j + k) {
-            return false;
-        }
-    }
-    true
+    left.same_range(i, right, j, count)
 }
 
 /// Whether two masks have the same marks for so many slots from a place on; where there is none, no slot is null.

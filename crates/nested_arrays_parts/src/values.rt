@@ -18,14 +18,7 @@ fn same_truths(left: &BooleanArray, i: usize, right: &BooleanArray, j: usize, co
     requires right_within { j + count ≤ length right.now.values }
     ensures { IsTrue result ↔ SameRanges (bare (boolean_column left.now)) i (bare (boolean_column right.now)) j count }
 {
-    let _left = left.len();
-    let _right = right.len();
-    for k in 0..count {
-        if left.value(i + k) != right.value(j + k) {
-            return false;
-        }
-    }
-    true
+    left.values().same_range(i, right.values(), j, count)
 }
 
 /// Whether two stored values are the same that are neither booleans nor numbers.

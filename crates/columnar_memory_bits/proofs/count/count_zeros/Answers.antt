@@ -4,10 +4,10 @@ use Rattle.std.specs.Int.{from_le_bytes, w64}
 use Rattle.std.specs.Simd.{first_chunks}
 use Rattle.columnar_memory_bits.specs.Bits.{bits_of}
 use Rattle.columnar_memory_bits.specs.Words.{word}
-use Rattle.columnar_memory_bits.proofs.Counts.{set_count, ones_next, set_count_most, unset_from_set}
+use Rattle.columnar_memory_bits.proofs.Counts.{set_count, ones_next, set_count_most, word_ones, unset_from_set}
 use Rattle.columnar_memory_bits.proofs.WholeWords.{chunk_word}
-use Rattle.columnar_memory_bits.proofs.count.zeros_in_words.Goals as goal
-use Rattle.columnar_memory_bits.proofs.count.zeros_in_words.Goals.{After-from_le_bytes, After-load_word-rest}
+use Rattle.columnar_memory_bits.proofs.count.count_zeros.Goals as goal
+use Rattle.columnar_memory_bits.proofs.count.count_zeros.Goals.{After-from_le_bytes, After-load_word-rest}
 
 pub loop-word-init : goal.loop-word-init
 loop-word-init c =
@@ -15,9 +15,9 @@ loop-word-init c =
     let before : ℕ = c.min-before.result in
     let none : 0 + before ≡ before + 64 * 0 = omega arith in
     let first : c.args.offset ≡ c.args.offset + 0 = omega arith in
-    let read : c.load_word.result ≡ word (bits_of bytes (c.args.offset + 0) before) =
-    c.load_word.ensures ∙ ap (λ n. word (bits_of bytes n before)) first in
-    sym (zero-add (count_ones c.load_word.result)) ∙ sym (ones_next bytes c.args.offset 0 before c.load_word.result read)
+    let read : c.load_word-2.result ≡ word (bits_of bytes (c.args.offset + 0) before) =
+    c.load_word-2.ensures ∙ ap (λ n. word (bits_of bytes n before)) first in
+    sym (zero-add (count_ones c.load_word-2.result)) ∙ sym (ones_next bytes c.args.offset 0 before c.load_word-2.result read)
     ∙ ap (λ n. set_count (bits_of bytes c.args.offset n)) none
 
 counted : (c : After-from_le_bytes) →
@@ -77,8 +77,21 @@ all_counted c =
 pub overflow_add-result : goal.overflow_add-result
 overflow_add-result c = omega (arith, all_counted c, set_count_most c.args.bytes.now c.args.offset c.args.len)
 
-pub overflow_sub-result : goal.overflow_sub-result
-overflow_sub-result c = omega (arith, all_counted c, set_count_most c.args.bytes.now c.args.offset c.args.len)
+pub overflow_sub-result-2 : goal.overflow_sub-result-2
+overflow_sub-result-2 c = omega (arith, all_counted c, set_count_most c.args.bytes.now c.args.offset c.args.len)
 
 pub returns : goal.returns
 returns c = unset_from_set c.args.bytes.now c.args.offset c.args.len (c.loop-word.ones + count_ones c.load_word-rest.result) (all_counted c)
+
+pub overflow_sub-result : goal.overflow_sub-result
+overflow_sub-result c =
+    omega (
+      arith,
+      word_ones c.args.bytes.now c.args.offset c.args.len c.load_word.result c.load_word.ensures,
+      set_count_most c.args.bytes.now c.args.offset c.args.len,
+    )
+
+pub returns-then-len-le64 : goal.returns-then-len-le64
+returns-then-len-le64 c =
+    unset_from_set c.args.bytes.now c.args.offset c.args.len (count_ones c.load_word.result)
+    (word_ones c.args.bytes.now c.args.offset c.args.len c.load_word.result c.load_word.ensures)
