@@ -148,6 +148,7 @@ impl Bitmap {
     }
 
     /// Narrows this to the `count` bits from `offset` on.
+    #[inline(always)]
     #[tactic(auto, using(crate::proofs::Lists::windows))]
     pub fn slice(&mut self, offset: usize, count: usize)
         requires { offset + count ≤ length self.old }

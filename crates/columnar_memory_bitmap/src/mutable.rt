@@ -221,6 +221,7 @@ impl MutableBitmap {
     ///
     /// # Errors
     /// `OutOfMemory`: the growth found no memory.
+    #[inline(always)]
     pub fn push(&mut self, value: bool) -> Result<()>
         ensures { Grows result self.old self.new (self.old ++ value ∷ []) }
     {
