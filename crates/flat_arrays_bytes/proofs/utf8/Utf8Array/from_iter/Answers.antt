@@ -1,4 +1,4 @@
-use Rattle.std.proofs.Common.{map}
+use Rattle.std.proofs.Common.{◌∙◌, map}
 use Rattle.std.proofs.lemmas.Result.{err_from_is_err_and}
 use Rattle.flat_arrays_bytes.proofs.Gathered.{gathered_more, marks_more, masked_gathered, slots_collected}
 use Rattle.flat_arrays_bytes.proofs.Gathered.{slots_refused, stored_by, texts_gathered, texts_more, within_gathered}
@@ -19,8 +19,8 @@ loop-slot-preserved g c = record {
 
 pub from_gathered-requires-clause-masked : goal.from_gathered-requires-clause-masked
 from_gathered-requires-clause-masked g c =
-    masked_gathered (stored_by g.T.AsStr.text) g.O.Index.greatest c.loop-slot.yielded c.loop-slot.offsets c.loop-slot.values.items c.loop-slot.mask
-    c.in_ok-validity.validity c.loop-slot.invariant.gathered c.loop-slot.invariant.marks c.in_ok-validity.ensures
+    masked_gathered (stored_by g.T.AsStr.text) g.O.Index.greatest c.loop-slot.yielded c.loop-slot.offsets c.loop-slot.values.items c.in_ok-finish.field-0
+    c.in_ok-validity.validity c.loop-slot.invariant.gathered (c.in_ok-finish.ensures ∙ c.loop-slot.invariant.marks) c.in_ok-validity.ensures
 
 pub from_gathered-requires-clause-within : goal.from_gathered-requires-clause-within
 from_gathered-requires-clause-within g c =
@@ -47,6 +47,6 @@ returns g c =
     slots_collected g.T.AsStr.text (text_type g.O.Offset.IS_LARGE) g.O.Index.greatest c.loop-slot.offsets c.loop-slot.values.items
     g.I.Iterator.next_gives
     c.args.slots c.into_iter-slot-iterator.result c.into_iter-slot-iterator.ensures.into_iter_gives c.loop-slot.yielded
-    c.loop-slot.slot-iterator c.loop-slot.yielded_by c.loop-slot.invariant.gathered c.next.new.self c.loop-slot.mask c.in_ok-validity.validity
-    c.from_gathered.result c.in-None.ensures.steps c.loop-slot.invariant.marks
+    c.loop-slot.slot-iterator c.loop-slot.yielded_by c.loop-slot.invariant.gathered c.next.new.self c.in_ok-finish.field-0 c.in_ok-validity.validity
+    c.from_gathered.result c.in-None.ensures.steps (c.in_ok-finish.ensures ∙ c.loop-slot.invariant.marks)
     c.in_ok-validity.ensures c.from_gathered.ensures

@@ -17,5 +17,6 @@ returns g c =
       run.1 ∙ given.ensures.into_iter_gives,
       run.2,
       same ∙ gathered_slots types.Boolean false
-          loop.values loop.mask loop.yielded run.0.items loop.invariant run.3.0,
+          c.in_ok-finish.field-0 c.in_ok-finish-2.field-0 loop.yielded run.0.items
+          (c.in_ok-finish.ensures ∙ loop.invariant.0, c.in_ok-finish-2.ensures ∙ loop.invariant.1) run.3.0,
     )) (λ e refused. refused)

@@ -21,6 +21,7 @@ returns g c =
         run.1 ∙ given.ensures.into_iter_gives,
         run.2,
         same ∙ gathered_slots (type_of_primitive g.T.NativeType.PRIMITIVE) zero.result
-            loop.values.items loop.mask loop.yielded run.0.items loop.invariant run.3.0,
+            loop.values.items c.in_ok-finish.field-0 loop.yielded run.0.items
+            (loop.invariant.0, c.in_ok-finish.ensures ∙ loop.invariant.1) run.3.0,
       ),
     )) (λ e refused. refused)

@@ -29,5 +29,5 @@ pub from_gathered-requires-clause-masked : goal.from_gathered-requires-clause-ma
 from_gathered-requires-clause-masked g c =
     let loop = c.loop-slot in
     let slots = take loop.slot-index c.args.slots.now in
-    masked_strings g.row.N slots loop.values.items loop.invariant.stored loop.mask c.in_ok-validity.validity c.requires
-    (ap length loop.invariant.marks ∙ length-map slots is_some) c.in_ok-validity.ensures
+    masked_strings g.row.N slots loop.values.items loop.invariant.stored c.in_ok-finish.field-0 c.in_ok-validity.validity c.requires
+    (ap length (c.in_ok-finish.ensures ∙ loop.invariant.marks) ∙ length-map slots is_some) c.in_ok-validity.ensures
