@@ -9,7 +9,7 @@ ghost use Rattle.flat_arrays_values.specs.Flat.{flat, mask_of, nulls, of_slots};
 
 use crate::boolean::BooleanArray;
 use crate::masks::mask_from;
-use columnar_memory::{BitGatherer, Bitmap, DataType, MutableBitmap, Result};
+use columnar_memory::{BitGatherer, Bitmap, DataType, Error, MutableBitmap, Result};
 use std::alloc::Global;
 
 impl BooleanArray {
@@ -81,8 +81,9 @@ impl BooleanArray {
         let _ = values.reserve(least);
         let _ = mask.reserve(least);
         for slot in slots {
-            values.push(slot.unwrap_or(false))?;
-            mask.push(slot.is_some())?;
+            if values.push(slot.unwrap_or(false)).is_err() || mask.push(slot.is_some()).is_err() {
+                return Err(Error::OutOfMemory);
+            }
         }
         BooleanArray::from_gathered(values.finish()?, mask.finish()?)
     }

@@ -11,7 +11,9 @@ ghost use Rattle.flat_arrays_values.specs.Results.{ForZero};
 
 use crate::masks::mask_from;
 use crate::primitive::PrimitiveArray;
-use columnar_memory::{BitGatherer, Bitmap, Buffer, DataType, MutableBitmap, NativeType, Result};
+use columnar_memory::{
+    BitGatherer, Bitmap, Buffer, DataType, Error, MutableBitmap, NativeType, Result,
+};
 use std::alloc::Global;
 
 impl<T: NativeType> PrimitiveArray<T> {
@@ -97,7 +99,9 @@ impl<T: NativeType> PrimitiveArray<T> {
         let _ = mask.reserve(least);
         for slot in slots {
             values.push(slot.unwrap_or(zero))?;
-            mask.push(slot.is_some())?;
+            if mask.push(slot.is_some()).is_err() {
+                return Err(Error::OutOfMemory);
+            }
         }
         PrimitiveArray::from_gathered(values, mask.finish()?)
     }
