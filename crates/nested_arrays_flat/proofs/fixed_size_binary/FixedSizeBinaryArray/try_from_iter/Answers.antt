@@ -37,7 +37,8 @@ from_gathered-requires-clause-masked g c =
     let loop = c.loop-slot in
     masked_strings c.args.size (map (option_map g.T.AsSlice.items) loop.yielded) loop.values.items loop.invariant.stored c.in_ok-finish.field-0
     c.in_ok-validity.validity (omega (arith, c.if-size-eq0.false))
-    (ap length (c.in_ok-finish.ensures ∙ loop.invariant.marks) ∙ length-map loop.yielded is_some ∙ sym (length-map loop.yielded (option_map g.T.AsSlice.items)))
+    (ap length (c.in_ok-finish.ensures ∙ loop.invariant.marks) ∙ length-map loop.yielded is_some
+    ∙ sym (length-map loop.yielded (option_map g.T.AsSlice.items)))
     c.in_ok-validity.ensures
 
 pub returns : goal.returns
@@ -45,5 +46,6 @@ returns g c =
     let loop = c.loop-slot in
     gathered g.T.AsSlice.items c.args.size g.I.Iterator.next_gives c.args.slots c.into_iter-slot-iterator.result
     c.into_iter-slot-iterator.ensures.into_iter_gives loop.yielded loop.slot-iterator loop.yielded_by loop.values.items loop.invariant.stored
-    (omega (arith, c.if-size-eq0.false)) c.next.new.self c.in_ok-finish.field-0 c.in_ok-validity.validity c.from_gathered.result c.in-None.ensures.steps
+    (omega (arith, c.if-size-eq0.false)) c.next.new.self c.in_ok-finish.field-0 c.in_ok-validity.validity c.from_gathered.result
+    c.in-None.ensures.steps
     (c.in_ok-finish.ensures ∙ loop.invariant.marks) c.in_ok-validity.ensures c.from_gathered.ensures
