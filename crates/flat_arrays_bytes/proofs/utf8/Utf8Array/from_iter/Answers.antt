@@ -20,7 +20,8 @@ loop-slot-preserved g c = record {
 pub from_gathered-requires-clause-masked : goal.from_gathered-requires-clause-masked
 from_gathered-requires-clause-masked g c =
     masked_gathered (stored_by g.T.AsStr.text) g.O.Index.greatest c.loop-slot.yielded c.loop-slot.offsets c.loop-slot.values.items
-    c.in_ok-finish.field-0 c.in_ok-validity.validity c.loop-slot.invariant.gathered (c.in_ok-finish.ensures ∙ c.loop-slot.invariant.marks) c.in_ok-validity.ensures
+    c.in_ok-finish.field-0 c.in_ok-validity.validity c.loop-slot.invariant.gathered
+    (c.in_ok-finish.ensures ∙ c.loop-slot.invariant.marks) c.in_ok-validity.ensures
 
 pub from_gathered-requires-clause-within : goal.from_gathered-requires-clause-within
 from_gathered-requires-clause-within g c =
