@@ -5,6 +5,7 @@ pub mod KeyPlaces
 pub mod LaidNodes
 pub mod ListParts
 pub mod ListRuns
+pub mod NamedRuns
 pub mod RoomTables
 pub mod SameSlots
 pub mod SlotPlaces

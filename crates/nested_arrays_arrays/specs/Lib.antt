@@ -4,6 +4,7 @@ pub mod Entries
 pub mod ItemTypes
 pub mod Lengths
 pub mod ListRuns
+pub mod NamedRuns
 pub mod NamedValues
 pub mod Parts
 pub mod Places

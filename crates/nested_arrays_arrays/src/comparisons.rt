@@ -1,33 +1,19 @@
 //! Equality of arrays by their slots. A step is counted for each slot of the left side that is compared with one of the right; a run of slots of
-//! arrays without children, one of records and one of lists is counted as a whole before it is compared.
-ghost use Rattle.std.specs.Prelude.{◌≡◌, ◌+◌, ◌<◌, ◌≤◌, ◌↔◌, IfSome, IsTrue};
+//! arrays without children, one of records, one of lists and one of dictionaries is counted as a whole.
+ghost use Rattle.std.specs.Prelude.{◌≡◌, ◌+◌, ◌<◌, ◌≤◌, ◌↔◌, IsTrue};
 ghost use Rattle.nested_arrays_columns.specs.SlotNodes.{nodes_of, slot_nodes};
 ghost use Rattle.nested_arrays_columns.specs.Slots.{in_slots, items, null, pick, window};
 ghost use Rattle.nested_arrays_columns.specs.StoredColumns.{column_len, column_type, in_columns, slot_at, slots_at};
 ghost use Rattle.nested_arrays_parts.specs.Ranges.{range_nodes, SameRanges};
 ghost use Rattle.nested_arrays_arrays.specs.Places.{columns_nodes, HavePlace, HaveRange, IsKeyless, SameFields};
 
-use crate::any::{AnyArray, Node};
+use crate::any::AnyArray;
 use crate::keys::value_of;
 use crate::list_runs::list_run;
-use crate::places::{fields_at, items_at, pick_at, records_at, values_at};
+use crate::named_runs::same_named_run;
+use crate::places::{fields_at, flat, items_at, pick_at, records_at, values_at};
 use columnar_memory::Steps;
-use nested_arrays_parts::{FlatArray, count_each, same_slots, same_slots_counted};
-
-/// The array without children, if it is one.
-fn flat(array: &AnyArray) -> Option<&FlatArray>
-    ensures { IfSome result (λ values. values.now ≡ array.now) }
-{
-    match &array.node {
-        Node::Flat(values) => Some(values),
-        Node::List(_) => None,
-        Node::FixedSizeList(_) => None,
-        Node::Struct(_) => None,
-        Node::Map(_) => None,
-        Node::Union(_) => None,
-        Node::Dictionary(_) => None,
-    }
-}
+use nested_arrays_parts::{count_each, same_slots, same_slots_counted};
 
 /// Whether two arrays have one data type.
 pub(crate) fn same_types(left: &AnyArray, right: &AnyArray) -> bool
@@ -61,6 +47,10 @@ pub(crate) fn same_range(
     ) {
         count_each(steps, count);
         return same_columns(fields, i, others, j, count, steps);
+    }
+    if let Some(same) = same_named_run(left, i, right, j, count) {
+        count_each(steps, count);
+        return same;
     }
     let _left = left.len();
     let _right = right.len();

@@ -33,7 +33,7 @@ fn key_in<K: Index>(keys: &PrimitiveArray<K>, i: usize) -> usize
 
 /// The place that the key of a slot names.
 #[tactic(auto, using(crate::proofs::KeyPlaces::keys_there))]
-fn key_at(node: &DictionaryNode, i: usize) -> usize
+pub(crate) fn key_at(node: &DictionaryNode, i: usize) -> usize
     requires fits { FitsWidth (Node.Dictionary node.now) }
     requires within { i < column_len node.now.keys }
     ensures { result ≡ place_of (slice_index_or (numbers_in node.now.keys) i (pos 0)) }

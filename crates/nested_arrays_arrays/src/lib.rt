@@ -14,6 +14,7 @@ mod keys;
 mod layouts;
 mod list_runs;
 mod maps;
+mod named_runs;
 mod picks;
 mod places;
 mod records;

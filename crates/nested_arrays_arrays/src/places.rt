@@ -26,6 +26,21 @@ pub(crate) fn is_set(array: &AnyArray, i: usize) -> bool
     mark_at(array.validity(), i)
 }
 
+/// The array without children, if it is one.
+pub(crate) fn flat(array: &AnyArray) -> Option<&FlatArray>
+    ensures { IfSome result (λ values. values.now ≡ array.now) }
+{
+    match &array.node {
+        Node::Flat(values) => Some(values),
+        Node::List(_) => None,
+        Node::FixedSizeList(_) => None,
+        Node::Struct(_) => None,
+        Node::Map(_) => None,
+        Node::Union(_) => None,
+        Node::Dictionary(_) => None,
+    }
+}
+
 /// The array without children whose slot is a value, if it is one.
 #[tactic(auto, using(crate::proofs::SlotPlaces::classes))]
 pub(crate) fn values_at(array: &AnyArray, i: usize) -> Option<&FlatArray>

@@ -133,27 +133,27 @@ same_columns-returns-in-None-split_first-clause-used t c = λ is.
 
 pub same_range-returns-then-not-same_range-clause-same : goal.same_range-returns-then-not-same_range-clause-same
 same_range-returns-then-not-same_range-clause-same t c =
-    let run = c.in-Some.run' in
+    let run = c.in-Some-list_run.run' in
     let part = run_part c.args.left.now c.args.right.now run.items.now run.others.now c.args.i c.args.j c.loop-k.k run.count c.args.count
-    run.start run.other_start run.len (omega (arith, c.in-Some.ensures.1, c.loop-k-test.true)) c.in-Some.ensures.2 in (
+    run.start run.other_start run.len (omega (arith, c.in-Some-list_run.ensures.1, c.loop-k-test.true)) c.in-Some-list_run.ensures.2 in (
       λ is. absurd (false≢true is),
       λ same. absurd (false≢true (sym c.if-not-same_range.true ∙ c.same_range.ensures.same.1 (part same))),
     )
 
 pub same_range-returns-then-not-same_range-clause-counted : goal.same_range-returns-then-not-same_range-clause-counted
 same_range-returns-then-not-same_range-clause-counted t c =
-    let run = c.in-Some.run' in
+    let run = c.in-Some-list_run.run' in
     let most = run_within c.args.left.now c.args.right.now run.items.now run.others.now c.args.i c.args.j c.loop-k.k run.count c.args.count
-    run.start run.other_start run.len (omega (arith, c.in-Some.ensures.1, c.loop-k-test.true)) c.in-Some.ensures.2 in
-    omega (arith, most, c.loop-k.invariant.1.counted, c.count_each-in-Some.ensures, c.same_range.ensures.counted)
+    run.start run.other_start run.len (omega (arith, c.in-Some-list_run.ensures.1, c.loop-k-test.true)) c.in-Some-list_run.ensures.2 in
+    omega (arith, most, c.loop-k.invariant.1.counted, c.count_each-in-Some-list_run.ensures, c.same_range.ensures.counted)
 
-pub same_range-loop-k-preserved-in-Some : goal.same_range-loop-k-preserved-in-Some
-same_range-loop-k-preserved-in-Some t c =
-    let run = c.in-Some.run' in (
-      omega (arith, c.in-Some.ensures.1, c.loop-k-test.true),
+pub same_range-loop-k-preserved-in-Some-list_run : goal.same_range-loop-k-preserved-in-Some-list_run
+same_range-loop-k-preserved-in-Some-list_run t c =
+    let run = c.in-Some-list_run.run' in (
+      omega (arith, c.in-Some-list_run.ensures.1, c.loop-k-test.true),
       run_compared c.args.left.now c.args.right.now run.items.now run.others.now c.args.i c.args.j c.loop-k.k run.count run.start run.other_start
-          run.len _ _ _ _ c.loop-k.invariant.1 c.in-Some.ensures.2 (c.same_range.ensures.same.0 c.if-not-same_range.false)
-          c.count_each-in-Some.ensures (c.same_range.ensures.used c.if-not-same_range.false),
+          run.len _ _ _ _ c.loop-k.invariant.1 c.in-Some-list_run.ensures.2 (c.same_range.ensures.same.0 c.if-not-same_range.false)
+          c.count_each-in-Some-list_run.ensures (c.same_range.ensures.used c.if-not-same_range.false),
     )
 
 pub same_range-returns-then-not-same_slot-clause-counted : goal.same_range-returns-then-not-same_slot-clause-counted

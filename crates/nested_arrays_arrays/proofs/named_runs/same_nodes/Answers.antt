@@ -1,0 +1,12 @@
+use Rattle.std.proofs.Common.{◌∙◌, ap, arith}
+use Rattle.nested_arrays_parts.specs.Forms.{column_form}
+use Rattle.nested_arrays_arrays.proofs.NamedRuns.{named_nodes}
+use Rattle.nested_arrays_arrays.proofs.named_runs.same_nodes.Goals as goal
+
+pub returns-in-Some-Some : goal.returns-in-Some-Some
+returns-in-Some-Some c =
+    let node = c.args.left.now in
+    let few = ap column_form (c.in-Some-Some.ensures ∙ c.deref.ensures) in record {
+      same = c.same_named.ensures;
+      alone = named_nodes node.data_type node.keys node.values.value c.args.i c.args.count (omega (arith, few, c.holds_values.ensures));
+    }

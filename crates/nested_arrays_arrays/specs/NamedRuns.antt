@@ -1,0 +1,20 @@
+-- Slots of dictionaries by the places that their keys name.
+use Rattle.std.specs.Prelude.{◌≡◌, ◌<◌, ◌↔◌, ℕ, Bool, IsTrue, List, length, Option, Some, None, slice_index}
+use Rattle.nested_arrays_columns.specs.Slots.{Slot, null}
+use Rattle.nested_arrays_columns.specs.StoredColumns.{Column, column_len, slot_at}
+use Rattle.nested_arrays_parts.specs.Ranges.{range_nodes, SameRanges}
+
+-- the slot of values at a place, or null
+abbrev pub named_slot : Column → Option ℕ → Slot
+named_slot values None = null
+named_slot values (Some place) = slot_at values place
+
+-- Places of two columns, in pairs: the slots of each pair are the same, where the left place is one of its column.
+abbrev pub AreSamePairs : List ℕ → List ℕ → Column → Column → Type 0
+AreSamePairs lefts rights l r = (h : ℕ) → h < length lefts → slice_index lefts h < column_len l
+    → slot_at l (slice_index lefts h) ≡ slot_at r (slice_index rights h)
+
+-- a test tells whether n slots of a column from place i on are those of another from place j on; no slots stand inside those of the first
+pub record TellsRun (l : Column) (i : ℕ) (r : Column) (j n : ℕ) (test : Bool) : Type 0 where
+  pub same : IsTrue test ↔ SameRanges l i r j n
+  pub alone : range_nodes l i n ≡ n

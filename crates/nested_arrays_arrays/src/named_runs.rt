@@ -1,0 +1,177 @@
+//! Runs of slots of dictionaries whose values are arrays without children: keys are read, and values that they name are compared once for each
+//! pair of places that is remembered.
+ghost use Rattle.std.specs.Prelude.{◌≡◌, ◌+◌, ◌<◌, ◌≤◌, ◌↔◌, IfSome, IsTrue};
+ghost use Rattle.nested_arrays_columns.specs.StoredColumns.{column_len, slot_at};
+ghost use Rattle.nested_arrays_parts.specs.Ranges.{SameRanges};
+ghost use Rattle.nested_arrays_arrays.specs.AnyColumns.{column_of, IsWhole};
+ghost use Rattle.nested_arrays_arrays.specs.NamedRuns.{named_slot, AreSamePairs, TellsRun};
+
+use crate::any::{AnyArray, DictionaryNode, Node};
+use crate::keys::key_at;
+use crate::places::flat;
+use nested_arrays_parts::{FlatArray, holds_values, is_null, same_slots};
+
+/// How many pairs of values are remembered.
+const KNOWN: usize = 64;
+
+/// Pairs of values that are the same, by their places on the left and on the right: for each remainder of left places the last pair that was
+/// found. Where none was, the left place is past all values.
+#[derive(Drop)]
+struct KnownPairs {
+    lefts: [usize; KNOWN],
+    rights: [usize; KNOWN],
+}
+
+/// The place of the value that the key of a slot names, none where the slot is null by its mask.
+fn named(node: &DictionaryNode, i: usize) -> Option<usize>
+    requires whole { IsWhole (Node.Dictionary node.now) }
+    requires within { i < column_len node.now.keys }
+    ensures shown { named_slot node.now.values.value result ≡ slot_at (column_of (Node.Dictionary node.now)) i }
+    ensures within { IfSome result (λ place. place < column_len node.now.values.value) }
+{
+    if !node.keys.is_valid(i) {
+        return None;
+    }
+    Some(key_at(node, i))
+}
+
+/// Whether a value is that of another array. Where this is known it is not compared again.
+fn same_value(
+    known: &mut KnownPairs,
+    values: &FlatArray,
+    place: usize,
+    others: &FlatArray,
+    other: usize,
+) -> bool
+    requires known { AreSamePairs known.old.lefts known.old.rights values.now others.now }
+    requires within { place < column_len values.now }
+    requires other_within { other < column_len others.now }
+    ensures known { AreSamePairs known.new.lefts known.new.rights values.now others.now }
+    ensures same { IsTrue result ↔ (slot_at values.now place ≡ slot_at others.now other) }
+{
+    let h = place % KNOWN;
+    if known.lefts[h] == place && known.rights[h] == other {
+        return true;
+    }
+    if !same_slots(values, place, others, other, 1) {
+        return false;
+    }
+    known.lefts[h] = place;
+    known.rights[h] = other;
+    true
+}
+
+/// Whether the slot of a key is that of another, each by the place that it names, if any.
+fn same_slot(
+    known: &mut KnownPairs,
+    values: &FlatArray,
+    place: Option<usize>,
+    others: &FlatArray,
+    other: Option<usize>,
+) -> bool
+    requires known { AreSamePairs known.old.lefts known.old.rights values.now others.now }
+    requires within { IfSome place (λ p. p < column_len values.now) }
+    requires other_within { IfSome other (λ p. p < column_len others.now) }
+    ensures known { AreSamePairs known.new.lefts known.new.rights values.now others.now }
+    ensures same { IsTrue result ↔ (named_slot values.now place ≡ named_slot others.now other) }
+{
+    match (place, other) {
+        (Some(place), Some(other)) => same_value(known, values, place, others, other),
+        (Some(place), None) => is_null(values, place),
+        (None, Some(other)) => is_null(others, other),
+        (None, None) => true,
+    }
+}
+
+/// Whether so many slots of a dictionary from a place on are those of another from a place on.
+fn same_named(
+    left: &DictionaryNode,
+    values: &FlatArray,
+    i: usize,
+    right: &DictionaryNode,
+    others: &FlatArray,
+    j: usize,
+    count: usize,
+) -> bool
+    requires left_whole { IsWhole (Node.Dictionary left.now) }
+    requires right_whole { IsWhole (Node.Dictionary right.now) }
+    requires left_values { values.now ≡ left.now.values.value }
+    requires right_values { others.now ≡ right.now.values.value }
+    requires left_within { i + count ≤ column_len (column_of (Node.Dictionary left.now)) }
+    requires right_within { j + count ≤ column_len (column_of (Node.Dictionary right.now)) }
+    ensures { IsTrue result ↔ SameRanges (column_of (Node.Dictionary left.now)) i (column_of (Node.Dictionary right.now)) j count }
+{
+    let _left = left.keys.len();
+    let _right = right.keys.len();
+    let _values = values.len();
+    let mut known = KnownPairs {
+        lefts: [usize::MAX; KNOWN],
+        rights: [usize::MAX; KNOWN],
+    };
+    for k in 0..count {
+        let place = named(left, i + k);
+        let other = named(right, j + k);
+        if !same_slot(&mut known, values, place, others, other) {
+            return false;
+        }
+    }
+    true
+}
+
+/// The keys of an array and its values, if it is a dictionary.
+fn dictionaries(array: &AnyArray) -> Option<&DictionaryNode>
+    ensures { IfSome result (λ node. (column_of (Node.Dictionary node.now) ≡ array.now) × IsWhole (Node.Dictionary node.now)) }
+{
+    array.whole();
+    match &array.node {
+        Node::Flat(_) => None,
+        Node::List(_) => None,
+        Node::FixedSizeList(_) => None,
+        Node::Struct(_) => None,
+        Node::Map(_) => None,
+        Node::Union(_) => None,
+        Node::Dictionary(node) => Some(node),
+    }
+}
+
+/// The same of two dictionaries of any values: none where the values of one have children.
+fn same_nodes(
+    left: &DictionaryNode,
+    i: usize,
+    right: &DictionaryNode,
+    j: usize,
+    count: usize,
+) -> Option<bool>
+    requires left_whole { IsWhole (Node.Dictionary left.now) }
+    requires right_whole { IsWhole (Node.Dictionary right.now) }
+    requires left_within { i + count ≤ column_len (column_of (Node.Dictionary left.now)) }
+    requires right_within { j + count ≤ column_len (column_of (Node.Dictionary right.now)) }
+    ensures { IfSome result (λ same. TellsRun (column_of (Node.Dictionary left.now)) i (column_of (Node.Dictionary right.now)) j count same) }
+{
+    match (flat(&left.values), flat(&right.values)) {
+        (Some(values), Some(others)) => {
+            holds_values(values);
+            Some(same_named(left, values, i, right, others, j, count))
+        }
+        _ => None,
+    }
+}
+
+/// Whether so many slots of an array from a place on are those of another from a place on, if both are dictionaries whose values have no
+/// children.
+pub(crate) fn same_named_run(
+    left: &AnyArray,
+    i: usize,
+    right: &AnyArray,
+    j: usize,
+    count: usize,
+) -> Option<bool>
+    requires left_within { i + count ≤ column_len left.now }
+    requires right_within { j + count ≤ column_len right.now }
+    ensures { IfSome result (λ same. TellsRun left.now i right.now j count same) }
+{
+    match (dictionaries(left), dictionaries(right)) {
+        (Some(left), Some(right)) => same_nodes(left, i, right, j, count),
+        _ => None,
+    }
+}
