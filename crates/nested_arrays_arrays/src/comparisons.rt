@@ -59,14 +59,8 @@ pub(crate) fn same_range(
         match list_run(left, i + k, right, j + k, count - k) {
             Some(run) => {
                 count_each(steps, run.count);
-                if !same_range(
-                    run.items,
-                    run.start,
-                    run.others,
-                    run.other_start,
-                    run.len,
-                    steps,
-                ) {
+                let (items, others) = (run.items, run.others);
+                if !same_range(items, run.start, others, run.other_start, run.len, steps) {
                     return false;
                 }
                 k += run.count;
