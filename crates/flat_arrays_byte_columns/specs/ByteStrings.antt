@@ -6,8 +6,8 @@ use Rattle.std.specs.List.{concat, zip}
 use Rattle.columnar_memory.specs.Bits.{unset_count}
 use Rattle.columnar_memory.specs.Spans.{Spans, spans_between}
 use Rattle.columnar_memory.specs.Window.{window}
-use Rattle.columnar_memory_schema.specs.contracts.data_type.DataType as data_type
-use Rattle.columnar_memory_schema.specs.declared.data_type.DataType.{DataType}
+use Rattle.columnar_memory_types.specs.contracts.data_type.DataType as data_type
+use Rattle.columnar_memory_types.specs.declared.data_type.DataType.{DataType}
 
 -- a data type, where each byte string stands among the bytes, and the bytes
 pub record ByteStrings : Type 0 where

@@ -4,9 +4,9 @@ use Rattle.std.proofs.Common.{ap}
 use Rattle.std.specs.Bool.{Decides}
 use Rattle.std.specs.Cmp.{IsEquivalence, IsPartialEquivalence, partial_equiv_from_equiv}
 use Rattle.std.specs.Coded.{Coded, coded×, coded_list, coded_option, coded_ℕ}
-use Rattle.columnar_memory_content.specs.Sameness.{same, same-Decides, same_equivalence}
-use Rattle.columnar_memory_schema.specs.declared.data_type.DataType.{DataType}
-use Rattle.columnar_memory_schema.specs.contracts.data_type.DataType as data_type
+use Rattle.columnar_memory_types.specs.Sameness.{same, same-Decides, same_equivalence}
+use Rattle.columnar_memory_types.specs.declared.data_type.DataType.{DataType}
+use Rattle.columnar_memory_types.specs.contracts.data_type.DataType as data_type
 use Rattle.flat_arrays_byte_columns.specs.ByteStrings.{ByteStrings, slots_of}
 
 -- two arrays have one type and the same slots

@@ -2,9 +2,9 @@
 use Rattle.std.specs.Prelude.{◌≡◌, ℕ, ◌≤◌, Bool, Option, Some, None, List, length, Result, MatchResult, if◌then◌else◌}
 use Rattle.columnar_memory.specs.Error.{IsOutOfSpec}
 use Rattle.columnar_memory.specs.Spans.{last_of}
-use Rattle.columnar_memory_schema.specs.Layouts.{physical_type}
-use Rattle.columnar_memory_schema.specs.declared.data_type.DataType.{DataType}
-use Rattle.columnar_memory_schema.specs.declared.data_type.DataType.TheVariants as types
+use Rattle.columnar_memory_types.specs.Layouts.{physical_type}
+use Rattle.columnar_memory_types.specs.declared.data_type.DataType.{DataType}
+use Rattle.columnar_memory_types.specs.declared.data_type.DataType.TheVariants as types
 use Rattle.columnar_memory_types.specs.declared.error.Error.{Error}
 use Rattle.columnar_memory_types.specs.declared.kinds.PhysicalType.{PhysicalType}
 use Rattle.columnar_memory_types.specs.declared.kinds.PhysicalType.TheVariants as layouts

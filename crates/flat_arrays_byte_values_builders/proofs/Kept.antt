@@ -7,7 +7,7 @@ use Rattle.std.specs.List.{zip}
 use Rattle.std.specs.Str.{IsUtf8}
 use Rattle.columnar_memory_types.specs.declared.error.Error.{Error}
 use Rattle.columnar_memory_types.specs.declared.kinds.PhysicalType.{PhysicalType}
-use Rattle.columnar_memory_schema.specs.Layouts.{physical_type}
+use Rattle.columnar_memory_types.specs.Layouts.{physical_type}
 use Rattle.flat_arrays_byte_columns.proofs.Cuts.{AllTexts-cut}
 use Rattle.flat_arrays_byte_columns.proofs.Slots.{none_unset}
 use Rattle.flat_arrays_byte_columns.specs.ByteStrings.{ByteStrings, len_of, marks, marks_of, slot_of, slots_of, values_of}

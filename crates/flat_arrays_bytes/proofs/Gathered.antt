@@ -16,7 +16,7 @@ use Rattle.columnar_memory.specs.Bits.{unset_count}
 use Rattle.columnar_memory.specs.Error.{IsOutOfMemory, IsOverflow}
 use Rattle.columnar_memory.specs.Spans.{Spans, extended, last_of}
 use Rattle.columnar_memory_buffer.proofs.Runs.{last_of-extended, sum-cons}
-use Rattle.columnar_memory_schema.specs.declared.data_type.DataType.{DataType}
+use Rattle.columnar_memory_types.specs.declared.data_type.DataType.{DataType}
 use Rattle.columnar_memory_types.specs.declared.error.Error.{Error}
 use Rattle.flat_arrays_byte_columns.specs.ByteStrings.{ByteStrings, byte_strings, cut_by, mask_of, of_slots, of_values, packed, stored_for}
 use Rattle.flat_arrays_bytes.specs.Collected.{CollectsAlong, IsCollected}

@@ -4,8 +4,8 @@ use Rattle.std.proofs.lemmas.List.{length-replicate}
 use Rattle.std.proofs.lemmas.Str.{IsUtf8-nil}
 use Rattle.std.specs.Prelude.{Bool, false, replicate}
 use Rattle.columnar_memory_buffer.proofs.Runs.{sum-cons}
-use Rattle.columnar_memory_schema.specs.Layouts.{physical_type}
-use Rattle.columnar_memory_schema.specs.declared.data_type.DataType.{DataType}
+use Rattle.columnar_memory_types.specs.Layouts.{physical_type}
+use Rattle.columnar_memory_types.specs.declared.data_type.DataType.{DataType}
 use Rattle.flat_arrays_byte_columns.specs.ByteStrings.{cut_by, nulls}
 use Rattle.flat_arrays_byte_columns.specs.Fits.{IsText, text_layout}
 use Rattle.flat_arrays_byte_columns.specs.Texts.{AllTexts}
