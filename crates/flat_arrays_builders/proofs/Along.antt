@@ -7,7 +7,7 @@ use Rattle.std.specs.Iterator.{Yields}
 use Rattle.std.specs.Iterator.Runs.{WholeRun}
 use Rattle.columnar_memory.specs.declared.Error.{Error}
 use Rattle.columnar_memory.specs.Error.{IsOutOfMemory}
-use Rattle.flat_arrays_masks.specs.Changes.{Changes}
+use Rattle.flat_arrays_values.specs.Changes.{Changes}
 
 -- a run that ended at an item for which there was no memory
 pub stopped : {S X A : Type 0} (steps : S → Option X → S → Type 0) (changed : List X → A) (given it : S) (xs : List X) (here : S) (x : X) (rest : S)

@@ -1,1 +1,2 @@
 pub mod SlotsEqual
+pub use Rattle.flat_arrays_values.specs as values

@@ -8,8 +8,8 @@ ghost use Rattle.flat_arrays_values.specs.Flat.{flat, of_slots};
 use crate::boolean::MutableBooleanArray;
 use columnar_memory::{DataType, MutableBitmap, Result};
 use either::Either;
-use flat_arrays_access::IntoMut;
-use flat_arrays_masks::{freeze_mask, mask_into_mut};
+use flat_arrays_values::IntoMut;
+use flat_arrays_values::marks::{freeze_mask, mask_into_mut};
 use flat_arrays_values::BooleanArray;
 use std::alloc::Global;
 

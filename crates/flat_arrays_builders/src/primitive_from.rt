@@ -10,8 +10,8 @@ ghost use Rattle.flat_arrays_values.specs.Results.{ForZero};
 use crate::primitive::MutablePrimitiveArray;
 use columnar_memory::{DataType, NativeType, Result};
 use either::Either;
-use flat_arrays_access::IntoMut;
-use flat_arrays_masks::{freeze_mask, mask_into_mut};
+use flat_arrays_values::IntoMut;
+use flat_arrays_values::marks::{freeze_mask, mask_into_mut};
 use flat_arrays_values::PrimitiveArray;
 use std::alloc::Global;
 

@@ -1,1 +1,3 @@
 pub mod ByteSlotsEqual
+pub use Rattle.flat_arrays_byte_values_builders.specs as byte_values_builders
+pub use Rattle.flat_arrays_byte_values_builders.specs.bytes

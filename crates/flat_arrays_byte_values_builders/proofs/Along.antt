@@ -8,8 +8,8 @@ use Rattle.std.specs.Iterator.{Yields}
 use Rattle.std.specs.Iterator.Runs.{WholeRun}
 use Rattle.columnar_memory.specs.Growth.{IsGrowthFault}
 use Rattle.columnar_memory.specs.Spans.{last_of}
-use Rattle.columnar_memory_types.specs.declared.error.Error.{Error}
-use Rattle.flat_arrays_byte_columns.specs.ByteStrings.{ByteStrings}
+use Rattle.columnar_memory.specs.declared.error.Error.{Error}
+use Rattle.flat_arrays_bytes.specs.ByteStrings.{ByteStrings}
 use Rattle.flat_arrays_byte_values_builders.specs.Growing.{with_slot, with_slots}
 
 -- one more slot behind many

@@ -8,11 +8,11 @@ use Rattle.std.specs.Iterator.{AlwaysYields, DrainsIf, Yields}
 use Rattle.columnar_memory.specs.Error.{IsOutOfMemory, IsOverflow}
 use Rattle.columnar_memory.specs.Growth.{IsGrowthFault}
 use Rattle.columnar_memory.specs.Spans.{last_of}
-use Rattle.columnar_memory_buffer.proofs.Runs.{last_of-extended, sum-cons}
-use Rattle.columnar_memory_types.specs.declared.error.Error.{Error}
-use Rattle.columnar_memory_types.specs.declared.error.Error.TheVariants.{NotYetImplemented, InvalidArgumentError, ExternalFormat, OutOfSpec}
-use Rattle.columnar_memory_types.specs.declared.error.Error.TheVariants.{External, Io, Overflow, OutOfMemory}
-use Rattle.flat_arrays_byte_columns.specs.ByteStrings.{ByteStrings}
+use Rattle.columnar_memory.proofs.buffer_lemmas.Runs.{last_of-extended, sum-cons}
+use Rattle.columnar_memory.specs.declared.error.Error.{Error}
+use Rattle.columnar_memory.specs.declared.error.Error.TheVariants.{NotYetImplemented, InvalidArgumentError, ExternalFormat, OutOfSpec}
+use Rattle.columnar_memory.specs.declared.error.Error.TheVariants.{External, Io, Overflow, OutOfMemory}
+use Rattle.flat_arrays_bytes.specs.ByteStrings.{ByteStrings}
 use Rattle.flat_arrays_byte_values_builders.proofs.Along.{item_added}
 use Rattle.flat_arrays_byte_values_builders.specs.Growing.{GathersAlong, IsGathered, with_slot, with_slots}
 

@@ -4,3 +4,5 @@ pub mod Growth
 pub mod Kept
 pub mod Masks
 pub mod Undone
+pub use Rattle.flat_arrays_bytes.proofs as bytes_lemmas
+pub use Rattle.flat_arrays_bytes.proofs.values_lemmas

@@ -1,2 +1,4 @@
 pub mod Growing
 pub mod PushLaws
+pub use Rattle.flat_arrays_bytes.specs as bytes
+pub use Rattle.flat_arrays_bytes.specs.values

@@ -1,7 +1,7 @@
 //! The slots of builders of byte strings.
 ghost use Rattle.std.specs.Prelude.{◌≡◌, ◌<◌, ◌↔◌, IsTrue, Some, slice_get};
 ghost use Rattle.std.specs.Option.{option_copied};
-ghost use Rattle.flat_arrays_byte_columns.specs.ByteStrings.{len_of, slots_of};
+ghost use Rattle.flat_arrays_bytes.specs.ByteStrings.{len_of, slots_of};
 
 use crate::builder::ByteBuilder;
 use columnar_memory::Offset;

@@ -15,13 +15,13 @@ use Rattle.std.specs.Str.{IsUtf8}
 use Rattle.columnar_memory.specs.Bits.{unset_count}
 use Rattle.columnar_memory.specs.Error.{IsOutOfMemory, IsOverflow}
 use Rattle.columnar_memory.specs.Spans.{Spans, extended, last_of}
-use Rattle.columnar_memory_buffer.proofs.Runs.{last_of-extended, sum-cons}
-use Rattle.columnar_memory_types.specs.declared.data_type.DataType.{DataType}
-use Rattle.columnar_memory_types.specs.declared.error.Error.{Error}
-use Rattle.flat_arrays_byte_columns.specs.ByteStrings.{ByteStrings, byte_strings, cut_by, mask_of, of_slots, of_values, packed, stored_for}
+use Rattle.columnar_memory.proofs.buffer_lemmas.Runs.{last_of-extended, sum-cons}
+use Rattle.columnar_memory.specs.declared.data_type.DataType.{DataType}
+use Rattle.columnar_memory.specs.declared.error.Error.{Error}
+use Rattle.flat_arrays_bytes.specs.ByteStrings.{ByteStrings, byte_strings, cut_by, mask_of, of_slots, of_values, packed, stored_for}
 use Rattle.flat_arrays_bytes.specs.Collected.{CollectsAlong, IsCollected}
-use Rattle.flat_arrays_byte_columns.specs.Fits.{IsMaskOf}
-use Rattle.flat_arrays_byte_columns.specs.Texts.{AllTexts}
+use Rattle.flat_arrays_bytes.specs.Fits.{IsMaskOf}
+use Rattle.flat_arrays_bytes.specs.Texts.{AllTexts}
 use mathlib.Core.Logic.{inl, inr}
 
 -- these byte strings stand one after another, and the last one ends within the greatest offset

@@ -3,9 +3,9 @@ ghost use Rattle.std.specs.Prelude.{◌≡◌, ◌≤◌, length, map, option_ma
 ghost use Rattle.std.specs.Iterator.{IsFinite};
 ghost use Rattle.columnar_memory.specs.Results.{OrOutOfMemory};
 ghost use Rattle.columnar_memory.specs.Spans.{last_of};
-ghost use Rattle.flat_arrays_byte_columns.specs.ByteStrings.{byte_strings, of_slots, of_values};
+ghost use Rattle.flat_arrays_bytes.specs.ByteStrings.{byte_strings, of_slots, of_values};
 ghost use Rattle.flat_arrays_bytes.specs.Collected.{CollectsAlong, IsCollected};
-ghost use Rattle.flat_arrays_byte_columns.specs.Fits.{IsMaskOf, binary_type};
+ghost use Rattle.flat_arrays_bytes.specs.Fits.{IsMaskOf, binary_type};
 
 use crate::binary::BinaryArray;
 use crate::gather::{push_value, stored_bytes};

@@ -3,10 +3,10 @@ ghost use Rattle.std.specs.Prelude.{◌≡◌, ◌≤◌, length, map, option_ma
 ghost use Rattle.std.specs.Iterator.{IsFinite};
 ghost use Rattle.columnar_memory.specs.Results.{OrOutOfMemory};
 ghost use Rattle.columnar_memory.specs.Spans.{last_of};
-ghost use Rattle.flat_arrays_byte_columns.specs.ByteStrings.{byte_strings, cut_by, of_slots, of_values};
+ghost use Rattle.flat_arrays_bytes.specs.ByteStrings.{byte_strings, cut_by, of_slots, of_values};
 ghost use Rattle.flat_arrays_bytes.specs.Collected.{CollectsAlong, IsCollected};
-ghost use Rattle.flat_arrays_byte_columns.specs.Fits.{IsMaskOf, text_type};
-ghost use Rattle.flat_arrays_byte_columns.specs.Texts.{AllTexts};
+ghost use Rattle.flat_arrays_bytes.specs.Fits.{IsMaskOf, text_type};
+ghost use Rattle.flat_arrays_bytes.specs.Texts.{AllTexts};
 
 use crate::gather::{bytes_of, push_value, stored_text};
 use crate::utf8::Utf8Array;

@@ -5,7 +5,7 @@ ghost use Rattle.nested_arrays_generic.specs.Dictionaries.{key_at};
 
 use crate::dictionaries::DictionaryArray;
 use crate::keys::DictionaryKey;
-use flat_arrays_access::{ArrayAccessor, ArrayValuesIter};
+use flat_arrays_values::{ArrayAccessor, ArrayValuesIter};
 
 /// The slots of a dictionary as places of its values, none where a slot is null.
 #[derive(Drop)]

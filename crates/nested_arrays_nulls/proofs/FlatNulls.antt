@@ -6,8 +6,8 @@ use Rattle.columnar_memory.specs.Spans.{Spans, ends_from, offsets_of}
 use Rattle.columnar_memory.specs.declared.DataType.{DataType}
 use Rattle.columnar_memory.specs.declared.PhysicalType.TheVariants as physical
 use Rattle.columnar_memory.specs.declared.PrimitiveType.{PrimitiveType}
-use Rattle.flat_arrays_byte_columns.specs.ByteStrings as strings
-use Rattle.flat_arrays_byte_columns.specs.ByteStrings.{ByteStrings}
+use Rattle.flat_arrays_bytes.specs.ByteStrings as strings
+use Rattle.flat_arrays_bytes.specs.ByteStrings.{ByteStrings}
 use Rattle.flat_arrays_values.specs.Flat as arrays
 use Rattle.flat_arrays_values.specs.Flat.{Flat}
 use Rattle.flat_arrays_values.specs.Results.{ForZero}

@@ -4,7 +4,7 @@ use Rattle.std.specs.Prelude.{◌↔◌, ℤ, pos, negsuc, ◌≤ℤ◌, IsTrue,
 use Rattle.std.specs.List.{All}
 use Rattle.std.proofs.lemmas.Bool.{false≢true}
 use Rattle.std.proofs.lemmas.List.{length-map}
-use Rattle.columnar_memory_buffer.proofs.Runs.{nonnegative}
+use Rattle.columnar_memory.proofs.buffer_lemmas.Runs.{nonnegative}
 use Rattle.columnar_memory.specs.declared.DataType.{DataType}
 use Rattle.columnar_memory.specs.declared.Error.{Error}
 use Rattle.flat_arrays_values.specs.Flat.{Flat}

@@ -8,8 +8,8 @@ use Rattle.columnar_memory.specs.Bits.{unset_count}
 use Rattle.columnar_memory.specs.declared.DataType.{DataType}
 use Rattle.columnar_memory.specs.declared.Error.{Error}
 use Rattle.columnar_memory.specs.declared.PhysicalType.{PhysicalType}
-use Rattle.flat_arrays_byte_columns.specs.ByteStrings as strings
-use Rattle.flat_arrays_byte_columns.specs.ByteStrings.{ByteStrings, len_of}
+use Rattle.flat_arrays_bytes.specs.ByteStrings as strings
+use Rattle.flat_arrays_bytes.specs.ByteStrings.{ByteStrings, len_of}
 use Rattle.nested_arrays_columns.specs.Slots.{Slot, text}
 use Rattle.nested_arrays_columns.specs.SoundColumns.{is_sound, mask_fits}
 use Rattle.nested_arrays_columns.specs.StoredColumns.{Column, dictionary, column_len, is_valid_at, place_of, slot_at}

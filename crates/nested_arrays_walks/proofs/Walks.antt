@@ -2,7 +2,7 @@
 use Rattle.std.proofs.Common.{◌≡◌, ◌∙◌, ℕ, zero, suc, ◌+◌, ◌-◌, ◌<◌, List, [], ◌∷◌, ◌++◌, refl, sym, ap, arith}
 use Rattle.std.specs.Prelude.{Option, Some, None}
 use Rattle.std.specs.Iterator.{YieldsFirstBy, YieldsLastBy}
-use Rattle.flat_arrays_access.specs.Places.{PlacesLeft, StepsFirst, StepsLast}
+use Rattle.flat_arrays_values.specs.Places.{PlacesLeft, StepsFirst, StepsLast}
 use Rattle.nested_arrays_columns.specs.Slots.{window}
 use Rattle.nested_arrays_walks.specs.WalkLaws.{GivesEach, WalksGiveEach, values_left}
 

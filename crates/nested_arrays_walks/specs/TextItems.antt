@@ -4,7 +4,7 @@ use Rattle.std.specs.Borrow.{Bor}
 use Rattle.columnar_memory.specs.Error.{IsInvalidArgument}
 use Rattle.columnar_memory.specs.declared.Error.{Error}
 use Rattle.columnar_memory.specs.declared.PhysicalType.{PhysicalType}
-use Rattle.flat_arrays_byte_columns.specs.ByteStrings.{ByteStrings}
+use Rattle.flat_arrays_bytes.specs.ByteStrings.{ByteStrings}
 use Rattle.nested_arrays_columns.specs.StoredColumns.{Column}
 use Rattle.nested_arrays_flat.specs.FlatColumns.{text_column}
 use Rattle.nested_arrays_parts.specs.FlatLayouts.{layout_in}

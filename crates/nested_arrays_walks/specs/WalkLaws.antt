@@ -1,7 +1,7 @@
 -- What walks over the places of arrays give.
 use Rattle.std.specs.Prelude.{◌≡◌, ◌-◌, ℕ, List, Option}
 use Rattle.std.specs.Iterator.{YieldsFirstBy, YieldsLastBy}
-use Rattle.flat_arrays_access.specs.Places.{PlacesLeft, StepsFirst, StepsLast}
+use Rattle.flat_arrays_values.specs.Places.{PlacesLeft, StepsFirst, StepsLast}
 use Rattle.nested_arrays_columns.specs.Slots.{window}
 
 -- what stands at the places that a walk has left

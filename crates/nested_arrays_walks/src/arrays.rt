@@ -4,7 +4,7 @@ ghost use Rattle.nested_arrays_walks.specs.ReadValues.{IsByteString, IsPicked, I
 use crate::rows::StructSlot;
 use crate::slots::ArraySlot;
 use crate::values::{ArrayValues, Values};
-use flat_arrays_access::ArrayValuesIter;
+use flat_arrays_values::ArrayValuesIter;
 use nested_arrays_arrays::{StructArray, UnionArray};
 use nested_arrays_flat::{FixedSizeBinaryArray, mark_at};
 

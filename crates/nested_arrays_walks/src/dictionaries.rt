@@ -6,7 +6,7 @@ ghost use Rattle.nested_arrays_walks.specs.NamedValues.{AreNamed, ArePlaces, IsN
 ghost use Rattle.nested_arrays_walks.specs.ReadValues.{IsRead, IsReadWithin};
 
 use crate::slots::ArraySlot;
-use flat_arrays_access::{ArrayAccessor, ArrayValuesIter};
+use flat_arrays_values::{ArrayAccessor, ArrayValuesIter};
 use flat_arrays_values::check_indexes;
 use nested_arrays_generic::{DictionaryArray, DictionaryKey};
 

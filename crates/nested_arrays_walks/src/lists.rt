@@ -7,7 +7,7 @@ ghost use Rattle.nested_arrays_walks.specs.ReadValues.{IsList, IsListBetween};
 use crate::parts::ArrayPart;
 use crate::values::{ArrayValues, Values};
 use columnar_memory::{Offset, OffsetsBuffer};
-use flat_arrays_access::ArrayValuesIter;
+use flat_arrays_values::ArrayValuesIter;
 use nested_arrays_arrays::{AnyArray, FixedSizeListArray, MapArray};
 use nested_arrays_flat::mark_at;
 use nested_arrays_generic::ListArray;

@@ -5,7 +5,7 @@ ghost use Rattle.nested_arrays_columns.specs.StoredColumns.{column_len, column_t
 
 use crate::slots::ArraySlot;
 use columnar_memory::DataType;
-use flat_arrays_access::{ArrayAccessor, ArrayValuesIter};
+use flat_arrays_values::{ArrayAccessor, ArrayValuesIter};
 use nested_arrays_arrays::AnyArray;
 use std::alloc::AllocError;
 use std::marker::Model;

@@ -3,7 +3,7 @@ ghost use Rattle.std.specs.Prelude.{◌≡◌, ◌<◌, All, Some, length, map, 
 ghost use Rattle.nested_arrays_columns.specs.StoredColumns.{column_len, slot_at};
 
 use crate::slots::ArraySlot;
-use flat_arrays_access::{ArrayAccessor, ArrayValuesIter};
+use flat_arrays_values::{ArrayAccessor, ArrayValuesIter};
 use nested_arrays_arrays::AnyArray;
 use std::marker::Model;
 

@@ -13,7 +13,7 @@ ghost use Rattle.nested_arrays_walks.specs.TextItems.{AreThere, ShowsTexts};
 ghost use Rattle.nested_arrays_walks.specs.TypedValues.{IsDowncast, IsKeyed, IsKeyedSlot, ShowSlotsByKeys, ShowValuesByKeys};
 
 use columnar_memory::{Error, Offset, Result};
-use flat_arrays_access::{ArrayAccessor, ArrayValuesIter};
+use flat_arrays_values::{ArrayAccessor, ArrayValuesIter};
 use flat_arrays_bytes::Utf8Array;
 use nested_arrays_access::Array;
 use nested_arrays_arrays::{AnyArray, Node};

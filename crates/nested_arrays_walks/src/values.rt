@@ -4,7 +4,7 @@ ghost use Rattle.nested_arrays_columns.specs.StoredColumns.{Column, column_len, 
 ghost use Rattle.nested_arrays_flat.specs.ColumnMasks.{column_mask};
 ghost use Rattle.nested_arrays_walks.specs.ReadValues.{IsRead, IsReadWithin};
 
-use flat_arrays_access::{ArrayAccessor, ArrayValuesIter};
+use flat_arrays_values::{ArrayAccessor, ArrayValuesIter};
 
 /// An array, by a reference to it, whose values are read by their places. `column` is what it stores, and `is_value` says what stands at a
 /// place, whatever the mask says.
