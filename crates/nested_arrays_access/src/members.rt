@@ -2,7 +2,7 @@
 use crate::array::Array;
 use columnar_memory::{Bitmap, DataType, Result};
 use nested_arrays_arrays::{AnyArray, FixedSizeListArray, MapArray, StructArray, UnionArray};
-use nested_arrays_parts::FlatArray;
+use nested_arrays_arrays::parts::FlatArray;
 
 impl Array for AnyArray {
     ghost column = { λ array. array };

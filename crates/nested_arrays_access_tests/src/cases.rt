@@ -1,8 +1,8 @@
 use columnar_memory::{
     Bitmap, Boxed, Buffer, DataType, Error, Field, Items, OffsetsBuffer, Text, UnionMode,
 };
-use flat_arrays_bytes::Utf8Array;
-use flat_arrays_values::PrimitiveArray;
+use flat_arrays::Utf8Array;
+use flat_arrays::PrimitiveArray;
 use nested_arrays_arrays::{AnyArray, UnionArray};
 use nested_arrays_flat::AnyPrimitive;
 use nested_arrays_generic::{DictionaryArray, ListArray};

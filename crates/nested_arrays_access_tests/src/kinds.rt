@@ -1,6 +1,6 @@
 use crate::cases::{lists, numbers};
-use flat_arrays_bytes::Utf8Array;
-use flat_arrays_values::PrimitiveArray;
+use flat_arrays::Utf8Array;
+use flat_arrays::PrimitiveArray;
 use nested_arrays_arrays::AnyArray;
 use std::test::Fail;
 

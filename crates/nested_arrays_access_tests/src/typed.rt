@@ -1,14 +1,14 @@
 ghost use Rattle.std.specs.Prelude.{◌≡◌, MatchResult};
-ghost use Rattle.flat_arrays_bytes.specs.ByteStrings.{len_of};
+ghost use Rattle.flat_arrays.specs.ByteStrings.{len_of};
 ghost use Rattle.nested_arrays_columns.specs.StoredColumns.{column_len};
 ghost use Rattle.nested_arrays_generic.specs.Dictionaries.{values_of};
 ghost use Rattle.nested_arrays_walks.specs.NamedValues.{AreNamed};
 
 use crate::cases::numbers;
 use columnar_memory::{Bitmap, Buffer, DataType, Error};
-use flat_arrays_values::ArrayAccessor;
-use flat_arrays_bytes::Utf8Array;
-use flat_arrays_values::PrimitiveArray;
+use flat_arrays::ArrayAccessor;
+use flat_arrays::Utf8Array;
+use flat_arrays::PrimitiveArray;
 use nested_arrays_arrays::AnyArray;
 use nested_arrays_generic::DictionaryArray;
 use nested_arrays_parts::FlatArray;

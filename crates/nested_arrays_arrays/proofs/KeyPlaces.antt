@@ -10,12 +10,12 @@ use Rattle.columnar_memory.specs.declared.IntegerType.TheVariants as integers
 use Rattle.columnar_memory.specs.declared.PhysicalType.{PhysicalType}
 use Rattle.columnar_memory.specs.declared.PhysicalType.TheVariants as physical
 use Rattle.columnar_memory.specs.declared.PrimitiveType.TheVariants as kinds
-use Rattle.nested_arrays_columns.proofs.Conditions.{parts_of_4, holds_at}
-use Rattle.nested_arrays_columns.specs.SoundColumns.{has_value_at, has_value_type, holds_below, is_sound, mask_fits}
-use Rattle.nested_arrays_columns.specs.StoredColumns.{Column, numbers, flat, dictionary, column_len, column_type, is_valid_at}
-use Rattle.nested_arrays_columns.specs.StoredColumns.{place_of, slot_at, type_layer}
+use Rattle.nested_arrays_parts.proofs.columns_lemmas.Conditions.{parts_of_4, holds_at}
+use Rattle.nested_arrays_parts.specs.columns.SoundColumns.{has_value_at, has_value_type, holds_below, is_sound, mask_fits}
+use Rattle.nested_arrays_parts.specs.columns.StoredColumns.{Column, numbers, flat, dictionary, column_len, column_type, is_valid_at}
+use Rattle.nested_arrays_parts.specs.columns.StoredColumns.{place_of, slot_at, type_layer}
 use Rattle.nested_arrays_parts.proofs.SameForms.{valid_slot}
-use Rattle.nested_arrays_flat.specs.ColumnMasks.{column_mask}
+use Rattle.nested_arrays_parts.specs.flat.ColumnMasks.{column_mask}
 use Rattle.nested_arrays_parts.specs.Keys.{AreKeysOf, keyed, kind_of_keys, numbers_in}
 use Rattle.nested_arrays_arrays.specs.Places.{IsKeyless, IsValue, column_class}
 

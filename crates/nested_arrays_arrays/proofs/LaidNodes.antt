@@ -8,12 +8,12 @@ use Rattle.columnar_memory.specs.declared.DataType.{DataType}
 use Rattle.columnar_memory.specs.declared.DataType.TheOpen as layer
 use Rattle.columnar_memory.specs.declared.PhysicalType.{PhysicalType}
 use Rattle.columnar_memory.specs.declared.PhysicalType.TheVariants as physical
-use Rattle.nested_arrays_columns.proofs.Conditions.{parts_of_4, parts_of_5}
-use Rattle.nested_arrays_columns.specs.Kinds.{is_signed}
-use Rattle.nested_arrays_columns.specs.SoundColumns.{are_pieces, are_sound, has_child_at, has_child_types, has_field_types, has_fixed_item_type}
-use Rattle.nested_arrays_columns.specs.SoundColumns.{has_places, have_len, holds_below, is_sound, mask_fits}
-use Rattle.nested_arrays_columns.specs.StoredColumns.{Column, Columns, column_len, column_type, fixed_lists, records, type_layer, unions}
-use Rattle.nested_arrays_flat.proofs.Layers.{Layer, layer_layout, type_lies}
+use Rattle.nested_arrays_parts.proofs.columns_lemmas.Conditions.{parts_of_4, parts_of_5}
+use Rattle.nested_arrays_parts.specs.columns.Kinds.{is_signed}
+use Rattle.nested_arrays_parts.specs.columns.SoundColumns.{are_pieces, are_sound, has_child_at, has_child_types, has_field_types, has_fixed_item_type}
+use Rattle.nested_arrays_parts.specs.columns.SoundColumns.{has_places, have_len, holds_below, is_sound, mask_fits}
+use Rattle.nested_arrays_parts.specs.columns.StoredColumns.{Column, Columns, column_len, column_type, fixed_lists, records, type_layer, unions}
+use Rattle.nested_arrays_parts.proofs.flat_lemmas.Layers.{Layer, layer_layout, type_lies}
 use Rattle.nested_arrays_parts.specs.Childless.{is_childless}
 use Rattle.nested_arrays_parts.specs.Keys.{AreKeysOf}
 use Rattle.nested_arrays_parts.specs.Widths.{layout_of}

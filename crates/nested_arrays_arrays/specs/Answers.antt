@@ -3,8 +3,8 @@ use Rattle.std.specs.Prelude.{◌≡◌, true, Result, MatchResult}
 use Rattle.columnar_memory.specs.Error.{IsOutOfSpec}
 use Rattle.columnar_memory.specs.declared.Error.{Error}
 use Rattle.columnar_memory.specs.declared.PhysicalType.{PhysicalType}
-use Rattle.nested_arrays_columns.specs.SoundColumns.{is_sound}
-use Rattle.nested_arrays_columns.specs.StoredColumns.{Column}
+use Rattle.nested_arrays_parts.specs.columns.SoundColumns.{is_sound}
+use Rattle.nested_arrays_parts.specs.columns.StoredColumns.{Column}
 use Rattle.nested_arrays_parts.specs.Childless.{is_childless}
 use Rattle.nested_arrays_parts.specs.FlatLayouts.{layout_in, TakesKind}
 

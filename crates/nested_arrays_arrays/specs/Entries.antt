@@ -5,7 +5,7 @@ use Rattle.columnar_memory.specs.declared.DataType.{DataType}
 use Rattle.columnar_memory.specs.declared.DataType.TheOpen as layer
 use Rattle.columnar_memory.specs.declared.DataType.TheViews.{out-DataType}
 use Rattle.columnar_memory.specs.declared.Field.{Field}
-use Rattle.nested_arrays_columns.specs.SoundColumns.{is_entry}
+use Rattle.nested_arrays_parts.specs.columns.SoundColumns.{is_entry}
 
 -- whether a type is a map whose entries have another
 abbrev pub has_entry_type : layer.DataType-F DataType Field → DataType → Bool

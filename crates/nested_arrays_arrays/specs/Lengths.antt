@@ -3,7 +3,7 @@ use Rattle.std.specs.Prelude.{ℕ, List, [], ◌∷◌}
 use Rattle.columnar_memory.specs.declared.DataType.{DataType}
 use Rattle.columnar_memory.specs.declared.DataType.TheOpen as layer
 use Rattle.columnar_memory.specs.declared.Field.{Field}
-use Rattle.nested_arrays_columns.specs.StoredColumns.{Column, column_len, type_layer}
+use Rattle.nested_arrays_parts.specs.columns.StoredColumns.{Column, column_len, type_layer}
 
 -- a struct is as long as the first of its children
 abbrev pub struct_len : List Column → ℕ

@@ -3,8 +3,8 @@ use Rattle.std.specs.Prelude.{ℕ, ℤ, List, [], Option, None}
 use Rattle.columnar_memory.specs.declared.DataType.{DataType}
 use Rattle.columnar_memory.specs.declared.DataType.TheOpen as layer
 use Rattle.columnar_memory.specs.declared.Field.{Field}
-use Rattle.nested_arrays_columns.specs.StoredColumns.{Column, Columns, lists, fixed_lists, records, unions, dictionary}
-use Rattle.nested_arrays_columns.specs.StoredColumns.{no_column, column_then, type_layer}
+use Rattle.nested_arrays_parts.specs.columns.StoredColumns.{Column, Columns, lists, fixed_lists, records, unions, dictionary}
+use Rattle.nested_arrays_parts.specs.columns.StoredColumns.{no_column, column_then, type_layer}
 
 -- where the lists of a column begin in their child, and where the last one ends
 abbrev pub column_offsets : Column → List ℕ

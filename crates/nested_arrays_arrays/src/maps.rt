@@ -3,16 +3,16 @@ ghost use Rattle.std.specs.Prelude.{◌≡◌, ◌+◌, ◌≤◌, ◌↔◌, Is
 ghost use Rattle.columnar_memory.specs.Spans.{offsets_of};
 ghost use Rattle.columnar_memory.specs.declared.DataType.TheViews.{out-DataType};
 ghost use Rattle.columnar_memory.specs.declared.PhysicalType.TheVariants as physical;
-ghost use Rattle.nested_arrays_columns.specs.SoundColumns.{is_entry};
-ghost use Rattle.nested_arrays_columns.specs.StoredColumns.{column_len, column_type, cut, lists, type_layer};
+ghost use Rattle.nested_arrays_parts.specs.columns.SoundColumns.{is_entry};
+ghost use Rattle.nested_arrays_parts.specs.columns.StoredColumns.{column_len, column_type, cut, lists, type_layer};
 ghost use Rattle.nested_arrays_arrays.specs.Answers.{IsCheckedAs, LiesAs};
 ghost use Rattle.nested_arrays_arrays.specs.Entries.{has_entry_type};
 ghost use Rattle.nested_arrays_arrays.specs.Parts.{column_offsets};
-ghost use Rattle.nested_arrays_flat.specs.ColumnMasks.{column_mask, ReplacesMask};
+ghost use Rattle.nested_arrays_parts.specs.flat.ColumnMasks.{column_mask, ReplacesMask};
 
 use crate::any::AnyArray;
 use columnar_memory::{Bitmap, DataType, Error, OffsetsBuffer, Result};
-use nested_arrays_flat::slice_mask;
+use nested_arrays_parts::flat::slice_mask;
 use nested_arrays_parts::{fits, last_of, slice_offsets};
 use std::marker::Model;
 
@@ -33,9 +33,9 @@ impl Model for MapArray {
     ghost use Rattle.columnar_memory.specs.Spans.{offsets_of};
     ghost use Rattle.columnar_memory.specs.Layouts.{physical_type};
     ghost use Rattle.columnar_memory.specs.declared.PhysicalType.TheVariants as physical;
-    ghost use Rattle.nested_arrays_columns.specs.StoredColumns.{Column, column_size, lists};
-    ghost use Rattle.nested_arrays_columns.specs.ColumnCodes.{column_code};
-    ghost use Rattle.nested_arrays_columns.specs.SoundColumns.{is_sound};
+    ghost use Rattle.nested_arrays_parts.specs.columns.StoredColumns.{Column, column_size, lists};
+    ghost use Rattle.nested_arrays_parts.specs.columns.ColumnCodes.{column_code};
+    ghost use Rattle.nested_arrays_parts.specs.columns.SoundColumns.{is_sound};
 
     ghost Value = { Column };
 

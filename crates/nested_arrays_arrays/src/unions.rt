@@ -1,12 +1,12 @@
 //! Unions.
 ghost use Rattle.std.specs.Prelude.{◌≡◌, true, ◌+◌, ◌<◌, ◌≤◌, ◌↔◌, IsTrue, length, None, option_copied, pos, slice_index_or};
-ghost use Rattle.nested_arrays_columns.specs.SoundColumns.{has_child_at, is_sound};
-ghost use Rattle.nested_arrays_columns.specs.StoredColumns.{child_number, column_len, column_type, cut, in_columns, slot_at, type_layer};
-ghost use Rattle.nested_arrays_columns.specs.StoredColumns.{picked_at, union_place, unions};
+ghost use Rattle.nested_arrays_parts.specs.columns.SoundColumns.{has_child_at, is_sound};
+ghost use Rattle.nested_arrays_parts.specs.columns.StoredColumns.{child_number, column_len, column_type, cut, in_columns, slot_at, type_layer};
+ghost use Rattle.nested_arrays_parts.specs.columns.StoredColumns.{picked_at, union_place, unions};
 ghost use Rattle.nested_arrays_arrays.specs.Answers.{IsChecked};
 ghost use Rattle.nested_arrays_arrays.specs.UnionFields.{layer_choices};
 ghost use Rattle.nested_arrays_arrays.specs.Parts.{column_children, column_ids, column_places};
-ghost use Rattle.nested_arrays_flat.specs.ColumnMasks.{column_mask, ReplacesMask};
+ghost use Rattle.nested_arrays_parts.specs.flat.ColumnMasks.{column_mask, ReplacesMask};
 ghost use Rattle.columnar_memory.specs.Layouts.{physical_type};
 ghost use Rattle.columnar_memory.specs.declared.PhysicalType.TheVariants as physical;
 
@@ -30,9 +30,9 @@ pub struct UnionArray {
 
 impl Model for UnionArray {
     ghost use Rattle.std.specs.Prelude.{◌≡◌, ◌+◌, ◌*◌, true};
-    ghost use Rattle.nested_arrays_columns.specs.StoredColumns.{Column, column_size, unions, in_columns};
-    ghost use Rattle.nested_arrays_columns.specs.ColumnCodes.{column_code};
-    ghost use Rattle.nested_arrays_columns.specs.SoundColumns.{is_sound};
+    ghost use Rattle.nested_arrays_parts.specs.columns.StoredColumns.{Column, column_size, unions, in_columns};
+    ghost use Rattle.nested_arrays_parts.specs.columns.ColumnCodes.{column_code};
+    ghost use Rattle.nested_arrays_parts.specs.columns.SoundColumns.{is_sound};
 
     ghost Value = { Column };
 

@@ -1,5 +1,5 @@
 use columnar_memory::{Bitmap, Buffer, DataType, Error};
-use flat_arrays_values::PrimitiveArray;
+use flat_arrays::PrimitiveArray;
 use nested_arrays_arrays::{AnyArray, equal};
 use nested_arrays_flat::AnyPrimitive;
 use nested_arrays_parts::FlatArray;

@@ -1,6 +1,6 @@
 use columnar_memory::{Boxed, DataType, Error, Field, IntegerType, OffsetsBuffer, Text};
-use flat_arrays_bytes::Utf8Array;
-use flat_arrays_values::PrimitiveArray;
+use flat_arrays::Utf8Array;
+use flat_arrays::PrimitiveArray;
 use nested_arrays_arrays::{AnyArray, equal};
 use nested_arrays_flat::AnyPrimitive;
 use nested_arrays_generic::{DictionaryArray, ListArray};

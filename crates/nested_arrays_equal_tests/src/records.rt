@@ -2,7 +2,7 @@
 use columnar_memory::{
     Bitmap, Boxed, Buffer, DataType, Error, Field, Items, OffsetsBuffer, Text, UnionMode,
 };
-use flat_arrays_values::PrimitiveArray;
+use flat_arrays::PrimitiveArray;
 use nested_arrays_arrays::{
     AnyArray, FixedSizeListArray, MapArray, StructArray, UnionArray, equal,
 };

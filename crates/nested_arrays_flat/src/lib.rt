@@ -11,7 +11,9 @@ mod ranges;
 mod sound;
 
 pub use fixed_size_binary::FixedSizeBinaryArray;
+pub use flat_arrays;
 pub use masks::{is_mask_of, mark_at, slice_mask, unset_marks};
+pub use nested_arrays_columns as columns;
 pub use null::NullArray;
 pub use primitive::{AnyPrimitive, Parts, PrimitiveKind, PrimitiveNode};
 pub use ranges::read_bytes;

@@ -1,5 +1,5 @@
 use columnar_memory::{Bitmap, Error};
-use flat_arrays_values::PrimitiveArray;
+use flat_arrays::PrimitiveArray;
 use nested_arrays_flat::{AnyPrimitive, PrimitiveKind};
 use std::alloc::{AllocError, Global};
 use std::test::Fail;

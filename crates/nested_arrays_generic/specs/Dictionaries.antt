@@ -12,10 +12,10 @@ use Rattle.columnar_memory.specs.declared.Field.{Field}
 use Rattle.columnar_memory.specs.declared.IntegerType.{IntegerType}
 use Rattle.columnar_memory.specs.declared.IntegerType.TheVariants as integers
 use Rattle.columnar_memory.specs.declared.PhysicalType.TheVariants as physical
-use Rattle.flat_arrays_values.specs.Flat.{Flat}
-use Rattle.nested_arrays_arrays.specs.Answers.{LiesAs}
-use Rattle.nested_arrays_columns.specs.StoredColumns.{Column, dictionary, is_valid_at, place_of}
-use Rattle.nested_arrays_flat.specs.ColumnMasks.{column_mask}
+use Rattle.nested_arrays_access.specs.flat_arrays.Flat.{Flat}
+use Rattle.nested_arrays_access.specs.arrays.Answers.{LiesAs}
+use Rattle.nested_arrays_access.specs.columns.StoredColumns.{Column, dictionary, is_valid_at, place_of}
+use Rattle.nested_arrays_access.specs.flat.ColumnMasks.{column_mask}
 
 -- the column of a dictionary by its type, its array of keys, whose mask it has, and its values
 abbrev pub keyed_by : {K : Type 0} → (K → ℤ) → DataType → Flat K → Column → Column

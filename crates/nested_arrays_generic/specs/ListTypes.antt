@@ -10,8 +10,8 @@ use Rattle.columnar_memory.specs.declared.Error.{Error}
 use Rattle.columnar_memory.specs.declared.Field.{Field}
 use Rattle.columnar_memory.specs.declared.PhysicalType.{PhysicalType}
 use Rattle.columnar_memory.specs.declared.PhysicalType.TheVariants as physical
-use Rattle.nested_arrays_arrays.specs.ItemTypes.{item_field}
-use Rattle.nested_arrays_columns.specs.StoredColumns.{Column, lists}
+use Rattle.nested_arrays_access.specs.arrays.ItemTypes.{item_field}
+use Rattle.nested_arrays_access.specs.columns.StoredColumns.{Column, lists}
 
 -- the items of lists
 abbrev pub items_in : Column → Column

@@ -1,6 +1,6 @@
 use columnar_memory::{Bitmap, Boxed, Buffer, DataType, Error, IntegerType};
-use flat_arrays_bytes::Utf8Array;
-use flat_arrays_values::PrimitiveArray;
+use flat_arrays::Utf8Array;
+use flat_arrays::PrimitiveArray;
 use nested_arrays_arrays::AnyArray;
 use nested_arrays_generic::DictionaryArray;
 use nested_arrays_parts::FlatArray;

@@ -1,5 +1,5 @@
 use columnar_memory::{Boxed, DataType, Error, Field, OffsetsBuffer, Text};
-use flat_arrays_values::PrimitiveArray;
+use flat_arrays::PrimitiveArray;
 use nested_arrays_arrays::{AnyArray, FixedSizeListArray};
 use nested_arrays_flat::AnyPrimitive;
 use nested_arrays_generic::ListArray;

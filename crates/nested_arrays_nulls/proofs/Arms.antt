@@ -9,8 +9,8 @@ use Rattle.columnar_memory.specs.declared.Error.{Error}
 use Rattle.columnar_memory.specs.declared.Field.{Field}
 use Rattle.columnar_memory.specs.declared.IntegerType.{IntegerType}
 use Rattle.columnar_memory.specs.declared.UnionMode.{UnionMode}
-use Rattle.nested_arrays_columns.specs.SoundColumns.{are_sound, is_sound}
-use Rattle.nested_arrays_columns.specs.StoredColumns.{Column, lists, fixed_lists, records, unions, dictionary, in_columns}
+use Rattle.nested_arrays_walks.specs.columns.SoundColumns.{are_sound, is_sound}
+use Rattle.nested_arrays_walks.specs.columns.StoredColumns.{Column, lists, fixed_lists, records, unions, dictionary, in_columns}
 use Rattle.nested_arrays_nulls.proofs.Made.{dictionary_refused, fixed_lists_refused, lists_refused, one_more_null, one_more_sound}
 use Rattle.nested_arrays_nulls.proofs.Made.{records_refused, unions_refused}
 use Rattle.nested_arrays_nulls.proofs.NullLayers.{extension_nulls}

@@ -10,7 +10,7 @@ use Rattle.columnar_memory.specs.declared.DataType.TheViews.{roll-DataType, out-
 use Rattle.columnar_memory.specs.declared.Field.{Field}
 use Rattle.columnar_memory.specs.declared.IntegerType.{IntegerType}
 use Rattle.columnar_memory.specs.declared.UnionMode.{UnionMode}
-use Rattle.nested_arrays_columns.specs.StoredColumns.{lists, fixed_lists, records, unions, dictionary, in_columns}
+use Rattle.nested_arrays_walks.specs.columns.StoredColumns.{lists, fixed_lists, records, unions, dictionary, in_columns}
 use Rattle.nested_arrays_nulls.specs.NullColumns.{Maker, first_id, no_marks, no_items, null_places, null_step, null_field_step, field_nulls, flat_nulls}
 use Rattle.nested_arrays_nulls.specs.NullColumns.{nulls_as, null_column, null_columns}
 use denote.Hole.Carrier

@@ -12,10 +12,10 @@ use Rattle.columnar_memory.specs.declared.DataType.TheViews.{roll-DataType}
 use Rattle.columnar_memory.specs.declared.Field.{Field}
 use Rattle.columnar_memory.specs.declared.PhysicalType.{PhysicalType}
 use Rattle.columnar_memory.specs.declared.PhysicalType.TheVariants as physical
-use Rattle.nested_arrays_columns.specs.SoundColumns.{is_sound, are_sound, mask_fits}
-use Rattle.nested_arrays_columns.specs.StoredColumns.{Column, nulls, flat, lists, fixed_lists, records, unions, dictionary, column_len, in_columns}
-use Rattle.nested_arrays_columns.specs.StoredColumns.{stored_len}
-use Rattle.nested_arrays_flat.proofs.ColumnParts.{sound_mask}
+use Rattle.nested_arrays_walks.specs.columns.SoundColumns.{is_sound, are_sound, mask_fits}
+use Rattle.nested_arrays_walks.specs.columns.StoredColumns.{Column, nulls, flat, lists, fixed_lists, records, unions, dictionary, column_len, in_columns}
+use Rattle.nested_arrays_walks.specs.columns.StoredColumns.{stored_len}
+use Rattle.nested_arrays_walks.proofs.flat_lemmas.ColumnParts.{sound_mask}
 use Rattle.nested_arrays_nulls.proofs.NullLayers.{Layer, with_makers, roll_makes}
 use Rattle.nested_arrays_nulls.specs.Lengths.{marks_length, most_length}
 use Rattle.nested_arrays_nulls.specs.NullColumns.{Maker, no_marks, no_items, first_id, flat_nulls, null_step, nulls_as, null_column, null_columns}

@@ -11,10 +11,10 @@ use Rattle.columnar_memory.specs.declared.Error.{Error}
 use Rattle.columnar_memory.specs.declared.Field.{Field}
 use Rattle.columnar_memory.specs.declared.PhysicalType.{PhysicalType}
 use Rattle.columnar_memory.specs.declared.PhysicalType.TheVariants as physical
-use Rattle.nested_arrays_columns.specs.Slots.{Slot, null, window}
-use Rattle.nested_arrays_columns.specs.SoundColumns.{is_sound}
-use Rattle.nested_arrays_columns.specs.StoredColumns.{Column, nulls, flat, lists, fixed_lists, records, unions, dictionary, column_len}
-use Rattle.nested_arrays_columns.specs.StoredColumns.{slot_at, slots, unless_null}
+use Rattle.nested_arrays_walks.specs.columns.Slots.{Slot, null, window}
+use Rattle.nested_arrays_walks.specs.columns.SoundColumns.{is_sound}
+use Rattle.nested_arrays_walks.specs.columns.StoredColumns.{Column, nulls, flat, lists, fixed_lists, records, unions, dictionary, column_len}
+use Rattle.nested_arrays_walks.specs.columns.StoredColumns.{slot_at, slots, unless_null}
 use Rattle.nested_arrays_nulls.proofs.NullLayers.{Layer, roll_makes, with_makers}
 use Rattle.nested_arrays_nulls.proofs.NullLengths.{HasSlots, have_slots, len_of_nulls}
 use Rattle.nested_arrays_nulls.specs.NullAnswers.{IsNullArray}

@@ -12,8 +12,8 @@ use Rattle.columnar_memory.specs.declared.IntegerType.{IntegerType}
 use Rattle.columnar_memory.specs.declared.PhysicalType.{PhysicalType}
 use Rattle.columnar_memory.specs.declared.PhysicalType.TheVariants as physical
 use Rattle.columnar_memory.proofs.types_lemmas.LogicalTypes.{logical_type-Extension, logical_type-other}
-use Rattle.nested_arrays_arrays.specs.Lengths.{layer_size, size_of}
-use Rattle.nested_arrays_flat.proofs.Layers.{layer_layout, type_lies}
+use Rattle.nested_arrays_walks.specs.arrays.Lengths.{layer_size, size_of}
+use Rattle.nested_arrays_walks.proofs.flat_lemmas.Layers.{layer_layout, type_lies}
 use denote.Hole.Carrier
 
 -- they lie in memory in the same way

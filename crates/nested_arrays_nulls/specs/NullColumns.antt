@@ -11,10 +11,10 @@ use Rattle.columnar_memory.specs.declared.PhysicalType.{PhysicalType}
 use Rattle.columnar_memory.specs.declared.PhysicalType.TheVariants as physical
 use Rattle.columnar_memory.specs.declared.UnionMode.{UnionMode}
 use Rattle.columnar_memory.specs.declared.UnionMode.TheVariants as modes
-use Rattle.nested_arrays_columns.specs.Slots.{window}
-use Rattle.nested_arrays_columns.specs.StoredColumns.{Column, Stored, nulls, flat, lists, fixed_lists, records, unions, dictionary}
-use Rattle.nested_arrays_columns.specs.StoredColumns.{bits, texts, byte_strings, fixed_bytes, in_columns}
-use Rattle.nested_arrays_flat.specs.FlatColumns.{byte_width, stored_numbers}
+use Rattle.nested_arrays_walks.specs.columns.Slots.{window}
+use Rattle.nested_arrays_walks.specs.columns.StoredColumns.{Column, Stored, nulls, flat, lists, fixed_lists, records, unions, dictionary}
+use Rattle.nested_arrays_walks.specs.columns.StoredColumns.{bits, texts, byte_strings, fixed_bytes, in_columns}
+use Rattle.nested_arrays_walks.specs.flat.FlatColumns.{byte_width, stored_numbers}
 
 -- the mask of so many nulls
 abbrev pub no_marks : ℕ → Option (List Bool)

@@ -8,10 +8,10 @@ ghost use Rattle.nested_arrays_nulls.specs.NullColumns.{flat_nulls};
 use columnar_memory::{
     DataType, Error, PhysicalType, PrimitiveType, Result, days_ms, i256, months_days_ns,
 };
-use flat_arrays_bytes::{BinaryArray, Utf8Array};
-use flat_arrays_values::{BooleanArray, PrimitiveArray};
-use nested_arrays_flat::{AnyPrimitive, FixedSizeBinaryArray, NullArray, PrimitiveKind};
-use nested_arrays_parts::FlatArray;
+use nested_arrays_walks::flat_arrays::{BinaryArray, Utf8Array};
+use nested_arrays_walks::flat_arrays::{BooleanArray, PrimitiveArray};
+use nested_arrays_walks::flat::{AnyPrimitive, FixedSizeBinaryArray, NullArray, PrimitiveKind};
+use nested_arrays_walks::parts::FlatArray;
 use std::alloc::Global;
 
 /// So many nulls that store zeros of a kind.

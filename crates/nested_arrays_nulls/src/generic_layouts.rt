@@ -2,15 +2,15 @@
 ghost use Rattle.std.specs.Prelude.{◌≡◌, pos, replicate};
 ghost use Rattle.columnar_memory.specs.Layouts.{physical_type};
 ghost use Rattle.columnar_memory.specs.declared.PhysicalType.TheVariants as physical;
-ghost use Rattle.nested_arrays_columns.specs.StoredColumns.{dictionary, lists};
-ghost use Rattle.nested_arrays_generic.specs.ListTypes.{list_layout};
+ghost use Rattle.nested_arrays_walks.specs.columns.StoredColumns.{dictionary, lists};
+ghost use Rattle.nested_arrays_walks.specs.generic.ListTypes.{list_layout};
 ghost use Rattle.nested_arrays_nulls.specs.NullAnswers.{IsMade};
 ghost use Rattle.nested_arrays_nulls.specs.NullColumns.{no_items, no_marks};
 
 use columnar_memory::{Bitmap, DataType, Offset, Offsets, Result};
-use flat_arrays_values::PrimitiveArray;
-use nested_arrays_arrays::AnyArray;
-use nested_arrays_generic::{DictionaryArray, DictionaryKey, ListArray};
+use nested_arrays_walks::flat_arrays::PrimitiveArray;
+use nested_arrays_walks::arrays::AnyArray;
+use nested_arrays_walks::generic::{DictionaryArray, DictionaryKey, ListArray};
 use std::alloc::Global;
 
 /// So many nulls in place of lists of these items.
@@ -29,7 +29,7 @@ pub(crate) fn lists<O: Offset>(
 }
 
 /// So many nulls in place of keys of these values.
-#[tactic(auto, using(flat_arrays_values::proofs::Layouts::plainest))]
+#[tactic(auto, using(nested_arrays_walks::proofs::flat_arrays_lemmas::values_lemmas::Layouts::plainest))]
 pub(crate) fn dictionary<K: DictionaryKey>(
     alloc: Global,
     data_type: DataType,

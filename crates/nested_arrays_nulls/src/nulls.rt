@@ -7,7 +7,7 @@ ghost use Rattle.nested_arrays_nulls.specs.NullColumns.{null_columns, nulls_as};
 
 use crate::{flats, wholes};
 use columnar_memory::{DataType, Error, Field, Result, Text};
-use nested_arrays_arrays::AnyArray;
+use nested_arrays_walks::arrays::AnyArray;
 use std::alloc::Global;
 
 /// An array of so many nulls of a type, of any depth: each slot is null. Only a union has no nulls of its own: its slots pick the nulls of

@@ -4,8 +4,8 @@ use Rattle.std.specs.Prelude.{ℤ, Some, None}
 use Rattle.columnar_memory.specs.declared.DataType.{DataType}
 use Rattle.columnar_memory.specs.declared.PhysicalType.{PhysicalType}
 use Rattle.columnar_memory.specs.declared.PhysicalType.TheVariants as physical
-use Rattle.nested_arrays_columns.specs.StoredColumns.{Column, nulls, flat, lists, fixed_lists, records, unions, dictionary, bits, numbers, pairs, triples}
-use Rattle.nested_arrays_columns.specs.StoredColumns.{texts, byte_strings, fixed_bytes, column_len, cut, cut_list, cut_mask}
+use Rattle.nested_arrays_flat.specs.columns.StoredColumns.{Column, nulls, flat, lists, fixed_lists, records, unions, dictionary, bits, numbers, pairs, triples}
+use Rattle.nested_arrays_flat.specs.columns.StoredColumns.{texts, byte_strings, fixed_bytes, column_len, cut, cut_list, cut_mask}
 use Rattle.nested_arrays_flat.specs.ColumnMasks.{column_mask}
 use Rattle.nested_arrays_parts.specs.Keys.{AreKeysOf, numbers_in, keyed}
 

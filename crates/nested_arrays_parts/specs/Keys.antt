@@ -7,7 +7,7 @@ use Rattle.columnar_memory.specs.declared.PhysicalType.{PhysicalType}
 use Rattle.columnar_memory.specs.declared.PhysicalType.TheVariants as physical
 use Rattle.columnar_memory.specs.declared.PrimitiveType.{PrimitiveType}
 use Rattle.columnar_memory.specs.declared.PrimitiveType.TheVariants as kinds
-use Rattle.nested_arrays_columns.specs.StoredColumns.{Column, flat, numbers, dictionary}
+use Rattle.nested_arrays_flat.specs.columns.StoredColumns.{Column, flat, numbers, dictionary}
 use Rattle.nested_arrays_flat.specs.ColumnMasks.{column_mask}
 
 -- the whole numbers that a column of numbers stores, those under nulls too

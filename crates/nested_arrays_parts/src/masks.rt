@@ -1,7 +1,7 @@
 //! Masks and offsets that have to fit.
 ghost use Rattle.std.specs.Prelude.{◌≡◌, ◌≤◌};
 ghost use Rattle.columnar_memory.specs.Spans.{last_of};
-ghost use Rattle.nested_arrays_columns.specs.SoundColumns.{mask_fits};
+ghost use Rattle.nested_arrays_flat.specs.columns.SoundColumns.{mask_fits};
 
 use columnar_memory::{Bitmap, Index, Offset, OffsetsBuffer};
 

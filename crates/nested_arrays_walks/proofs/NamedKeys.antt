@@ -7,9 +7,9 @@ use Rattle.std.proofs.lemmas.List.{length-map}
 use Rattle.columnar_memory.proofs.buffer_lemmas.Runs.{nonnegative}
 use Rattle.columnar_memory.specs.declared.DataType.{DataType}
 use Rattle.columnar_memory.specs.declared.Error.{Error}
-use Rattle.flat_arrays_values.specs.Flat.{Flat}
-use Rattle.flat_arrays_values.specs.Results.{AreChecked, IsPlaceBelow}
-use Rattle.nested_arrays_columns.specs.StoredColumns.{Column, column_len, place_of}
+use Rattle.nested_arrays_generic.specs.flat_arrays.Flat.{Flat}
+use Rattle.nested_arrays_generic.specs.flat_arrays.Results.{AreChecked, IsPlaceBelow}
+use Rattle.nested_arrays_generic.specs.columns.StoredColumns.{Column, column_len, place_of}
 use Rattle.nested_arrays_generic.specs.Dictionaries.{keyed_by}
 use Rattle.nested_arrays_walks.specs.NamedValues.{AreNamed}
 

@@ -3,12 +3,12 @@ use Rattle.std.proofs.Common.{◌≡◌, ◌∙◌, ℕ, ◌<◌, List, length, 
 use Rattle.std.specs.Prelude.{ℤ, pos, Bool, ◌&&◌, ◌||◌, not, Option, Some, None, MatchOption, if◌then◌else◌, int_le, nat_lt, slice_index_or}
 use Rattle.std.proofs.lemmas.Bool.{and_parts, ltb-true}
 use Rattle.columnar_memory.specs.declared.DataType.{DataType}
-use Rattle.nested_arrays_columns.proofs.Conditions.{holds_at, parts_of_4}
-use Rattle.nested_arrays_columns.specs.SoundColumns.{has_value_at, has_value_type, holds_below, is_sound, mask_fits}
-use Rattle.nested_arrays_columns.specs.Slots.{null}
-use Rattle.nested_arrays_columns.specs.StoredColumns.{Column, dictionary, column_len, column_type, is_valid_at, place_of, slot_at, type_layer}
-use Rattle.nested_arrays_parts.proofs.SameForms.{valid_slot, null_slot}
-use Rattle.nested_arrays_flat.specs.ColumnMasks.{column_mask}
+use Rattle.nested_arrays_generic.proofs.columns_lemmas.Conditions.{holds_at, parts_of_4}
+use Rattle.nested_arrays_generic.specs.columns.SoundColumns.{has_value_at, has_value_type, holds_below, is_sound, mask_fits}
+use Rattle.nested_arrays_generic.specs.columns.Slots.{null}
+use Rattle.nested_arrays_generic.specs.columns.StoredColumns.{Column, dictionary, column_len, column_type, is_valid_at, place_of, slot_at, type_layer}
+use Rattle.nested_arrays_generic.proofs.parts_lemmas.SameForms.{valid_slot, null_slot}
+use Rattle.nested_arrays_generic.specs.flat.ColumnMasks.{column_mask}
 use Rattle.nested_arrays_generic.specs.Dictionaries.{key_at, raw_key}
 use Rattle.nested_arrays_walks.specs.NamedValues.{IsNamed}
 use Rattle.nested_arrays_walks.specs.ReadValues.{IsRead, value_at}

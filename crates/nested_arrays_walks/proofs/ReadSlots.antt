@@ -7,15 +7,15 @@ use Rattle.std.proofs.lemmas.Bool.{and_parts, eqb-true}
 use Rattle.columnar_memory.proofs.bitmap_lemmas.Lists.{slice_get-window, slice_get-window_past}
 use Rattle.columnar_memory.specs.Spans.{Spans, offsets_of, offset_at, last_of}
 use Rattle.columnar_memory.specs.declared.DataType.{DataType}
-use Rattle.nested_arrays_columns.proofs.Conditions.{parts_of_4}
-use Rattle.nested_arrays_columns.proofs.CutLengths.{column_len-cut}
-use Rattle.nested_arrays_columns.proofs.Cuts.{slot_at-cut}
-use Rattle.nested_arrays_columns.proofs.Windows.{window_same}
-use Rattle.nested_arrays_columns.specs.Slots.{Slot, items, fields, slot_then, in_slots, window}
-use Rattle.nested_arrays_columns.specs.SoundColumns.{are_sound, has_field_types, have_len, is_sound, mask_fits}
-use Rattle.nested_arrays_columns.specs.StoredColumns.{Column, lists, fixed_lists, records, column_len, cut, in_columns, slot_at, slots, slots_at}
-use Rattle.nested_arrays_columns.specs.StoredColumns.{type_layer}
-use Rattle.nested_arrays_flat.proofs.Offsets.{get_or-offsets_of}
+use Rattle.nested_arrays_generic.proofs.columns_lemmas.Conditions.{parts_of_4}
+use Rattle.nested_arrays_generic.proofs.columns_lemmas.CutLengths.{column_len-cut}
+use Rattle.nested_arrays_generic.proofs.columns_lemmas.Cuts.{slot_at-cut}
+use Rattle.nested_arrays_generic.proofs.columns_lemmas.Windows.{window_same}
+use Rattle.nested_arrays_generic.specs.columns.Slots.{Slot, items, fields, slot_then, in_slots, window}
+use Rattle.nested_arrays_generic.specs.columns.SoundColumns.{are_sound, has_field_types, have_len, is_sound, mask_fits}
+use Rattle.nested_arrays_generic.specs.columns.StoredColumns.{Column, lists, fixed_lists, records, column_len, cut, in_columns, slot_at, slots, slots_at}
+use Rattle.nested_arrays_generic.specs.columns.StoredColumns.{type_layer}
+use Rattle.nested_arrays_generic.proofs.flat_lemmas.Offsets.{get_or-offsets_of}
 use Rattle.nested_arrays_walks.specs.ReadValues.{IsList, IsListBetween, IsRow}
 
 -- ---- parts

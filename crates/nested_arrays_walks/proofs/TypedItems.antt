@@ -8,19 +8,19 @@ use Rattle.columnar_memory.specs.Bits.{unset_count}
 use Rattle.columnar_memory.specs.declared.DataType.{DataType}
 use Rattle.columnar_memory.specs.declared.Error.{Error}
 use Rattle.columnar_memory.specs.declared.PhysicalType.{PhysicalType}
-use Rattle.flat_arrays_bytes.specs.ByteStrings as strings
-use Rattle.flat_arrays_bytes.specs.ByteStrings.{ByteStrings, len_of}
-use Rattle.nested_arrays_columns.specs.Slots.{Slot, text}
-use Rattle.nested_arrays_columns.specs.SoundColumns.{is_sound, mask_fits}
-use Rattle.nested_arrays_columns.specs.StoredColumns.{Column, dictionary, column_len, is_valid_at, place_of, slot_at}
-use Rattle.nested_arrays_flat.proofs.ColumnParts.{sound_mask}
-use Rattle.nested_arrays_flat.proofs.SoundStrings.{texts_len}
-use Rattle.nested_arrays_flat.specs.ColumnMasks.{column_mask, unset_in}
-use Rattle.nested_arrays_flat.specs.FlatColumns.{text_column}
-use Rattle.nested_arrays_parts.proofs.SameForms.{null_slot, valid_slot}
-use Rattle.nested_arrays_parts.proofs.StoredForms.{text_there}
-use Rattle.nested_arrays_parts.specs.FlatLayouts.{layout_in}
-use Rattle.nested_arrays_access.specs.Nulls.{null_count_of}
+use Rattle.nested_arrays_generic.specs.flat_arrays.ByteStrings as strings
+use Rattle.nested_arrays_generic.specs.flat_arrays.ByteStrings.{ByteStrings, len_of}
+use Rattle.nested_arrays_generic.specs.columns.Slots.{Slot, text}
+use Rattle.nested_arrays_generic.specs.columns.SoundColumns.{is_sound, mask_fits}
+use Rattle.nested_arrays_generic.specs.columns.StoredColumns.{Column, dictionary, column_len, is_valid_at, place_of, slot_at}
+use Rattle.nested_arrays_generic.proofs.flat_lemmas.ColumnParts.{sound_mask}
+use Rattle.nested_arrays_generic.proofs.flat_lemmas.SoundStrings.{texts_len}
+use Rattle.nested_arrays_generic.specs.flat.ColumnMasks.{column_mask, unset_in}
+use Rattle.nested_arrays_generic.specs.flat.FlatColumns.{text_column}
+use Rattle.nested_arrays_generic.proofs.parts_lemmas.SameForms.{null_slot, valid_slot}
+use Rattle.nested_arrays_generic.proofs.parts_lemmas.StoredForms.{text_there}
+use Rattle.nested_arrays_generic.specs.parts.FlatLayouts.{layout_in}
+use Rattle.nested_arrays_generic.specs.access.Nulls.{null_count_of}
 use Rattle.nested_arrays_generic.specs.Dictionaries.{key_at, raw_key, values_of}
 use Rattle.nested_arrays_walks.proofs.NamedSlots.{key_shows, key_within, place_or_none}
 use Rattle.nested_arrays_walks.specs.NamedValues.{AreNamed}

@@ -1,7 +1,7 @@
 -- The values that the keys of dictionaries name (Arrow columnar format, "Dictionary-encoded Layout").
 use Rattle.std.specs.Prelude.{◌≡◌, ◌<◌, ◌≤ℤ◌, ℕ, pos}
-use Rattle.nested_arrays_columns.specs.Slots.{Slot}
-use Rattle.nested_arrays_columns.specs.StoredColumns.{Column, column_len, place_of}
+use Rattle.nested_arrays_generic.specs.columns.Slots.{Slot}
+use Rattle.nested_arrays_generic.specs.columns.StoredColumns.{Column, column_len, place_of}
 use Rattle.nested_arrays_generic.specs.Dictionaries.{raw_key, values_of}
 use Rattle.nested_arrays_walks.specs.ReadValues.{value_at}
 

@@ -3,9 +3,9 @@ use Rattle.std.specs.Prelude.{◌≡◌, ◌+◌, ◌-◌, ◌*◌, ◌<◌, ℕ
 use Rattle.std.specs.Borrow.{Bor}
 use Rattle.columnar_memory.specs.Spans.{Spans, offsets_of}
 use Rattle.columnar_memory.specs.declared.DataType.{DataType}
-use Rattle.nested_arrays_columns.specs.Slots.{Slot, null, bytes, items, fields, pick, in_slots}
-use Rattle.nested_arrays_columns.specs.StoredColumns.{Column, lists, fixed_lists, column_len, cut, is_valid_at, slot_at, slots}
-use Rattle.nested_arrays_flat.specs.ColumnMasks.{column_mask, with_mask}
+use Rattle.nested_arrays_generic.specs.columns.Slots.{Slot, null, bytes, items, fields, pick, in_slots}
+use Rattle.nested_arrays_generic.specs.columns.StoredColumns.{Column, lists, fixed_lists, column_len, cut, is_valid_at, slot_at, slots}
+use Rattle.nested_arrays_generic.specs.flat.ColumnMasks.{column_mask, with_mask}
 
 -- the value at a place, whatever the mask says
 abbrev pub value_at : Column → ℕ → Slot

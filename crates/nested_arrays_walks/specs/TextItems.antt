@@ -4,11 +4,11 @@ use Rattle.std.specs.Borrow.{Bor}
 use Rattle.columnar_memory.specs.Error.{IsInvalidArgument}
 use Rattle.columnar_memory.specs.declared.Error.{Error}
 use Rattle.columnar_memory.specs.declared.PhysicalType.{PhysicalType}
-use Rattle.flat_arrays_bytes.specs.ByteStrings.{ByteStrings}
-use Rattle.nested_arrays_columns.specs.StoredColumns.{Column}
-use Rattle.nested_arrays_flat.specs.FlatColumns.{text_column}
-use Rattle.nested_arrays_parts.specs.FlatLayouts.{layout_in}
-use Rattle.nested_arrays_access.specs.Nulls.{null_count_of}
+use Rattle.nested_arrays_generic.specs.flat_arrays.ByteStrings.{ByteStrings}
+use Rattle.nested_arrays_generic.specs.columns.StoredColumns.{Column}
+use Rattle.nested_arrays_generic.specs.flat.FlatColumns.{text_column}
+use Rattle.nested_arrays_generic.specs.parts.FlatLayouts.{layout_in}
+use Rattle.nested_arrays_generic.specs.access.Nulls.{null_count_of}
 
 -- the texts of an array, or none where it lies in memory otherwise
 abbrev pub ShowsTexts : PhysicalType → Column → Option (Bor ByteStrings) → Type 0

@@ -3,11 +3,11 @@ use Rattle.std.specs.Prelude.{◌≡◌, ◌<◌, ℕ, true, false, Option, Some
 use Rattle.columnar_memory.specs.Error.{IsInvalidArgument}
 use Rattle.columnar_memory.specs.declared.Error.{Error}
 use Rattle.columnar_memory.specs.declared.PhysicalType.{PhysicalType}
-use Rattle.nested_arrays_columns.specs.Slots.{Slot}
-use Rattle.nested_arrays_columns.specs.StoredColumns.{Column, column_len, is_valid_at, place_of, slot_at}
-use Rattle.nested_arrays_flat.specs.ColumnMasks.{column_mask}
-use Rattle.nested_arrays_parts.specs.FlatLayouts.{layout_in}
-use Rattle.nested_arrays_access.specs.Nulls.{null_count_of}
+use Rattle.nested_arrays_generic.specs.columns.Slots.{Slot}
+use Rattle.nested_arrays_generic.specs.columns.StoredColumns.{Column, column_len, is_valid_at, place_of, slot_at}
+use Rattle.nested_arrays_generic.specs.flat.ColumnMasks.{column_mask}
+use Rattle.nested_arrays_generic.specs.parts.FlatLayouts.{layout_in}
+use Rattle.nested_arrays_generic.specs.access.Nulls.{null_count_of}
 use Rattle.nested_arrays_generic.specs.Dictionaries.{raw_key, values_of}
 use Rattle.nested_arrays_walks.specs.ReadValues.{IsRead, value_at}
 

@@ -1,14 +1,14 @@
 //! The bytes of arrays of byte strings.
 ghost use Rattle.std.specs.Prelude.{◌≡◌, ℕ, List};
 ghost use Rattle.columnar_memory.specs.Spans.{offsets_of};
-ghost use Rattle.nested_arrays_columns.specs.StoredColumns.{column_type};
-ghost use Rattle.nested_arrays_flat.specs.FlatColumns.{byte_width};
+ghost use Rattle.nested_arrays_generic.specs.columns.StoredColumns.{column_type};
+ghost use Rattle.nested_arrays_generic.specs.flat.FlatColumns.{byte_width};
 ghost use Rattle.nested_arrays_walks.specs.StringParts.{string_bytes, string_offsets};
 
 use columnar_memory::{Offset, OffsetsBuffer};
-use flat_arrays_bytes::{BinaryArray, Utf8Array};
-use nested_arrays_access::Array;
-use nested_arrays_flat::FixedSizeBinaryArray;
+use nested_arrays_generic::flat_arrays::{BinaryArray, Utf8Array};
+use nested_arrays_generic::access::Array;
+use nested_arrays_generic::flat::FixedSizeBinaryArray;
 
 /// Byte strings or texts between offsets.
 pub trait GenericBinaryArray<O: Offset>: Array {

@@ -1,13 +1,13 @@
 //! The values that the slots of dictionaries name.
 ghost use Rattle.std.specs.Prelude.{◌≡◌, ◌<◌, ◌↔◌, IsTrue, pos};
-ghost use Rattle.nested_arrays_columns.specs.StoredColumns.{Column, column_len};
+ghost use Rattle.nested_arrays_generic.specs.columns.StoredColumns.{Column, column_len};
 ghost use Rattle.nested_arrays_generic.specs.Dictionaries.{raw_key};
 ghost use Rattle.nested_arrays_walks.specs.NamedValues.{AreNamed, ArePlaces, IsNamed, NamesValue};
 ghost use Rattle.nested_arrays_walks.specs.ReadValues.{IsRead, IsReadWithin};
 
 use crate::slots::ArraySlot;
-use flat_arrays_values::{ArrayAccessor, ArrayValuesIter};
-use flat_arrays_values::check_indexes;
+use nested_arrays_generic::flat_arrays::{ArrayAccessor, ArrayValuesIter};
+use nested_arrays_generic::flat_arrays::check_indexes;
 use nested_arrays_generic::{DictionaryArray, DictionaryKey};
 
 /// The slots of a dictionary: what its keys name, or none where a slot is null.

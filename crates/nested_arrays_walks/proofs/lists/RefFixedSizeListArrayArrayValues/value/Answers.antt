@@ -1,7 +1,7 @@
 use Rattle.std.proofs.Common.{◌∙◌, ap, arith, sym}
-use Rattle.nested_arrays_columns.specs.StoredColumns.{column_len, column_type, fixed_lists}
-use Rattle.nested_arrays_flat.proofs.FixedWidths.{string_within}
-use Rattle.nested_arrays_flat.specs.ColumnMasks.{column_mask}
+use Rattle.nested_arrays_generic.specs.columns.StoredColumns.{column_len, column_type, fixed_lists}
+use Rattle.nested_arrays_generic.proofs.flat_lemmas.FixedWidths.{string_within}
+use Rattle.nested_arrays_generic.specs.flat.ColumnMasks.{column_mask}
 use Rattle.nested_arrays_walks.proofs.ReadSlots.{fixed_list}
 use Rattle.nested_arrays_walks.proofs.lists.RefFixedSizeListArrayArrayValues.value.Goals as goal
 

@@ -1,9 +1,9 @@
 use Rattle.std.proofs.Common.{◌∙◌, ap, arith, subst, sym}
-use Rattle.nested_arrays_columns.specs.SoundColumns.{is_sound}
-use Rattle.nested_arrays_columns.specs.StoredColumns.{Column, column_len, column_type, lists}
-use Rattle.nested_arrays_flat.specs.ColumnMasks.{column_mask}
-use Rattle.nested_arrays_parts.proofs.OffsetLists.{spans_count}
-use Rattle.nested_arrays_arrays.proofs.ListParts.{lists_parts}
+use Rattle.nested_arrays_generic.specs.columns.SoundColumns.{is_sound}
+use Rattle.nested_arrays_generic.specs.columns.StoredColumns.{Column, column_len, column_type, lists}
+use Rattle.nested_arrays_generic.specs.flat.ColumnMasks.{column_mask}
+use Rattle.nested_arrays_generic.proofs.parts_lemmas.OffsetLists.{spans_count}
+use Rattle.nested_arrays_generic.proofs.arrays_lemmas.ListParts.{lists_parts}
 use Rattle.nested_arrays_walks.specs.ReadValues.{IsList}
 use Rattle.nested_arrays_walks.proofs.lists.RefMapArrayArrayValues.value.Goals as goal
 

@@ -1,5 +1,5 @@
 use Rattle.std.proofs.Common.{◌<◌, ◌≡◌, ℕ, ap, subst, sym}
-use Rattle.nested_arrays_columns.specs.StoredColumns.{column_len, place_of}
+use Rattle.nested_arrays_generic.specs.columns.StoredColumns.{column_len, place_of}
 use Rattle.nested_arrays_generic.specs.Dictionaries.{raw_key, values_of}
 use Rattle.nested_arrays_walks.proofs.TypedItems.{keyed_item}
 use Rattle.nested_arrays_walks.proofs.typed.TypedValuesArrayAccessor.value.Goals as goal

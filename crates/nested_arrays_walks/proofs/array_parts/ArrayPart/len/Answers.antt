@@ -1,6 +1,6 @@
 use Rattle.std.proofs.Common.{sym}
 use Rattle.nested_arrays_walks.proofs.ReadSlots.{part_len}
-use Rattle.nested_arrays_walks.proofs.parts.ArrayPart.len.Goals as goal
+use Rattle.nested_arrays_walks.proofs.array_parts.ArrayPart.len.Goals as goal
 
 pub returns : goal.returns
 returns c =

@@ -1,10 +1,10 @@
 //! Arrays without children as arrays of any type.
 use crate::boxes::ToBoxed;
-use flat_arrays_bytes::{BinaryArray, Utf8Array};
-use flat_arrays_values::{BooleanArray, PrimitiveArray};
-use nested_arrays_arrays::AnyArray;
-use nested_arrays_flat::{AnyPrimitive, FixedSizeBinaryArray, NullArray, PrimitiveKind};
-use nested_arrays_parts::FlatArray;
+use nested_arrays_access::flat_arrays::{BinaryArray, Utf8Array};
+use nested_arrays_access::flat_arrays::{BooleanArray, PrimitiveArray};
+use nested_arrays_access::arrays::AnyArray;
+use nested_arrays_access::flat::{AnyPrimitive, FixedSizeBinaryArray, NullArray, PrimitiveKind};
+use nested_arrays_access::parts::FlatArray;
 use std::alloc::AllocError;
 
 impl ToBoxed for NullArray {

@@ -4,9 +4,9 @@ ghost use Rattle.nested_arrays_walks.specs.ReadValues.{IsByteString, IsPicked, I
 use crate::rows::StructSlot;
 use crate::slots::ArraySlot;
 use crate::values::{ArrayValues, Values};
-use flat_arrays_values::ArrayValuesIter;
-use nested_arrays_arrays::{StructArray, UnionArray};
-use nested_arrays_flat::{FixedSizeBinaryArray, mark_at};
+use nested_arrays_generic::flat_arrays::ArrayValuesIter;
+use nested_arrays_generic::arrays::{StructArray, UnionArray};
+use nested_arrays_generic::flat::{FixedSizeBinaryArray, mark_at};
 
 /// The values of the fields of structs, struct by struct.
 pub type StructValueIter<'a> = ArrayValuesIter<Values<&'a StructArray>>;

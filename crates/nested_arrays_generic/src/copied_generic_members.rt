@@ -1,7 +1,7 @@
 //! Lists and dictionaries as arrays of any type.
 use crate::boxes::ToBoxed;
-use nested_arrays_arrays::AnyArray;
-use nested_arrays_generic::{DictionaryArray, DictionaryKey, ListArray};
+use nested_arrays_access::arrays::AnyArray;
+use crate::{DictionaryArray, DictionaryKey, ListArray};
 use std::alloc::AllocError;
 
 impl ToBoxed for ListArray<i32> {

@@ -1,6 +1,6 @@
 use Rattle.std.proofs.Common.{◌∙◌, arith}
 use Rattle.nested_arrays_walks.proofs.ReadSlots.{part_len, part_slot}
-use Rattle.nested_arrays_walks.proofs.parts.ArrayPartArrayAccessor.value.Goals as goal
+use Rattle.nested_arrays_walks.proofs.array_parts.ArrayPartArrayAccessor.value.Goals as goal
 
 pub overflow_add-self-inside : goal.overflow_add-self-inside
 overflow_add-self-inside c =

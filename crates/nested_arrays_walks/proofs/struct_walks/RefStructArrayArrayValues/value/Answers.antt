@@ -1,5 +1,5 @@
 use Rattle.nested_arrays_walks.proofs.ReadSlots.{struct_places, struct_row}
-use Rattle.nested_arrays_walks.proofs.arrays.RefStructArrayArrayValues.value.Goals as goal
+use Rattle.nested_arrays_walks.proofs.struct_walks.RefStructArrayArrayValues.value.Goals as goal
 
 pub new-requires : goal.new-requires
 new-requires c = struct_places c.args.self.now _ _ _ c.values.result.now c.args.i c.values.ensures c.whole.ensures c.requires

@@ -1,6 +1,6 @@
 use Rattle.std.proofs.Common.{sym}
-use Rattle.nested_arrays_flat.proofs.ColumnParts.{sound_after}
-use Rattle.nested_arrays_walks.proofs.parts.ArrayPart.whole.Goals as goal
+use Rattle.nested_arrays_generic.proofs.flat_lemmas.ColumnParts.{sound_after}
+use Rattle.nested_arrays_walks.proofs.array_parts.ArrayPart.whole.Goals as goal
 
 pub returns : goal.returns
 returns c =

@@ -1,8 +1,8 @@
 use Rattle.std.proofs.Common.{◌∙◌, ◌<◌, ap, length, rules, sym}
-use Rattle.nested_arrays_columns.specs.Slots.{pick}
-use Rattle.nested_arrays_columns.specs.StoredColumns.{column_type}
-use Rattle.nested_arrays_arrays.proofs.SlotPlaces.{child_there, place_there, union_pick}
-use Rattle.nested_arrays_walks.proofs.arrays.RefUnionArrayArrayValues.value.Goals as goal
+use Rattle.nested_arrays_generic.specs.columns.Slots.{pick}
+use Rattle.nested_arrays_generic.specs.columns.StoredColumns.{column_type}
+use Rattle.nested_arrays_generic.proofs.arrays_lemmas.SlotPlaces.{child_there, place_there, union_pick}
+use Rattle.nested_arrays_walks.proofs.struct_walks.RefUnionArrayArrayValues.value.Goals as goal
 
 pub bounds-fields-number : goal.bounds-fields-number
 bounds-fields-number c =

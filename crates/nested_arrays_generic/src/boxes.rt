@@ -2,7 +2,7 @@
 ghost use Rattle.std.specs.Prelude.{◌≡◌, IfOk};
 
 use nested_arrays_access::Array;
-use nested_arrays_arrays::AnyArray;
+use nested_arrays_access::arrays::AnyArray;
 use std::alloc::{AllocError, Global};
 use std::rc::Rc;
 
