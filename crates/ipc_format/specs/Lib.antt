@@ -34,7 +34,7 @@ pub use Rattle.ipc_format_messages.specs.TypeSlots
 pub use Rattle.ipc_format_messages.specs.TypeRefs
 pub use Rattle.ipc_format_messages.specs.WholeMessages
 pub use Rattle.ipc_format_messages.specs.BufferLengths
-pub use Rattle.ipc_format_message_writing.specs.MessageWriting
-pub use Rattle.ipc_format_message_writing.specs.FooterWriting
+pub use Rattle.ipc_format_writing.specs.MessageWriting
+pub use Rattle.ipc_format_writing.specs.FooterWriting
 pub use Rattle.ipc_format_streams.specs.Frames
 pub use Rattle.ipc_format_streams.specs.Failures

@@ -16,8 +16,8 @@ use crate::vectors::{BuffersRef, FieldNodesRef};
 use ipc_format_flatbuffers::{
     i16_field, i64_field, root_of, table_field, truth_field, u8_field, vector_field,
 };
-use ipc_format_slots::sizes::PAIR_SIZE;
-use ipc_format_slots::slots::{
+use ipc_format_metadata::sizes::PAIR_SIZE;
+use ipc_format_metadata::slots::{
     DICTIONARY_BATCH_DATA, DICTIONARY_BATCH_ID, DICTIONARY_BATCH_IS_DELTA, MESSAGE_BODY_LENGTH,
     MESSAGE_HEADER, MESSAGE_HEADER_TYPE, MESSAGE_VERSION, RECORD_BATCH_BUFFERS,
     RECORD_BATCH_COMPRESSION, RECORD_BATCH_NODES,

@@ -11,7 +11,7 @@ use crate::error::Error;
 use crate::fields::{FieldRef, KeyValueRef};
 use crate::tables::TableRef;
 use crate::vectors::TablesRef;
-use ipc_format_slots::slots::{SCHEMA_CUSTOM_METADATA, SCHEMA_ENDIANNESS, SCHEMA_FIELDS};
+use ipc_format_metadata::slots::{SCHEMA_CUSTOM_METADATA, SCHEMA_ENDIANNESS, SCHEMA_FIELDS};
 
 /// A schema's table (Schema.fbs, `Schema`).
 #[derive(Clone, Copy, Debug)]

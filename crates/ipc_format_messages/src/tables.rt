@@ -16,7 +16,7 @@ use ipc_format_flatbuffers::{
     Table, Vector, element_at, i16_field, i32_field, i64_field, root_of, string_field, table_field,
     truth_field, u8_field, vector_field,
 };
-use ipc_format_slots::sizes::REFERENCE_SIZE;
+use ipc_format_metadata::sizes::REFERENCE_SIZE;
 
 /// A table of a message, with the message's bytes.
 #[derive(Clone, Copy, Debug)]

@@ -12,7 +12,7 @@ use crate::tables::TableRef;
 use columnar_memory::{IntervalUnit, TimeUnit, UnionMode};
 use ipc_format_flatbuffers::{i16_field, i32_field};
 use ipc_format_metadata::{Tag, mode_of, tag_of, unit_in};
-use ipc_format_slots::slots::{
+use ipc_format_metadata::slots::{
     DECIMAL_BIT_WIDTH, DECIMAL_PRECISION, DECIMAL_SCALE, FIXED_SIZE, MAP_KEYS_SORTED,
     TIME_BIT_WIDTH, TIMESTAMP_TIMEZONE, UNION_MODE, UNIT,
 };

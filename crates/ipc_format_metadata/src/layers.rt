@@ -8,7 +8,7 @@ ghost use Rattle.ipc_format_metadata.specs.Views.{tag_view};
 ghost use Rattle.ipc_format_metadata.specs.LayerViews.{layer_view, union_view};
 ghost use Rattle.ipc_format_metadata.specs.Parts as parts;
 
-use crate::tags::Tag;
+use crate::tag_numbers::Tag;
 use crate::types::{
     date_in, decimal_in, integer_in, interval_in, mode_of, size_in, time_in, unit_in,
 };
@@ -16,8 +16,8 @@ use columnar_memory::{DataType, IntegerType, Items, Text, UnionMode};
 use ipc_format_flatbuffers::{
     Table, Vector, i16_field, i32_at, string_field, truth_field, vector_field,
 };
-use ipc_format_slots::sizes::I32_SIZE;
-use ipc_format_slots::slots::{MAP_KEYS_SORTED, TIMESTAMP_TIMEZONE, UNION_MODE, UNION_TYPE_IDS};
+use crate::sizes::I32_SIZE;
+use crate::slots::{MAP_KEYS_SORTED, TIMESTAMP_TIMEZONE, UNION_MODE, UNION_TYPE_IDS};
 use std::alloc::{AllocError, Global};
 
 /// A type but for the fields below it.

@@ -17,11 +17,11 @@ use columnar_memory::{Error, Result, Schema, Steps};
 use ipc_format_flatbuffers::{
     Table, Vector, i16_field, root_of, table_field, u8_field, vector_field,
 };
-use ipc_format_slots::sizes::REFERENCE_SIZE;
-use ipc_format_slots::slots::{
+use crate::sizes::REFERENCE_SIZE;
+use crate::slots::{
     MESSAGE_HEADER, MESSAGE_HEADER_TYPE, SCHEMA_CUSTOM_METADATA, SCHEMA_ENDIANNESS, SCHEMA_FIELDS,
 };
-use ipc_format_slots::tags::SCHEMA_HEADER;
+use crate::tag_numbers::SCHEMA_HEADER;
 use std::alloc::Global;
 
 /// So many levels deep may fields nest.

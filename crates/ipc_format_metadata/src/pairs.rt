@@ -13,8 +13,8 @@ use columnar_memory::{Boxed, DataType, Error, IntegerType, Metadata, Result, Tex
 use ipc_format_flatbuffers::{
     Table, Vector, element_at, i64_field, string_field, table_field, truth_field, vector_field,
 };
-use ipc_format_slots::sizes::REFERENCE_SIZE;
-use ipc_format_slots::slots::{
+use crate::sizes::REFERENCE_SIZE;
+use crate::slots::{
     DICTIONARY_ENCODING_ID, DICTIONARY_ENCODING_INDEX_TYPE, DICTIONARY_ENCODING_IS_ORDERED,
     KEY_VALUE_KEY, KEY_VALUE_VALUE,
 };

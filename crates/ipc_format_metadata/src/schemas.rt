@@ -18,12 +18,12 @@ use columnar_memory::{Boxed, DataType, Error, Field, Items, Result, Steps, Text}
 use ipc_format_flatbuffers::{
     Table, Vector, element_at, string_field, table_field, truth_field, u8_field, vector_field,
 };
-use ipc_format_slots::sizes::REFERENCE_SIZE;
-use ipc_format_slots::slots::{
+use crate::sizes::REFERENCE_SIZE;
+use crate::slots::{
     FIELD_CHILDREN, FIELD_CUSTOM_METADATA, FIELD_DICTIONARY, FIELD_NAME, FIELD_NULLABLE,
     FIELD_TYPE, FIELD_TYPE_TYPE,
 };
-use ipc_format_slots::tags::TYPE_FLOATING_POINT;
+use crate::tag_numbers::TYPE_FLOATING_POINT;
 use std::alloc::{AllocError, Global};
 use std::result;
 

@@ -8,7 +8,7 @@ ghost use Rattle.ipc_format_metadata.specs.Leaves as leaves;
 
 use columnar_memory::{DataType, IntegerType, IntervalUnit, TimeUnit, UnionMode};
 use ipc_format_flatbuffers::{Table, i16_field, i32_field, truth_field};
-use ipc_format_slots::slots;
+use crate::slots;
 
 /// The whole numbers of an Int table.
 #[tactic(auto, unfolding(ipc_format_grammar::specs::Types::integer_in))]

@@ -1,7 +1,7 @@
 //! Messages, batches and footers: their views at the bounds of each rule, and what is written.
 use crate::samples::{DICTIONARY_BATCH, FOOTER, NO_FIELDS, RECORD_BATCH, X};
 use columnar_memory::{Error as MemoryError, Items, Schema};
-use ipc_format_message_writing::{
+use ipc_format_writing::{
     dictionary_batch_to_bytes, footer_to_bytes, record_batch_to_bytes,
 };
 use ipc_format_messages::{

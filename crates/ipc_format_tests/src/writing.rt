@@ -6,7 +6,7 @@ use columnar_memory::{
     Schema, Text, TimeUnit, UnionMode,
 };
 use ipc_format_metadata::{IpcField, deserialize_schema};
-use ipc_format_schema_writing::{default_ipc_fields, normalised, schema_to_bytes};
+use ipc_format_writing::{default_ipc_fields, normalised, schema_to_bytes};
 use std::alloc::Global;
 use std::test::*;
 

@@ -14,8 +14,8 @@ use Rattle.ipc_format_grammar.specs.SchemaObjects as objects
 use Rattle.ipc_format_grammar.specs.SchemaObjects.{told_of, field_table, field_object, objects_of, schema_object, encoding_object, metadata_object}
 use Rattle.ipc_format_grammar.specs.SchemaObjects.{written_pairs, refers_if, truth}
 use Rattle.ipc_format_messages.specs.declared.Endianness.TheVariants.{Little}
-use Rattle.ipc_format_schema_writing.specs.Pieces.{Pair, field_told}
-use Rattle.ipc_format_schema_writing.proofs.FieldTables.{told_is}
+use Rattle.ipc_format_writing.specs.Pieces.{Pair, field_told}
+use Rattle.ipc_format_writing.proofs.FieldTables.{told_is}
 use Rattle.ipc_format_values.specs.declared.fields.Field.{Field}
 use Rattle.ipc_format_values.specs.declared.fields.Field.TheOpen as layer
 use Rattle.ipc_format_values.specs.declared.fields.Field.TheFolds.{fold-roll-Field}

@@ -1,2 +1,5 @@
 mod PairLists
 mod FieldValues
+mod Taking
+mod Gathered
+mod FieldsTaken

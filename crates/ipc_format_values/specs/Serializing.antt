@@ -5,7 +5,7 @@ use Rattle.columnar_memory.specs.declared.Schema as columns
 use Rattle.ipc_format_grammar.specs.Schemas.{IdsList}
 use Rattle.ipc_format_grammar.specs.SchemaObjects.{schema_object}
 use Rattle.ipc_format_grammar.specs.WrittenMessages.{schema_written, fits_limit}
-use Rattle.ipc_format_schema_writing.specs.Writing.{WritesSchema, may_write}
+use Rattle.ipc_format_writing.specs.Writing.{WritesSchema, may_write}
 use Rattle.ipc_format_values.specs.declared.fields.Schema.{Schema}
 use Rattle.ipc_format_values.specs.ValueObjects.{schema_value}
 

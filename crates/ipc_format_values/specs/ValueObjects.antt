@@ -7,8 +7,8 @@ use Rattle.ipc_format_grammar.specs.SchemaObjects as objects
 use Rattle.ipc_format_grammar.specs.SchemaObjects.{refers_if, metadata_object, text_if, numbers_if, truth, unit_number, interval_number}
 use Rattle.ipc_format_grammar.specs.SchemaObjects.{mode_number, int_object, short_table, long_table, empty_table}
 use Rattle.ipc_format_grammar.specs.WrittenFiles.{blocks_object}
-use Rattle.ipc_format_message_writing.specs.MessageWriting.{batch_object}
-use Rattle.ipc_format_message_writing.specs.FooterWriting.{block_view}
+use Rattle.ipc_format_writing.specs.MessageWriting.{batch_object}
+use Rattle.ipc_format_writing.specs.FooterWriting.{block_view}
 use Rattle.ipc_format_messages.specs.declared.Block.{Block}
 use Rattle.ipc_format_messages.specs.declared.DateUnit.{DateUnit}
 use Rattle.ipc_format_messages.specs.declared.DateUnit.TheVariants.{Day, Millisecond}

@@ -7,7 +7,7 @@ ghost use Rattle.ipc_format_grammar.specs.SchemaObjects as objects;
 ghost use Rattle.ipc_format_grammar.specs.Writable.{Report, report_of, is_writable};
 ghost use Rattle.ipc_format_metadata.specs.Reports.{field_report};
 ghost use Rattle.ipc_format_metadata.specs.Views.{ids_views};
-ghost use Rattle.ipc_format_schema_writing.specs.Pieces.{field_told};
+ghost use Rattle.ipc_format_writing.specs.Pieces.{field_told};
 ghost use Rattle.ipc_format_values.specs.Serializing.{SerializesSchema};
 ghost use Rattle.ipc_format_values.specs.ToldTypes.{told_view};
 ghost use Rattle.ipc_format_values.specs.ValueObjects as values;
@@ -20,7 +20,7 @@ use columnar_memory::{
 };
 use ipc_format_messages::Endianness;
 use ipc_format_metadata::IpcField;
-use ipc_format_schema_writing::{Named, first_beside, schema_to_bytes};
+use ipc_format_writing::{Named, first_beside, schema_to_bytes};
 use std::alloc::{AllocError, Global};
 
 /// The encoding of a dictionary, if the type has one. Without an id beside it the id is 0.
@@ -61,7 +61,7 @@ fn field_over(
 }
 
 /// Each of some fields is allowed where all are. A caller has this law by calling it.
-#[tactic(auto, using(ipc_format_schema_writing::proofs::Allowed::field_passes))]
+#[tactic(auto, using(ipc_format_writing::proofs::Allowed::field_passes))]
 fn each_is_allowed(fields: &[Column], k: usize, field: &Column)
     requires within { k < length fields.now }
     requires here { field.now ≡ get_or fields.now k field.now }

@@ -5,7 +5,7 @@ ghost use Rattle.ipc_format_flatbuffers.specs.Objects.{no_object};
 ghost use Rattle.ipc_format_grammar.specs.Schemas.{no_ids};
 ghost use Rattle.ipc_format_grammar.specs.SchemaObjects as objects;
 ghost use Rattle.ipc_format_grammar.specs.Writable.{report_of, fits_i32};
-ghost use Rattle.ipc_format_schema_writing.specs.Kinds.{kind_told};
+ghost use Rattle.ipc_format_writing.specs.Kinds.{kind_told};
 ghost use Rattle.ipc_format_values.specs.ToldTypes.{told_view, told_over, type_kind};
 ghost use Rattle.ipc_format_values.specs.ValueObjects as values;
 
@@ -13,7 +13,7 @@ use crate::fields::{Field, Int};
 use crate::types::{Precision, Type_};
 use columnar_memory::{DataType, IntegerType, Items, TimeUnit};
 use ipc_format_messages::DateUnit;
-use ipc_format_schema_writing::Named;
+use ipc_format_writing::Named;
 use std::alloc::{AllocError, Global};
 
 /// A type as its field tells it.

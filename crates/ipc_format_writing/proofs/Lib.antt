@@ -1,0 +1,14 @@
+pub mod NumberedLists
+pub mod FittingLists
+pub mod BesideLists
+pub mod FloatLists
+pub mod Sizes
+pub mod KeptPairs
+pub mod TypeTables
+pub mod PairLists
+pub mod FieldTables
+pub mod Allowed
+pub mod SchemaMessages
+pub mod NormalLists
+pub mod Laid
+pub mod LaidFooter
