@@ -8,7 +8,7 @@ ghost use Rattle.ipc_format_metadata.specs.Views.{tag_view};
 ghost use Rattle.ipc_format_metadata.specs.LayerViews.{layer_view, union_view};
 ghost use Rattle.ipc_format_metadata.specs.Parts as parts;
 
-use crate::tag_numbers::Tag;
+use crate::tags::Tag;
 use crate::types::{
     date_in, decimal_in, integer_in, interval_in, mode_of, size_in, time_in, unit_in,
 };
