@@ -1,7 +1,7 @@
 -- The last slot of a list taken off.
 use Rattle.std.proofs.Common.{◌≡◌, ◌∙◌, ℕ, ◌-◌, Bool, List, [], ◌∷◌, length, refl, ap, sym, arith}
 use Rattle.std.specs.Prelude.{Option, Some, None, slice_get, unwrap_or}
-use Rattle.columnar_memory.specs.declared.DataType.{DataType}
+use Rattle.flat_arrays_values.specs.columnar_memory.declared.DataType.{DataType}
 use Rattle.flat_arrays_values.specs.Flat.{Flat, flat, cut, slots_of, IsMaskOf}
 use Rattle.flat_arrays_values.specs.Changes.{Pops}
 

@@ -1,14 +1,14 @@
 ghost use Rattle.std.specs.Prelude.{◌≡◌, ◌<◌, ◌≤◌, [], ◌∷◌, length, slice_get, option_copied, ◌↔◌, IfErr, IsTrue, None, Some, false};
-ghost use Rattle.columnar_memory.specs.Error.{IsOutOfMemory};
-ghost use Rattle.columnar_memory.specs.Layouts.{physical_type};
-ghost use Rattle.columnar_memory.specs.Results.{OrOutOfMemory};
-ghost use Rattle.columnar_memory.specs.declared.PhysicalType.TheVariants as layouts;
+ghost use Rattle.flat_arrays_values.specs.columnar_memory.Error.{IsOutOfMemory};
+ghost use Rattle.flat_arrays_values.specs.columnar_memory.Layouts.{physical_type};
+ghost use Rattle.flat_arrays_values.specs.columnar_memory.Results.{OrOutOfMemory};
+ghost use Rattle.flat_arrays_values.specs.columnar_memory.declared.PhysicalType.TheVariants as layouts;
 ghost use Rattle.flat_arrays_values.specs.Flat.{cut, flat, marks_of, slots_of, IsFlat, IsMaskOf};
 ghost use Rattle.flat_arrays_values.specs.Results.{IsChecked};
 ghost use Rattle.flat_arrays_values.specs.Growth.{grown, with_slots};
 ghost use Rattle.flat_arrays_values.specs.Changes.{Changes, Pops};
 
-use columnar_memory::{DataType, Error, MutableBitmap, PhysicalType, Result};
+use flat_arrays_values::columnar_memory::{DataType, Error, MutableBitmap, PhysicalType, Result};
 use flat_arrays_values::marks::{
     freeze_mask, is_mask_of, mark_at, push_mark, reserve_marks, shrink_marks, truncate_bits,
     truncate_mask,
@@ -32,7 +32,7 @@ pub struct MutableBooleanArray {
 impl Model for MutableBooleanArray {
     ghost use Rattle.std.specs.Prelude.{Bool};
     ghost use Rattle.std.specs.Coded.{coded_bool};
-    ghost use Rattle.columnar_memory.specs.declared.PhysicalType.TheVariants as layouts;
+    ghost use Rattle.flat_arrays_values.specs.columnar_memory.declared.PhysicalType.TheVariants as layouts;
     ghost use Rattle.flat_arrays_values.specs.Flat.{Flat, flat, flat_code, IsFlat};
 
     ghost Value = { Flat Bool };

@@ -6,7 +6,7 @@ ghost use Rattle.flat_arrays_values.specs.Growth.{grown, with_slots, with_values
 ghost use Rattle.flat_arrays_values.specs.Changes.{Changes, ChangesAlong};
 
 use crate::boolean::MutableBooleanArray;
-use columnar_memory::Result;
+use flat_arrays_values::columnar_memory::Result;
 use flat_arrays_values::marks::{append, extend_constant_marks, extend_marks, truncate_bits};
 
 impl MutableBooleanArray {

@@ -5,7 +5,7 @@ ghost use Rattle.flat_arrays_values.specs.Iteration.{StandsBefore};
 
 use crate::boolean::MutableBooleanArray;
 use crate::primitive::MutablePrimitiveArray;
-use columnar_memory::{BitmapIter, NativeType, ZipValidity};
+use flat_arrays_values::columnar_memory::{BitmapIter, NativeType, ZipValidity};
 use std::slice::Iter;
 
 impl<T: NativeType> MutablePrimitiveArray<T> {

@@ -7,7 +7,7 @@ ghost use Rattle.flat_arrays_values.specs.Growth.{grown, with_slots, with_values
 ghost use Rattle.flat_arrays_values.specs.Changes.{Changes, ChangesAlong};
 
 use crate::primitive::MutablePrimitiveArray;
-use columnar_memory::{Error, MutableBitmap, NativeType, Result};
+use flat_arrays_values::columnar_memory::{Error, MutableBitmap, NativeType, Result};
 use flat_arrays_values::marks::{extend_constant_marks, extend_marks};
 
 impl<T: NativeType> MutablePrimitiveArray<T> {

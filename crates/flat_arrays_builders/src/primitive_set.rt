@@ -3,15 +3,15 @@ ghost use Rattle.std.specs.Prelude.{◌≡◌, ◌<◌, Bool, List, length};
 ghost use Rattle.std.specs.Option.{ForSome};
 ghost use Rattle.std.specs.declared.alloc.Global.{Global};
 ghost use Rattle.std.specs.declared.vec.Vec.{Vec};
-ghost use Rattle.columnar_memory.specs.Layouts.{physical_type};
-ghost use Rattle.columnar_memory.specs.declared.PhysicalType.TheVariants as layouts;
+ghost use Rattle.flat_arrays_values.specs.columnar_memory.Layouts.{physical_type};
+ghost use Rattle.flat_arrays_values.specs.columnar_memory.declared.PhysicalType.TheVariants as layouts;
 ghost use Rattle.flat_arrays_values.specs.Flat.{flat, IsMaskOf};
 ghost use Rattle.flat_arrays_values.specs.Results.{AppliesTo, ForZero};
 ghost use Rattle.flat_arrays_values.specs.Growth.{with_slot};
 ghost use Rattle.flat_arrays_values.specs.Changes.{Changes};
 
 use crate::primitive::MutablePrimitiveArray;
-use columnar_memory::{DataType, MutableBitmap, NativeType, Result};
+use flat_arrays_values::columnar_memory::{DataType, MutableBitmap, NativeType, Result};
 use flat_arrays_values::marks::{apply_to_mask, set_mark};
 use std::mem;
 

@@ -4,7 +4,7 @@ ghost use Rattle.flat_arrays_byte_values_builders.specs.bytes.ByteStrings.{slots
 ghost use Rattle.flat_arrays_byte_builders.specs.ByteSlotsEqual.{same_slots, same_slots-equivalence, same_slots-per};
 
 use crate::{MutableBinaryArray, MutableUtf8Array};
-use columnar_memory::Offset;
+use flat_arrays_byte_values_builders::columnar_memory::Offset;
 
 impl<O: Offset> PartialEq for MutableBinaryArray<O> {
     ghost eq = { same_slots };

@@ -1,11 +1,11 @@
 //! Arrays of byte strings and of texts that their builders take over.
 ghost use Rattle.std.specs.Prelude.{◌≡◌};
-ghost use Rattle.columnar_memory.specs.Results.{OrOutOfMemory};
+ghost use Rattle.flat_arrays_byte_values_builders.specs.columnar_memory.Results.{OrOutOfMemory};
 ghost use Rattle.either.specs.Either.{MatchEither};
 ghost use Rattle.flat_arrays_byte_values_builders.specs.Growing.{trimmed};
 
 use crate::{MutableBinaryArray, MutableUtf8Array};
-use columnar_memory::{Bitmap, Buffer, MutableBitmap, Offset, Offsets, OffsetsBuffer, Result};
+use flat_arrays_byte_values_builders::columnar_memory::{Bitmap, Buffer, MutableBitmap, Offset, Offsets, OffsetsBuffer, Result};
 use either::Either;
 use flat_arrays_byte_values_builders::values::IntoMut;
 use flat_arrays_byte_values_builders::ByteBuilder;

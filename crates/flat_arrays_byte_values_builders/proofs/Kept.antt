@@ -5,9 +5,9 @@ use Rattle.std.proofs.lemmas.Option.{get_or_from_slice_get}
 use Rattle.std.specs.Prelude.{Bool, true, false, Option, Some, None, map, Result, Ok, Err, replicate, slice_get, take}
 use Rattle.std.specs.List.{zip}
 use Rattle.std.specs.Str.{IsUtf8}
-use Rattle.columnar_memory.specs.declared.error.Error.{Error}
-use Rattle.columnar_memory.specs.declared.kinds.PhysicalType.{PhysicalType}
-use Rattle.columnar_memory.specs.Layouts.{physical_type}
+use Rattle.flat_arrays_bytes.specs.columnar_memory.declared.error.Error.{Error}
+use Rattle.flat_arrays_bytes.specs.columnar_memory.declared.kinds.PhysicalType.{PhysicalType}
+use Rattle.flat_arrays_bytes.specs.columnar_memory.Layouts.{physical_type}
 use Rattle.flat_arrays_bytes.proofs.Cuts.{AllTexts-cut}
 use Rattle.flat_arrays_bytes.proofs.Slots.{none_unset}
 use Rattle.flat_arrays_bytes.specs.ByteStrings.{ByteStrings, len_of, marks, marks_of, slot_of, slots_of, values_of}

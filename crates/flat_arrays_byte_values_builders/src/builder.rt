@@ -1,17 +1,17 @@
 //! Byte strings that grow, with validity marks: what builders of bytes and of texts hold.
 ghost use Rattle.std.specs.Prelude.{◌≡◌, ◌+◌, ◌-◌, ◌<◌, ◌≤◌, ◌↔◌, IsTrue, Some, None, [], length, slice_get, IfErr, option_map, take};
 ghost use Rattle.std.specs.Option.{option_copied};
-ghost use Rattle.columnar_memory.specs.Error.{IsOutOfMemory};
-ghost use Rattle.columnar_memory.specs.Layouts.{physical_type};
-ghost use Rattle.columnar_memory.specs.Results.{OrOutOfMemory};
-ghost use Rattle.columnar_memory.specs.Spans.{last_of, no_spans, shortened};
+ghost use Rattle.flat_arrays_bytes.specs.columnar_memory.Error.{IsOutOfMemory};
+ghost use Rattle.flat_arrays_bytes.specs.columnar_memory.Layouts.{physical_type};
+ghost use Rattle.flat_arrays_bytes.specs.columnar_memory.Results.{OrOutOfMemory};
+ghost use Rattle.flat_arrays_bytes.specs.columnar_memory.Spans.{last_of, no_spans, shortened};
 ghost use Rattle.flat_arrays_bytes.specs.ByteStrings.{byte_strings, len_of, marks_of, slots_of, values_of, with_mask};
 ghost use Rattle.flat_arrays_bytes.specs.Fits.{Fits, IsMaskOf, binary_layout, text_layout};
 ghost use Rattle.flat_arrays_bytes.specs.Texts.{AllTexts};
 ghost use Rattle.flat_arrays_byte_values_builders.specs.Growing.{Grows, IsFilled, IsTaken, OrUnchanged, Pops, frozen_mask};
 ghost use Rattle.flat_arrays_byte_values_builders.specs.Growing.{pushed, trimmed, with_slot, without_last};
 
-use columnar_memory::{
+use flat_arrays_bytes::columnar_memory::{
     Bitmap, Buffer, DataType, Error, Index, MutableBitmap, Offset, Offsets, OffsetsBuffer,
     PhysicalType, Result,
 };

@@ -1,16 +1,16 @@
 ghost use Rattle.std.specs.Prelude.{◌≡◌, ◌<◌, None, Some, slice_get, [], true, option_map, IfErr};
 ghost use Rattle.std.specs.String.{string_bytes};
-ghost use Rattle.columnar_memory.specs.Error.{IsOutOfMemory};
-ghost use Rattle.columnar_memory.specs.Layouts.{physical_type};
-ghost use Rattle.columnar_memory.specs.Results.{OrOutOfMemory};
-ghost use Rattle.columnar_memory.specs.Spans.{no_spans};
+ghost use Rattle.flat_arrays_bytes.specs.columnar_memory.Error.{IsOutOfMemory};
+ghost use Rattle.flat_arrays_bytes.specs.columnar_memory.Layouts.{physical_type};
+ghost use Rattle.flat_arrays_bytes.specs.columnar_memory.Results.{OrOutOfMemory};
+ghost use Rattle.flat_arrays_bytes.specs.columnar_memory.Spans.{no_spans};
 ghost use Rattle.flat_arrays_bytes.specs.ByteStrings.{byte_strings, len_of, values_of};
 ghost use Rattle.flat_arrays_bytes.specs.Fits.{IsText, text_layout, text_type};
 ghost use Rattle.flat_arrays_bytes.specs.Texts.{AllTexts};
 ghost use Rattle.flat_arrays_byte_values_builders.specs.Growing.{Grows, IsTaken, IsValues, OrUnchanged, Pops, pushed};
 
 use crate::builder::{ByteBuilder, text_layout_of};
-use columnar_memory::{DataType, Error, Offset, Offsets, Result};
+use flat_arrays_bytes::columnar_memory::{DataType, Error, Offset, Offsets, Result};
 use flat_arrays_bytes::TextValuesIter;
 use flat_arrays_bytes::Utf8Array;
 use std::alloc::Global;
@@ -32,7 +32,7 @@ pub struct MutableUtf8ValuesArray<O: Offset> {
 impl<O: Offset> Model for MutableUtf8ValuesArray<O> {
     ghost use Rattle.std.specs.Prelude.{◌≡◌, None};
     ghost use Rattle.flat_arrays_bytes.specs.ByteStrings.{ByteStrings, byte_strings_code, values_of};
-    ghost use Rattle.columnar_memory.specs.Layouts.{physical_type};
+    ghost use Rattle.flat_arrays_bytes.specs.columnar_memory.Layouts.{physical_type};
     ghost use Rattle.flat_arrays_bytes.specs.Fits.{text_layout};
     ghost use Rattle.flat_arrays_bytes.specs.Texts.{AllTexts};
 

@@ -3,12 +3,12 @@ use Rattle.std.proofs.Common.{◌≡◌, ℕ, ◌+◌, ◌-◌, ◌≤◌, List,
 use Rattle.std.proofs.lemmas.List.{drop-drop, drop-replicate, take-replicate, take-map, drop-map}
 use Rattle.std.specs.Prelude.{Bool, true, Some, None, map, slice_range}
 use Rattle.std.specs.List.{zip}
-use Rattle.columnar_memory.specs.Spans.{Spans, last_of, offset_at, spans_between}
-use Rattle.columnar_memory.specs.Window.{window}
-use Rattle.columnar_memory.proofs.buffer_lemmas.Runs.{sum-cons, offset_at-all, offset_at-le-last_of}
-use Rattle.columnar_memory.proofs.buffer_lemmas.Slices.{offset_at-spans_between, slices_join}
-use Rattle.columnar_memory.proofs.buffer_lemmas.Windows.{length-window, windows_join}
-use Rattle.columnar_memory.specs.declared.kinds.PhysicalType.{PhysicalType}
+use Rattle.flat_arrays_values.specs.columnar_memory.Spans.{Spans, last_of, offset_at, spans_between}
+use Rattle.flat_arrays_values.specs.columnar_memory.Window.{window}
+use Rattle.flat_arrays_values.proofs.columnar_memory_lemmas.buffer_lemmas.Runs.{sum-cons, offset_at-all, offset_at-le-last_of}
+use Rattle.flat_arrays_values.proofs.columnar_memory_lemmas.buffer_lemmas.Slices.{offset_at-spans_between, slices_join}
+use Rattle.flat_arrays_values.proofs.columnar_memory_lemmas.buffer_lemmas.Windows.{length-window, windows_join}
+use Rattle.flat_arrays_values.specs.columnar_memory.declared.kinds.PhysicalType.{PhysicalType}
 use Rattle.flat_arrays_bytes.specs.ByteStrings.{ByteStrings, byte_strings, cut, cut_by, cut_mask, len_of}
 use Rattle.flat_arrays_bytes.specs.ByteStrings.{marks, marks_of, marked_of, slot_of, slots_of, values_of}
 use Rattle.flat_arrays_bytes.specs.Fits.{Fits, HoldsMarks, IsMaskOf}

@@ -7,3 +7,4 @@ pub mod Gathered
 pub mod Nulls
 pub mod StringWalks
 pub use Rattle.flat_arrays_values.proofs as values_lemmas
+pub use Rattle.flat_arrays_values.proofs.columnar_memory_lemmas

@@ -3,8 +3,8 @@ use Rattle.std.proofs.Common.{◌≡◌, ℕ, ◌+◌, ◌-◌, ◌<◌, List, [
 use Rattle.std.proofs.lemmas.List.{drop-drop}
 use Rattle.std.specs.Prelude.{Some, slice_get, slice_range}
 use Rattle.std.specs.Str.{IsUtf8}
-use Rattle.columnar_memory.proofs.buffer_lemmas.Runs.{sum-cons, offset_at-more}
-use Rattle.columnar_memory.specs.Spans.{offset_at}
+use Rattle.flat_arrays_values.proofs.columnar_memory_lemmas.buffer_lemmas.Runs.{sum-cons, offset_at-more}
+use Rattle.flat_arrays_values.specs.columnar_memory.Spans.{offset_at}
 use Rattle.flat_arrays_bytes.specs.ByteStrings.{ByteStrings, cut_by, values_of, len_of}
 use Rattle.flat_arrays_bytes.specs.Texts.{AllTexts}
 

@@ -5,8 +5,8 @@ use Rattle.std.proofs.lemmas.Option.{slice_get_past}
 use Rattle.std.proofs.lemmas.Slice.Zip.{length-zip}
 use Rattle.std.specs.Prelude.{Bool, true, false, Option, Some, None, map, replicate, slice_get, slice_range, unwrap_or, if◌then◌else◌}
 use Rattle.std.specs.List.{zip}
-use Rattle.columnar_memory.specs.Bits.{unset_count}
-use Rattle.columnar_memory.specs.Spans.{offset_at}
+use Rattle.flat_arrays_values.specs.columnar_memory.Bits.{unset_count}
+use Rattle.flat_arrays_values.specs.columnar_memory.Spans.{offset_at}
 use Rattle.flat_arrays_bytes.proofs.Places.{value_between}
 use Rattle.flat_arrays_bytes.specs.ByteStrings.{ByteStrings, cut_by, len_of, marks, marks_of, slot_of, slots_of, values_of}
 use Rattle.flat_arrays_bytes.specs.Fits.{IsMaskOf}

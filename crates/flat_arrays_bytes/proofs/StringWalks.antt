@@ -4,9 +4,9 @@ use Rattle.std.proofs.lemmas.Bool.{eqb-true}
 use Rattle.std.proofs.lemmas.List.{length-replicate}
 use Rattle.std.specs.Prelude.{Option, Some, None, MatchOption, ◌==◌, if◌then◌else◌}
 use Rattle.std.specs.List.{zip}
-use Rattle.columnar_memory.specs.Bits.{unset_count}
-use Rattle.columnar_memory.specs.declared.zip_validity.ZipValidity.{ZipValidity}
-use Rattle.columnar_memory.specs.declared.zip_validity.ZipValidity.TheVariants.{Required, Optional}
+use Rattle.flat_arrays_values.specs.columnar_memory.Bits.{unset_count}
+use Rattle.flat_arrays_values.specs.columnar_memory.declared.zip_validity.ZipValidity.{ZipValidity}
+use Rattle.flat_arrays_values.specs.columnar_memory.declared.zip_validity.ZipValidity.TheVariants.{Required, Optional}
 use Rattle.flat_arrays_values.specs.Walks.{slots_left, IsEven}
 use Rattle.flat_arrays_values.proofs.WalkSlots.{all_there}
 use Rattle.flat_arrays_bytes.specs.ByteStrings.{len_of, marks, slot_of, values_of}

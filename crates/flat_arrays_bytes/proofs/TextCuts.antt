@@ -4,9 +4,9 @@ use Rattle.std.proofs.lemmas.List.{take-append-drop, take-take, drop-take, lengt
 use Rattle.std.proofs.lemmas.Str.{IsUtf8-nil, IsUtf8-append, IsUtf8-take, IsUtf8-drop}
 use Rattle.std.proofs.lemmas.Str.{IsCharBoundary-start, IsCharBoundary-end, IsCharBoundary-from_rest}
 use Rattle.std.specs.Prelude.{◌↔◌, slice_range}
-use Rattle.columnar_memory.specs.Spans.{Spans, last_of}
+use Rattle.flat_arrays_values.specs.columnar_memory.Spans.{Spans, last_of}
 use Rattle.std.specs.Str.{IsUtf8, IsCharBoundary}
-use Rattle.columnar_memory.proofs.buffer_lemmas.Runs.{sum-cons}
+use Rattle.flat_arrays_values.proofs.columnar_memory_lemmas.buffer_lemmas.Runs.{sum-cons}
 use Rattle.flat_arrays_bytes.proofs.Cuts.{slice_range-window}
 use Rattle.flat_arrays_bytes.specs.ByteStrings.{cut_by}
 use Rattle.flat_arrays_bytes.specs.Texts.{AllTexts, CutsBetweenChars}

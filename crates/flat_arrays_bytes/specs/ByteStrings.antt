@@ -3,11 +3,11 @@ use Rattle.std.specs.Prelude.{ℕ, Bool, true, false, Option, Some, None, List, 
 use Rattle.std.specs.Prelude.{◌∷◌, ◌==◌, length, map, take, drop, replicate, option_map, if◌then◌else◌, is_some, unwrap_or, refl}
 use Rattle.std.specs.Coded.{Coded, code_by, coded×, coded_bool, coded_list, coded_option, coded_ℕ}
 use Rattle.std.specs.List.{concat, zip}
-use Rattle.columnar_memory.specs.Bits.{unset_count}
-use Rattle.columnar_memory.specs.Spans.{Spans, spans_between}
-use Rattle.columnar_memory.specs.Window.{window}
+use Rattle.flat_arrays_values.specs.columnar_memory.Bits.{unset_count}
+use Rattle.flat_arrays_values.specs.columnar_memory.Spans.{Spans, spans_between}
+use Rattle.flat_arrays_values.specs.columnar_memory.Window.{window}
 use Rattle.columnar_memory_types.specs.contracts.data_type.DataType as data_type
-use Rattle.columnar_memory.specs.declared.data_type.DataType.{DataType}
+use Rattle.flat_arrays_values.specs.columnar_memory.declared.data_type.DataType.{DataType}
 
 -- a data type, where each byte string stands among the bytes, and the bytes
 pub record ByteStrings : Type 0 where

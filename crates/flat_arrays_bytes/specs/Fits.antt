@@ -1,13 +1,13 @@
 -- Which parts make an array of byte strings or of texts.
 use Rattle.std.specs.Prelude.{◌≡◌, ℕ, ◌≤◌, Bool, Option, Some, None, List, length, Result, MatchResult, if◌then◌else◌}
-use Rattle.columnar_memory.specs.Error.{IsOutOfSpec}
-use Rattle.columnar_memory.specs.Spans.{last_of}
-use Rattle.columnar_memory.specs.Layouts.{physical_type}
-use Rattle.columnar_memory.specs.declared.data_type.DataType.{DataType}
-use Rattle.columnar_memory.specs.declared.data_type.DataType.TheVariants as types
-use Rattle.columnar_memory.specs.declared.error.Error.{Error}
-use Rattle.columnar_memory.specs.declared.kinds.PhysicalType.{PhysicalType}
-use Rattle.columnar_memory.specs.declared.kinds.PhysicalType.TheVariants as layouts
+use Rattle.flat_arrays_values.specs.columnar_memory.Error.{IsOutOfSpec}
+use Rattle.flat_arrays_values.specs.columnar_memory.Spans.{last_of}
+use Rattle.flat_arrays_values.specs.columnar_memory.Layouts.{physical_type}
+use Rattle.flat_arrays_values.specs.columnar_memory.declared.data_type.DataType.{DataType}
+use Rattle.flat_arrays_values.specs.columnar_memory.declared.data_type.DataType.TheVariants as types
+use Rattle.flat_arrays_values.specs.columnar_memory.declared.error.Error.{Error}
+use Rattle.flat_arrays_values.specs.columnar_memory.declared.kinds.PhysicalType.{PhysicalType}
+use Rattle.flat_arrays_values.specs.columnar_memory.declared.kinds.PhysicalType.TheVariants as layouts
 use Rattle.flat_arrays_bytes.specs.ByteStrings.{ByteStrings, len_of, values_of}
 use Rattle.flat_arrays_bytes.specs.Texts.{AllTexts}
 

@@ -1,6 +1,6 @@
 -- What holds of every cut.
 use Rattle.std.specs.Prelude.{◌≡◌, ℕ, ◌+◌, ◌≤◌}
-use Rattle.columnar_memory.specs.Window.{window}
+use Rattle.flat_arrays_values.specs.columnar_memory.Window.{window}
 use Rattle.flat_arrays_bytes.specs.ByteStrings.{ByteStrings, cut, len_of, marked_of, slots_of}
 
 -- the slots of a cut, and its stored values with their marks, are a window on those of the array

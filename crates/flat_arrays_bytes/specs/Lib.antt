@@ -6,3 +6,4 @@ pub mod Texts
 pub mod ByteWalks
 pub mod Collected
 pub use Rattle.flat_arrays_values.specs as values
+pub use Rattle.flat_arrays_values.specs.columnar_memory

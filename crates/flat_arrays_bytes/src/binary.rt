@@ -1,16 +1,16 @@
 ghost use Rattle.std.specs.Prelude.{◌≡◌, ◌+◌, ◌<◌, ◌≤◌, ◌↔◌, IsTrue, Bool, Some};
 ghost use Rattle.std.specs.Prelude.{None, List, MatchOption, not, [], length, slice_get, unwrap_or};
 ghost use Rattle.std.specs.Option.{ForSome, option_copied};
-ghost use Rattle.columnar_memory.specs.Bits.{unset_count};
-ghost use Rattle.columnar_memory.specs.Layouts.{physical_type};
-ghost use Rattle.columnar_memory.specs.Results.{OrOutOfMemory};
-ghost use Rattle.columnar_memory.specs.Spans.{no_spans};
+ghost use Rattle.flat_arrays_values.specs.columnar_memory.Bits.{unset_count};
+ghost use Rattle.flat_arrays_values.specs.columnar_memory.Layouts.{physical_type};
+ghost use Rattle.flat_arrays_values.specs.columnar_memory.Results.{OrOutOfMemory};
+ghost use Rattle.flat_arrays_values.specs.columnar_memory.Spans.{no_spans};
 ghost use Rattle.flat_arrays_bytes.specs.ByteStrings.{byte_strings, cut, len_of, marks_of, nulls, slots_of, values_of, with_mask};
 ghost use Rattle.flat_arrays_bytes.specs.ByteWalks.{StandsBefore};
 ghost use Rattle.flat_arrays_bytes.specs.Equal.{AreEqual, same_array, same_array-equivalence, same_array-per};
 ghost use Rattle.flat_arrays_bytes.specs.Fits.{binary_layout, binary_type, IsBinary, IsChecked, IsMaskOf, KeepsLength};
 
-use columnar_memory::{
+use flat_arrays_values::columnar_memory::{
     Bitmap, BitmapIter, Buffer, DataType, Offset, OffsetsBuffer, PhysicalType, Result, ZipValidity,
 };
 use crate::{ByteColumn, ByteValuesIter};

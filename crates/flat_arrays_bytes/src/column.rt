@@ -1,16 +1,16 @@
 //! Byte strings between offsets, with validity marks: what arrays of bytes and of texts hold.
 ghost use Rattle.std.specs.Prelude.{◌≡◌, ◌+◌, ◌<◌, ◌≤◌, ◌↔◌, IsTrue, Bool, Some, None, List, [], length, slice_get, MatchOption};
 ghost use Rattle.std.specs.Option.{ForSome, option_copied};
-ghost use Rattle.columnar_memory.specs.Bits.{unset_count};
-ghost use Rattle.columnar_memory.specs.Layouts.{physical_type};
-ghost use Rattle.columnar_memory.specs.Results.{OrOutOfMemory};
-ghost use Rattle.columnar_memory.specs.Spans.{last_of, no_spans};
+ghost use Rattle.flat_arrays_values.specs.columnar_memory.Bits.{unset_count};
+ghost use Rattle.flat_arrays_values.specs.columnar_memory.Layouts.{physical_type};
+ghost use Rattle.flat_arrays_values.specs.columnar_memory.Results.{OrOutOfMemory};
+ghost use Rattle.flat_arrays_values.specs.columnar_memory.Spans.{last_of, no_spans};
 ghost use Rattle.flat_arrays_bytes.specs.ByteStrings.{byte_strings, cut, cut_mask, len_of, marks_of, nulls, slots_of, values_of, with_mask};
 ghost use Rattle.flat_arrays_bytes.specs.Equal.{AreEqual};
 ghost use Rattle.flat_arrays_bytes.specs.Fits.{HoldsMarks, IsChecked, Fits, IsMaskOf, KeepsLength};
 
 use crate::HoldsByteStrings;
-use columnar_memory::{
+use flat_arrays_values::columnar_memory::{
     Bitmap, Buffer, DataType, Error, Index, Offset, Offsets, OffsetsBuffer, PhysicalType, Result,
 };
 use std::alloc::Global;
@@ -28,7 +28,7 @@ pub struct ByteColumn<O: Offset> {
 
 impl<O: Offset> Model for ByteColumn<O> {
     ghost use Rattle.std.specs.Prelude.{◌≤◌, length};
-    ghost use Rattle.columnar_memory.specs.Spans.{last_of};
+    ghost use Rattle.flat_arrays_values.specs.columnar_memory.Spans.{last_of};
     ghost use Rattle.flat_arrays_bytes.specs.ByteStrings.{ByteStrings, byte_strings, byte_strings_code};
     ghost use Rattle.flat_arrays_bytes.specs.Fits.{IsMaskOf};
 

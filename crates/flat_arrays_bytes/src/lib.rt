@@ -21,6 +21,7 @@ pub use cut_laws::{
     a_cut_of_a_cut_of_byte_strings_is_one_cut, a_cut_of_byte_strings_has_a_range_of_the_slots,
 };
 pub use flat_arrays_values as values;
+pub use flat_arrays_values::columnar_memory;
 pub use laws::a_walk_over_byte_strings_begins_with_all_slots;
 pub use texts::are_texts;
 pub use utf8::{Utf8Array, Utf8ValuesIter};

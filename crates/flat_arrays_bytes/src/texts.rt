@@ -1,12 +1,12 @@
 //! Whether bytes between offsets are texts.
 ghost use Rattle.std.specs.Prelude.{◌↔◌, ◌≤◌, IsTrue, drop, length, sum};
 ghost use Rattle.std.specs.Str.{IsCharBoundary};
-ghost use Rattle.columnar_memory.specs.Spans.{last_of};
+ghost use Rattle.flat_arrays_values.specs.columnar_memory.Spans.{last_of};
 ghost use Rattle.flat_arrays_bytes.specs.ByteStrings.{cut_by};
 ghost use Rattle.flat_arrays_bytes.specs.Texts.{AllTexts, CutsBetweenChars};
 
 use crate::column::{end_of, start_of};
-use columnar_memory::{Offset, OffsetsBuffer};
+use flat_arrays_values::columnar_memory::{Offset, OffsetsBuffer};
 use simdutf8::is_utf8;
 
 /// Whether no character is cut in two before these bytes.

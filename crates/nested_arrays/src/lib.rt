@@ -17,14 +17,14 @@ pub use nested_arrays_nulls::columns::{
     distinct_slots_are_distinct, joins_are_associative, null_fits_every_type,
     sameness_decides_equality, two_parts_make_the_whole,
 };
-pub use nested_arrays_nulls::generic::ToBoxed;
 pub use nested_arrays_nulls::flat::{
     AnyPrimitive, FixedSizeBinaryArray, NullArray, PrimitiveKind, PrimitiveNode,
 };
+pub use nested_arrays_nulls::flat_arrays;
+pub use nested_arrays_nulls::generic::ToBoxed;
 pub use nested_arrays_nulls::generic::{
     DictionaryArray, DictionaryKey, DictionaryKeys, DictionaryKeysIter, ListArray,
 };
-pub use nested_arrays_nulls::{NullArrays, new_empty_array, new_null_array};
 pub use nested_arrays_nulls::parts::{FlatArray, FlatNode, ListOffsets};
 pub use nested_arrays_nulls::walks::{
     ArrayPart, ArraySlot, ArrayValues, DictValue, DictionaryValues, DictionaryValuesIter,
@@ -33,3 +33,4 @@ pub use nested_arrays_nulls::walks::{
     StructValueIter, TypedDictionaryValues, TypedSlots, TypedValues, UnionIter, Values,
     a_walk_over_places_gives_each_value_once, keys_name_values,
 };
+pub use nested_arrays_nulls::{NullArrays, new_empty_array, new_null_array};

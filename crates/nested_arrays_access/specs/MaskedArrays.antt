@@ -1,7 +1,7 @@
 -- What taking an array and giving it another mask answers.
 use Rattle.std.specs.Prelude.{◌≡◌, Bool, List, Option, Result, MatchResult}
-use Rattle.columnar_memory.specs.Error.{IsInvalidArgument}
-use Rattle.columnar_memory.specs.declared.Error.{Error}
+use Rattle.nested_arrays_arrays.specs.columnar_memory.Error.{IsInvalidArgument}
+use Rattle.nested_arrays_arrays.specs.columnar_memory.declared.Error.{Error}
 use Rattle.nested_arrays_arrays.specs.columns.StoredColumns.{Column}
 use Rattle.nested_arrays_arrays.specs.flat.ColumnMasks.{with_mask, TakesMask}
 

@@ -8,6 +8,7 @@ mod null_laws;
 
 pub use array::Array;
 pub use nested_arrays_arrays as arrays;
+pub use nested_arrays_arrays::columnar_memory;
 pub use nested_arrays_arrays::columns;
 pub use nested_arrays_arrays::flat;
 pub use nested_arrays_arrays::flat_arrays;

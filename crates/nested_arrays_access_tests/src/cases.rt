@@ -3,10 +3,10 @@ use columnar_memory::{
 };
 use flat_arrays::Utf8Array;
 use flat_arrays::PrimitiveArray;
-use nested_arrays_arrays::{AnyArray, UnionArray};
-use nested_arrays_flat::AnyPrimitive;
-use nested_arrays_generic::{DictionaryArray, ListArray};
-use nested_arrays_parts::FlatArray;
+use nested_arrays::{AnyArray, UnionArray};
+use nested_arrays::AnyPrimitive;
+use nested_arrays::{DictionaryArray, ListArray};
+use nested_arrays::FlatArray;
 use std::alloc::Global;
 
 pub(crate) fn numbers(alloc: Global, values: &[i32]) -> Result<AnyArray, Error> {

@@ -1,10 +1,10 @@
 use crate::cases::{dense, letters, lists, numbers};
 use columnar_memory::{Bitmap, Boxed, DataType, Error, Field, Items, OffsetsBuffer, Text};
-use nested_arrays_access::Array;
-use nested_arrays_arrays::{AnyArray, FixedSizeListArray, MapArray, StructArray, equal};
-use nested_arrays_generic::ToBoxed;
-use nested_arrays_generic::ListArray;
-use nested_arrays_walks::ArrayPart;
+use nested_arrays::Array;
+use nested_arrays::{AnyArray, FixedSizeListArray, MapArray, StructArray, equal};
+use nested_arrays::ToBoxed;
+use nested_arrays::ListArray;
+use nested_arrays::ArrayPart;
 use std::alloc::{AllocError, Global};
 use std::test::Fail;
 

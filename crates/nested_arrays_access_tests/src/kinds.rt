@@ -1,7 +1,7 @@
 use crate::cases::{lists, numbers};
 use flat_arrays::Utf8Array;
 use flat_arrays::PrimitiveArray;
-use nested_arrays_arrays::AnyArray;
+use nested_arrays::AnyArray;
 use std::test::Fail;
 
 #[test]

@@ -1,18 +1,18 @@
 ghost use Rattle.std.specs.Prelude.{◌≡◌, MatchResult};
 ghost use Rattle.flat_arrays.specs.ByteStrings.{len_of};
-ghost use Rattle.nested_arrays_columns.specs.StoredColumns.{column_len};
-ghost use Rattle.nested_arrays_generic.specs.Dictionaries.{values_of};
-ghost use Rattle.nested_arrays_walks.specs.NamedValues.{AreNamed};
+ghost use Rattle.nested_arrays.specs.StoredColumns.{column_len};
+ghost use Rattle.nested_arrays.specs.Dictionaries.{values_of};
+ghost use Rattle.nested_arrays.specs.ValuesByKeys.{AreNamed};
 
 use crate::cases::numbers;
 use columnar_memory::{Bitmap, Buffer, DataType, Error};
 use flat_arrays::ArrayAccessor;
 use flat_arrays::Utf8Array;
 use flat_arrays::PrimitiveArray;
-use nested_arrays_arrays::AnyArray;
-use nested_arrays_generic::DictionaryArray;
-use nested_arrays_parts::FlatArray;
-use nested_arrays_walks::{DictValue, TypedDictionaryValues, keys_name_values};
+use nested_arrays::AnyArray;
+use nested_arrays::DictionaryArray;
+use nested_arrays::FlatArray;
+use nested_arrays::{DictValue, TypedDictionaryValues, keys_name_values};
 use std::alloc::Global;
 use std::test::Fail;
 

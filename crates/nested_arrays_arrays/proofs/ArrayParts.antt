@@ -2,11 +2,11 @@
 use Rattle.std.proofs.Common.{◌≡◌, ◌∙◌, ℕ, ◌-◌, List, length, true, Bool, ap, refl}
 use Rattle.std.specs.Prelude.{◌&&◌, ◌==◌, ◌/◌, min, Option}
 use Rattle.std.proofs.lemmas.Bool.{and_from, and_parts, eqb-true, false≢true}
-use Rattle.columnar_memory.specs.Equality.{same_type}
-use Rattle.columnar_memory.specs.Layouts.{physical_type}
-use Rattle.columnar_memory.specs.Spans.{Spans, offsets_of}
-use Rattle.columnar_memory.specs.declared.DataType.{DataType}
-use Rattle.columnar_memory.specs.declared.DataType.TheOpen as layer
+use Rattle.nested_arrays_parts.specs.columnar_memory.Equality.{same_type}
+use Rattle.nested_arrays_parts.specs.columnar_memory.Layouts.{physical_type}
+use Rattle.nested_arrays_parts.specs.columnar_memory.Spans.{Spans, offsets_of}
+use Rattle.nested_arrays_parts.specs.columnar_memory.declared.DataType.{DataType}
+use Rattle.nested_arrays_parts.specs.columnar_memory.declared.DataType.TheOpen as layer
 use Rattle.nested_arrays_parts.specs.columns.Kinds.{most_offset}
 use Rattle.nested_arrays_parts.specs.columns.SoundColumns.{are_offsets, are_pieces, are_sound, has_field_types, has_fixed_item_type, has_item_type}
 use Rattle.nested_arrays_parts.specs.columns.SoundColumns.{have_len, is_sound, mask_fits}

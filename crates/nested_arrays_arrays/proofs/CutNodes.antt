@@ -3,13 +3,13 @@ use Rattle.std.proofs.Common.{◌≡◌, ℕ, zero, suc, ◌+◌, ◌-◌, ◌<�
 use Rattle.std.proofs.Common.{refl, sym, ap, subst, ◌∙◌, ◌*◌, arith}
 use Rattle.std.specs.Prelude.{ℤ, Bool, true, Option, Some, None, ◌==◌, ◌/◌}
 use Rattle.std.specs.List.{list_all}
-use Rattle.columnar_memory.specs.Window.{window}
+use Rattle.nested_arrays_parts.specs.columnar_memory.Window.{window}
 use Rattle.nested_arrays_parts.specs.columns.Kinds.{is_signed}
 use Rattle.nested_arrays_parts.proofs.flat_lemmas.CutMasks.{cut_window}
 use Rattle.std.proofs.lemmas.Bool.{and_parts, eqb-true}
 use Rattle.std.proofs.lemmas.List.{length-map}
-use Rattle.columnar_memory.specs.declared.DataType.{DataType}
-use Rattle.columnar_memory.specs.Spans.{Spans, offsets_of, spans_between}
+use Rattle.nested_arrays_parts.specs.columnar_memory.declared.DataType.{DataType}
+use Rattle.nested_arrays_parts.specs.columnar_memory.Spans.{Spans, offsets_of, spans_between}
 use Rattle.nested_arrays_parts.specs.columns.SoundColumns.{has_field_types, has_child_types, has_places, has_child_at, is_offset, holds_below, have_len}
 use Rattle.nested_arrays_parts.specs.columns.SoundColumns.{mask_fits, is_sound, are_sound}
 use Rattle.nested_arrays_parts.proofs.columns_lemmas.Conditions.{parts_of_4, parts_of_5}

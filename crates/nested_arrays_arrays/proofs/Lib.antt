@@ -15,3 +15,4 @@ pub use Rattle.nested_arrays_parts.proofs as parts_lemmas
 pub use Rattle.nested_arrays_parts.proofs.columns_lemmas
 pub use Rattle.nested_arrays_parts.proofs.flat_arrays_lemmas
 pub use Rattle.nested_arrays_parts.proofs.flat_lemmas
+pub use Rattle.nested_arrays_parts.proofs.columnar_memory_lemmas

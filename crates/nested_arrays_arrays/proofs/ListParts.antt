@@ -2,11 +2,11 @@
 use Rattle.std.proofs.Common.{◌≡◌, ◌∙◌, sym, ap, ◌≤◌, ◌-◌, ◌^◌, List, true, Bool, arith, refl, length}
 use Rattle.std.specs.Prelude.{◌&&◌, min, Option}
 use Rattle.std.proofs.lemmas.Bool.{and_from, false≢true}
-use Rattle.columnar_memory.specs.Layouts.{physical_type}
-use Rattle.columnar_memory.specs.Spans.{Spans, offsets_of, last_of}
-use Rattle.columnar_memory.specs.declared.DataType.{DataType}
-use Rattle.columnar_memory.specs.declared.DataType.TheOpen as layer
-use Rattle.columnar_memory.specs.declared.PhysicalType.TheVariants as physical
+use Rattle.nested_arrays_parts.specs.columnar_memory.Layouts.{physical_type}
+use Rattle.nested_arrays_parts.specs.columnar_memory.Spans.{Spans, offsets_of, last_of}
+use Rattle.nested_arrays_parts.specs.columnar_memory.declared.DataType.{DataType}
+use Rattle.nested_arrays_parts.specs.columnar_memory.declared.DataType.TheOpen as layer
+use Rattle.nested_arrays_parts.specs.columnar_memory.declared.PhysicalType.TheVariants as physical
 use Rattle.nested_arrays_parts.specs.columns.Kinds.{most_offset}
 use Rattle.nested_arrays_parts.specs.columns.SoundColumns.{has_item_type, are_offsets, mask_fits, is_sound}
 use Rattle.nested_arrays_parts.specs.columns.StoredColumns.{Column, column_len, column_type, lists, type_layer}

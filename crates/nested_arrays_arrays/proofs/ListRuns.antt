@@ -1,8 +1,8 @@
 -- Lists that stand one after another are the same where their items are.
 use Rattle.std.proofs.Common.{◌≡◌, ◌∙◌, ◌<◌, ◌≤◌, ◌+◌, ◌-◌, ℕ, zero, suc, Bool, List, true, refl, sym, ap, arith, subst, length}
 use Rattle.std.specs.Prelude.{Option}
-use Rattle.columnar_memory.specs.Spans.{Spans, last_of, offset_at, offsets_of}
-use Rattle.columnar_memory.specs.declared.DataType.{DataType}
+use Rattle.nested_arrays_parts.specs.columnar_memory.Spans.{Spans, last_of, offset_at, offsets_of}
+use Rattle.nested_arrays_parts.specs.columnar_memory.declared.DataType.{DataType}
 use Rattle.nested_arrays_parts.specs.columns.SlotNodes.{nodes_of, slot_nodes}
 use Rattle.nested_arrays_parts.specs.columns.Slots.{Slot, in_slots, window}
 use Rattle.nested_arrays_parts.specs.columns.SoundColumns.{is_sound}

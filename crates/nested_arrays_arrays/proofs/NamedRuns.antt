@@ -4,7 +4,7 @@ use Rattle.std.specs.Prelude.{◌↔◌, Option, pos, slice_index, slice_index_o
 use Rattle.std.proofs.lemmas.Bool.Decides.{eqb_tells}
 use Rattle.std.proofs.lemmas.Grind.{get_or-set_at}
 use Rattle.std.proofs.lemmas.List.{get_or-replicate, get_or-set_other, length-replicate, length-set}
-use Rattle.columnar_memory.specs.declared.DataType.{DataType}
+use Rattle.nested_arrays_parts.specs.columnar_memory.declared.DataType.{DataType}
 use Rattle.nested_arrays_parts.specs.columns.SlotNodes.{nodes_of, slot_nodes}
 use Rattle.nested_arrays_parts.specs.columns.Slots.{Slot, null, in_slots, window}
 use Rattle.nested_arrays_parts.specs.columns.StoredColumns.{Column, column_len, is_valid_at, place_of, slot_at}

@@ -4,8 +4,8 @@ use Rattle.std.proofs.Common.{get_or, length}
 use Rattle.std.specs.Prelude.{◌⊎◌, ◌==◌, ◌/◌, Option, pos, slice_index, slice_index_or, if◌then◌else◌}
 use Rattle.std.proofs.lemmas.Bool.{and_parts, eqb-true, ltb-true}
 use mathlib.Core.Logic.{inl, inr}
-use Rattle.columnar_memory.specs.declared.DataType.{DataType}
-use Rattle.columnar_memory.specs.Spans.{Spans, offsets_of, offset_at, last_of}
+use Rattle.nested_arrays_parts.specs.columnar_memory.declared.DataType.{DataType}
+use Rattle.nested_arrays_parts.specs.columnar_memory.Spans.{Spans, offsets_of, offset_at, last_of}
 use Rattle.nested_arrays_parts.proofs.columns_lemmas.Conditions.{parts_of_4}
 use Rattle.nested_arrays_parts.specs.columns.Slots.{Slot, null, truth, number, pair, triple, text, bytes, items, fields, pick, in_slots, window}
 use Rattle.nested_arrays_parts.specs.columns.SoundColumns.{are_sound, column_lens, has_child_at, has_field_types, have_len, is_sound, mask_fits}

@@ -4,7 +4,7 @@ use Rattle.std.specs.Prelude.{ℤ, pos, ◌+◌, ◌^◌, Bool, ◌&&◌, Option
 use Rattle.std.specs.List.{list_all}
 use Rattle.std.proofs.lemmas.Bool.{and_from, and_parts, false≢true, le-leb, lt-ltb, ltb-true}
 use Rattle.std.proofs.lemmas.List.Folds.{list_all_more}
-use Rattle.columnar_memory.specs.declared.DataType.{DataType}
+use Rattle.nested_arrays_parts.specs.columnar_memory.declared.DataType.{DataType}
 use Rattle.nested_arrays_parts.specs.columns.Kinds.{is_signed}
 use Rattle.nested_arrays_parts.specs.columns.SoundColumns.{are_sound, column_lens, has_child_at, has_child_types, has_places, holds_below}
 use Rattle.nested_arrays_parts.specs.columns.SoundColumns.{is_offset, is_sound}

@@ -16,3 +16,4 @@ pub use Rattle.nested_arrays_parts.specs as parts
 pub use Rattle.nested_arrays_parts.specs.columns
 pub use Rattle.nested_arrays_parts.specs.flat_arrays
 pub use Rattle.nested_arrays_parts.specs.flat
+pub use Rattle.nested_arrays_parts.specs.columnar_memory

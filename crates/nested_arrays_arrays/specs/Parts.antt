@@ -1,8 +1,8 @@
 -- The parts of columns that arrays show.
 use Rattle.std.specs.Prelude.{ℕ, ℤ, List, [], Option, None}
-use Rattle.columnar_memory.specs.declared.DataType.{DataType}
-use Rattle.columnar_memory.specs.declared.DataType.TheOpen as layer
-use Rattle.columnar_memory.specs.declared.Field.{Field}
+use Rattle.nested_arrays_parts.specs.columnar_memory.declared.DataType.{DataType}
+use Rattle.nested_arrays_parts.specs.columnar_memory.declared.DataType.TheOpen as layer
+use Rattle.nested_arrays_parts.specs.columnar_memory.declared.Field.{Field}
 use Rattle.nested_arrays_parts.specs.columns.StoredColumns.{Column, Columns, lists, fixed_lists, records, unions, dictionary}
 use Rattle.nested_arrays_parts.specs.columns.StoredColumns.{no_column, column_then, type_layer}
 

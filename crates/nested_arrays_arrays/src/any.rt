@@ -9,7 +9,7 @@ use crate::fixed_lists::FixedSizeListArray;
 use crate::maps::MapArray;
 use crate::records::StructArray;
 use crate::unions::UnionArray;
-use columnar_memory::{Bitmap, DataType};
+use nested_arrays_parts::columnar_memory::{Bitmap, DataType};
 use nested_arrays_parts::flat::{AnyPrimitive, slice_mask};
 use nested_arrays_parts::{FlatArray, ListOffsets};
 use std::marker::Model;

@@ -4,7 +4,7 @@ ghost use Rattle.nested_arrays_parts.specs.columns.SoundColumns.{are_sound, has_
 ghost use Rattle.nested_arrays_parts.specs.columns.StoredColumns.{in_columns, type_layer};
 
 use crate::any::AnyArray;
-use columnar_memory::{DataType, Field};
+use nested_arrays_parts::columnar_memory::{DataType, Field};
 
 /// Whether arrays have the types of fields, one each.
 pub(crate) fn have_types(fields: &[Field], arrays: &[AnyArray]) -> bool

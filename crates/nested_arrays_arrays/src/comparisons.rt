@@ -12,7 +12,7 @@ use crate::keys::value_of;
 use crate::list_runs::list_run;
 use crate::named_runs::same_named_run;
 use crate::places::{fields_at, flat, items_at, pick_at, records_at, values_at};
-use columnar_memory::Steps;
+use nested_arrays_parts::columnar_memory::Steps;
 use nested_arrays_parts::{count_each, same_slots, same_slots_counted};
 
 /// Whether two arrays have one data type.

@@ -6,7 +6,7 @@ ghost use Rattle.nested_arrays_parts.specs.flat.SameArrays.{AreEqual, same_colum
 
 use crate::any::AnyArray;
 use crate::comparisons::{same_range, same_types};
-use columnar_memory::Steps;
+use nested_arrays_parts::columnar_memory::Steps;
 
 /// Whether two arrays have one data type and the same slots. A value under a null is not seen, and a dictionary's slots are the values that its
 /// keys name. Takes no memory.

@@ -1,8 +1,8 @@
 //! Lists of one size.
 ghost use Rattle.std.specs.Prelude.{◌≡◌, ◌+◌, ◌<◌, ◌≤◌, ◌↔◌, IsTrue, true, option_copied, MatchResult};
-ghost use Rattle.columnar_memory.specs.Error.{IsOutOfMemory};
-ghost use Rattle.columnar_memory.specs.Layouts.{physical_type};
-ghost use Rattle.columnar_memory.specs.declared.PhysicalType.TheVariants as physical;
+ghost use Rattle.nested_arrays_parts.specs.columnar_memory.Error.{IsOutOfMemory};
+ghost use Rattle.nested_arrays_parts.specs.columnar_memory.Layouts.{physical_type};
+ghost use Rattle.nested_arrays_parts.specs.columnar_memory.declared.PhysicalType.TheVariants as physical;
 ghost use Rattle.nested_arrays_parts.specs.columns.SoundColumns.{is_sound, has_fixed_item_type};
 ghost use Rattle.nested_arrays_parts.specs.columns.StoredColumns.{column_len, column_type, cut, fixed_lists, type_layer};
 ghost use Rattle.nested_arrays_arrays.specs.Answers.{IsChecked};
@@ -12,7 +12,7 @@ ghost use Rattle.nested_arrays_parts.specs.flat.ColumnMasks.{column_mask, Replac
 
 use crate::any::AnyArray;
 use crate::item_fields::item_field;
-use columnar_memory::{Bitmap, DataType, Error, Result};
+use nested_arrays_parts::columnar_memory::{Bitmap, DataType, Error, Result};
 use nested_arrays_parts::flat::slice_mask;
 use nested_arrays_parts::fits;
 use std::alloc::Global;

@@ -8,7 +8,7 @@ ghost use Rattle.nested_arrays_arrays.specs.AnyColumns.{column_of, FitsWidth};
 ghost use Rattle.nested_arrays_arrays.specs.NamedValues.{firsts, names_value};
 
 use crate::any::{DictionaryNode, Node};
-use columnar_memory::{Bitmap, Error, Index, Result};
+use nested_arrays_parts::columnar_memory::{Bitmap, Error, Index, Result};
 use nested_arrays_parts::flat_arrays::PrimitiveArray;
 use nested_arrays_parts::flat::{PrimitiveNode, mark_at};
 use nested_arrays_parts::fits;

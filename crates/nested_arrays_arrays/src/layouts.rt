@@ -9,7 +9,7 @@ use crate::maps::MapArray;
 use crate::places::{entries_at, fixed_items_at, record_at, union_pick};
 use crate::records::StructArray;
 use crate::unions::UnionArray;
-use columnar_memory::{DataType, Steps};
+use nested_arrays_parts::columnar_memory::{DataType, Steps};
 
 /// An array of one layout, whose slots are compared with those of another.
 pub trait CompareSlots {

@@ -31,6 +31,7 @@ pub use item_fields::item_field;
 pub use layouts::{CompareSlots, same_arrays};
 pub use maps::MapArray;
 pub use nested_arrays_parts as parts;
+pub use nested_arrays_parts::columnar_memory;
 pub use nested_arrays_parts::columns;
 pub use nested_arrays_parts::flat;
 pub use nested_arrays_parts::flat_arrays;

@@ -10,7 +10,7 @@ ghost use Rattle.nested_arrays_arrays.specs.Rooms.{AreRooms};
 
 use crate::any::AnyArray;
 use crate::children::{have_len, have_types};
-use columnar_memory::{Buffer, DataType, Index, Items};
+use nested_arrays_parts::columnar_memory::{Buffer, DataType, Index, Items};
 
 /// How many ids of 8 bits there are.
 const IDS: usize = 256;

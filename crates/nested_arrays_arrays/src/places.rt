@@ -1,6 +1,6 @@
 //! Where the slots inside a slot stand.
 ghost use Rattle.std.specs.Prelude.{◌≡◌, ◌≢◌, ◌+◌, ◌<◌, ◌≤◌, length, IfSome, MatchOption, true};
-ghost use Rattle.columnar_memory.specs.Spans.{last_of, offset_at};
+ghost use Rattle.nested_arrays_parts.specs.columnar_memory.Spans.{last_of, offset_at};
 ghost use Rattle.nested_arrays_parts.specs.columns.Slots.{null};
 ghost use Rattle.nested_arrays_parts.specs.columns.SoundColumns.{is_sound};
 ghost use Rattle.nested_arrays_parts.specs.columns.StoredColumns.{column_len, in_columns, is_valid_at, slot_at};

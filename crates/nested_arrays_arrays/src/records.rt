@@ -1,7 +1,7 @@
 //! Structs.
 ghost use Rattle.std.specs.Prelude.{◌≡◌, ◌+◌, ◌≤◌, ◌↔◌, IsTrue, true, map, All, option_copied};
-ghost use Rattle.columnar_memory.specs.Layouts.{physical_type};
-ghost use Rattle.columnar_memory.specs.declared.PhysicalType.TheVariants as physical;
+ghost use Rattle.nested_arrays_parts.specs.columnar_memory.Layouts.{physical_type};
+ghost use Rattle.nested_arrays_parts.specs.columnar_memory.declared.PhysicalType.TheVariants as physical;
 ghost use Rattle.nested_arrays_parts.specs.columns.SoundColumns.{is_sound};
 ghost use Rattle.nested_arrays_parts.specs.columns.StoredColumns.{column_len, column_type, cut, records, in_columns};
 ghost use Rattle.nested_arrays_arrays.specs.Answers.{IsChecked};
@@ -11,7 +11,7 @@ ghost use Rattle.nested_arrays_parts.specs.flat.ColumnMasks.{column_mask, Replac
 
 use crate::any::AnyArray;
 use crate::children::{are_fields_of, are_whole, have_len};
-use columnar_memory::{Bitmap, DataType, Error, Field, Result};
+use nested_arrays_parts::columnar_memory::{Bitmap, DataType, Error, Field, Result};
 use nested_arrays_parts::flat::slice_mask;
 use nested_arrays_parts::fits;
 use std::marker::Model;

@@ -1,6 +1,6 @@
 //! Arrays of one kind without children taken out of arrays of any type, without memory: an array of another kind is given back.
 ghost use Rattle.std.specs.Prelude.{◌≡◌};
-ghost use Rattle.columnar_memory.specs.declared.PhysicalType.TheVariants as physical;
+ghost use Rattle.nested_arrays_parts.specs.columnar_memory.declared.PhysicalType.TheVariants as physical;
 ghost use Rattle.nested_arrays_parts.specs.flat.FlatColumns.{binary_column, boolean_column, text_column};
 ghost use Rattle.nested_arrays_parts.specs.flat.Taken.{Takes};
 ghost use Rattle.nested_arrays_parts.specs.FlatLayouts.{TakesKind, TakesNumbers};

@@ -7,14 +7,14 @@ ghost use Rattle.nested_arrays_arrays.specs.Answers.{IsChecked};
 ghost use Rattle.nested_arrays_arrays.specs.UnionFields.{layer_choices};
 ghost use Rattle.nested_arrays_arrays.specs.Parts.{column_children, column_ids, column_places};
 ghost use Rattle.nested_arrays_parts.specs.flat.ColumnMasks.{column_mask, ReplacesMask};
-ghost use Rattle.columnar_memory.specs.Layouts.{physical_type};
-ghost use Rattle.columnar_memory.specs.declared.PhysicalType.TheVariants as physical;
+ghost use Rattle.nested_arrays_parts.specs.columnar_memory.Layouts.{physical_type};
+ghost use Rattle.nested_arrays_parts.specs.columnar_memory.declared.PhysicalType.TheVariants as physical;
 
 use crate::any::AnyArray;
 use crate::children::are_whole;
 use crate::picks::{are_children_of, child_number, have_slots, read_ids};
 use crate::records::slice_each;
-use columnar_memory::{Bitmap, Buffer, DataType, Error, Field, Result};
+use nested_arrays_parts::columnar_memory::{Bitmap, Buffer, DataType, Error, Field, Result};
 use std::marker::Model;
 
 /// Slots each of one of several types, by its id: in a sparse union each child is as long as the union, in a dense one each slot has its

@@ -6,7 +6,7 @@ ghost use Rattle.nested_arrays_arrays.specs.AnyColumns.{column_of, FitsWidth};
 
 use crate::any::{AnyArray, ListNode, Node};
 use crate::key_masks::mask_keys;
-use columnar_memory::{Bitmap, Error, Result};
+use nested_arrays_parts::columnar_memory::{Bitmap, Error, Result};
 use nested_arrays_parts::fits;
 
 impl AnyArray {

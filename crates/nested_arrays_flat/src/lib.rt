@@ -10,6 +10,7 @@ mod primitive;
 mod ranges;
 mod sound;
 
+pub use columnar_memory;
 pub use fixed_size_binary::FixedSizeBinaryArray;
 pub use flat_arrays;
 pub use masks::{is_mask_of, mark_at, slice_mask, unset_marks};

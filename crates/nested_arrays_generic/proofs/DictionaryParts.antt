@@ -7,18 +7,18 @@ use mathlib.Core.Logic.{inl}
 use lib.Signed.{le_z_yes}
 use Rattle.std.proofs.lemmas.Bool.{and_from, and_parts, le-leb, lt-ltb, false≢true}
 use Rattle.std.proofs.lemmas.List.{length-map}
-use Rattle.columnar_memory.specs.Equality.{same_type}
-use Rattle.columnar_memory.specs.Error.{IsOutOfSpec}
-use Rattle.columnar_memory.specs.Layouts.{physical_type}
-use Rattle.columnar_memory.specs.Numbers.{Numbers, one, first_number}
-use Rattle.columnar_memory.specs.declared.DataType.{DataType}
-use Rattle.columnar_memory.specs.declared.DataType.TheOpen as layer
-use Rattle.columnar_memory.specs.declared.Error.{Error}
-use Rattle.columnar_memory.specs.declared.IntegerType.{IntegerType}
-use Rattle.columnar_memory.specs.declared.IntegerType.TheVariants as integers
-use Rattle.columnar_memory.specs.declared.PhysicalType.{PhysicalType}
-use Rattle.columnar_memory.specs.declared.PhysicalType.TheVariants as physical
-use Rattle.columnar_memory.specs.declared.PrimitiveType.{PrimitiveType}
+use Rattle.nested_arrays_access.specs.columnar_memory.Equality.{same_type}
+use Rattle.nested_arrays_access.specs.columnar_memory.Error.{IsOutOfSpec}
+use Rattle.nested_arrays_access.specs.columnar_memory.Layouts.{physical_type}
+use Rattle.nested_arrays_access.specs.columnar_memory.Numbers.{Numbers, one, first_number}
+use Rattle.nested_arrays_access.specs.columnar_memory.declared.DataType.{DataType}
+use Rattle.nested_arrays_access.specs.columnar_memory.declared.DataType.TheOpen as layer
+use Rattle.nested_arrays_access.specs.columnar_memory.declared.Error.{Error}
+use Rattle.nested_arrays_access.specs.columnar_memory.declared.IntegerType.{IntegerType}
+use Rattle.nested_arrays_access.specs.columnar_memory.declared.IntegerType.TheVariants as integers
+use Rattle.nested_arrays_access.specs.columnar_memory.declared.PhysicalType.{PhysicalType}
+use Rattle.nested_arrays_access.specs.columnar_memory.declared.PhysicalType.TheVariants as physical
+use Rattle.nested_arrays_access.specs.columnar_memory.declared.PrimitiveType.{PrimitiveType}
 use Rattle.nested_arrays_access.specs.flat_arrays.Flat as arrays
 use Rattle.nested_arrays_access.specs.flat_arrays.Flat.{Flat, IsFlat, IsMaskOf}
 use Rattle.nested_arrays_access.specs.flat_arrays.Results.{AreChecked, IsPlaceBelow}

@@ -2,7 +2,7 @@
 use Rattle.std.proofs.Common.{◌≡◌, ◌∙◌, List, length, map, true, sym, ap, subst}
 use Rattle.std.specs.Prelude.{ℤ, Bool, Option}
 use Rattle.std.proofs.lemmas.List.{length-map}
-use Rattle.columnar_memory.specs.declared.DataType.{DataType}
+use Rattle.nested_arrays_access.specs.columnar_memory.declared.DataType.{DataType}
 use Rattle.nested_arrays_access.specs.flat_arrays.Flat as arrays
 use Rattle.nested_arrays_access.specs.flat_arrays.Flat.{Flat}
 use Rattle.nested_arrays_access.specs.columns.SoundColumns.{has_value_at, holds_below, is_sound, mask_fits}

@@ -9,3 +9,5 @@ pub use Rattle.nested_arrays_access.proofs.flat_arrays_lemmas
 pub use Rattle.nested_arrays_access.proofs.flat_lemmas
 pub use Rattle.nested_arrays_access.proofs.parts_lemmas
 pub use Rattle.nested_arrays_access.proofs.arrays_lemmas
+pub use Rattle.nested_arrays_access.proofs.columnar_memory_lemmas
+pub mod Passed

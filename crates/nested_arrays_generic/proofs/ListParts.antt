@@ -2,10 +2,10 @@
 use Rattle.std.proofs.Common.{◌≡◌, ◌∙◌, sym, ap, ◌≤◌, ℕ, List, true, false, Bool, arith, refl, length}
 use Rattle.std.specs.Prelude.{Option, if◌then◌else◌}
 use Rattle.std.proofs.lemmas.Bool.{false≢true}
-use Rattle.columnar_memory.specs.Layouts.{physical_type}
-use Rattle.columnar_memory.specs.Spans.{Spans, offsets_of, last_of}
-use Rattle.columnar_memory.specs.declared.DataType.{DataType}
-use Rattle.columnar_memory.specs.declared.DataType.TheOpen as layer
+use Rattle.nested_arrays_access.specs.columnar_memory.Layouts.{physical_type}
+use Rattle.nested_arrays_access.specs.columnar_memory.Spans.{Spans, offsets_of, last_of}
+use Rattle.nested_arrays_access.specs.columnar_memory.declared.DataType.{DataType}
+use Rattle.nested_arrays_access.specs.columnar_memory.declared.DataType.TheOpen as layer
 use Rattle.nested_arrays_access.specs.columns.Kinds.{most_offset}
 use Rattle.nested_arrays_access.specs.columns.SoundColumns.{has_item_type, mask_fits, is_sound}
 use Rattle.nested_arrays_access.specs.columns.StoredColumns.{Column, column_len, column_type, lists, type_layer}

@@ -2,7 +2,7 @@
 use Rattle.std.proofs.Common.{◌≡◌, ◌∙◌, ◌<◌, ℕ, ℤ, List, Bool, true, false, refl, sym, ap, arith, length, subst}
 use Rattle.std.specs.Prelude.{◌&&◌, ◌||◌, not, pos, Option, None, Some, slice_index_or, nat_lt, int_le, if◌then◌else◌, unwrap_or}
 use Rattle.std.proofs.lemmas.Bool.{and_parts, false≢true, ltb-true}
-use Rattle.columnar_memory.specs.declared.DataType.{DataType}
+use Rattle.nested_arrays_access.specs.columnar_memory.declared.DataType.{DataType}
 use Rattle.nested_arrays_access.proofs.columns_lemmas.Conditions.{parts_of_4, holds_at}
 use Rattle.nested_arrays_access.specs.columns.Slots.{null}
 use Rattle.nested_arrays_access.specs.columns.SoundColumns.{has_value_at, has_value_type, holds_below, is_sound, mask_fits}

@@ -3,15 +3,15 @@ use Rattle.std.proofs.Common.{◌≡◌, ◌∙◌, List, map, Bool, true, refl,
 use Rattle.std.specs.Prelude.{ℤ, Option, ◌&&◌, ◌==◌}
 use Rattle.std.specs.List.{list_all}
 use Rattle.std.proofs.lemmas.Bool.{and_parts, false≢true}
-use Rattle.columnar_memory.specs.Layouts.{physical_type}
-use Rattle.columnar_memory.specs.Numbers.{Numbers, one}
-use Rattle.columnar_memory.specs.declared.DataType.{DataType}
-use Rattle.columnar_memory.specs.declared.IntegerType.{IntegerType}
-use Rattle.columnar_memory.specs.declared.IntegerType.TheVariants as integers
-use Rattle.columnar_memory.specs.declared.PhysicalType.{PhysicalType}
-use Rattle.columnar_memory.specs.declared.PhysicalType.TheVariants as physical
-use Rattle.columnar_memory.specs.declared.PrimitiveType.{PrimitiveType}
-use Rattle.columnar_memory.specs.declared.PrimitiveType.TheVariants as kinds
+use Rattle.nested_arrays_access.specs.columnar_memory.Layouts.{physical_type}
+use Rattle.nested_arrays_access.specs.columnar_memory.Numbers.{Numbers, one}
+use Rattle.nested_arrays_access.specs.columnar_memory.declared.DataType.{DataType}
+use Rattle.nested_arrays_access.specs.columnar_memory.declared.IntegerType.{IntegerType}
+use Rattle.nested_arrays_access.specs.columnar_memory.declared.IntegerType.TheVariants as integers
+use Rattle.nested_arrays_access.specs.columnar_memory.declared.PhysicalType.{PhysicalType}
+use Rattle.nested_arrays_access.specs.columnar_memory.declared.PhysicalType.TheVariants as physical
+use Rattle.nested_arrays_access.specs.columnar_memory.declared.PrimitiveType.{PrimitiveType}
+use Rattle.nested_arrays_access.specs.columnar_memory.declared.PrimitiveType.TheVariants as kinds
 use Rattle.nested_arrays_access.specs.flat_arrays.Flat.{Flat}
 use Rattle.nested_arrays_access.proofs.columns_lemmas.Conditions.{parts_of_3}
 use Rattle.nested_arrays_access.specs.columns.Kinds.{in_kind, numbers_of_kind, same_kind}

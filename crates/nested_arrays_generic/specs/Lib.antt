@@ -6,3 +6,4 @@ pub use Rattle.nested_arrays_access.specs.flat_arrays
 pub use Rattle.nested_arrays_access.specs.flat
 pub use Rattle.nested_arrays_access.specs.parts
 pub use Rattle.nested_arrays_access.specs.arrays
+pub use Rattle.nested_arrays_access.specs.columnar_memory

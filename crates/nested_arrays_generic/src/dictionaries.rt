@@ -1,7 +1,7 @@
 //! Dictionaries.
 ghost use Rattle.std.specs.Prelude.{◌≡◌, ◌+◌, ◌<◌, ◌≤◌, ◌≤ℤ◌, ◌↔◌, IsTrue, false, not, option_copied, pos, true};
-ghost use Rattle.columnar_memory.specs.Layouts.{physical_type};
-ghost use Rattle.columnar_memory.specs.declared.PhysicalType.TheVariants as physical;
+ghost use Rattle.nested_arrays_access.specs.columnar_memory.Layouts.{physical_type};
+ghost use Rattle.nested_arrays_access.specs.columnar_memory.declared.PhysicalType.TheVariants as physical;
 ghost use Rattle.nested_arrays_access.specs.columns.StoredColumns.{column_len, column_type, cut, is_valid_at, type_layer};
 ghost use Rattle.nested_arrays_access.specs.flat.ColumnMasks.{column_mask, unset_in, ReplacesMask};
 ghost use Rattle.nested_arrays_access.specs.arrays.Answers.{IsCheckedAs, LiesAs};
@@ -9,7 +9,7 @@ ghost use Rattle.nested_arrays_generic.specs.Dictionaries.{has_order, is_value_t
 ghost use Rattle.nested_arrays_generic.specs.Dictionaries.{IsDictionaryOf};
 
 use crate::keys::{DictionaryKey, name_values};
-use columnar_memory::{Bitmap, Boxed, DataType, Error, PhysicalType, Result};
+use nested_arrays_access::columnar_memory::{Bitmap, Boxed, DataType, Error, PhysicalType, Result};
 use nested_arrays_access::flat_arrays::PrimitiveArray;
 use nested_arrays_access::arrays::AnyArray;
 use nested_arrays_access::flat::{mark_at, primitive_is_sound, unset_marks};
@@ -27,7 +27,7 @@ pub struct DictionaryArray<K: DictionaryKey> {
 }
 
 impl<K: DictionaryKey> Model for DictionaryArray<K> {
-    ghost use Rattle.columnar_memory.specs.declared.PhysicalType.TheVariants as physical;
+    ghost use Rattle.nested_arrays_access.specs.columnar_memory.declared.PhysicalType.TheVariants as physical;
     ghost use Rattle.nested_arrays_access.specs.columns.ColumnCodes.{column_code};
     ghost use Rattle.nested_arrays_access.specs.columns.StoredColumns.{Column};
     ghost use Rattle.nested_arrays_access.specs.arrays.Answers.{LiesAs};

@@ -8,7 +8,7 @@ ghost use Rattle.nested_arrays_access.specs.arrays.Places.{AreItems};
 use crate::dictionaries::DictionaryArray;
 use crate::keys::DictionaryKey;
 use crate::lists::ListArray;
-use columnar_memory::{DataType, Offset, Steps};
+use nested_arrays_access::columnar_memory::{DataType, Offset, Steps};
 use nested_arrays_access::arrays::{
     AnyArray, CompareSlots, is_null_slot, same_arrays, same_items, same_slot,
 };

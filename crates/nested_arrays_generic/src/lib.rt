@@ -23,6 +23,7 @@ pub use keys::DictionaryKey;
 pub use lists::ListArray;
 pub use nested_arrays_access as access;
 pub use nested_arrays_access::arrays;
+pub use nested_arrays_access::columnar_memory;
 pub use nested_arrays_access::columns;
 pub use nested_arrays_access::flat;
 pub use nested_arrays_access::flat_arrays;

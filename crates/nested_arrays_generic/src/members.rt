@@ -2,7 +2,7 @@
 use crate::dictionaries::DictionaryArray;
 use crate::keys::DictionaryKey;
 use crate::lists::ListArray;
-use columnar_memory::{Bitmap, DataType, Offset, Result};
+use nested_arrays_access::columnar_memory::{Bitmap, DataType, Offset, Result};
 use nested_arrays_access::Array;
 
 impl<O: Offset> Array for ListArray<O> {

@@ -1,7 +1,7 @@
 //! Lists and dictionaries taken out of arrays of any type, without memory: an array of another kind is given back.
 ghost use Rattle.std.specs.Prelude.{◌≡◌, true};
-ghost use Rattle.columnar_memory.specs.Layouts.{physical_type};
-ghost use Rattle.columnar_memory.specs.declared.PhysicalType.TheVariants as physical;
+ghost use Rattle.nested_arrays_access.specs.columnar_memory.Layouts.{physical_type};
+ghost use Rattle.nested_arrays_access.specs.columnar_memory.declared.PhysicalType.TheVariants as physical;
 ghost use Rattle.nested_arrays_access.specs.columns.SoundColumns.{is_sound};
 ghost use Rattle.nested_arrays_access.specs.parts.Keys.{AreKeysOf};
 ghost use Rattle.nested_arrays_access.specs.parts.Widths.{layout_of};

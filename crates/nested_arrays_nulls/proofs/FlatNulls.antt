@@ -1,11 +1,11 @@
 -- What arrays of nulls without children store.
 use Rattle.std.proofs.Common.{◌≡◌, ◌∙◌, refl, ap, ℕ, zero, suc, List, [], ◌∷◌, map}
 use Rattle.std.specs.Prelude.{replicate}
-use Rattle.columnar_memory.specs.Numbers.{Numbers}
-use Rattle.columnar_memory.specs.Spans.{Spans, ends_from, offsets_of}
-use Rattle.columnar_memory.specs.declared.DataType.{DataType}
-use Rattle.columnar_memory.specs.declared.PhysicalType.TheVariants as physical
-use Rattle.columnar_memory.specs.declared.PrimitiveType.{PrimitiveType}
+use Rattle.nested_arrays_walks.specs.columnar_memory.Numbers.{Numbers}
+use Rattle.nested_arrays_walks.specs.columnar_memory.Spans.{Spans, ends_from, offsets_of}
+use Rattle.nested_arrays_walks.specs.columnar_memory.declared.DataType.{DataType}
+use Rattle.nested_arrays_walks.specs.columnar_memory.declared.PhysicalType.TheVariants as physical
+use Rattle.nested_arrays_walks.specs.columnar_memory.declared.PrimitiveType.{PrimitiveType}
 use Rattle.nested_arrays_walks.specs.flat_arrays.ByteStrings as strings
 use Rattle.nested_arrays_walks.specs.flat_arrays.ByteStrings.{ByteStrings}
 use Rattle.nested_arrays_walks.specs.flat_arrays.Flat as arrays

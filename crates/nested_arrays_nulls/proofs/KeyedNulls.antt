@@ -1,11 +1,11 @@
 -- Dictionaries of nulls, by their arrays of keys.
 use Rattle.std.proofs.Common.{◌≡◌, ◌∙◌, refl, sym, ap, ℕ, List}
 use Rattle.std.specs.Prelude.{ℤ, pos, replicate}
-use Rattle.columnar_memory.specs.Numbers.{Numbers, one, first_number, zeros}
-use Rattle.columnar_memory.specs.declared.DataType.{DataType}
-use Rattle.columnar_memory.specs.declared.IntegerType.{IntegerType}
-use Rattle.columnar_memory.specs.declared.IntegerType.TheVariants as integers
-use Rattle.columnar_memory.specs.declared.PrimitiveType.{PrimitiveType}
+use Rattle.nested_arrays_walks.specs.columnar_memory.Numbers.{Numbers, one, first_number, zeros}
+use Rattle.nested_arrays_walks.specs.columnar_memory.declared.DataType.{DataType}
+use Rattle.nested_arrays_walks.specs.columnar_memory.declared.IntegerType.{IntegerType}
+use Rattle.nested_arrays_walks.specs.columnar_memory.declared.IntegerType.TheVariants as integers
+use Rattle.nested_arrays_walks.specs.columnar_memory.declared.PrimitiveType.{PrimitiveType}
 use Rattle.nested_arrays_walks.specs.flat_arrays.Flat as arrays
 use Rattle.nested_arrays_walks.specs.flat_arrays.Flat.{Flat}
 use Rattle.nested_arrays_walks.specs.flat_arrays.Results.{ForZero}

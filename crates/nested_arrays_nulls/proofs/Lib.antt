@@ -16,3 +16,5 @@ pub use Rattle.nested_arrays_walks.proofs.parts_lemmas
 pub use Rattle.nested_arrays_walks.proofs.arrays_lemmas
 pub use Rattle.nested_arrays_walks.proofs.access_lemmas
 pub use Rattle.nested_arrays_walks.proofs.generic_lemmas
+pub use Rattle.nested_arrays_walks.proofs.columnar_memory_lemmas
+pub mod Passed

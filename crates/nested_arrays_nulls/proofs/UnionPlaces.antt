@@ -3,7 +3,7 @@ use Rattle.std.proofs.Common.{◌≡◌, ℕ, zero, suc, ◌+◌, ◌^◌, ◌<�
 use Rattle.std.specs.Prelude.{ℤ, pos, int_le, ◌==◌, Some}
 use Rattle.std.specs.List.{list_all}
 use Rattle.std.proofs.lemmas.Bool.{and_parts, ltb-true}
-use Rattle.columnar_memory.specs.declared.DataType.{DataType}
+use Rattle.nested_arrays_walks.specs.columnar_memory.declared.DataType.{DataType}
 use Rattle.nested_arrays_walks.proofs.columns_lemmas.Conditions.{parts_of_5}
 use Rattle.nested_arrays_walks.specs.columns.Kinds.{is_signed}
 use Rattle.nested_arrays_walks.specs.columns.Slots.{window}

@@ -10,3 +10,4 @@ pub use Rattle.nested_arrays_walks.specs.parts
 pub use Rattle.nested_arrays_walks.specs.arrays
 pub use Rattle.nested_arrays_walks.specs.access
 pub use Rattle.nested_arrays_walks.specs.generic
+pub use Rattle.nested_arrays_walks.specs.columnar_memory

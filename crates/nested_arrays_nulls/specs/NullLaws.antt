@@ -1,8 +1,8 @@
 -- What the slots of arrays of nulls are.
 use Rattle.std.specs.Prelude.{◌≡◌, ℕ, replicate}
-use Rattle.columnar_memory.specs.Layouts.{physical_type}
-use Rattle.columnar_memory.specs.declared.DataType.{DataType}
-use Rattle.columnar_memory.specs.declared.PhysicalType.TheVariants as physical
+use Rattle.nested_arrays_walks.specs.columnar_memory.Layouts.{physical_type}
+use Rattle.nested_arrays_walks.specs.columnar_memory.declared.DataType.{DataType}
+use Rattle.nested_arrays_walks.specs.columnar_memory.declared.PhysicalType.TheVariants as physical
 use Rattle.nested_arrays_walks.specs.columns.Slots.{null}
 use Rattle.nested_arrays_walks.specs.columns.StoredColumns.{Column, slots}
 

@@ -1,11 +1,11 @@
 //! Nulls without children.
 ghost use Rattle.std.specs.Prelude.{◌≡◌};
-ghost use Rattle.columnar_memory.specs.Layouts.{physical_type};
-ghost use Rattle.columnar_memory.specs.declared.PhysicalType.TheVariants as physical;
+ghost use Rattle.nested_arrays_walks.specs.columnar_memory.Layouts.{physical_type};
+ghost use Rattle.nested_arrays_walks.specs.columnar_memory.declared.PhysicalType.TheVariants as physical;
 ghost use Rattle.nested_arrays_nulls.specs.NullAnswers.{IsMade};
 ghost use Rattle.nested_arrays_nulls.specs.NullColumns.{flat_nulls};
 
-use columnar_memory::{
+use nested_arrays_walks::columnar_memory::{
     DataType, Error, PhysicalType, PrimitiveType, Result, days_ms, i256, months_days_ns,
 };
 use nested_arrays_walks::flat_arrays::{BinaryArray, Utf8Array};

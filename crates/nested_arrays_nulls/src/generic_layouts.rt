@@ -1,13 +1,13 @@
 //! Nulls in place of lists and of keys, whose children are given.
 ghost use Rattle.std.specs.Prelude.{◌≡◌, pos, replicate};
-ghost use Rattle.columnar_memory.specs.Layouts.{physical_type};
-ghost use Rattle.columnar_memory.specs.declared.PhysicalType.TheVariants as physical;
+ghost use Rattle.nested_arrays_walks.specs.columnar_memory.Layouts.{physical_type};
+ghost use Rattle.nested_arrays_walks.specs.columnar_memory.declared.PhysicalType.TheVariants as physical;
 ghost use Rattle.nested_arrays_walks.specs.columns.StoredColumns.{dictionary, lists};
 ghost use Rattle.nested_arrays_walks.specs.generic.ListTypes.{list_layout};
 ghost use Rattle.nested_arrays_nulls.specs.NullAnswers.{IsMade};
 ghost use Rattle.nested_arrays_nulls.specs.NullColumns.{no_items, no_marks};
 
-use columnar_memory::{Bitmap, DataType, Offset, Offsets, Result};
+use nested_arrays_walks::columnar_memory::{Bitmap, DataType, Offset, Offsets, Result};
 use nested_arrays_walks::flat_arrays::PrimitiveArray;
 use nested_arrays_walks::arrays::AnyArray;
 use nested_arrays_walks::generic::{DictionaryArray, DictionaryKey, ListArray};
@@ -29,7 +29,7 @@ pub(crate) fn lists<O: Offset>(
 }
 
 /// So many nulls in place of keys of these values.
-#[tactic(auto, using(nested_arrays_walks::proofs::flat_arrays_lemmas::values_lemmas::Layouts::plainest))]
+#[tactic(auto, using(crate::proofs::Passed::plainest))]
 pub(crate) fn dictionary<K: DictionaryKey>(
     alloc: Global,
     data_type: DataType,

@@ -1,11 +1,11 @@
 //! Arrays of nulls, and without slots, of each kind that has children.
-ghost use Rattle.columnar_memory.specs.declared.PhysicalType.{PhysicalType};
-ghost use Rattle.columnar_memory.specs.declared.PhysicalType.TheVariants as physical;
+ghost use Rattle.nested_arrays_walks.specs.columnar_memory.declared.PhysicalType.{PhysicalType};
+ghost use Rattle.nested_arrays_walks.specs.columnar_memory.declared.PhysicalType.TheVariants as physical;
 ghost use Rattle.nested_arrays_walks.specs.parts.FlatLayouts.{TakesKind};
 ghost use Rattle.nested_arrays_nulls.specs.NullAnswers.{IsNullArrayAs};
 
 use crate::nulls::new_null_array;
-use columnar_memory::{DataType, Error};
+use nested_arrays_walks::columnar_memory::{DataType, Error};
 use nested_arrays_walks::access::Array;
 use nested_arrays_walks::arrays::{AnyArray, FixedSizeListArray, MapArray, StructArray, UnionArray};
 use nested_arrays_walks::generic::{DictionaryArray, DictionaryKey, ListArray};

@@ -1,15 +1,15 @@
 //! Nulls with children, which are given.
 ghost use Rattle.std.specs.Prelude.{◌≡◌, ◌≤◌, ◌^◌, All, pos, replicate};
-ghost use Rattle.columnar_memory.specs.Layouts.{physical_type};
-ghost use Rattle.columnar_memory.specs.Results.{OrOutOfMemory};
-ghost use Rattle.columnar_memory.specs.declared.PhysicalType.TheVariants as physical;
+ghost use Rattle.nested_arrays_walks.specs.columnar_memory.Layouts.{physical_type};
+ghost use Rattle.nested_arrays_walks.specs.columnar_memory.Results.{OrOutOfMemory};
+ghost use Rattle.nested_arrays_walks.specs.columnar_memory.declared.PhysicalType.TheVariants as physical;
 ghost use Rattle.nested_arrays_walks.specs.columns.Slots.{window};
 ghost use Rattle.nested_arrays_walks.specs.columns.StoredColumns.{column_len, fixed_lists, in_columns, lists, records, unions};
 ghost use Rattle.nested_arrays_walks.specs.arrays.Lengths.{size_of};
 ghost use Rattle.nested_arrays_nulls.specs.NullAnswers.{IsMade};
 ghost use Rattle.nested_arrays_nulls.specs.NullColumns.{no_items, no_marks, null_places};
 
-use columnar_memory::{Bitmap, Buffer, DataType, Error, Offsets, Result, UnionMode};
+use nested_arrays_walks::columnar_memory::{Bitmap, Buffer, DataType, Error, Offsets, Result, UnionMode};
 use nested_arrays_walks::arrays::{AnyArray, FixedSizeListArray, MapArray, StructArray, UnionArray};
 use std::alloc::Global;
 
@@ -68,7 +68,7 @@ fn ids(alloc: Global, id: i8, length: usize) -> Result<Buffer<i8>>
 }
 
 /// For each of so many slots of a dense union its own place.
-#[tactic(auto, using(columnar_memory::proofs::bits_lemmas::Windows::window_next))]
+#[tactic(auto, using(crate::proofs::Passed::window_next))]
 fn places(alloc: Global, length: usize) -> Result<Buffer<i32>>
     requires { length ≤ 2 ^ 31 }
     ensures { OrOutOfMemory result (λ places. places ≡ window pos 0 length) }

@@ -12,6 +12,7 @@ pub use kinds::NullArrays;
 pub use nested_arrays_walks as walks;
 pub use nested_arrays_walks::access;
 pub use nested_arrays_walks::arrays;
+pub use nested_arrays_walks::columnar_memory;
 pub use nested_arrays_walks::columns;
 pub use nested_arrays_walks::flat;
 pub use nested_arrays_walks::flat_arrays;

@@ -1,12 +1,12 @@
 //! Arrays of nulls of any type.
 ghost use Rattle.std.specs.Prelude.{◌≡◌, IfOk};
-ghost use Rattle.columnar_memory.specs.Layouts.{logical_type, physical_type};
+ghost use Rattle.nested_arrays_walks.specs.columnar_memory.Layouts.{logical_type, physical_type};
 ghost use Rattle.nested_arrays_nulls.specs.NullAnswers.{AreMade, IsMade, IsNullArray};
 ghost use Rattle.nested_arrays_nulls.specs.NullLaws.{AreNullSlots};
 ghost use Rattle.nested_arrays_nulls.specs.NullColumns.{null_columns, nulls_as};
 
 use crate::{flats, wholes};
-use columnar_memory::{DataType, Error, Field, Result, Text};
+use nested_arrays_walks::columnar_memory::{DataType, Error, Field, Result, Text};
 use nested_arrays_walks::arrays::AnyArray;
 use std::alloc::Global;
 

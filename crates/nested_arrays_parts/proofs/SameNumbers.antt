@@ -4,12 +4,12 @@ use Rattle.std.specs.Prelude.{◌==◌, ◌↔◌, pos, Some, option_map, slice_
 use Rattle.std.specs.List.{list_all}
 use Rattle.std.proofs.lemmas.Bool.{false≢true}
 use Rattle.std.proofs.lemmas.Option.{get_or_from_slice_get, slice_get-map, slice_get-get_or}
-use Rattle.columnar_memory.specs.declared.PhysicalType.{PhysicalType}
-use Rattle.columnar_memory.specs.declared.PhysicalType.TheVariants as physical
-use Rattle.columnar_memory.specs.declared.PrimitiveType.{PrimitiveType}
-use Rattle.columnar_memory.specs.declared.PrimitiveType.TheVariants as kinds
-use Rattle.columnar_memory.specs.Layouts.{physical_type}
-use Rattle.columnar_memory.specs.Numbers.{Numbers, one, two, three, first_number, IsNative}
+use Rattle.nested_arrays_flat.specs.columnar_memory.declared.PhysicalType.{PhysicalType}
+use Rattle.nested_arrays_flat.specs.columnar_memory.declared.PhysicalType.TheVariants as physical
+use Rattle.nested_arrays_flat.specs.columnar_memory.declared.PrimitiveType.{PrimitiveType}
+use Rattle.nested_arrays_flat.specs.columnar_memory.declared.PrimitiveType.TheVariants as kinds
+use Rattle.nested_arrays_flat.specs.columnar_memory.Layouts.{physical_type}
+use Rattle.nested_arrays_flat.specs.columnar_memory.Numbers.{Numbers, one, two, three, first_number, IsNative}
 use Rattle.nested_arrays_flat.specs.flat_arrays.Flat.{Flat}
 use Rattle.nested_arrays_flat.proofs.columns_lemmas.Conditions.{parts_of_3}
 use Rattle.nested_arrays_flat.proofs.columns_lemmas.SameSlotsDecide.{same_kind-implies}

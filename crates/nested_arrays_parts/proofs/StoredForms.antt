@@ -1,7 +1,7 @@
 -- What columns without children store, by its form.
 use Rattle.std.proofs.Common.{◌≡◌, ◌∙◌, ◌<◌, ◌+◌, ℕ, List, refl, sym, ap, arith}
 use Rattle.std.specs.Prelude.{Some, slice_get, slice_range}
-use Rattle.columnar_memory.specs.Spans.{offsets_of, offset_at}
+use Rattle.nested_arrays_flat.specs.columnar_memory.Spans.{offsets_of, offset_at}
 use Rattle.nested_arrays_flat.proofs.flat_arrays_lemmas.bytes_lemmas.Places.{value_between}
 use Rattle.nested_arrays_flat.specs.flat_arrays.ByteStrings.{ByteStrings, len_of, values_of}
 use Rattle.nested_arrays_flat.specs.columns.Slots.{bytes, text}

@@ -8,3 +8,4 @@ pub mod Widths
 pub use Rattle.nested_arrays_flat.specs as flat
 pub use Rattle.nested_arrays_flat.specs.columns
 pub use Rattle.nested_arrays_flat.specs.flat_arrays
+pub use Rattle.nested_arrays_flat.specs.columnar_memory

@@ -1,8 +1,8 @@
 -- Ranges of slots of two columns.
 use Rattle.std.specs.Prelude.{◌≡◌, ◌+◌, ◌<◌, ℕ, Bool, List, Option}
-use Rattle.columnar_memory.specs.Numbers.{Numbers, first_number}
-use Rattle.columnar_memory.specs.declared.PrimitiveType.{PrimitiveType}
-use Rattle.columnar_memory.specs.declared.PrimitiveType.TheVariants as kinds
+use Rattle.nested_arrays_flat.specs.columnar_memory.Numbers.{Numbers, first_number}
+use Rattle.nested_arrays_flat.specs.columnar_memory.declared.PrimitiveType.{PrimitiveType}
+use Rattle.nested_arrays_flat.specs.columnar_memory.declared.PrimitiveType.TheVariants as kinds
 use Rattle.nested_arrays_flat.specs.columns.SlotNodes.{nodes_of}
 use Rattle.nested_arrays_flat.specs.columns.Slots.{Slot, number, in_slots, window}
 use Rattle.nested_arrays_flat.specs.columns.StoredColumns.{Column, Stored, is_valid_at, slot_at, stored_at, pair_slot, triple_slot}

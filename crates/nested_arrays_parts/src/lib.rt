@@ -18,6 +18,7 @@ mod values;
 pub use flats::{FlatArray, FlatNode};
 pub use masks::{fits, last_of};
 pub use nested_arrays_flat as flat;
+pub use nested_arrays_flat::columnar_memory;
 pub use nested_arrays_flat::columns;
 pub use nested_arrays_flat::flat_arrays;
 pub use offsets::{ListOffsets, slice_offsets};

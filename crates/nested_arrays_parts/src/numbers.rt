@@ -6,7 +6,7 @@ ghost use Rattle.nested_arrays_parts.specs.Ranges.{number_slot, SameRanges, Same
 ghost use Rattle.nested_arrays_flat.specs.FlatColumns.{primitive_column, stored_numbers};
 
 use crate::stored::holds_numbers;
-use columnar_memory::NativeType;
+use nested_arrays_flat::columnar_memory::NativeType;
 use nested_arrays_flat::flat_arrays::PrimitiveArray;
 use nested_arrays_flat::{AnyPrimitive, PrimitiveKind, PrimitiveNode};
 

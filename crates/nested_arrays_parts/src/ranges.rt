@@ -10,7 +10,7 @@ ghost use Rattle.nested_arrays_flat.specs.ColumnMasks.{column_mask};
 use crate::flats::{FlatArray, FlatNode};
 use crate::stored::{holds_numbers, holds_values};
 use crate::values::same_values;
-use columnar_memory::{Bitmap, Steps};
+use nested_arrays_flat::columnar_memory::{Bitmap, Steps};
 use nested_arrays_flat::mark_at;
 
 /// Whether the mask, if there is one, says that a slot has a value.

@@ -1,6 +1,6 @@
 //! Arrays of one kind taken out of arrays without children, without memory: an array of another kind is given back.
 ghost use Rattle.std.specs.Prelude.{◌≡◌, false, true, MatchResult};
-ghost use Rattle.columnar_memory.specs.declared.PhysicalType.TheVariants as physical;
+ghost use Rattle.nested_arrays_flat.specs.columnar_memory.declared.PhysicalType.TheVariants as physical;
 ghost use Rattle.nested_arrays_flat.specs.FlatColumns.{binary_column, boolean_column, text_column};
 ghost use Rattle.nested_arrays_flat.specs.Taken.{Takes};
 ghost use Rattle.nested_arrays_parts.specs.FlatLayouts.{is_of_numbers, lies_as, lies_well, TakesKind, TakesNumbers};

@@ -6,7 +6,7 @@ ghost use Rattle.nested_arrays_flat.specs.FlatColumns.{binary_column, boolean_co
 use crate::flats::{FlatArray, FlatNode};
 use crate::masks::fits;
 use crate::sound::{binary_is_sound, boolean_is_sound, text_is_sound};
-use columnar_memory::{Bitmap, Error, Offset, Result};
+use nested_arrays_flat::columnar_memory::{Bitmap, Error, Offset, Result};
 use nested_arrays_flat::flat_arrays::{BinaryArray, Utf8Array};
 use nested_arrays_flat::flat_arrays::BooleanArray;
 

@@ -8,7 +8,7 @@ ghost use Rattle.nested_arrays_flat.specs.FlatColumns.{binary_column, boolean_co
 use crate::flats::{FlatArray, FlatNode};
 use crate::numbers::same_numbers;
 use crate::stored::{booleans, bytes, holds_values, numbers, text};
-use columnar_memory::Offset;
+use nested_arrays_flat::columnar_memory::Offset;
 use nested_arrays_flat::flat_arrays::{BinaryArray, Utf8Array};
 use nested_arrays_flat::flat_arrays::BooleanArray;
 

@@ -10,3 +10,5 @@ pub use Rattle.nested_arrays_generic.proofs.flat_lemmas
 pub use Rattle.nested_arrays_generic.proofs.parts_lemmas
 pub use Rattle.nested_arrays_generic.proofs.arrays_lemmas
 pub use Rattle.nested_arrays_generic.proofs.access_lemmas
+pub use Rattle.nested_arrays_generic.proofs.columnar_memory_lemmas
+pub mod Passed

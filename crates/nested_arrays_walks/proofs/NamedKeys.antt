@@ -4,9 +4,9 @@ use Rattle.std.specs.Prelude.{◌↔◌, ℤ, pos, negsuc, ◌≤ℤ◌, IsTrue,
 use Rattle.std.specs.List.{All}
 use Rattle.std.proofs.lemmas.Bool.{false≢true}
 use Rattle.std.proofs.lemmas.List.{length-map}
-use Rattle.columnar_memory.proofs.buffer_lemmas.Runs.{nonnegative}
-use Rattle.columnar_memory.specs.declared.DataType.{DataType}
-use Rattle.columnar_memory.specs.declared.Error.{Error}
+use Rattle.nested_arrays_generic.proofs.columnar_memory_lemmas.buffer_lemmas.Runs.{nonnegative}
+use Rattle.nested_arrays_generic.specs.columnar_memory.declared.DataType.{DataType}
+use Rattle.nested_arrays_generic.specs.columnar_memory.declared.Error.{Error}
 use Rattle.nested_arrays_generic.specs.flat_arrays.Flat.{Flat}
 use Rattle.nested_arrays_generic.specs.flat_arrays.Results.{AreChecked, IsPlaceBelow}
 use Rattle.nested_arrays_generic.specs.columns.StoredColumns.{Column, column_len, place_of}

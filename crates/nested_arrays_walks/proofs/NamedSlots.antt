@@ -2,7 +2,7 @@
 use Rattle.std.proofs.Common.{◌≡◌, ◌∙◌, ℕ, ◌<◌, List, length, refl, sym, ap, subst, arith, true, false}
 use Rattle.std.specs.Prelude.{ℤ, pos, Bool, ◌&&◌, ◌||◌, not, Option, Some, None, MatchOption, if◌then◌else◌, int_le, nat_lt, slice_index_or}
 use Rattle.std.proofs.lemmas.Bool.{and_parts, ltb-true}
-use Rattle.columnar_memory.specs.declared.DataType.{DataType}
+use Rattle.nested_arrays_generic.specs.columnar_memory.declared.DataType.{DataType}
 use Rattle.nested_arrays_generic.proofs.columns_lemmas.Conditions.{holds_at, parts_of_4}
 use Rattle.nested_arrays_generic.specs.columns.SoundColumns.{has_value_at, has_value_type, holds_below, is_sound, mask_fits}
 use Rattle.nested_arrays_generic.specs.columns.Slots.{null}

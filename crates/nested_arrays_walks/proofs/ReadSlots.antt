@@ -4,9 +4,9 @@ use Rattle.std.proofs.Common.{true}
 use Rattle.std.specs.Prelude.{Bool, Option, Some, None, ◌==◌, slice_get}
 use Rattle.std.specs.List.{All}
 use Rattle.std.proofs.lemmas.Bool.{and_parts, eqb-true}
-use Rattle.columnar_memory.proofs.bitmap_lemmas.Lists.{slice_get-window, slice_get-window_past}
-use Rattle.columnar_memory.specs.Spans.{Spans, offsets_of, offset_at, last_of}
-use Rattle.columnar_memory.specs.declared.DataType.{DataType}
+use Rattle.nested_arrays_generic.proofs.columnar_memory_lemmas.bitmap_lemmas.Lists.{slice_get-window, slice_get-window_past}
+use Rattle.nested_arrays_generic.specs.columnar_memory.Spans.{Spans, offsets_of, offset_at, last_of}
+use Rattle.nested_arrays_generic.specs.columnar_memory.declared.DataType.{DataType}
 use Rattle.nested_arrays_generic.proofs.columns_lemmas.Conditions.{parts_of_4}
 use Rattle.nested_arrays_generic.proofs.columns_lemmas.CutLengths.{column_len-cut}
 use Rattle.nested_arrays_generic.proofs.columns_lemmas.Cuts.{slot_at-cut}

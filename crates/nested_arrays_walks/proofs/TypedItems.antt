@@ -4,10 +4,10 @@ use Rattle.std.specs.Prelude.{ℤ, Bool, cond, not, Option, Some, None, Result, 
 use Rattle.std.specs.Borrow.{Bor}
 use Rattle.std.proofs.lemmas.Bool.{eqb-true}
 use Rattle.std.proofs.lemmas.List.Sums.{sum_by-cons}
-use Rattle.columnar_memory.specs.Bits.{unset_count}
-use Rattle.columnar_memory.specs.declared.DataType.{DataType}
-use Rattle.columnar_memory.specs.declared.Error.{Error}
-use Rattle.columnar_memory.specs.declared.PhysicalType.{PhysicalType}
+use Rattle.nested_arrays_generic.specs.columnar_memory.Bits.{unset_count}
+use Rattle.nested_arrays_generic.specs.columnar_memory.declared.DataType.{DataType}
+use Rattle.nested_arrays_generic.specs.columnar_memory.declared.Error.{Error}
+use Rattle.nested_arrays_generic.specs.columnar_memory.declared.PhysicalType.{PhysicalType}
 use Rattle.nested_arrays_generic.specs.flat_arrays.ByteStrings as strings
 use Rattle.nested_arrays_generic.specs.flat_arrays.ByteStrings.{ByteStrings, len_of}
 use Rattle.nested_arrays_generic.specs.columns.Slots.{Slot, text}

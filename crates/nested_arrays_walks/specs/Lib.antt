@@ -11,3 +11,4 @@ pub use Rattle.nested_arrays_generic.specs.flat
 pub use Rattle.nested_arrays_generic.specs.parts
 pub use Rattle.nested_arrays_generic.specs.arrays
 pub use Rattle.nested_arrays_generic.specs.access
+pub use Rattle.nested_arrays_generic.specs.columnar_memory

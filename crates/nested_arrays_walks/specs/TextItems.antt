@@ -1,9 +1,9 @@
 -- Arrays of texts, as items.
 use Rattle.std.specs.Prelude.{◌≡◌, Option, Result, MatchOption, MatchResult}
 use Rattle.std.specs.Borrow.{Bor}
-use Rattle.columnar_memory.specs.Error.{IsInvalidArgument}
-use Rattle.columnar_memory.specs.declared.Error.{Error}
-use Rattle.columnar_memory.specs.declared.PhysicalType.{PhysicalType}
+use Rattle.nested_arrays_generic.specs.columnar_memory.Error.{IsInvalidArgument}
+use Rattle.nested_arrays_generic.specs.columnar_memory.declared.Error.{Error}
+use Rattle.nested_arrays_generic.specs.columnar_memory.declared.PhysicalType.{PhysicalType}
 use Rattle.nested_arrays_generic.specs.flat_arrays.ByteStrings.{ByteStrings}
 use Rattle.nested_arrays_generic.specs.columns.StoredColumns.{Column}
 use Rattle.nested_arrays_generic.specs.flat.FlatColumns.{text_column}

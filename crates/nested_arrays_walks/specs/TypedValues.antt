@@ -1,8 +1,8 @@
 -- The values that the keys of dictionaries name, as items of one kind (Arrow columnar format, "Dictionary-encoded Layout").
 use Rattle.std.specs.Prelude.{◌≡◌, ◌<◌, ℕ, true, false, Option, Some, None, Result, MatchResult}
-use Rattle.columnar_memory.specs.Error.{IsInvalidArgument}
-use Rattle.columnar_memory.specs.declared.Error.{Error}
-use Rattle.columnar_memory.specs.declared.PhysicalType.{PhysicalType}
+use Rattle.nested_arrays_generic.specs.columnar_memory.Error.{IsInvalidArgument}
+use Rattle.nested_arrays_generic.specs.columnar_memory.declared.Error.{Error}
+use Rattle.nested_arrays_generic.specs.columnar_memory.declared.PhysicalType.{PhysicalType}
 use Rattle.nested_arrays_generic.specs.columns.Slots.{Slot}
 use Rattle.nested_arrays_generic.specs.columns.StoredColumns.{Column, column_len, is_valid_at, place_of, slot_at}
 use Rattle.nested_arrays_generic.specs.flat.ColumnMasks.{column_mask}

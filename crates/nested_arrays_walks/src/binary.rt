@@ -1,11 +1,11 @@
 //! The bytes of arrays of byte strings.
 ghost use Rattle.std.specs.Prelude.{◌≡◌, ℕ, List};
-ghost use Rattle.columnar_memory.specs.Spans.{offsets_of};
+ghost use Rattle.nested_arrays_generic.specs.columnar_memory.Spans.{offsets_of};
 ghost use Rattle.nested_arrays_generic.specs.columns.StoredColumns.{column_type};
 ghost use Rattle.nested_arrays_generic.specs.flat.FlatColumns.{byte_width};
 ghost use Rattle.nested_arrays_walks.specs.StringParts.{string_bytes, string_offsets};
 
-use columnar_memory::{Offset, OffsetsBuffer};
+use nested_arrays_generic::columnar_memory::{Offset, OffsetsBuffer};
 use nested_arrays_generic::flat_arrays::{BinaryArray, Utf8Array};
 use nested_arrays_generic::access::Array;
 use nested_arrays_generic::flat::FixedSizeBinaryArray;

@@ -12,7 +12,7 @@ mod slots;
 mod typed;
 mod values;
 
-pub use struct_walks::{StructValueIter, UnionIter};
+pub use array_parts::ArrayPart;
 pub use binary::{FixedSizeBinaryValues, GenericBinaryArray};
 pub use dictionaries::{
     DictionaryValues, DictionaryValuesIter, KeyPlaces, KeyedSlots, KeyedValues, keys_name_values,
@@ -22,13 +22,14 @@ pub use lists::{FixedSizeListValuesIter, ListValuesIter, MapValuesIter};
 pub use nested_arrays_generic as generic;
 pub use nested_arrays_generic::access;
 pub use nested_arrays_generic::arrays;
+pub use nested_arrays_generic::columnar_memory;
 pub use nested_arrays_generic::columns;
 pub use nested_arrays_generic::flat;
 pub use nested_arrays_generic::flat_arrays;
 pub use nested_arrays_generic::parts;
-pub use array_parts::ArrayPart;
 pub use rows::StructSlot;
 pub use slots::ArraySlot;
+pub use struct_walks::{StructValueIter, UnionIter};
 pub use typed::{
     DictValue, DictionaryValuesIterTyped, TypedDictionaryValues, TypedSlots, TypedValues,
 };

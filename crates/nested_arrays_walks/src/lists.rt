@@ -1,12 +1,12 @@
 //! Lists as arrays whose values are read by their places: the items of each, as a part of the child.
 ghost use Rattle.std.specs.Prelude.{◌≡◌, ◌<◌, ◌≤◌, length};
-ghost use Rattle.columnar_memory.specs.Spans.{last_of};
+ghost use Rattle.nested_arrays_generic.specs.columnar_memory.Spans.{last_of};
 ghost use Rattle.nested_arrays_generic.specs.columns.StoredColumns.{column_len};
 ghost use Rattle.nested_arrays_walks.specs.ReadValues.{IsList, IsListBetween};
 
 use crate::array_parts::ArrayPart;
 use crate::values::{ArrayValues, Values};
-use columnar_memory::{Offset, OffsetsBuffer};
+use nested_arrays_generic::columnar_memory::{Offset, OffsetsBuffer};
 use nested_arrays_generic::flat_arrays::ArrayValuesIter;
 use nested_arrays_generic::arrays::{AnyArray, FixedSizeListArray, MapArray};
 use nested_arrays_generic::flat::mark_at;

@@ -1,7 +1,7 @@
 //! Dictionaries whose values are items of one kind, slot by slot.
 ghost use Rattle.std.specs.Prelude.{◌≡◌, false, true, MatchOption};
-ghost use Rattle.columnar_memory.specs.declared.PhysicalType.{PhysicalType};
-ghost use Rattle.columnar_memory.specs.declared.PhysicalType.TheVariants as physical;
+ghost use Rattle.nested_arrays_generic.specs.columnar_memory.declared.PhysicalType.{PhysicalType};
+ghost use Rattle.nested_arrays_generic.specs.columnar_memory.declared.PhysicalType.TheVariants as physical;
 ghost use Rattle.nested_arrays_generic.specs.columns.Slots.{Slot, text};
 ghost use Rattle.nested_arrays_generic.specs.columns.StoredColumns.{Column, column_len};
 ghost use Rattle.nested_arrays_generic.specs.parts.Childless.{is_childless};
@@ -12,7 +12,7 @@ ghost use Rattle.nested_arrays_walks.specs.NamedValues.{AreNamed};
 ghost use Rattle.nested_arrays_walks.specs.TextItems.{AreThere, ShowsTexts};
 ghost use Rattle.nested_arrays_walks.specs.TypedValues.{IsDowncast, IsKeyed, IsKeyedSlot, ShowSlotsByKeys, ShowValuesByKeys};
 
-use columnar_memory::{Error, Offset, Result};
+use nested_arrays_generic::columnar_memory::{Error, Offset, Result};
 use nested_arrays_generic::flat_arrays::{ArrayAccessor, ArrayValuesIter};
 use nested_arrays_generic::flat_arrays::Utf8Array;
 use nested_arrays_generic::access::Array;
@@ -66,7 +66,7 @@ fn large_utf8_in(node: &FlatNode) -> Option<&Utf8Array<i64>>
 }
 
 /// An array as one without children, if it is one.
-#[tactic(auto, using(nested_arrays_generic::proofs::arrays_lemmas::LaidNodes::flat_not))]
+#[tactic(auto, using(crate::proofs::Passed::flat_not))]
 fn as_flat(array: &AnyArray) -> Option<&FlatArray>
     ensures { MatchOption result (¬ (is_childless (layout_in array.now) ≡ true)) (λ flat. flat.now ≡ array.now) }
 {
@@ -78,7 +78,7 @@ fn as_flat(array: &AnyArray) -> Option<&FlatArray>
 }
 
 /// An array without children as one of texts with offsets of 32 bits, if it is one.
-#[tactic(auto, using(nested_arrays_generic::proofs::parts_lemmas::LaidVariants::lies_not))]
+#[tactic(auto, using(crate::proofs::Passed::lies_not))]
 fn flat_as_utf8(array: &FlatArray) -> Option<&Utf8Array<i32>>
     ensures { ShowsTexts physical.Utf8 array.now result }
 {
@@ -93,7 +93,7 @@ fn flat_as_utf8(array: &FlatArray) -> Option<&Utf8Array<i32>>
 }
 
 /// The same of offsets of 64 bits.
-#[tactic(auto, using(nested_arrays_generic::proofs::parts_lemmas::LaidVariants::lies_not))]
+#[tactic(auto, using(crate::proofs::Passed::lies_not))]
 fn flat_as_large_utf8(array: &FlatArray) -> Option<&Utf8Array<i64>>
     ensures { ShowsTexts physical.LargeUtf8 array.now result }
 {

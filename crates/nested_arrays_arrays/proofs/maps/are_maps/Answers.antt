@@ -1,5 +1,5 @@
 use Rattle.std.proofs.Common.{◌∙◌, ap, sym, arith, ◌≤◌, ◌-◌, ◌^◌}
-use Rattle.columnar_memory.specs.Spans.{last_of}
+use Rattle.nested_arrays_parts.specs.columnar_memory.Spans.{last_of}
 use Rattle.nested_arrays_parts.specs.columns.SoundColumns.{mask_fits}
 use Rattle.nested_arrays_parts.specs.columns.StoredColumns.{column_len, type_layer}
 use Rattle.nested_arrays_arrays.specs.Entries.{has_entry_type}

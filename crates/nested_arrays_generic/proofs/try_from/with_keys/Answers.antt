@@ -1,5 +1,5 @@
 use Rattle.std.proofs.Common.{ap, sym}
-use Rattle.columnar_memory.specs.Layouts.{physical_type}
+use Rattle.nested_arrays_access.specs.columnar_memory.Layouts.{physical_type}
 use Rattle.nested_arrays_access.specs.columns.StoredColumns.{Column}
 use Rattle.nested_arrays_access.specs.parts.Keys.{keyed}
 use Rattle.nested_arrays_generic.proofs.DictionaryParts.{keyed_is}

@@ -1,6 +1,6 @@
 use Rattle.std.proofs.Common.{◌≡◌, ◌∙◌, ap, rules, replicate}
 use Rattle.std.specs.Prelude.{pos}
-use Rattle.columnar_memory.specs.declared.PhysicalType.TheVariants as physical
+use Rattle.nested_arrays_walks.specs.columnar_memory.declared.PhysicalType.TheVariants as physical
 use Rattle.nested_arrays_walks.specs.columns.StoredColumns.{Column, dictionary}
 use Rattle.nested_arrays_walks.specs.generic.Dictionaries.{keyed_by}
 use Rattle.nested_arrays_nulls.specs.NullColumns.{no_marks}

@@ -1,6 +1,6 @@
 use Rattle.std.proofs.Common.{◌≡◌, rules, replicate, Some}
 use Rattle.std.specs.Prelude.{false}
-use Rattle.columnar_memory.specs.Spans.{offsets_of}
+use Rattle.nested_arrays_walks.specs.columnar_memory.Spans.{offsets_of}
 use Rattle.nested_arrays_walks.specs.columns.StoredColumns.{lists}
 use Rattle.nested_arrays_walks.specs.generic.ListTypes.{list_layout}
 use Rattle.nested_arrays_nulls.specs.NullColumns.{no_items, no_marks}

@@ -1,6 +1,6 @@
 use Rattle.std.proofs.Common.{◌≡◌, ◌∙◌, ap, inl, map, rules}
 use Rattle.std.specs.Prelude.{Err, Some, None, []}
-use Rattle.columnar_memory.specs.Spans.{no_spans}
+use Rattle.flat_arrays_bytes.specs.columnar_memory.Spans.{no_spans}
 use Rattle.flat_arrays_bytes.specs.ByteStrings.{byte_strings}
 use Rattle.flat_arrays_bytes.specs.Fits.{text_type}
 use Rattle.flat_arrays_byte_values_builders.proofs.Gathered.{refused}

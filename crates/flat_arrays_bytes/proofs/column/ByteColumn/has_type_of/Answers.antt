@@ -1,6 +1,6 @@
 use Rattle.std.proofs.Common.{◌≡◌, subst, sym, rules}
 use Rattle.std.specs.Bool.{Decides}
-use Rattle.columnar_memory.specs.Equality.{same_type, same_type-Decides}
+use Rattle.flat_arrays_values.specs.columnar_memory.Equality.{same_type, same_type-Decides}
 use Rattle.flat_arrays_bytes.proofs.column.ByteColumn.has_type_of.Goals as goal
 
 pub returns : goal.returns

@@ -1,5 +1,5 @@
 use Rattle.std.proofs.Common.{◌∙◌, ap, sym}
-use Rattle.columnar_memory.specs.Spans.{offsets_of}
+use Rattle.nested_arrays_parts.specs.columnar_memory.Spans.{offsets_of}
 use Rattle.nested_arrays_parts.specs.columns.SoundColumns.{mask_fits}
 use Rattle.nested_arrays_parts.specs.columns.StoredColumns.{column_len}
 use Rattle.nested_arrays_arrays.proofs.ArrayParts.{lists_masked}

@@ -1,5 +1,5 @@
 use Rattle.std.proofs.Common.{◌∙◌, ap, arith, subst}
-use Rattle.columnar_memory.specs.Spans.{offsets_of}
+use Rattle.nested_arrays_generic.specs.columnar_memory.Spans.{offsets_of}
 use Rattle.nested_arrays_generic.specs.columns.SoundColumns.{is_sound}
 use Rattle.nested_arrays_generic.specs.columns.StoredColumns.{Column, column_len, column_type, lists}
 use Rattle.nested_arrays_generic.specs.flat.ColumnMasks.{column_mask}

@@ -1,4 +1,4 @@
-use Rattle.columnar_memory.specs.declared.PhysicalType.TheVariants as physical
+use Rattle.nested_arrays_generic.specs.columnar_memory.declared.PhysicalType.TheVariants as physical
 use Rattle.nested_arrays_walks.proofs.TypedItems.{texts_downcast}
 use Rattle.nested_arrays_walks.proofs.typed.RefUtf8ArrayI64DictValue.downcast_values.Goals as goal
 

@@ -1,6 +1,6 @@
 use columnar_memory::{Bitmap, Error};
 use flat_arrays::PrimitiveArray;
-use nested_arrays_flat::{AnyPrimitive, PrimitiveKind};
+use nested_arrays::{AnyPrimitive, PrimitiveKind};
 use std::alloc::{AllocError, Global};
 use std::test::Fail;
 

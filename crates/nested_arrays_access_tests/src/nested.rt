@@ -1,10 +1,10 @@
 use columnar_memory::{Boxed, DataType, Error, Field, IntegerType, OffsetsBuffer, Text};
 use flat_arrays::Utf8Array;
 use flat_arrays::PrimitiveArray;
-use nested_arrays_arrays::{AnyArray, equal};
-use nested_arrays_flat::AnyPrimitive;
-use nested_arrays_generic::{DictionaryArray, ListArray};
-use nested_arrays_parts::FlatArray;
+use nested_arrays::{AnyArray, equal};
+use nested_arrays::AnyPrimitive;
+use nested_arrays::{DictionaryArray, ListArray};
+use nested_arrays::FlatArray;
 use std::alloc::Global;
 use std::test::Fail;
 

@@ -1,9 +1,9 @@
 use columnar_memory::{Bitmap, Boxed, Buffer, DataType, Error, IntegerType};
 use flat_arrays::Utf8Array;
 use flat_arrays::PrimitiveArray;
-use nested_arrays_arrays::AnyArray;
-use nested_arrays_generic::DictionaryArray;
-use nested_arrays_parts::FlatArray;
+use nested_arrays::AnyArray;
+use nested_arrays::DictionaryArray;
+use nested_arrays::FlatArray;
 use std::alloc::Global;
 use std::test::Fail;
 

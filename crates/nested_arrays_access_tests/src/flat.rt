@@ -1,8 +1,8 @@
 use columnar_memory::{Bitmap, Buffer, DataType, Error};
 use flat_arrays::PrimitiveArray;
-use nested_arrays_arrays::{AnyArray, equal};
-use nested_arrays_flat::AnyPrimitive;
-use nested_arrays_parts::FlatArray;
+use nested_arrays::{AnyArray, equal};
+use nested_arrays::AnyPrimitive;
+use nested_arrays::FlatArray;
 use std::alloc::Global;
 use std::test::Fail;
 

@@ -2,8 +2,8 @@
 ghost use Rattle.std.specs.Prelude.{◌≡◌, [], ◌∷◌, None, pos, sum_by};
 ghost use Rattle.columnar_memory.specs.declared.DataType.{DataType};
 ghost use Rattle.columnar_memory.specs.declared.PrimitiveType.TheVariants as kinds;
-ghost use Rattle.nested_arrays_columns.specs.SlotNodes.{slot_nodes};
-ghost use Rattle.nested_arrays_columns.specs.StoredColumns.{flat, lists, numbers, slots};
+ghost use Rattle.nested_arrays.specs.SlotNodes.{slot_nodes};
+ghost use Rattle.nested_arrays.specs.StoredColumns.{flat, lists, numbers, slots};
 
 /// The lists of 1 and 2, of nothing and of 3 have six slots at every depth.
 pub fn lists_of_three_have_six_slots()

@@ -1,5 +1,5 @@
 use columnar_memory::{DataType, Error};
-use nested_arrays_flat::FixedSizeBinaryArray;
+use nested_arrays::FixedSizeBinaryArray;
 use std::test::Fail;
 
 #[test]

@@ -1,9 +1,9 @@
 use columnar_memory::{Boxed, DataType, Error, Field, OffsetsBuffer, Text};
 use flat_arrays::PrimitiveArray;
-use nested_arrays_arrays::{AnyArray, FixedSizeListArray};
-use nested_arrays_flat::AnyPrimitive;
-use nested_arrays_generic::ListArray;
-use nested_arrays_parts::FlatArray;
+use nested_arrays::{AnyArray, FixedSizeListArray};
+use nested_arrays::AnyPrimitive;
+use nested_arrays::ListArray;
+use nested_arrays::FlatArray;
 use std::alloc::Global;
 use std::test::Fail;
 

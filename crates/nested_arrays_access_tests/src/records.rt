@@ -3,12 +3,12 @@ use columnar_memory::{
     Bitmap, Boxed, Buffer, DataType, Error, Field, Items, OffsetsBuffer, Text, UnionMode,
 };
 use flat_arrays::PrimitiveArray;
-use nested_arrays_arrays::{
+use nested_arrays::{
     AnyArray, FixedSizeListArray, MapArray, StructArray, UnionArray, equal,
 };
-use nested_arrays_flat::AnyPrimitive;
-use nested_arrays_generic::{DictionaryArray, ListArray};
-use nested_arrays_parts::FlatArray;
+use nested_arrays::AnyPrimitive;
+use nested_arrays::{DictionaryArray, ListArray};
+use nested_arrays::FlatArray;
 use std::alloc::Global;
 use std::test::Fail;
 

@@ -1,5 +1,5 @@
 use columnar_memory::{Buffer, DataType, Error};
-use nested_arrays_flat::{FixedSizeBinaryArray, NullArray};
+use nested_arrays::{FixedSizeBinaryArray, NullArray};
 use std::alloc::{AllocError, Global};
 use std::test::Fail;
 
