@@ -9,8 +9,8 @@ ghost use Rattle.ipc_format_messages.specs.TypeSlots as slots;
 use crate::error::Error;
 use crate::fields::IntRef;
 use crate::tables::TableRef;
-use columnar_memory::{IntervalUnit, TimeUnit, UnionMode};
-use ipc_format_flatbuffers::{i16_field, i32_field};
+use ipc_format_metadata::columnar_memory::{IntervalUnit, TimeUnit, UnionMode};
+use ipc_format_metadata::flatbuffers::{i16_field, i32_field};
 use ipc_format_metadata::{Tag, mode_of, tag_of, unit_in};
 use ipc_format_metadata::slots::{
     DECIMAL_BIT_WIDTH, DECIMAL_PRECISION, DECIMAL_SCALE, FIXED_SIZE, MAP_KEYS_SORTED,

@@ -3,7 +3,7 @@ ghost use Rattle.std.specs.Prelude.{◌≡◌, IfOk, IfSome, IsSomeAnd, ◌+◌,
 ghost use Rattle.std.specs.Option.{option_map};
 ghost use Rattle.ipc_format_grammar.specs.Schemas as format;
 ghost use Rattle.ipc_format_grammar.specs.SchemaGrammar as grammar;
-ghost use Rattle.ipc_format_flatbuffers.specs.Views.{table_of, vector_of};
+ghost use Rattle.ipc_format_grammar.specs.flatbuffers.Views.{table_of, vector_of};
 ghost use Rattle.ipc_format_metadata.specs.Reading.{Reads};
 ghost use Rattle.ipc_format_metadata.specs.SchemaViews.{schema_view};
 ghost use Rattle.ipc_format_metadata.specs.Steps as steps;
@@ -13,8 +13,8 @@ use crate::out_of_spec::OutOfSpecKind;
 use crate::pairs::metadata_in;
 use crate::schemas::each_in;
 use crate::writable::can_write;
-use columnar_memory::{Error, Result, Schema, Steps};
-use ipc_format_flatbuffers::{
+use ipc_format_grammar::columnar_memory::{Error, Result, Schema, Steps};
+use ipc_format_grammar::flatbuffers::{
     Table, Vector, i16_field, root_of, table_field, u8_field, vector_field,
 };
 use crate::sizes::REFERENCE_SIZE;

@@ -3,11 +3,11 @@ ghost use Rattle.std.specs.Prelude.{◌≡◌, ◌<◌};
 ghost use Rattle.std.specs.Option.{option_map};
 ghost use Rattle.ipc_format_grammar.specs.Types as kinds;
 ghost use Rattle.ipc_format_grammar.specs.Messages as messages;
-ghost use Rattle.ipc_format_flatbuffers.specs.Views.{table_of};
+ghost use Rattle.ipc_format_grammar.specs.flatbuffers.Views.{table_of};
 ghost use Rattle.ipc_format_metadata.specs.Leaves as leaves;
 
-use columnar_memory::{DataType, IntegerType, IntervalUnit, TimeUnit, UnionMode};
-use ipc_format_flatbuffers::{Table, i16_field, i32_field, truth_field};
+use ipc_format_grammar::columnar_memory::{DataType, IntegerType, IntervalUnit, TimeUnit, UnionMode};
+use ipc_format_grammar::flatbuffers::{Table, i16_field, i32_field, truth_field};
 use crate::slots;
 
 /// The whole numbers of an Int table.

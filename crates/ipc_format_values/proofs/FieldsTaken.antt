@@ -1,10 +1,10 @@
 -- A field, step by step.
 use Rattle.std.proofs.Common.{◌≡◌, ◌∙◌, ℕ, zero, suc, ◌-◌, ◌≢◌, List, refl, sym, arith}
 use Rattle.std.specs.Prelude.{Option, Some, None}
-use Rattle.ipc_format_flatbuffers.specs.Reading.{◌>>=◌}
-use Rattle.ipc_format_grammar.specs.Schemas.{Visits}
-use Rattle.ipc_format_messages.specs.MessageSlots.{TableIn, VectorIn}
-use Rattle.ipc_format_messages.specs.SchemaSlots.{field_children}
+use Rattle.ipc_format_writing.specs.flatbuffers.Reading.{◌>>=◌}
+use Rattle.ipc_format_writing.specs.grammar.Schemas.{Visits}
+use Rattle.ipc_format_writing.specs.messages.MessageSlots.{TableIn, VectorIn}
+use Rattle.ipc_format_writing.specs.messages.SchemaSlots.{field_children}
 use Rattle.ipc_format_values.specs.declared.Field.{Field}
 use Rattle.ipc_format_values.specs.declared.fields.FieldParts.{FieldParts}
 use Rattle.ipc_format_values.specs.OwnedFields.{parts_in, field_over, fields_if, field_in}

@@ -2,10 +2,10 @@
 use Rattle.std.proofs.Common.{◌≡◌, ◌∙◌, ℕ, suc, ◌+◌, ◌-◌, ◌<◌, List, [], ◌∷◌, ◌++◌, refl, sym, ap, arith, append_assoc}
 use Rattle.std.proofs.lemmas.List.{append-nil}
 use Rattle.std.specs.Prelude.{Option, Some, None}
-use Rattle.ipc_format_flatbuffers.specs.Reading.{◌>>=◌}
-use Rattle.ipc_format_metadata.proofs.Options.{bind-some}
-use Rattle.ipc_format_messages.specs.MessageSlots.{TableIn, VectorIn}
-use Rattle.ipc_format_grammar.specs.Schemas.{Visits}
+use Rattle.ipc_format_writing.specs.flatbuffers.Reading.{◌>>=◌}
+use Rattle.ipc_format_writing.proofs.metadata_lemmas.Options.{bind-some}
+use Rattle.ipc_format_writing.specs.messages.MessageSlots.{TableIn, VectorIn}
+use Rattle.ipc_format_writing.specs.grammar.Schemas.{Visits}
 use Rattle.ipc_format_values.specs.declared.Field.{Field}
 use Rattle.ipc_format_values.specs.Owned.{gathered, table_at}
 use Rattle.ipc_format_values.specs.OwnedFields.{each_of, fields_in}

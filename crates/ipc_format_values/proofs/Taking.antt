@@ -1,14 +1,14 @@
 -- What is taken is what its view says.
 use Rattle.std.proofs.Common.{◌≡◌, refl}
-use Rattle.ipc_format_messages.specs.MessageViews.{version_view}
-use Rattle.ipc_format_messages.specs.SchemaRefs.{is_little}
-use Rattle.ipc_format_messages.specs.TypeRefs.{is_day}
-use Rattle.ipc_format_messages.specs.declared.DateUnit.{DateUnit}
-use Rattle.ipc_format_messages.specs.declared.DateUnit.TheVariants.{Day, Millisecond}
-use Rattle.ipc_format_messages.specs.declared.Endianness.{Endianness}
-use Rattle.ipc_format_messages.specs.declared.Endianness.TheVariants.{Little, Big}
-use Rattle.ipc_format_messages.specs.declared.MetadataVersion.{MetadataVersion}
-use Rattle.ipc_format_messages.specs.declared.MetadataVersion.TheVariants.{V1, V2, V3, V4, V5}
+use Rattle.ipc_format_writing.specs.messages.MessageViews.{version_view}
+use Rattle.ipc_format_writing.specs.messages.SchemaRefs.{is_little}
+use Rattle.ipc_format_writing.specs.messages.TypeRefs.{is_day}
+use Rattle.ipc_format_writing.specs.messages.declared.DateUnit.{DateUnit}
+use Rattle.ipc_format_writing.specs.messages.declared.DateUnit.TheVariants.{Day, Millisecond}
+use Rattle.ipc_format_writing.specs.messages.declared.Endianness.{Endianness}
+use Rattle.ipc_format_writing.specs.messages.declared.Endianness.TheVariants.{Little, Big}
+use Rattle.ipc_format_writing.specs.messages.declared.MetadataVersion.{MetadataVersion}
+use Rattle.ipc_format_writing.specs.messages.declared.MetadataVersion.TheVariants.{V1, V2, V3, V4, V5}
 use Rattle.ipc_format_values.specs.Owned.{date_unit_of}
 use Rattle.ipc_format_values.specs.OwnedFields.{order_of}
 use Rattle.ipc_format_values.specs.OwnedMessages.{version_of}

@@ -2,17 +2,17 @@
 -- where a slot gives nothing.
 use Rattle.std.specs.Prelude.{ℕ, zero, suc, ◌+◌, ◌*◌, ℤ, pos, Bool, true, false, List, [], ◌∷◌, ◌++◌, Option, Some, None}
 use Rattle.std.specs.Int.{w16, w32}
-use Rattle.ipc_format_flatbuffers.specs.Reading.{◌>>=◌}
-use Rattle.ipc_format_flatbuffers.specs.FlatBuffers.{signed_at, signed_field}
-use Rattle.ipc_format_grammar.specs.SlotNumbers as slots
-use Rattle.ipc_format_grammar.specs.Types as kind
-use Rattle.ipc_format_grammar.specs.Types.{Tag}
-use Rattle.ipc_format_messages.specs.MessageSlots.{TableIn, VectorIn, vector_in}
-use Rattle.ipc_format_messages.specs.SchemaSlots as schema
-use Rattle.ipc_format_messages.specs.TypeSlots as type_slots
-use Rattle.ipc_format_messages.specs.TypeSlots.{TypeIn}
-use Rattle.ipc_format_messages.specs.declared.DateUnit.{DateUnit}
-use Rattle.ipc_format_messages.specs.declared.DateUnit.TheVariants.{Day, Millisecond}
+use Rattle.ipc_format_writing.specs.flatbuffers.Reading.{◌>>=◌}
+use Rattle.ipc_format_writing.specs.flatbuffers.FlatBuffers.{signed_at, signed_field}
+use Rattle.ipc_format_writing.specs.grammar.SlotNumbers as slots
+use Rattle.ipc_format_writing.specs.grammar.Types as kind
+use Rattle.ipc_format_writing.specs.grammar.Types.{Tag}
+use Rattle.ipc_format_writing.specs.messages.MessageSlots.{TableIn, VectorIn, vector_in}
+use Rattle.ipc_format_writing.specs.messages.SchemaSlots as schema
+use Rattle.ipc_format_writing.specs.messages.TypeSlots as type_slots
+use Rattle.ipc_format_writing.specs.messages.TypeSlots.{TypeIn}
+use Rattle.ipc_format_writing.specs.messages.declared.DateUnit.{DateUnit}
+use Rattle.ipc_format_writing.specs.messages.declared.DateUnit.TheVariants.{Day, Millisecond}
 use Rattle.ipc_format_values.specs.declared.KeyValue.{KeyValue}
 use Rattle.ipc_format_values.specs.declared.Int.{Int}
 use Rattle.ipc_format_values.specs.declared.Precision.{Precision}

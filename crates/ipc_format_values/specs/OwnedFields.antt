@@ -2,14 +2,14 @@
 -- visited as the message has bytes, and fields nest at most 64 deep. A field has a name and a type, and a dictionary the type of its keys; a
 -- schema has its vector of fields. Children and custom metadata that are absent are empty.
 use Rattle.std.specs.Prelude.{ℕ, zero, suc, ◌+◌, Bool, true, false, List, [], ◌∷◌, length, Option, Some, None}
-use Rattle.ipc_format_flatbuffers.specs.Reading.{◌>>=◌}
-use Rattle.ipc_format_grammar.specs.Limits.{most_levels}
-use Rattle.ipc_format_grammar.specs.Schemas.{Visits, visit}
-use Rattle.ipc_format_messages.specs.MessageSlots.{TableIn, VectorIn}
-use Rattle.ipc_format_messages.specs.SchemaSlots as slots
-use Rattle.ipc_format_messages.specs.TypeSlots.{field_type}
-use Rattle.ipc_format_messages.specs.declared.Endianness.{Endianness}
-use Rattle.ipc_format_messages.specs.declared.Endianness.TheVariants.{Little, Big}
+use Rattle.ipc_format_writing.specs.flatbuffers.Reading.{◌>>=◌}
+use Rattle.ipc_format_writing.specs.grammar.Limits.{most_levels}
+use Rattle.ipc_format_writing.specs.grammar.Schemas.{Visits, visit}
+use Rattle.ipc_format_writing.specs.messages.MessageSlots.{TableIn, VectorIn}
+use Rattle.ipc_format_writing.specs.messages.SchemaSlots as slots
+use Rattle.ipc_format_writing.specs.messages.TypeSlots.{field_type}
+use Rattle.ipc_format_writing.specs.messages.declared.Endianness.{Endianness}
+use Rattle.ipc_format_writing.specs.messages.declared.Endianness.TheVariants.{Little, Big}
 use Rattle.ipc_format_values.specs.Owned.{int_in, type_in, pairs_in, table_at}
 use Rattle.ipc_format_values.specs.declared.DictionaryEncoding.{DictionaryEncoding}
 use Rattle.ipc_format_values.specs.declared.Field.{Field}

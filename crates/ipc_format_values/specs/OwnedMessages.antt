@@ -2,17 +2,17 @@
 -- its vectors, and is not compressed; a footer has the blocks of its record batches. Blocks of dictionaries and custom metadata that are
 -- absent are empty.
 use Rattle.std.specs.Prelude.{ℕ, Bool, true, false, List, [], ◌∷◌, Option, Some, None}
-use Rattle.ipc_format_flatbuffers.specs.Reading.{◌>>=◌}
-use Rattle.ipc_format_grammar.specs.Messages as format
-use Rattle.ipc_format_grammar.specs.Messages.{Pair, Version, struct_at}
-use Rattle.ipc_format_grammar.specs.SlotNumbers.{reference_size}
-use Rattle.ipc_format_messages.specs.MessageSlots as slots
-use Rattle.ipc_format_messages.specs.MessageSlots.{TableIn, VectorIn, HeaderIn, BlockIn, vector_in, block_at}
-use Rattle.ipc_format_messages.specs.declared.Block.{Block}
-use Rattle.ipc_format_messages.specs.declared.Buffer.{Buffer}
-use Rattle.ipc_format_messages.specs.declared.FieldNode.{FieldNode}
-use Rattle.ipc_format_messages.specs.declared.MetadataVersion.{MetadataVersion}
-use Rattle.ipc_format_messages.specs.declared.MetadataVersion.TheVariants as versions
+use Rattle.ipc_format_writing.specs.flatbuffers.Reading.{◌>>=◌}
+use Rattle.ipc_format_writing.specs.grammar.Messages as format
+use Rattle.ipc_format_writing.specs.grammar.Messages.{Pair, Version, struct_at}
+use Rattle.ipc_format_writing.specs.grammar.SlotNumbers.{reference_size}
+use Rattle.ipc_format_writing.specs.messages.MessageSlots as slots
+use Rattle.ipc_format_writing.specs.messages.MessageSlots.{TableIn, VectorIn, HeaderIn, BlockIn, vector_in, block_at}
+use Rattle.ipc_format_writing.specs.messages.declared.Block.{Block}
+use Rattle.ipc_format_writing.specs.messages.declared.Buffer.{Buffer}
+use Rattle.ipc_format_writing.specs.messages.declared.FieldNode.{FieldNode}
+use Rattle.ipc_format_writing.specs.messages.declared.MetadataVersion.{MetadataVersion}
+use Rattle.ipc_format_writing.specs.messages.declared.MetadataVersion.TheVariants as versions
 use Rattle.ipc_format_values.specs.Owned.{gathered, pairs_in}
 use Rattle.ipc_format_values.specs.OwnedFields.{schema_in}
 use Rattle.ipc_format_values.specs.declared.RecordBatch.{RecordBatch}

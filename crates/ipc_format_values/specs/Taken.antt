@@ -1,7 +1,7 @@
 -- What is taken of a view, against what its bytes give.
 use Rattle.std.specs.Prelude.{◌≡◌, Bool, true, false, codes, Option, Some, None, Result, Ok, Err}
-use Rattle.columnar_memory.specs.declared.Error.{Error}
-use Rattle.columnar_memory.specs.declared.Error.TheVariants.{NotYetImplemented, OutOfSpec, OutOfMemory}
+use Rattle.ipc_format_writing.specs.columnar_memory.declared.Error.{Error}
+use Rattle.ipc_format_writing.specs.columnar_memory.declared.Error.TheVariants.{NotYetImplemented, OutOfSpec, OutOfMemory}
 
 -- Nothing is given: buffers are compressed, or else the bytes break a rule of the format. Memory may run out anywhere.
 abbrev pub RefusesTaking : {A : Type 0} → Bool → Error → Option A → Type 0

@@ -1,7 +1,7 @@
 -- What is taken, and where it is taken from, as the definitions have them.
 use Rattle.std.specs.Prelude.{ℕ, List}
-use Rattle.ipc_format_flatbuffers.specs.Views.{vector_of}
-use Rattle.ipc_format_messages.specs.MessageSlots.{VectorIn}
+use Rattle.ipc_format_writing.specs.flatbuffers.Views.{vector_of}
+use Rattle.ipc_format_writing.specs.messages.MessageSlots.{VectorIn}
 use Rattle.ipc_format_values.specs.declared.Field.{Field}
 use Rattle.ipc_format_values.specs.declared.numbers.NumbersRef.{NumbersRef}
 use Rattle.ipc_format_values.specs.declared.fields.FieldTaken.{FieldTaken}

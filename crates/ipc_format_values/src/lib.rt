@@ -9,7 +9,7 @@
 #![tactic(auto)]
 
 mod fields;
-mod messages;
+mod message_values;
 mod numbers;
 mod pairs;
 mod serializing;
@@ -23,7 +23,14 @@ mod told;
 mod types;
 
 pub use fields::{DictionaryEncoding, Field, Int, KeyValue, Schema};
-pub use messages::{DictionaryBatch, Footer, Message, MessageHeader, RecordBatch};
+pub use ipc_format_writing as writing;
+pub use ipc_format_writing::columnar_memory;
+pub use ipc_format_writing::columns;
+pub use ipc_format_writing::flatbuffers;
+pub use ipc_format_writing::grammar;
+pub use ipc_format_writing::messages;
+pub use ipc_format_writing::metadata;
+pub use message_values::{DictionaryBatch, Footer, Message, MessageHeader, RecordBatch};
 pub use serializing::serialize_schema;
 pub use taken_batches::{dictionary_batch_of, record_batch_of};
 pub use taken_fields::{field_of, schema_of, schema_of_counted};

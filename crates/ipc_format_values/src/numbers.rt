@@ -1,7 +1,7 @@
 //! Where a vector of numbers stands in a message.
 ghost use Rattle.std.specs.Prelude.{◌+◌, ◌*◌, ◌≤◌, length};
 
-use ipc_format_flatbuffers::Vector;
+use ipc_format_writing::flatbuffers::Vector;
 
 /// The signed numbers of four bytes of a vector.
 #[derive(Clone, Copy)]

@@ -1,13 +1,13 @@
 //! Batches, taken of their views (Message.fbs, File.fbs).
 ghost use Rattle.std.specs.Prelude.{◌≡◌, IfOk};
 ghost use Rattle.std.specs.Option.{option_map};
-ghost use Rattle.ipc_format_messages.specs.MessageViews.{batch_view, table_view, nodes_view, buffers_view, blocks_view};
+ghost use Rattle.ipc_format_writing.specs.messages.MessageViews.{batch_view, table_view, nodes_view, buffers_view, blocks_view};
 ghost use Rattle.ipc_format_values.specs.OwnedMessages as owned;
 ghost use Rattle.ipc_format_values.specs.Taken.{Takes};
 
 use crate::taken::taken;
-use columnar_memory::{Items, Result as Answer};
-use ipc_format_messages::{
+use ipc_format_writing::columnar_memory::{Items, Result as Answer};
+use ipc_format_writing::messages::{
     Block, BlocksRef, Buffer, BuffersRef, DictionaryBatchRef, FieldNode, FieldNodesRef,
     RecordBatchRef,
 };

@@ -1,8 +1,8 @@
 //! Fields and schemas, taken of their views (Schema.fbs).
 ghost use Rattle.std.specs.Prelude.{◌≡◌, IfOk, IfSome, IsSomeAnd, false, ◌+◌, ◌≤◌, length};
 ghost use Rattle.std.specs.Option.{option_map};
-ghost use Rattle.ipc_format_messages.specs.MessageViews.{schema_view};
-ghost use Rattle.ipc_format_messages.specs.SchemaRefs.{field_view, fields_view};
+ghost use Rattle.ipc_format_writing.specs.messages.MessageViews.{schema_view};
+ghost use Rattle.ipc_format_writing.specs.messages.SchemaRefs.{field_view, fields_view};
 ghost use Rattle.ipc_format_values.specs.Owned.{table_at};
 ghost use Rattle.ipc_format_values.specs.OwnedFields as owned;
 ghost use Rattle.ipc_format_values.specs.Taken.{Takes};
@@ -11,9 +11,9 @@ ghost use Rattle.ipc_format_values.specs.TakenViews.{field_taken, fields_taken};
 use crate::taken_pairs::{encoding_if, pairs_in};
 use crate::taken::taken;
 use crate::taken_types::type_in;
-use columnar_memory::{Items, Result as Answer, Steps, Text};
-use ipc_format_messages::{FieldRef, FieldsRef, SchemaRef};
-use ipc_format_metadata::MOST_LEVELS;
+use ipc_format_writing::columnar_memory::{Items, Result as Answer, Steps, Text};
+use ipc_format_writing::messages::{FieldRef, FieldsRef, SchemaRef};
+use ipc_format_writing::metadata::MOST_LEVELS;
 use crate::{DictionaryEncoding, Field, KeyValue, Schema, Type_};
 use std::alloc::{AllocError, Global};
 

@@ -2,8 +2,8 @@
 ghost use Rattle.std.specs.Prelude.{◌≡◌, IfOk, false};
 ghost use Rattle.std.specs.Option.{option_map};
 ghost use Rattle.std.specs.Result.{result_ok};
-ghost use Rattle.ipc_format_messages.specs.MessageViews.{message_view, footer_view, header_view, table_view};
-ghost use Rattle.ipc_format_messages.specs.SchemaRefs.{pairs_view};
+ghost use Rattle.ipc_format_writing.specs.messages.MessageViews.{message_view, footer_view, header_view, table_view};
+ghost use Rattle.ipc_format_writing.specs.messages.SchemaRefs.{pairs_view};
 ghost use Rattle.ipc_format_values.specs.OwnedMessages as owned;
 ghost use Rattle.ipc_format_values.specs.Taken.{Takes};
 
@@ -13,8 +13,8 @@ use crate::taken_batches::{
 use crate::taken_fields::schema_in;
 use crate::taken_pairs::pairs_in;
 use crate::taken::taken;
-use columnar_memory::{Result as Answer, Steps};
-use ipc_format_messages::{Error, FooterRef, KeyValuesRef, MessageHeaderRef, MessageRef, TableRef};
+use ipc_format_writing::columnar_memory::{Result as Answer, Steps};
+use ipc_format_writing::messages::{Error, FooterRef, KeyValuesRef, MessageHeaderRef, MessageRef, TableRef};
 use crate::{Footer, Message, MessageHeader};
 use std::alloc::{AllocError, Global};
 

@@ -2,14 +2,14 @@
 ghost use Rattle.std.specs.Prelude.{◌≡◌, ◌++◌, IfOk, OnOk, false};
 ghost use Rattle.std.specs.Option.{option_map};
 ghost use Rattle.std.specs.Result.{result_ok};
-ghost use Rattle.ipc_format_messages.specs.SchemaRefs.{pair_view, pairs_view, int_view, encoding_view};
+ghost use Rattle.ipc_format_writing.specs.messages.SchemaRefs.{pair_view, pairs_view, int_view, encoding_view};
 ghost use Rattle.ipc_format_values.specs.Owned as owned;
 ghost use Rattle.ipc_format_values.specs.OwnedFields as fields;
 ghost use Rattle.ipc_format_values.specs.Taken.{Takes};
 
 use crate::taken::taken;
-use columnar_memory::{Items, Result as Answer, Text};
-use ipc_format_messages::{DictionaryEncodingRef, Error, IntRef, KeyValueRef, KeyValuesRef};
+use ipc_format_writing::columnar_memory::{Items, Result as Answer, Text};
+use ipc_format_writing::messages::{DictionaryEncodingRef, Error, IntRef, KeyValueRef, KeyValuesRef};
 use crate::{DictionaryEncoding, Int, KeyValue};
 use std::alloc::{AllocError, Global};
 

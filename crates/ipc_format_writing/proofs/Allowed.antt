@@ -3,9 +3,9 @@ use Rattle.std.proofs.Common.{◌≡◌, ◌∙◌, ℕ, zero, suc, ◌<◌, Lis
 use Rattle.std.specs.Prelude.{Bool}
 use Rattle.std.specs.List.{list_all}
 use Rattle.std.proofs.lemmas.Bool.{and_parts}
-use Rattle.columnar_memory.specs.declared.Field.{Field}
-use Rattle.ipc_format_grammar.specs.Writable.{Report}
-use Rattle.ipc_format_metadata.specs.Reports.{field_report}
+use Rattle.ipc_format_messages.specs.columnar_memory.declared.Field.{Field}
+use Rattle.ipc_format_messages.specs.grammar.Writable.{Report}
+use Rattle.ipc_format_messages.specs.metadata.Reports.{field_report}
 
 pub passes : {A B : Type 0} (test : B → Bool) (f : A → B) (xs : List A) (i : ℕ) (x : A) → list_all test (map f xs) ≡ true → i < length xs → x
     ≡ get_or xs i x → test (f x) ≡ true

@@ -1,13 +1,13 @@
 -- The ids beside fields, one field after another.
 use Rattle.std.proofs.Common.{◌≡◌, ◌∙◌, ℕ, suc, ◌+◌, ◌<◌, ◌≤◌, List, [], ◌∷◌, length, get_or, map, drop, true, false, refl, sym, ap, rules}
 use Rattle.std.specs.Prelude.{Bool, ◌&&◌, nat_eq}
-use Rattle.columnar_memory.specs.declared.Field.{Field}
-use Rattle.ipc_format_grammar.specs.Schemas.{Ids, IdsList}
-use Rattle.ipc_format_grammar.specs.Columns.{first_ids, other_ids}
-use Rattle.ipc_format_flatbuffers.proofs.Rest.{rest_step, rest_end}
-use Rattle.ipc_format_grammar.specs.Ids.{Fitting, fit_each}
-use Rattle.ipc_format_metadata.specs.Views.{ids_views}
-use Rattle.ipc_format_metadata.specs.declared.ipc_schema.IpcField.{IpcField}
+use Rattle.ipc_format_messages.specs.columnar_memory.declared.Field.{Field}
+use Rattle.ipc_format_messages.specs.grammar.Schemas.{Ids, IdsList}
+use Rattle.ipc_format_messages.specs.grammar.Columns.{first_ids, other_ids}
+use Rattle.ipc_format_messages.proofs.flatbuffers_lemmas.Rest.{rest_step, rest_end}
+use Rattle.ipc_format_messages.specs.grammar.Ids.{Fitting, fit_each}
+use Rattle.ipc_format_messages.specs.metadata.Views.{ids_views}
+use Rattle.ipc_format_messages.specs.metadata.declared.ipc_schema.IpcField.{IpcField}
 use Rattle.ipc_format_writing.specs.Fitting.{field_fitting}
 
 some_left : (n : ℕ) → nat_eq (suc n) 0 ≡ false

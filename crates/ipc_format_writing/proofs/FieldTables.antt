@@ -5,20 +5,20 @@ use Rattle.std.specs.Prelude.{ℤ, Bool, Option, Some, Result, Err}
 use Rattle.std.specs.Int.{w8, w16, w64}
 use Rattle.std.proofs.lemmas.List.{map-append, append-nil}
 use Rattle.std.specs.List.{flat_map}
-use Rattle.columnar_memory.specs.declared.DataType.TheFolds.{fold-roll-Field}
-use Rattle.columnar_memory.specs.declared.Field.{Field}
-use Rattle.columnar_memory.specs.declared.IntegerType.{IntegerType}
-use Rattle.ipc_format_grammar.specs.Columns.{first_ids, other_ids}
-use Rattle.ipc_format_flatbuffers.specs.declared.Laid.{Laid}
-use Rattle.ipc_format_flatbuffers.specs.declared.LayError.{LayError}
-use Rattle.ipc_format_flatbuffers.specs.declared.LayError.TheVariants.{Memory, TooLong}
-use Rattle.ipc_format_flatbuffers.specs.Laying.{Piece, Slot, number, refers, child_bytes, table_piece, references_piece, text_piece}
-use Rattle.ipc_format_flatbuffers.specs.Objects.{Object, piece_of, pieces_of, references, no_field, refers_then}
-use Rattle.ipc_format_flatbuffers.specs.Views.{Lays, piece_view}
-use Rattle.ipc_format_flatbuffers.proofs.Rest.{rest_step, rest_end}
-use Rattle.ipc_format_grammar.specs.Schemas.{Ids, IdsList, ids, no_ids, ids_then}
-use Rattle.ipc_format_grammar.specs.SchemaObjects.{Told, told_of, told_step, told_field_step, truth, field_table, field_object, objects_of}
-use Rattle.ipc_format_grammar.specs.SchemaObjects.{integer_object, encoding_object, id_number, metadata_object, written_pairs, refers_if}
+use Rattle.ipc_format_messages.specs.columnar_memory.declared.DataType.TheFolds.{fold-roll-Field}
+use Rattle.ipc_format_messages.specs.columnar_memory.declared.Field.{Field}
+use Rattle.ipc_format_messages.specs.columnar_memory.declared.IntegerType.{IntegerType}
+use Rattle.ipc_format_messages.specs.grammar.Columns.{first_ids, other_ids}
+use Rattle.ipc_format_messages.specs.flatbuffers.declared.Laid.{Laid}
+use Rattle.ipc_format_messages.specs.flatbuffers.declared.LayError.{LayError}
+use Rattle.ipc_format_messages.specs.flatbuffers.declared.LayError.TheVariants.{Memory, TooLong}
+use Rattle.ipc_format_messages.specs.flatbuffers.Laying.{Piece, Slot, number, refers, child_bytes, table_piece, references_piece, text_piece}
+use Rattle.ipc_format_messages.specs.flatbuffers.Objects.{Object, piece_of, pieces_of, references, no_field, refers_then}
+use Rattle.ipc_format_messages.specs.flatbuffers.Views.{Lays, piece_view}
+use Rattle.ipc_format_messages.proofs.flatbuffers_lemmas.Rest.{rest_step, rest_end}
+use Rattle.ipc_format_messages.specs.grammar.Schemas.{Ids, IdsList, ids, no_ids, ids_then}
+use Rattle.ipc_format_messages.specs.grammar.SchemaObjects.{Told, told_of, told_step, told_field_step, truth, field_table, field_object, objects_of}
+use Rattle.ipc_format_messages.specs.grammar.SchemaObjects.{integer_object, encoding_object, id_number, metadata_object, written_pairs, refers_if}
 use Rattle.ipc_format_writing.specs.Pieces.{Parts, Pair, LaysIf, LaysType, piece_if, slot_if, parts_of, field_slots, field_told}
 use Rattle.ipc_format_writing.proofs.Sizes.{table_over, all_over, references_over, lays_over}
 use Rattle.ipc_format_writing.proofs.TypeTables.{slot_is}

@@ -1,10 +1,10 @@
 -- Whether ids fit some fields, one after another.
 use Rattle.std.proofs.Common.{◌≡◌, ◌∙◌, List, [], ◌∷◌, map, refl, ap}
 use Rattle.std.specs.Prelude.{Bool, ◌&&◌}
-use Rattle.columnar_memory.specs.declared.DataType.TheFolds.{fold-roll-Field}
-use Rattle.columnar_memory.specs.declared.Field.{Field}
-use Rattle.ipc_format_grammar.specs.Schemas.{IdsList, no_ids, ids_then}
-use Rattle.ipc_format_grammar.specs.Ids.{Fitting, fit_step, fit_each, ids_fit, ids_fit_fields}
+use Rattle.ipc_format_messages.specs.columnar_memory.declared.DataType.TheFolds.{fold-roll-Field}
+use Rattle.ipc_format_messages.specs.columnar_memory.declared.Field.{Field}
+use Rattle.ipc_format_messages.specs.grammar.Schemas.{IdsList, no_ids, ids_then}
+use Rattle.ipc_format_messages.specs.grammar.Ids.{Fitting, fit_step, fit_each, ids_fit, ids_fit_fields}
 use Rattle.ipc_format_writing.specs.Fitting.{field_fitting}
 
 field-fits : (field : Field) → field_fitting field ≡ ids_fit field.data_type

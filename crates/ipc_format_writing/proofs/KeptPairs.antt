@@ -10,8 +10,8 @@ use Rattle.std.specs.Ordering.{is_eq, nat_cmp}
 use Rattle.std.specs.Cmp.Lexicographic.{pointwise, slice_cmp, texts_ties, bytes_decides}
 use Rattle.std.proofs.lemmas.Bool.{cases_Bool}
 use Rattle.std.proofs.lemmas.List.Kept.{IsStrictlySortedBy-filter}
-use Rattle.ipc_format_grammar.specs.Schemas.{extension_name_key, extension_metadata_key}
-use Rattle.ipc_format_grammar.specs.Writable.{without_key}
+use Rattle.ipc_format_messages.specs.grammar.Schemas.{extension_name_key, extension_metadata_key}
+use Rattle.ipc_format_messages.specs.grammar.Writable.{without_key}
 use Rattle.ipc_format_writing.specs.Pieces.{Pair, is_kept}
 
 abbrev order : List ℕ → List ℕ → Ordering

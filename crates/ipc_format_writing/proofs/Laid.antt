@@ -8,16 +8,16 @@ use Rattle.std.specs.declared.vec.Vec.{Vec}
 use Rattle.std.specs.declared.alloc.Global.{Global}
 use Rattle.std.specs.List.{flat_map}
 use Rattle.std.specs.Int.{w64, w32, to_le_bytes}
-use Rattle.columnar_memory.specs.declared.Error.{Error}
-use Rattle.columnar_memory.specs.declared.Error.TheVariants.{Overflow, OutOfMemory}
-use Rattle.ipc_format_flatbuffers.specs.declared.Laid.{Laid}
-use Rattle.ipc_format_flatbuffers.specs.declared.LayError.{LayError}
-use Rattle.ipc_format_flatbuffers.specs.declared.LayError.TheVariants.{Memory, TooLong}
-use Rattle.ipc_format_flatbuffers.specs.Laying.{Piece, Slot, refers, table_piece, elements_piece, message_bytes}
-use Rattle.ipc_format_flatbuffers.specs.Objects.{Object, piece_of, laid}
-use Rattle.ipc_format_flatbuffers.specs.Views.{Lays, piece_view}
-use Rattle.ipc_format_grammar.specs.SchemaObjects.{structs_object}
-use Rattle.ipc_format_grammar.specs.Types.{at_place}
+use Rattle.ipc_format_messages.specs.columnar_memory.declared.Error.{Error}
+use Rattle.ipc_format_messages.specs.columnar_memory.declared.Error.TheVariants.{Overflow, OutOfMemory}
+use Rattle.ipc_format_messages.specs.flatbuffers.declared.Laid.{Laid}
+use Rattle.ipc_format_messages.specs.flatbuffers.declared.LayError.{LayError}
+use Rattle.ipc_format_messages.specs.flatbuffers.declared.LayError.TheVariants.{Memory, TooLong}
+use Rattle.ipc_format_messages.specs.flatbuffers.Laying.{Piece, Slot, refers, table_piece, elements_piece, message_bytes}
+use Rattle.ipc_format_messages.specs.flatbuffers.Objects.{Object, piece_of, laid}
+use Rattle.ipc_format_messages.specs.flatbuffers.Views.{Lays, piece_view}
+use Rattle.ipc_format_messages.specs.grammar.SchemaObjects.{structs_object}
+use Rattle.ipc_format_messages.specs.grammar.Types.{at_place}
 use Rattle.ipc_format_writing.proofs.Sizes.{table_over, lays_over}
 use Rattle.ipc_format_writing.specs.MessageWriting.{WritesMessage, Finishes, fits, pair_bytes}
 

@@ -7,18 +7,18 @@ use Rattle.std.specs.declared.vec.Vec.{Vec}
 use Rattle.std.specs.declared.alloc.Global.{Global}
 use Rattle.std.specs.List.{flat_map}
 use Rattle.std.specs.Int.{w16, w32, w64, to_le_bytes, cast_unsigned}
-use Rattle.columnar_memory.specs.declared.Error.{Error}
-use Rattle.columnar_memory.specs.declared.Error.TheVariants.{NotYetImplemented, InvalidArgumentError, Overflow, OutOfMemory}
-use Rattle.columnar_memory.specs.declared.Schema.{Schema}
-use Rattle.ipc_format_flatbuffers.specs.declared.Laid.{Laid}
-use Rattle.ipc_format_flatbuffers.specs.declared.LayError.{LayError}
-use Rattle.ipc_format_flatbuffers.specs.declared.LayError.TheVariants.{Memory, TooLong}
-use Rattle.ipc_format_flatbuffers.specs.Laying.{Piece, Slot, absent, number, refers, elements_piece}
-use Rattle.ipc_format_flatbuffers.specs.Objects.{piece_of}
-use Rattle.ipc_format_flatbuffers.specs.Views.{Lays, piece_view}
-use Rattle.ipc_format_grammar.specs.Schemas.{IdsList}
-use Rattle.ipc_format_grammar.specs.SchemaObjects.{schema_object}
-use Rattle.ipc_format_grammar.specs.WrittenFiles as files
+use Rattle.ipc_format_messages.specs.columnar_memory.declared.Error.{Error}
+use Rattle.ipc_format_messages.specs.columnar_memory.declared.Error.TheVariants.{NotYetImplemented, InvalidArgumentError, Overflow, OutOfMemory}
+use Rattle.ipc_format_messages.specs.columnar_memory.declared.Schema.{Schema}
+use Rattle.ipc_format_messages.specs.flatbuffers.declared.Laid.{Laid}
+use Rattle.ipc_format_messages.specs.flatbuffers.declared.LayError.{LayError}
+use Rattle.ipc_format_messages.specs.flatbuffers.declared.LayError.TheVariants.{Memory, TooLong}
+use Rattle.ipc_format_messages.specs.flatbuffers.Laying.{Piece, Slot, absent, number, refers, elements_piece}
+use Rattle.ipc_format_messages.specs.flatbuffers.Objects.{piece_of}
+use Rattle.ipc_format_messages.specs.flatbuffers.Views.{Lays, piece_view}
+use Rattle.ipc_format_messages.specs.grammar.Schemas.{IdsList}
+use Rattle.ipc_format_messages.specs.grammar.SchemaObjects.{schema_object}
+use Rattle.ipc_format_messages.specs.grammar.WrittenFiles as files
 use Rattle.ipc_format_writing.specs.Writing.{may_write, RefusesSchema}
 use Rattle.ipc_format_messages.specs.declared.Block.{Block}
 use Rattle.ipc_format_writing.specs.FooterWriting.{WritesFooter, FinishesFooter, block_view, laid_block}

@@ -4,11 +4,11 @@ use Rattle.std.specs.Prelude.{Result, IfOk}
 use Rattle.std.specs.Map.{remove_entry}
 use Rattle.std.specs.Ordering.{nat_cmp, is_eq}
 use Rattle.std.specs.Cmp.Lexicographic.{slice_cmp, texts_ties}
-use Rattle.columnar_memory.specs.declared.DataType.{DataType}
-use Rattle.columnar_memory.specs.declared.DataType.TheFolds.{fold-roll-Field}
-use Rattle.columnar_memory.specs.declared.DataType.TheViews.{roll-DataType}
-use Rattle.columnar_memory.specs.declared.Field.{Field}
-use Rattle.ipc_format_grammar.specs.Writable.{normalised_field, normalised_step, without_key}
+use Rattle.ipc_format_messages.specs.columnar_memory.declared.DataType.{DataType}
+use Rattle.ipc_format_messages.specs.columnar_memory.declared.DataType.TheFolds.{fold-roll-Field}
+use Rattle.ipc_format_messages.specs.columnar_memory.declared.DataType.TheViews.{roll-DataType}
+use Rattle.ipc_format_messages.specs.columnar_memory.declared.Field.{Field}
+use Rattle.ipc_format_messages.specs.grammar.Writable.{normalised_field, normalised_step, without_key}
 use Rattle.ipc_format_writing.specs.Normal.{field_normal}
 
 field_is : (f : Field) → field_normal f ≡ normalised_field f

@@ -2,14 +2,14 @@
 use Rattle.std.proofs.Common.{◌≡◌, ◌∙◌, ℕ, ◌+◌, ◌<◌, ◌≤◌, List, [], ◌∷◌, ◌++◌, length, get_or, map, drop, refl, sym, ap}
 use Rattle.std.proofs.lemmas.List.{length-map, map-append}
 use Rattle.std.proofs.Math.ListN.{drop_of_length-le}
-use Rattle.columnar_memory.specs.declared.DataType.TheFolds.{fold-roll-Field}
-use Rattle.columnar_memory.specs.declared.Field.{Field}
-use Rattle.ipc_format_grammar.specs.Schemas.{Ids, IdsList, ids_then}
-use Rattle.ipc_format_grammar.specs.Ids.{Numbering, number_each, number_fields, number_step, numbered, default_ids}
-use Rattle.ipc_format_metadata.specs.Views.{ids_before, ids_view, ids_views}
-use Rattle.ipc_format_metadata.specs.declared.ipc_schema.IpcField.{IpcField}
+use Rattle.ipc_format_messages.specs.columnar_memory.declared.DataType.TheFolds.{fold-roll-Field}
+use Rattle.ipc_format_messages.specs.columnar_memory.declared.Field.{Field}
+use Rattle.ipc_format_messages.specs.grammar.Schemas.{Ids, IdsList, ids_then}
+use Rattle.ipc_format_messages.specs.grammar.Ids.{Numbering, number_each, number_fields, number_step, numbered, default_ids}
+use Rattle.ipc_format_messages.specs.metadata.Views.{ids_before, ids_view, ids_views}
+use Rattle.ipc_format_messages.specs.metadata.declared.ipc_schema.IpcField.{IpcField}
 use Rattle.ipc_format_writing.specs.Numbers.{field_numbering}
-use Rattle.ipc_format_flatbuffers.proofs.Rest.{rest_step}
+use Rattle.ipc_format_messages.proofs.flatbuffers_lemmas.Rest.{rest_step}
 
 -- ids before those that are numbered next
 abbrev pub before : List Ids → IdsList × ℕ → IdsList × ℕ

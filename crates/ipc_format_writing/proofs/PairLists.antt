@@ -2,13 +2,13 @@
 use Rattle.std.proofs.Common.{◌≡◌, ◌∙◌, ℕ, List, [], ◌∷◌, ◌++◌, map, true, false, refl, sym, ap, subst, arith, append_assoc, length-append}
 use Rattle.std.specs.Prelude.{Bool, cond, filter, Option, Some, Result, Err}
 use Rattle.std.proofs.lemmas.List.{map-append, append-nil}
-use Rattle.ipc_format_flatbuffers.specs.declared.Laid.{Laid}
-use Rattle.ipc_format_flatbuffers.specs.declared.LayError.{LayError}
-use Rattle.ipc_format_flatbuffers.specs.declared.LayError.TheVariants.{Memory, TooLong}
-use Rattle.ipc_format_flatbuffers.specs.Laying.{Piece, references_piece}
-use Rattle.ipc_format_flatbuffers.specs.Objects.{pieces_of}
-use Rattle.ipc_format_flatbuffers.specs.Views.{Lays, piece_view}
-use Rattle.ipc_format_grammar.specs.SchemaObjects.{pair_objects, metadata_object, extension_pairs, written_pairs}
+use Rattle.ipc_format_messages.specs.flatbuffers.declared.Laid.{Laid}
+use Rattle.ipc_format_messages.specs.flatbuffers.declared.LayError.{LayError}
+use Rattle.ipc_format_messages.specs.flatbuffers.declared.LayError.TheVariants.{Memory, TooLong}
+use Rattle.ipc_format_messages.specs.flatbuffers.Laying.{Piece, references_piece}
+use Rattle.ipc_format_messages.specs.flatbuffers.Objects.{pieces_of}
+use Rattle.ipc_format_messages.specs.flatbuffers.Views.{Lays, piece_view}
+use Rattle.ipc_format_messages.specs.grammar.SchemaObjects.{pair_objects, metadata_object, extension_pairs, written_pairs}
 use Rattle.ipc_format_writing.specs.Pieces.{Pair, LaysIf, LaysAll, piece_if, vector_if, pair_piece, is_kept}
 use Rattle.std.specs.Map.{keys_of}
 use Rattle.std.specs.List.Sorted.{IsStrictlySortedBy}

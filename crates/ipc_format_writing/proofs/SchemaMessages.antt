@@ -7,22 +7,22 @@ use Rattle.std.specs.declared.alloc.Global.{Global}
 use Rattle.std.specs.List.{list_all}
 use Rattle.std.specs.Int.{w8, w16, w32, w64, to_le_bytes}
 use Rattle.std.proofs.lemmas.Bool.{and_parts}
-use Rattle.columnar_memory.specs.declared.DataType.TheFolds.{fold-roll-Field}
-use Rattle.columnar_memory.specs.declared.Field.{Field}
-use Rattle.columnar_memory.specs.declared.Schema.{Schema}
-use Rattle.columnar_memory.specs.declared.Error.{Error}
-use Rattle.columnar_memory.specs.declared.Error.TheVariants.{NotYetImplemented, InvalidArgumentError, Overflow, OutOfMemory}
-use Rattle.ipc_format_flatbuffers.specs.declared.Laid.{Laid}
-use Rattle.ipc_format_flatbuffers.specs.declared.LayError.{LayError}
-use Rattle.ipc_format_flatbuffers.specs.declared.LayError.TheVariants.{Memory, TooLong}
-use Rattle.ipc_format_flatbuffers.specs.Laying.{Piece, Slot, absent, number, refers, table_piece, message_bytes}
-use Rattle.ipc_format_flatbuffers.specs.Objects.{Object, piece_of, references, absent_then, no_field, laid}
-use Rattle.ipc_format_flatbuffers.specs.Views.{Lays}
-use Rattle.ipc_format_grammar.specs.Schemas.{Ids, IdsList}
-use Rattle.ipc_format_grammar.specs.SchemaObjects.{field_object, objects_of, metadata_object, schema_object, schema_message}
-use Rattle.ipc_format_grammar.specs.Writable.{Report, report_of, reports_of, report_step, field_step, is_writable}
-use Rattle.ipc_format_metadata.specs.Reports.{field_report}
-use Rattle.ipc_format_grammar.specs.WrittenMessages.{schema_written, fits_limit}
+use Rattle.ipc_format_messages.specs.columnar_memory.declared.DataType.TheFolds.{fold-roll-Field}
+use Rattle.ipc_format_messages.specs.columnar_memory.declared.Field.{Field}
+use Rattle.ipc_format_messages.specs.columnar_memory.declared.Schema.{Schema}
+use Rattle.ipc_format_messages.specs.columnar_memory.declared.Error.{Error}
+use Rattle.ipc_format_messages.specs.columnar_memory.declared.Error.TheVariants.{NotYetImplemented, InvalidArgumentError, Overflow, OutOfMemory}
+use Rattle.ipc_format_messages.specs.flatbuffers.declared.Laid.{Laid}
+use Rattle.ipc_format_messages.specs.flatbuffers.declared.LayError.{LayError}
+use Rattle.ipc_format_messages.specs.flatbuffers.declared.LayError.TheVariants.{Memory, TooLong}
+use Rattle.ipc_format_messages.specs.flatbuffers.Laying.{Piece, Slot, absent, number, refers, table_piece, message_bytes}
+use Rattle.ipc_format_messages.specs.flatbuffers.Objects.{Object, piece_of, references, absent_then, no_field, laid}
+use Rattle.ipc_format_messages.specs.flatbuffers.Views.{Lays}
+use Rattle.ipc_format_messages.specs.grammar.Schemas.{Ids, IdsList}
+use Rattle.ipc_format_messages.specs.grammar.SchemaObjects.{field_object, objects_of, metadata_object, schema_object, schema_message}
+use Rattle.ipc_format_messages.specs.grammar.Writable.{Report, report_of, reports_of, report_step, field_step, is_writable}
+use Rattle.ipc_format_messages.specs.metadata.Reports.{field_report}
+use Rattle.ipc_format_messages.specs.grammar.WrittenMessages.{schema_written, fits_limit}
 use Rattle.ipc_format_writing.specs.Pieces.{LaysIf, piece_if, slot_if, field_told}
 use Rattle.ipc_format_writing.specs.Writing.{WritesSchema, RefusesSchema, IsEndRefusal, IsRefusalOf, may_write}
 use Rattle.ipc_format_writing.proofs.Sizes.{table_over, lays_over}

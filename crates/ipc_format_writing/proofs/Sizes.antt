@@ -4,12 +4,12 @@ use Rattle.std.specs.Prelude.{Some, Err}
 use Rattle.std.specs.List.{flat_map}
 use Rattle.std.specs.Int.{to_le_bytes, next_multiple_of, w32}
 use Rattle.std.proofs.lemmas.Grind.{flat_map-append}
-use Rattle.ipc_format_flatbuffers.specs.declared.LayError.{LayError}
-use Rattle.ipc_format_flatbuffers.specs.declared.LayError.TheVariants.{Memory, TooLong}
-use Rattle.ipc_format_flatbuffers.specs.Laying.{Piece, Slot, padded, vtable, table_bytes, child_bytes, reference_bytes, table_piece}
-use Rattle.ipc_format_flatbuffers.specs.Laying.{references_piece, elements_piece}
-use Rattle.ipc_format_flatbuffers.specs.Views.{Lays}
-use Rattle.ipc_format_grammar.specs.Types.{at_place}
+use Rattle.ipc_format_messages.specs.flatbuffers.declared.LayError.{LayError}
+use Rattle.ipc_format_messages.specs.flatbuffers.declared.LayError.TheVariants.{Memory, TooLong}
+use Rattle.ipc_format_messages.specs.flatbuffers.Laying.{Piece, Slot, padded, vtable, table_bytes, child_bytes, reference_bytes, table_piece}
+use Rattle.ipc_format_messages.specs.flatbuffers.Laying.{references_piece, elements_piece}
+use Rattle.ipc_format_messages.specs.flatbuffers.Views.{Lays}
+use Rattle.ipc_format_messages.specs.grammar.Types.{at_place}
 
 -- the bytes of some objects
 abbrev pub bytes_of_all : List Piece → List ℕ

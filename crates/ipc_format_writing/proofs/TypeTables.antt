@@ -3,12 +3,12 @@ use Rattle.std.proofs.Common.{◌≡◌, ℕ, ◌≤◌, ◌^◌, List, [], ◌�
 use Rattle.std.specs.Prelude.{ℤ, Option, Some, None, Err}
 use Rattle.std.specs.List.{flat_map}
 use Rattle.std.specs.Int.{w16}
-use Rattle.ipc_format_flatbuffers.specs.declared.LayError.{LayError}
-use Rattle.ipc_format_flatbuffers.specs.declared.LayError.TheVariants.{Memory, TooLong}
-use Rattle.ipc_format_flatbuffers.specs.Laying.{Piece, Slot, number, child_bytes, table_piece}
-use Rattle.ipc_format_flatbuffers.specs.Objects.{Object, Fields, piece_of, slots_of, table, elements, number_then, no_field}
-use Rattle.ipc_format_flatbuffers.specs.Views.{Lays}
-use Rattle.ipc_format_grammar.specs.SchemaObjects.{refers_if}
+use Rattle.ipc_format_messages.specs.flatbuffers.declared.LayError.{LayError}
+use Rattle.ipc_format_messages.specs.flatbuffers.declared.LayError.TheVariants.{Memory, TooLong}
+use Rattle.ipc_format_messages.specs.flatbuffers.Laying.{Piece, Slot, number, child_bytes, table_piece}
+use Rattle.ipc_format_messages.specs.flatbuffers.Objects.{Object, Fields, piece_of, slots_of, table, elements, number_then, no_field}
+use Rattle.ipc_format_messages.specs.flatbuffers.Views.{Lays}
+use Rattle.ipc_format_messages.specs.grammar.SchemaObjects.{refers_if}
 use Rattle.ipc_format_writing.specs.Pieces.{LaysIf, piece_if, slot_if, number_bytes}
 use Rattle.ipc_format_writing.proofs.Sizes.{table_over, elements_over}
 

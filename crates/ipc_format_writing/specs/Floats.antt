@@ -1,11 +1,11 @@
 -- Whether a type of floating-point numbers stands in a type, at any depth.
 use Rattle.std.specs.Prelude.{Bool, true, false, map}
 use Rattle.std.specs.List.{list_any}
-use Rattle.columnar_memory.specs.declared.DataType.{DataType}
-use Rattle.columnar_memory.specs.declared.DataType.TheOpen as layer
-use Rattle.columnar_memory.specs.declared.DataType.TheFolds.{fold-DataType, fold-Field}
-use Rattle.columnar_memory.specs.declared.Field.{Field}
-use Rattle.columnar_memory.specs.declared.Schema.{Schema}
+use Rattle.ipc_format_messages.specs.columnar_memory.declared.DataType.{DataType}
+use Rattle.ipc_format_messages.specs.columnar_memory.declared.DataType.TheOpen as layer
+use Rattle.ipc_format_messages.specs.columnar_memory.declared.DataType.TheFolds.{fold-DataType, fold-Field}
+use Rattle.ipc_format_messages.specs.columnar_memory.declared.Field.{Field}
+use Rattle.ipc_format_messages.specs.columnar_memory.declared.Schema.{Schema}
 
 -- one layer of a type, where each type below stands as whether a float is in it
 abbrev pub float_step : layer.DataType-F Bool Bool → Bool

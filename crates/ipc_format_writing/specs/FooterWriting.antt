@@ -3,17 +3,17 @@ use Rattle.std.specs.Prelude.{◌≡◌, ℕ, ◌≤◌, ◌<◌, ◌^◌, true,
 use Rattle.std.specs.Int.{w32, w64, cast_unsigned}
 use Rattle.std.specs.declared.vec.Vec.{Vec}
 use Rattle.std.specs.declared.alloc.Global.{Global}
-use Rattle.columnar_memory.specs.declared.Error.{Error}
-use Rattle.columnar_memory.specs.declared.Error.TheVariants.{Overflow, OutOfMemory}
-use Rattle.columnar_memory.specs.declared.Schema.{Schema}
-use Rattle.ipc_format_flatbuffers.specs.Laying.{message_bytes}
-use Rattle.ipc_format_flatbuffers.specs.Objects.{laid}
-use Rattle.ipc_format_flatbuffers.specs.Views.{piece_view}
-use Rattle.ipc_format_flatbuffers.specs.declared.Laid.{Laid}
-use Rattle.ipc_format_flatbuffers.specs.declared.LayError.{LayError}
-use Rattle.ipc_format_flatbuffers.specs.declared.LayError.TheVariants.{TooLong}
-use Rattle.ipc_format_grammar.specs.Schemas.{IdsList}
-use Rattle.ipc_format_grammar.specs.WrittenFiles as files
+use Rattle.ipc_format_messages.specs.columnar_memory.declared.Error.{Error}
+use Rattle.ipc_format_messages.specs.columnar_memory.declared.Error.TheVariants.{Overflow, OutOfMemory}
+use Rattle.ipc_format_messages.specs.columnar_memory.declared.Schema.{Schema}
+use Rattle.ipc_format_messages.specs.flatbuffers.Laying.{message_bytes}
+use Rattle.ipc_format_messages.specs.flatbuffers.Objects.{laid}
+use Rattle.ipc_format_messages.specs.flatbuffers.Views.{piece_view}
+use Rattle.ipc_format_messages.specs.flatbuffers.declared.Laid.{Laid}
+use Rattle.ipc_format_messages.specs.flatbuffers.declared.LayError.{LayError}
+use Rattle.ipc_format_messages.specs.flatbuffers.declared.LayError.TheVariants.{TooLong}
+use Rattle.ipc_format_messages.specs.grammar.Schemas.{IdsList}
+use Rattle.ipc_format_messages.specs.grammar.WrittenFiles as files
 use Rattle.ipc_format_writing.specs.Writing.{may_write, RefusesSchema}
 use Rattle.ipc_format_messages.specs.declared.Block.{Block}
 

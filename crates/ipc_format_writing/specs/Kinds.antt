@@ -1,9 +1,9 @@
 -- The kind of a type, as the definitions have it: the tag of its own table, and the table.
 use Rattle.std.specs.Prelude.{ℕ}
 use Rattle.std.specs.Int.{w8, w16}
-use Rattle.ipc_format_flatbuffers.specs.Objects.{Object, table, no_field, number_then}
-use Rattle.ipc_format_grammar.specs.SchemaObjects as objects
-use Rattle.ipc_format_grammar.specs.SchemaObjects.{Told, refers_if, text_if, numbers_if, truth}
+use Rattle.ipc_format_messages.specs.flatbuffers.Objects.{Object, table, no_field, number_then}
+use Rattle.ipc_format_messages.specs.grammar.SchemaObjects as objects
+use Rattle.ipc_format_messages.specs.grammar.SchemaObjects.{Told, refers_if, text_if, numbers_if, truth}
 use Rattle.ipc_format_writing.specs.declared.kinds.Kind.{Kind}
 use Rattle.ipc_format_writing.specs.declared.kinds.TypeTable.{TypeTable}
 use Rattle.ipc_format_writing.specs.declared.kinds.TypeTable.TheVariants as tables

@@ -3,17 +3,17 @@ use Rattle.std.specs.Prelude.{◌≡◌, ℕ, ◌+◌, ◌≤◌, ◌<◌, ℤ, 
 use Rattle.std.specs.Int.{w8, w16, w64, cast_unsigned, to_le_bytes}
 use Rattle.std.specs.declared.vec.Vec.{Vec}
 use Rattle.std.specs.declared.alloc.Global.{Global}
-use Rattle.columnar_memory.specs.declared.Error.{Error}
-use Rattle.columnar_memory.specs.declared.Error.TheVariants.{Overflow, OutOfMemory}
-use Rattle.ipc_format_flatbuffers.specs.Laying.{Piece, Slot, absent, number, refers, message_bytes}
-use Rattle.ipc_format_flatbuffers.specs.Objects.{Object, laid}
-use Rattle.ipc_format_flatbuffers.specs.Views.{piece_view}
-use Rattle.ipc_format_flatbuffers.specs.declared.Laid.{Laid}
-use Rattle.ipc_format_flatbuffers.specs.declared.LayError.{LayError}
-use Rattle.ipc_format_flatbuffers.specs.declared.LayError.TheVariants.{TooLong}
-use Rattle.ipc_format_grammar.specs.SchemaObjects.{message_object, record_batch_object, dictionary_batch_object}
-use Rattle.ipc_format_grammar.specs.TagNumbers.{dictionary_tag, record_tag}
-use Rattle.ipc_format_grammar.specs.WrittenMessages.{prefix_size, most_metadata, body_limit}
+use Rattle.ipc_format_messages.specs.columnar_memory.declared.Error.{Error}
+use Rattle.ipc_format_messages.specs.columnar_memory.declared.Error.TheVariants.{Overflow, OutOfMemory}
+use Rattle.ipc_format_messages.specs.flatbuffers.Laying.{Piece, Slot, absent, number, refers, message_bytes}
+use Rattle.ipc_format_messages.specs.flatbuffers.Objects.{Object, laid}
+use Rattle.ipc_format_messages.specs.flatbuffers.Views.{piece_view}
+use Rattle.ipc_format_messages.specs.flatbuffers.declared.Laid.{Laid}
+use Rattle.ipc_format_messages.specs.flatbuffers.declared.LayError.{LayError}
+use Rattle.ipc_format_messages.specs.flatbuffers.declared.LayError.TheVariants.{TooLong}
+use Rattle.ipc_format_messages.specs.grammar.SchemaObjects.{message_object, record_batch_object, dictionary_batch_object}
+use Rattle.ipc_format_messages.specs.grammar.TagNumbers.{dictionary_tag, record_tag}
+use Rattle.ipc_format_messages.specs.grammar.WrittenMessages.{prefix_size, most_metadata, body_limit}
 use Rattle.ipc_format_messages.specs.declared.FieldNode.{FieldNode}
 use Rattle.ipc_format_messages.specs.declared.Buffer.{Buffer}
 

@@ -1,10 +1,10 @@
 -- Dictionaries numbered in pre-order, as the code has them.
 use Rattle.std.specs.Prelude.{ℕ}
-use Rattle.columnar_memory.specs.declared.DataType.TheFolds.{fold-Field}
-use Rattle.columnar_memory.specs.declared.Field.{Field}
-use Rattle.ipc_format_grammar.specs.Schemas.{Ids, IdsList}
-use Rattle.ipc_format_grammar.specs.Ids.{Numbering, number_step}
-use Rattle.ipc_format_metadata.specs.Views.{ids_view, ids_views}
+use Rattle.ipc_format_messages.specs.columnar_memory.declared.DataType.TheFolds.{fold-Field}
+use Rattle.ipc_format_messages.specs.columnar_memory.declared.Field.{Field}
+use Rattle.ipc_format_messages.specs.grammar.Schemas.{Ids, IdsList}
+use Rattle.ipc_format_messages.specs.grammar.Ids.{Numbering, number_step}
+use Rattle.ipc_format_messages.specs.metadata.Views.{ids_view, ids_views}
 use Rattle.ipc_format_writing.specs.declared.numbering.Numbered.{Numbered}
 use Rattle.ipc_format_writing.specs.declared.numbering.NumberedFields.{NumberedFields}
 

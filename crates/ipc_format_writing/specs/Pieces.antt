@@ -7,20 +7,20 @@ use Rattle.std.specs.declared.alloc.Global.{Global}
 use Rattle.std.specs.Int.{w8, w32, to_le_bytes, cast_unsigned}
 use Rattle.std.specs.Cmp.Lexicographic.{pointwise}
 use Rattle.std.specs.Prelude.{nat_eq}
-use Rattle.columnar_memory.specs.declared.IntegerType.{IntegerType}
-use Rattle.ipc_format_flatbuffers.specs.Laying.{Piece, Slot, absent, number, refers, child_bytes, references_piece, text_piece}
-use Rattle.ipc_format_flatbuffers.specs.Objects.{Object, piece_of, references}
-use Rattle.ipc_format_flatbuffers.specs.Views.{piece_view}
-use Rattle.ipc_format_flatbuffers.specs.declared.Laid.{Laid}
-use Rattle.ipc_format_flatbuffers.specs.declared.LayError.{LayError}
-use Rattle.ipc_format_flatbuffers.specs.declared.LayError.TheVariants as errors
-use Rattle.ipc_format_grammar.specs.Schemas.{Ids, IdsList, extension_name_key, extension_metadata_key}
-use Rattle.ipc_format_grammar.specs.SchemaObjects.{Told, told_step, told_field_step, truth, pair_object, encoding_object, metadata_object}
-use Rattle.ipc_format_grammar.specs.SchemaObjects.{written_pairs}
+use Rattle.ipc_format_messages.specs.columnar_memory.declared.IntegerType.{IntegerType}
+use Rattle.ipc_format_messages.specs.flatbuffers.Laying.{Piece, Slot, absent, number, refers, child_bytes, references_piece, text_piece}
+use Rattle.ipc_format_messages.specs.flatbuffers.Objects.{Object, piece_of, references}
+use Rattle.ipc_format_messages.specs.flatbuffers.Views.{piece_view}
+use Rattle.ipc_format_messages.specs.flatbuffers.declared.Laid.{Laid}
+use Rattle.ipc_format_messages.specs.flatbuffers.declared.LayError.{LayError}
+use Rattle.ipc_format_messages.specs.flatbuffers.declared.LayError.TheVariants as errors
+use Rattle.ipc_format_messages.specs.grammar.Schemas.{Ids, IdsList, extension_name_key, extension_metadata_key}
+use Rattle.ipc_format_messages.specs.grammar.SchemaObjects.{Told, told_step, told_field_step, truth, pair_object, encoding_object, metadata_object}
+use Rattle.ipc_format_messages.specs.grammar.SchemaObjects.{written_pairs}
 use Rattle.ipc_format_writing.specs.declared.pairs.Named.{Named}
 use Rattle.ipc_format_writing.specs.declared.fields.LaidType.{LaidType}
-use Rattle.columnar_memory.specs.declared.Field.{Field}
-use Rattle.columnar_memory.specs.declared.DataType.TheFolds.{fold-Field}
+use Rattle.ipc_format_messages.specs.columnar_memory.declared.Field.{Field}
+use Rattle.ipc_format_messages.specs.columnar_memory.declared.DataType.TheFolds.{fold-Field}
 
 -- ---- objects that may be absent
 

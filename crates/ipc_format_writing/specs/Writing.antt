@@ -2,15 +2,15 @@
 use Rattle.std.specs.Prelude.{◌≡◌, ℕ, ◌<◌, Bool, true, false, ◌&&◌, Result, Ok, Err}
 use Rattle.std.specs.declared.vec.Vec.{Vec}
 use Rattle.std.specs.declared.alloc.Global.{Global}
-use Rattle.columnar_memory.specs.declared.Error.{Error}
-use Rattle.columnar_memory.specs.declared.Error.TheVariants.{NotYetImplemented, InvalidArgumentError, Overflow, OutOfMemory}
-use Rattle.columnar_memory.specs.declared.Schema.{Schema}
-use Rattle.ipc_format_flatbuffers.specs.declared.LayError.{LayError}
-use Rattle.ipc_format_flatbuffers.specs.declared.LayError.TheVariants.{Memory, TooLong}
-use Rattle.ipc_format_grammar.specs.Schemas.{IdsList}
-use Rattle.ipc_format_grammar.specs.Writable.{is_writable}
-use Rattle.ipc_format_grammar.specs.Ids.{ids_fit_fields}
-use Rattle.ipc_format_grammar.specs.WrittenMessages.{schema_written, fits_limit}
+use Rattle.ipc_format_messages.specs.columnar_memory.declared.Error.{Error}
+use Rattle.ipc_format_messages.specs.columnar_memory.declared.Error.TheVariants.{NotYetImplemented, InvalidArgumentError, Overflow, OutOfMemory}
+use Rattle.ipc_format_messages.specs.columnar_memory.declared.Schema.{Schema}
+use Rattle.ipc_format_messages.specs.flatbuffers.declared.LayError.{LayError}
+use Rattle.ipc_format_messages.specs.flatbuffers.declared.LayError.TheVariants.{Memory, TooLong}
+use Rattle.ipc_format_messages.specs.grammar.Schemas.{IdsList}
+use Rattle.ipc_format_messages.specs.grammar.Writable.{is_writable}
+use Rattle.ipc_format_messages.specs.grammar.Ids.{ids_fit_fields}
+use Rattle.ipc_format_messages.specs.grammar.WrittenMessages.{schema_written, fits_limit}
 use Rattle.ipc_format_writing.specs.Floats.{has_float}
 
 -- a schema that is written, with ids that fit it

@@ -2,19 +2,19 @@
 ghost use Rattle.std.specs.Prelude.{◌≡◌, ◌++◌, ◌∷◌, [], OnOk, IfOk, length, map};
 ghost use Rattle.std.specs.List.{flat_map};
 ghost use Rattle.std.specs.Int.{w8, w16, w64, cast_unsigned};
-ghost use Rattle.ipc_format_flatbuffers.specs.Laying as layout;
-ghost use Rattle.ipc_format_flatbuffers.specs.Objects.{piece_of};
-ghost use Rattle.ipc_format_flatbuffers.specs.Views.{Lays, piece_view};
-ghost use Rattle.ipc_format_grammar.specs.SchemaObjects as objects;
+ghost use Rattle.ipc_format_messages.specs.flatbuffers.Laying as layout;
+ghost use Rattle.ipc_format_messages.specs.flatbuffers.Objects.{piece_of};
+ghost use Rattle.ipc_format_messages.specs.flatbuffers.Views.{Lays, piece_view};
+ghost use Rattle.ipc_format_messages.specs.grammar.SchemaObjects as objects;
 ghost use Rattle.ipc_format_writing.specs.MessageWriting as written;
 ghost use Rattle.ipc_format_writing.specs.MessageWriting.{WritesMessage, Finishes, node_pair, buffer_pair, pair_bytes};
 
 use crate::structs::lay_structs;
-use columnar_memory::{Error, Result as Answer};
-use ipc_format_flatbuffers::{Laid, LayError, Slot, lay_table, message_bytes};
+use ipc_format_messages::columnar_memory::{Error, Result as Answer};
+use ipc_format_messages::flatbuffers::{Laid, LayError, Slot, lay_table, message_bytes};
 use ipc_format_messages::{Buffer, FieldNode};
-use ipc_format_metadata::sizes::V5;
-use ipc_format_metadata::tag_numbers::{DICTIONARY_BATCH_HEADER, RECORD_BATCH_HEADER};
+use ipc_format_messages::metadata::sizes::V5;
+use ipc_format_messages::metadata::tag_numbers::{DICTIONARY_BATCH_HEADER, RECORD_BATCH_HEADER};
 use std::alloc::{AllocError, Global};
 
 /// The most bytes of a message's object: with the 8 bytes before it, and the 8 of the message's prefix, 2,147,483,640.

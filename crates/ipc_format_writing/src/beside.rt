@@ -1,10 +1,10 @@
 //! Dictionary ids beside fields, one field after another.
 ghost use Rattle.std.specs.Prelude.{◌≡◌, ◌↔◌, IsTrue, []};
-ghost use Rattle.ipc_format_grammar.specs.Schemas.{ids};
-ghost use Rattle.ipc_format_grammar.specs.Columns.{first_ids, other_ids};
-ghost use Rattle.ipc_format_metadata.specs.Views.{ids_views};
+ghost use Rattle.ipc_format_messages.specs.grammar.Schemas.{ids};
+ghost use Rattle.ipc_format_messages.specs.grammar.Columns.{first_ids, other_ids};
+ghost use Rattle.ipc_format_messages.specs.metadata.Views.{ids_views};
 
-use ipc_format_metadata::IpcField;
+use ipc_format_messages::metadata::IpcField;
 
 /// The ids at the first of some fields, and at the others.
 #[derive(Clone, Copy, Debug)]

@@ -1,15 +1,15 @@
 //! Types and fields, laid with all that stands below them (Schema.fbs, `Field`).
 ghost use Rattle.std.specs.Prelude.{◌≡◌, ◌∷◌, [], ◌<◌, true, length, get_or, map};
 ghost use Rattle.std.specs.List.{list_all};
-ghost use Rattle.columnar_memory.specs.declared.Field.{out-Field};
-ghost use Rattle.ipc_format_flatbuffers.specs.Laying as layout;
-ghost use Rattle.ipc_format_flatbuffers.specs.Views.{Lays, piece_view};
-ghost use Rattle.ipc_format_flatbuffers.specs.Objects.{piece_of, references};
-ghost use Rattle.ipc_format_grammar.specs.Schemas.{ids, no_ids};
-ghost use Rattle.ipc_format_grammar.specs.SchemaObjects as objects;
-ghost use Rattle.ipc_format_grammar.specs.Writable.{Report, report_of};
-ghost use Rattle.ipc_format_metadata.specs.Reports.{field_report};
-ghost use Rattle.ipc_format_metadata.specs.Views.{ids_views};
+ghost use Rattle.ipc_format_messages.specs.columnar_memory.declared.Field.{out-Field};
+ghost use Rattle.ipc_format_messages.specs.flatbuffers.Laying as layout;
+ghost use Rattle.ipc_format_messages.specs.flatbuffers.Views.{Lays, piece_view};
+ghost use Rattle.ipc_format_messages.specs.flatbuffers.Objects.{piece_of, references};
+ghost use Rattle.ipc_format_messages.specs.grammar.Schemas.{ids, no_ids};
+ghost use Rattle.ipc_format_messages.specs.grammar.SchemaObjects as objects;
+ghost use Rattle.ipc_format_messages.specs.grammar.Writable.{Report, report_of};
+ghost use Rattle.ipc_format_messages.specs.metadata.Reports.{field_report};
+ghost use Rattle.ipc_format_messages.specs.metadata.Views.{ids_views};
 ghost use Rattle.ipc_format_writing.specs.Pieces as pieces;
 ghost use Rattle.ipc_format_writing.specs.Pieces.{LaysIf, LaysType, piece_if, field_told};
 
@@ -17,9 +17,9 @@ use crate::beside::first_beside;
 use crate::kinds::kind_of;
 use crate::written_pairs::{Named, lay_field_pairs, optional};
 use crate::tables::{lay_integer, lay_type_table, truth_byte};
-use columnar_memory::{DataType, Field, IntegerType, Metadata, Text};
-use ipc_format_flatbuffers::{Laid, LayError, Slot, lay_references, lay_table, lay_text};
-use ipc_format_metadata::IpcField;
+use ipc_format_messages::columnar_memory::{DataType, Field, IntegerType, Metadata, Text};
+use ipc_format_messages::flatbuffers::{Laid, LayError, Slot, lay_references, lay_table, lay_text};
+use ipc_format_messages::metadata::IpcField;
 use std::alloc::Global;
 
 /// A type as its field tells it.

@@ -1,15 +1,15 @@
 //! Whether dictionary ids fit the fields of a schema, and whether a float stands in it.
 ghost use Rattle.std.specs.Prelude.{◌≡◌, ◌∷◌, [], map};
 ghost use Rattle.std.specs.List.{list_any};
-ghost use Rattle.ipc_format_grammar.specs.Ids as format;
-ghost use Rattle.ipc_format_grammar.specs.Schemas.{ids};
-ghost use Rattle.ipc_format_metadata.specs.Views.{ids_views};
+ghost use Rattle.ipc_format_messages.specs.grammar.Ids as format;
+ghost use Rattle.ipc_format_messages.specs.grammar.Schemas.{ids};
+ghost use Rattle.ipc_format_messages.specs.metadata.Views.{ids_views};
 ghost use Rattle.ipc_format_writing.specs.Fitting.{field_fitting};
 ghost use Rattle.ipc_format_writing.specs.Floats as floats;
 
 use crate::beside::first_beside;
-use columnar_memory::{DataType, Field};
-use ipc_format_metadata::IpcField;
+use ipc_format_messages::columnar_memory::{DataType, Field};
+use ipc_format_messages::metadata::IpcField;
 
 /// Whether ids are as many as the fields, at each depth, with an id of its own exactly where a field has a dictionary.
 #[tactic(auto, using(crate::proofs::FittingLists::lists_fit))]

@@ -1,20 +1,20 @@
 //! Footers of files (Arrow IPC, "IPC File Format"; File.fbs), in version V5.
 ghost use Rattle.std.specs.Prelude.{◌≡◌, ◌++◌, true, OnOk, IfOk, map};
 ghost use Rattle.std.specs.List.{flat_map};
-ghost use Rattle.ipc_format_flatbuffers.specs.Objects.{piece_of};
-ghost use Rattle.ipc_format_flatbuffers.specs.Views.{Lays};
-ghost use Rattle.ipc_format_grammar.specs.Writable.{is_writable};
-ghost use Rattle.ipc_format_grammar.specs.WrittenFiles as files;
-ghost use Rattle.ipc_format_metadata.specs.Views.{ids_views};
+ghost use Rattle.ipc_format_messages.specs.flatbuffers.Objects.{piece_of};
+ghost use Rattle.ipc_format_messages.specs.flatbuffers.Views.{Lays};
+ghost use Rattle.ipc_format_messages.specs.grammar.Writable.{is_writable};
+ghost use Rattle.ipc_format_messages.specs.grammar.WrittenFiles as files;
+ghost use Rattle.ipc_format_messages.specs.metadata.Views.{ids_views};
 ghost use Rattle.ipc_format_writing.specs.FooterWriting.{WritesFooter, FinishesFooter, blocks_view, block_view, laid_block};
 
 use crate::structs::lay_structs;
-use columnar_memory::{Error, Result as Answer, Schema};
-use ipc_format_flatbuffers::{Laid, LayError, Slot, lay_table, message_bytes};
+use ipc_format_messages::columnar_memory::{Error, Result as Answer, Schema};
+use ipc_format_messages::flatbuffers::{Laid, LayError, Slot, lay_table, message_bytes};
 use ipc_format_messages::Block;
-use ipc_format_metadata::IpcField;
+use ipc_format_messages::metadata::IpcField;
 use crate::{lay_schema, refuse_unwritten};
-use ipc_format_metadata::sizes::V5;
+use ipc_format_messages::metadata::sizes::V5;
 use std::alloc::{AllocError, Global};
 
 /// The most bytes of a footer's object: with the 8 bytes before it 2^31 - 1.

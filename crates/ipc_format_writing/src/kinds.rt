@@ -1,12 +1,12 @@
 //! A type's own table, and the tag that names its kind (Schema.fbs, union Type).
 ghost use Rattle.std.specs.Prelude.{◌≡◌, IsTrue, true};
-ghost use Rattle.ipc_format_grammar.specs.Schemas.{no_ids};
-ghost use Rattle.ipc_format_grammar.specs.SchemaObjects as objects;
-ghost use Rattle.ipc_format_grammar.specs.Writable.{report_of, fits_i32};
+ghost use Rattle.ipc_format_messages.specs.grammar.Schemas.{no_ids};
+ghost use Rattle.ipc_format_messages.specs.grammar.SchemaObjects as objects;
+ghost use Rattle.ipc_format_messages.specs.grammar.Writable.{report_of, fits_i32};
 ghost use Rattle.ipc_format_writing.specs.Kinds.{table_view, kind_view, kind_told};
 
-use columnar_memory::{DataType, IntegerType, IntervalUnit, Items, Text, TimeUnit, UnionMode};
-use ipc_format_metadata::tag_numbers;
+use ipc_format_messages::columnar_memory::{DataType, IntegerType, IntervalUnit, Items, Text, TimeUnit, UnionMode};
+use ipc_format_messages::metadata::tag_numbers;
 
 /// A type's own table.
 #[derive(Clone, Copy, Debug)]

@@ -1,11 +1,11 @@
 //! The one form of a schema: at each field at any depth the keys of an extension are those of its type.
 ghost use Rattle.std.specs.Prelude.{◌≡◌, IfOk, MatchResult, map};
-ghost use Rattle.columnar_memory.specs.Error.{IsOutOfMemory};
-ghost use Rattle.columnar_memory.specs.declared.DataType.{out-DataType};
-ghost use Rattle.ipc_format_grammar.specs.Writable as format;
+ghost use Rattle.ipc_format_messages.specs.columnar_memory.Error.{IsOutOfMemory};
+ghost use Rattle.ipc_format_messages.specs.columnar_memory.declared.DataType.{out-DataType};
+ghost use Rattle.ipc_format_messages.specs.grammar.Writable as format;
 ghost use Rattle.ipc_format_writing.specs.Normal.{field_normal};
 
-use columnar_memory::{
+use ipc_format_messages::columnar_memory::{
     Boxed, DataType, EXTENSION_METADATA, EXTENSION_NAME, Field, Items, Metadata, Result as Answer,
     Schema, Text,
 };
@@ -15,7 +15,7 @@ use std::alloc::{AllocError, Global};
 ///
 /// # Errors
 /// - `OutOfMemory`: there was no memory for the schema.
-#[tactic(auto, using(crate::proofs::NormalLists::fields_are), unfolding(ipc_format_grammar::specs::Writable::normalised))]
+#[tactic(auto, using(crate::proofs::NormalLists::fields_are), unfolding(crate::proofs::Passed::normalised))]
 pub fn normalised(alloc: Global, schema: &Schema) -> Answer<Schema>
     ensures { MatchResult result (λ normal. normal ≡ format.normalised schema.now) IsOutOfMemory }
 {

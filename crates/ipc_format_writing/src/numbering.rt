@@ -1,12 +1,12 @@
 //! The ids of a schema's dictionaries, counted in pre-order (Schema.fbs, `DictionaryEncoding`).
 ghost use Rattle.std.specs.Prelude.{◌≡◌, ◌∷◌, [], IfOk, MatchResult, map};
-ghost use Rattle.columnar_memory.specs.Error.{IsOutOfMemory};
-ghost use Rattle.ipc_format_grammar.specs.Ids as ids;
-ghost use Rattle.ipc_format_metadata.specs.Views.{ids_views};
+ghost use Rattle.ipc_format_messages.specs.columnar_memory.Error.{IsOutOfMemory};
+ghost use Rattle.ipc_format_messages.specs.grammar.Ids as ids;
+ghost use Rattle.ipc_format_messages.specs.metadata.Views.{ids_views};
 ghost use Rattle.ipc_format_writing.specs.Numbers.{field_numbering, numbered_view, fields_view};
 
-use columnar_memory::{DataType, Field, Items, Result as Answer};
-use ipc_format_metadata::IpcField;
+use ipc_format_messages::columnar_memory::{DataType, Field, Items, Result as Answer};
+use ipc_format_messages::metadata::IpcField;
 use std::alloc::{AllocError, Global};
 
 /// A field's ids, and the id that comes next.
@@ -27,7 +27,7 @@ struct NumberedFields {
 ///
 /// # Errors
 /// - `OutOfMemory`: there was no memory for the ids.
-#[tactic(auto, unfolding(ipc_format_grammar::specs::Ids::default_ids))]
+#[tactic(auto, unfolding(crate::proofs::Passed::default_ids))]
 pub fn default_ipc_fields(alloc: Global, fields: &[Field]) -> Answer<Vec<IpcField>>
     ensures { MatchResult result (λ found. ids_views found.items ≡ ids.default_ids fields.now) IsOutOfMemory }
 {

@@ -2,22 +2,22 @@
 ghost use Rattle.std.specs.Prelude.{◌≡◌, ◌+◌, ◌∷◌, [], ◌≤◌, true, length, map, IfOk, MatchResult};
 ghost use Rattle.std.specs.List.{list_all};
 ghost use Rattle.std.specs.Int.{w8, w16, w64};
-ghost use Rattle.ipc_format_flatbuffers.specs.Laying as layout;
-ghost use Rattle.ipc_format_flatbuffers.specs.Objects.{piece_of};
-ghost use Rattle.ipc_format_flatbuffers.specs.Views.{Lays, piece_view};
-ghost use Rattle.ipc_format_grammar.specs.SchemaObjects as objects;
-ghost use Rattle.ipc_format_grammar.specs.Writable.{is_writable};
-ghost use Rattle.ipc_format_metadata.specs.Views.{ids_views};
+ghost use Rattle.ipc_format_messages.specs.flatbuffers.Laying as layout;
+ghost use Rattle.ipc_format_messages.specs.flatbuffers.Objects.{piece_of};
+ghost use Rattle.ipc_format_messages.specs.flatbuffers.Views.{Lays, piece_view};
+ghost use Rattle.ipc_format_messages.specs.grammar.SchemaObjects as objects;
+ghost use Rattle.ipc_format_messages.specs.grammar.Writable.{is_writable};
+ghost use Rattle.ipc_format_messages.specs.metadata.Views.{ids_views};
 ghost use Rattle.ipc_format_writing.specs.Writing.{WritesSchema, RefusesSchema, IsEndRefusal, IsRefusalOf, may_write};
 
 use crate::fields::lay_fields;
 use crate::fitting::{has_float, ids_fit};
 use crate::written_pairs::{lay_pairs, optional};
-use columnar_memory::{Error, Result as Answer, Schema};
-use ipc_format_flatbuffers::{Laid, LayError, Slot, lay_table, message_bytes};
-use ipc_format_metadata::{IpcField, can_write};
-use ipc_format_metadata::sizes::V5;
-use ipc_format_metadata::tag_numbers::SCHEMA_HEADER;
+use ipc_format_messages::columnar_memory::{Error, Result as Answer, Schema};
+use ipc_format_messages::flatbuffers::{Laid, LayError, Slot, lay_table, message_bytes};
+use ipc_format_messages::metadata::{IpcField, can_write};
+use ipc_format_messages::metadata::sizes::V5;
+use ipc_format_messages::metadata::tag_numbers::SCHEMA_HEADER;
 use std::alloc::Global;
 
 /// The most bytes of the object of a message: with the 8 bytes before it, and the 8 of the message's prefix, it has at most

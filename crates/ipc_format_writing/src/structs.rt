@@ -1,9 +1,9 @@
 //! Vectors of structs, laid from their bytes (FlatBuffers, "Internals").
 ghost use Rattle.std.specs.Prelude.{◌≤◌, length};
-ghost use Rattle.ipc_format_flatbuffers.specs.Laying as layout;
-ghost use Rattle.ipc_format_flatbuffers.specs.Views.{Lays};
+ghost use Rattle.ipc_format_messages.specs.flatbuffers.Laying as layout;
+ghost use Rattle.ipc_format_messages.specs.flatbuffers.Views.{Lays};
 
-use ipc_format_flatbuffers::{Laid, LayError, lay_elements};
+use ipc_format_messages::flatbuffers::{Laid, LayError, lay_elements};
 use std::alloc::Global;
 
 /// A vector of `count` structs by their bytes, of which each has one at least.

@@ -3,17 +3,17 @@ ghost use Rattle.std.specs.Prelude.{◌≡◌, ◌∷◌, [], IfOk, length};
 ghost use Rattle.std.specs.List.{flat_map};
 ghost use Rattle.std.specs.Option.{option_map};
 ghost use Rattle.std.specs.Int.{w16};
-ghost use Rattle.ipc_format_flatbuffers.specs.Laying as layout;
-ghost use Rattle.ipc_format_flatbuffers.specs.Views.{Lays, piece_view};
-ghost use Rattle.ipc_format_flatbuffers.specs.Objects.{piece_of, elements};
-ghost use Rattle.ipc_format_grammar.specs.SchemaObjects as objects;
+ghost use Rattle.ipc_format_messages.specs.flatbuffers.Laying as layout;
+ghost use Rattle.ipc_format_messages.specs.flatbuffers.Views.{Lays, piece_view};
+ghost use Rattle.ipc_format_messages.specs.flatbuffers.Objects.{piece_of, elements};
+ghost use Rattle.ipc_format_messages.specs.grammar.SchemaObjects as objects;
 ghost use Rattle.ipc_format_writing.specs.Kinds.{table_view};
 ghost use Rattle.ipc_format_writing.specs.Pieces.{LaysIf, piece_if, slot_if, number_bytes};
 
 use crate::kinds::TypeTable;
 use crate::written_pairs::optional;
-use columnar_memory::{IntegerType, Items, Text};
-use ipc_format_flatbuffers::{Laid, LayError, Slot, lay_elements, lay_table, lay_text};
+use ipc_format_messages::columnar_memory::{IntegerType, Items, Text};
+use ipc_format_messages::flatbuffers::{Laid, LayError, Slot, lay_elements, lay_table, lay_text};
 use std::alloc::{AllocError, Global};
 
 /// A truth value as a byte.

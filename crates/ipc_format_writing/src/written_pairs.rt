@@ -1,14 +1,14 @@
 //! Custom metadata and the extension that a type names, laid (Schema.fbs, `KeyValue`).
 ghost use Rattle.std.specs.Prelude.{◌≡◌, Some, map};
 ghost use Rattle.std.specs.Option.{option_map};
-ghost use Rattle.ipc_format_flatbuffers.specs.Views.{Lays, piece_view, slot_view};
-ghost use Rattle.ipc_format_flatbuffers.specs.Objects.{piece_of};
-ghost use Rattle.ipc_format_grammar.specs.SchemaObjects as objects;
+ghost use Rattle.ipc_format_messages.specs.flatbuffers.Views.{Lays, piece_view, slot_view};
+ghost use Rattle.ipc_format_messages.specs.flatbuffers.Objects.{piece_of};
+ghost use Rattle.ipc_format_messages.specs.grammar.SchemaObjects as objects;
 ghost use Rattle.ipc_format_writing.specs.Pieces as pieces;
 ghost use Rattle.ipc_format_writing.specs.Pieces.{LaysIf, LaysAll, piece_if, vector_if, pair_piece, extension_view, is_kept};
 
-use columnar_memory::{EXTENSION_METADATA, EXTENSION_NAME, Metadata, Text};
-use ipc_format_flatbuffers::{Laid, LayError, Slot, lay_references, lay_table, lay_text};
+use ipc_format_messages::columnar_memory::{EXTENSION_METADATA, EXTENSION_NAME, Metadata, Text};
+use ipc_format_messages::flatbuffers::{Laid, LayError, Slot, lay_references, lay_table, lay_text};
 use std::alloc::Global;
 
 /// The name of an extension type, and its metadata if it has any.

@@ -1,6 +1,6 @@
 use Rattle.std.proofs.Common.{◌≡◌, ◌++◌, ◌∷◌, [], rules, arith}
 use Rattle.std.specs.Prelude.{Some, None}
-use Rattle.ipc_format_messages.specs.MessageViews.{blocks_view}
+use Rattle.ipc_format_writing.specs.messages.MessageViews.{blocks_view}
 use Rattle.ipc_format_values.specs.OwnedMessages.{stated_at}
 use Rattle.ipc_format_values.proofs.Gathered.{gathered_next, gathered_none, gathered_done}
 use Rattle.ipc_format_values.proofs.taken_batches.blocks_in.Goals as goal

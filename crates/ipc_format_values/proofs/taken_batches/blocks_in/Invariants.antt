@@ -1,4 +1,4 @@
-use Rattle.ipc_format_messages.specs.MessageViews.{blocks_view}
+use Rattle.ipc_format_writing.specs.messages.MessageViews.{blocks_view}
 use Rattle.ipc_format_values.specs.OwnedMessages.{stated_at}
 use Rattle.ipc_format_values.proofs.Gathered.{GatheredLeft}
 use Rattle.ipc_format_values.proofs.taken_batches.blocks_in.Given as goal

@@ -1,4 +1,4 @@
-use Rattle.ipc_format_messages.specs.MessageViews.{buffers_view}
+use Rattle.ipc_format_writing.specs.messages.MessageViews.{buffers_view}
 use Rattle.ipc_format_values.specs.OwnedMessages.{buffer_at}
 use Rattle.ipc_format_values.proofs.Gathered.{GatheredLeft}
 use Rattle.ipc_format_values.proofs.taken_batches.buffers_in.Given as goal

@@ -1,4 +1,4 @@
-use Rattle.ipc_format_messages.specs.MessageViews.{nodes_view}
+use Rattle.ipc_format_writing.specs.messages.MessageViews.{nodes_view}
 use Rattle.ipc_format_values.specs.OwnedMessages.{node_at}
 use Rattle.ipc_format_values.proofs.Gathered.{GatheredLeft}
 use Rattle.ipc_format_values.proofs.taken_batches.nodes_in.Given as goal

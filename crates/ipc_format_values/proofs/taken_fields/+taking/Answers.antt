@@ -1,8 +1,8 @@
 use Rattle.std.proofs.Common.{◌≡◌, ◌∙◌, ◌++◌, ◌∷◌, ◌-◌, [], ap, arith, rules}
 use Rattle.std.specs.Prelude.{Some, None}
 use Rattle.std.specs.Option.{option_map}
-use Rattle.ipc_format_messages.specs.SchemaRefs.{field_view, fields_view}
-use Rattle.ipc_format_messages.specs.SchemaSlots.{field_children}
+use Rattle.ipc_format_writing.specs.messages.SchemaRefs.{field_view, fields_view}
+use Rattle.ipc_format_writing.specs.messages.SchemaSlots.{field_children}
 use Rattle.ipc_format_values.specs.Owned.{table_at}
 use Rattle.ipc_format_values.specs.OwnedFields.{parts_in, field_over, field_in, fields_if, fields_in}
 use Rattle.ipc_format_values.proofs.FieldsTaken.{

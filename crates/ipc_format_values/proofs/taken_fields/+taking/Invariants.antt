@@ -1,5 +1,5 @@
 use Rattle.std.proofs.Common.{◌≡◌, ◌+◌, ◌*◌}
-use Rattle.ipc_format_messages.specs.SchemaRefs.{fields_view}
+use Rattle.ipc_format_writing.specs.messages.SchemaRefs.{fields_view}
 use Rattle.ipc_format_values.specs.OwnedFields.{field_in, fields_in}
 use Rattle.ipc_format_values.proofs.Gathered.{FieldsLeft}
 use Rattle.ipc_format_values.proofs.taken_fields.+taking.Given as goal

@@ -1,4 +1,4 @@
-use Rattle.ipc_format_messages.specs.SchemaRefs.{pairs_view}
+use Rattle.ipc_format_writing.specs.messages.SchemaRefs.{pairs_view}
 use Rattle.ipc_format_values.specs.Owned.{kept_at}
 use Rattle.ipc_format_values.proofs.Gathered.{GatheredLeft}
 use Rattle.ipc_format_values.proofs.taken_pairs.pairs_of_vector.Given as goal

@@ -1,6 +1,6 @@
 use Rattle.std.proofs.Common.{arith, rules}
-use Rattle.ipc_format_flatbuffers.specs.Objects.{piece_of}
-use Rattle.ipc_format_flatbuffers.specs.Views.{Lays}
+use Rattle.ipc_format_messages.specs.flatbuffers.Objects.{piece_of}
+use Rattle.ipc_format_messages.specs.flatbuffers.Views.{Lays}
 use Rattle.ipc_format_writing.specs.MessageWriting.{dictionary_message}
 use Rattle.ipc_format_writing.proofs.Laid.{answered}
 use Rattle.ipc_format_writing.proofs.batches.dictionary_batch_to_bytes.Goals as goal

@@ -1,10 +1,10 @@
 use Rattle.std.proofs.Common.{◌∷◌, [], List, map, refl, rules}
 use Rattle.std.specs.Prelude.{Err}
 use Rattle.std.specs.Int.{w64}
-use Rattle.ipc_format_flatbuffers.specs.Laying.{Piece, Slot, absent, number, refers}
-use Rattle.ipc_format_flatbuffers.specs.Objects.{piece_of}
-use Rattle.ipc_format_flatbuffers.specs.Views.{Lays}
-use Rattle.ipc_format_grammar.specs.SchemaObjects.{structs_object}
+use Rattle.ipc_format_messages.specs.flatbuffers.Laying.{Piece, Slot, absent, number, refers}
+use Rattle.ipc_format_messages.specs.flatbuffers.Objects.{piece_of}
+use Rattle.ipc_format_messages.specs.flatbuffers.Views.{Lays}
+use Rattle.ipc_format_messages.specs.grammar.SchemaObjects.{structs_object}
 use Rattle.ipc_format_writing.specs.MessageWriting.{node_pair, buffer_pair}
 use Rattle.ipc_format_writing.proofs.Laid.{part-refused}
 use Rattle.ipc_format_writing.proofs.batches.lay_batch.Goals as goal

@@ -1,9 +1,9 @@
 use Rattle.std.proofs.Common.{◌∷◌, [], List, refl, rules}
 use Rattle.std.specs.Prelude.{Err}
 use Rattle.std.specs.Int.{w8, w64, cast_unsigned}
-use Rattle.ipc_format_flatbuffers.specs.Laying.{Piece, Slot, number, refers, table_piece}
-use Rattle.ipc_format_flatbuffers.specs.Objects.{piece_of}
-use Rattle.ipc_format_flatbuffers.specs.Views.{Lays}
+use Rattle.ipc_format_messages.specs.flatbuffers.Laying.{Piece, Slot, number, refers, table_piece}
+use Rattle.ipc_format_messages.specs.flatbuffers.Objects.{piece_of}
+use Rattle.ipc_format_messages.specs.flatbuffers.Views.{Lays}
 use Rattle.ipc_format_writing.specs.MessageWriting.{batch_object, message_slots}
 use Rattle.ipc_format_writing.proofs.Laid.{part-refused}
 use Rattle.ipc_format_writing.proofs.batches.lay_dictionary_message.Goals as goal

@@ -1,8 +1,8 @@
 use Rattle.std.proofs.Common.{refl, rules}
 use Rattle.std.specs.Prelude.{Err}
-use Rattle.ipc_format_flatbuffers.specs.Laying.{Piece}
-use Rattle.ipc_format_flatbuffers.specs.Objects.{piece_of}
-use Rattle.ipc_format_flatbuffers.specs.Views.{Lays}
+use Rattle.ipc_format_messages.specs.flatbuffers.Laying.{Piece}
+use Rattle.ipc_format_messages.specs.flatbuffers.Objects.{piece_of}
+use Rattle.ipc_format_messages.specs.flatbuffers.Views.{Lays}
 use Rattle.ipc_format_writing.specs.MessageWriting.{batch_object, message_slots}
 use Rattle.ipc_format_writing.proofs.Laid.{part-refused}
 use Rattle.ipc_format_writing.proofs.batches.lay_record_message.Goals as goal

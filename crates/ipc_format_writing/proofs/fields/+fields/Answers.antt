@@ -1,10 +1,10 @@
 use Rattle.std.proofs.Common.{map, rules}
 use Rattle.std.specs.Prelude.{Err}
-use Rattle.ipc_format_flatbuffers.specs.Objects.{piece_of}
-use Rattle.ipc_format_flatbuffers.specs.Views.{Lays}
-use Rattle.ipc_format_grammar.specs.Schemas.{ids}
-use Rattle.ipc_format_grammar.specs.SchemaObjects as objects
-use Rattle.ipc_format_metadata.specs.Views.{ids_views}
+use Rattle.ipc_format_messages.specs.flatbuffers.Objects.{piece_of}
+use Rattle.ipc_format_messages.specs.flatbuffers.Views.{Lays}
+use Rattle.ipc_format_messages.specs.grammar.Schemas.{ids}
+use Rattle.ipc_format_messages.specs.grammar.SchemaObjects as objects
+use Rattle.ipc_format_messages.specs.metadata.Views.{ids_views}
 use Rattle.ipc_format_writing.specs.Pieces as pieces
 use Rattle.ipc_format_writing.specs.Pieces.{LaysType, field_told}
 use Rattle.ipc_format_writing.proofs.FieldTables.{type_refused, single_refused, fields_refused, fields_more, pieces_beside}

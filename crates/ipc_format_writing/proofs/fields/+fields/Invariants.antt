@@ -1,6 +1,6 @@
 use Rattle.std.proofs.Common.{◌≡◌, ◌++◌, map, drop}
-use Rattle.ipc_format_flatbuffers.specs.Views.{piece_view}
-use Rattle.ipc_format_metadata.specs.Views.{ids_views}
+use Rattle.ipc_format_messages.specs.flatbuffers.Views.{piece_view}
+use Rattle.ipc_format_messages.specs.metadata.Views.{ids_views}
 use Rattle.ipc_format_writing.specs.Pieces.{field_told}
 use Rattle.ipc_format_writing.proofs.FieldTables.{pieces_beside}
 use Rattle.ipc_format_writing.proofs.fields.+fields.Given as goal

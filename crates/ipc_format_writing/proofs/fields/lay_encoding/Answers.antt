@@ -1,8 +1,8 @@
 use Rattle.std.proofs.Common.{rules}
 use Rattle.std.specs.Prelude.{Err}
-use Rattle.ipc_format_flatbuffers.specs.Objects.{piece_of}
-use Rattle.ipc_format_flatbuffers.specs.Views.{Lays}
-use Rattle.ipc_format_grammar.specs.SchemaObjects as objects
+use Rattle.ipc_format_messages.specs.flatbuffers.Objects.{piece_of}
+use Rattle.ipc_format_messages.specs.flatbuffers.Views.{Lays}
+use Rattle.ipc_format_messages.specs.grammar.SchemaObjects as objects
 use Rattle.ipc_format_writing.proofs.FieldTables.{encoding_refused}
 use Rattle.ipc_format_writing.proofs.fields.lay_encoding.Goals as goal
 

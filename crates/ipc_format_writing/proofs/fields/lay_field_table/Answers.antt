@@ -1,9 +1,9 @@
 use Rattle.std.proofs.Common.{refl, rules}
 use Rattle.std.specs.Prelude.{Err}
-use Rattle.columnar_memory.specs.declared.Field.{out-Field}
-use Rattle.ipc_format_flatbuffers.specs.Laying.{table_piece, text_piece, refers}
-use Rattle.ipc_format_flatbuffers.specs.Views.{Lays}
-use Rattle.ipc_format_grammar.specs.SchemaObjects as objects
+use Rattle.ipc_format_messages.specs.columnar_memory.declared.Field.{out-Field}
+use Rattle.ipc_format_messages.specs.flatbuffers.Laying.{table_piece, text_piece, refers}
+use Rattle.ipc_format_messages.specs.flatbuffers.Views.{Lays}
+use Rattle.ipc_format_messages.specs.grammar.SchemaObjects as objects
 use Rattle.ipc_format_writing.specs.Pieces as pieces
 use Rattle.ipc_format_writing.specs.Pieces.{LaysIf, piece_if, slot_if}
 use Rattle.ipc_format_writing.proofs.Sizes.{table_over, lays_over}

@@ -1,7 +1,7 @@
 use Rattle.std.proofs.Common.{◌∙◌, [], map, sym, rules, arith}
-use Rattle.ipc_format_grammar.specs.Ids as format
-use Rattle.ipc_format_grammar.specs.Schemas.{ids}
-use Rattle.ipc_format_metadata.specs.Views.{ids_views}
+use Rattle.ipc_format_messages.specs.grammar.Ids as format
+use Rattle.ipc_format_messages.specs.grammar.Schemas.{ids}
+use Rattle.ipc_format_messages.specs.metadata.Views.{ids_views}
 use Rattle.ipc_format_writing.specs.Fitting.{field_fitting}
 use Rattle.ipc_format_writing.proofs.BesideLists.{fields_too_few, fields_more, fields_done, one_more}
 use Rattle.ipc_format_writing.proofs.fitting.+fits.Goals as goal

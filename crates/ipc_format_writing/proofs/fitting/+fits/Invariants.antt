@@ -1,6 +1,6 @@
 use Rattle.std.proofs.Common.{◌≡◌, map, drop}
-use Rattle.ipc_format_grammar.specs.Ids as format
-use Rattle.ipc_format_metadata.specs.Views.{ids_views}
+use Rattle.ipc_format_messages.specs.grammar.Ids as format
+use Rattle.ipc_format_messages.specs.metadata.Views.{ids_views}
 use Rattle.ipc_format_writing.specs.Fitting.{field_fitting}
 use Rattle.ipc_format_writing.proofs.fitting.+fits.Given as goal
 

@@ -1,6 +1,6 @@
 use Rattle.std.proofs.Common.{◌≡◌, rules}
 use Rattle.std.specs.Prelude.{Err}
-use Rattle.ipc_format_metadata.specs.Views.{ids_views}
+use Rattle.ipc_format_messages.specs.metadata.Views.{ids_views}
 use Rattle.ipc_format_writing.specs.FooterWriting.{blocks_view}
 use Rattle.ipc_format_writing.proofs.LaidFooter.{footer-refused, footer-answered}
 use Rattle.ipc_format_writing.proofs.footers.footer_to_bytes.Goals as goal

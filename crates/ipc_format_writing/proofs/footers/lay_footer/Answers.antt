@@ -1,7 +1,7 @@
 use Rattle.std.proofs.Common.{refl, rules}
 use Rattle.std.specs.Prelude.{Err}
-use Rattle.ipc_format_flatbuffers.specs.Views.{Lays}
-use Rattle.ipc_format_metadata.specs.Views.{ids_views}
+use Rattle.ipc_format_messages.specs.flatbuffers.Views.{Lays}
+use Rattle.ipc_format_messages.specs.metadata.Views.{ids_views}
 use Rattle.ipc_format_writing.proofs.Laid.{part-refused}
 use Rattle.ipc_format_writing.proofs.LaidFooter.{header_of, vector_of, footer_slots}
 use Rattle.ipc_format_writing.proofs.footers.lay_footer.Goals as goal

@@ -1,7 +1,7 @@
 use Rattle.std.proofs.Common.{◌≡◌, ap, rules}
-use Rattle.columnar_memory.specs.declared.DataType.{out-DataType}
-use Rattle.ipc_format_grammar.specs.Schemas.{extension_name_key, extension_metadata_key}
-use Rattle.ipc_format_grammar.specs.Writable as format
+use Rattle.ipc_format_messages.specs.columnar_memory.declared.DataType.{out-DataType}
+use Rattle.ipc_format_messages.specs.grammar.Schemas.{extension_name_key, extension_metadata_key}
+use Rattle.ipc_format_messages.specs.grammar.Writable as format
 use Rattle.ipc_format_writing.proofs.NormalLists.{same_given}
 use Rattle.ipc_format_writing.proofs.normal.normal_pairs.Goals as goal
 

@@ -1,5 +1,5 @@
 use Rattle.std.proofs.Common.{◌∙◌, ap}
-use Rattle.ipc_format_grammar.specs.Writable as format
+use Rattle.ipc_format_messages.specs.grammar.Writable as format
 use Rattle.ipc_format_writing.proofs.NormalLists.{removed_by_order}
 use Rattle.ipc_format_writing.proofs.normal.without.Goals as goal
 

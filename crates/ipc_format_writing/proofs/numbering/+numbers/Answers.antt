@@ -1,5 +1,5 @@
 use Rattle.std.proofs.Common.{map}
-use Rattle.ipc_format_grammar.specs.Ids as ids
+use Rattle.ipc_format_messages.specs.grammar.Ids as ids
 use Rattle.ipc_format_writing.specs.Numbers.{field_numbering}
 use Rattle.ipc_format_writing.proofs.NumberedLists.{numbered-more}
 use Rattle.ipc_format_writing.proofs.numbering.+numbers.Goals as goal

@@ -1,5 +1,5 @@
 use Rattle.std.proofs.Common.{◌∙◌, ap}
-use Rattle.ipc_format_metadata.specs.Views.{ids_views}
+use Rattle.ipc_format_messages.specs.metadata.Views.{ids_views}
 use Rattle.ipc_format_writing.proofs.NumberedLists.{defaults}
 use Rattle.ipc_format_writing.proofs.numbering.default_ipc_fields.Goals as goal
 

@@ -1,9 +1,9 @@
 use Rattle.std.proofs.Common.{rules}
 use Rattle.std.specs.Prelude.{Err}
-use Rattle.ipc_format_flatbuffers.specs.Objects.{piece_of}
-use Rattle.ipc_format_flatbuffers.specs.Views.{Lays}
-use Rattle.ipc_format_grammar.specs.SchemaObjects as objects
-use Rattle.ipc_format_metadata.specs.Views.{ids_views}
+use Rattle.ipc_format_messages.specs.flatbuffers.Objects.{piece_of}
+use Rattle.ipc_format_messages.specs.flatbuffers.Views.{Lays}
+use Rattle.ipc_format_messages.specs.grammar.SchemaObjects as objects
+use Rattle.ipc_format_messages.specs.metadata.Views.{ids_views}
 use Rattle.ipc_format_writing.proofs.SchemaMessages.{header_refused}
 use Rattle.ipc_format_writing.proofs.schemas.lay_message.Goals as goal
 

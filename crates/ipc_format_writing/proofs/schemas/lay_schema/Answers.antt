@@ -1,9 +1,9 @@
 use Rattle.std.proofs.Common.{rules}
 use Rattle.std.specs.Prelude.{Err}
 use Rattle.std.specs.Option.{option_map}
-use Rattle.ipc_format_flatbuffers.specs.Views.{Lays, piece_view}
-use Rattle.ipc_format_grammar.specs.SchemaObjects as objects
-use Rattle.ipc_format_metadata.specs.Views.{ids_views}
+use Rattle.ipc_format_messages.specs.flatbuffers.Views.{Lays, piece_view}
+use Rattle.ipc_format_messages.specs.grammar.SchemaObjects as objects
+use Rattle.ipc_format_messages.specs.metadata.Views.{ids_views}
 use Rattle.ipc_format_writing.specs.Pieces.{LaysIf, piece_if}
 use Rattle.ipc_format_writing.proofs.SchemaMessages.{all_allowed, fields_piece, fields_refused, metadata_refused, schema_made}
 use Rattle.ipc_format_writing.proofs.schemas.lay_schema.Goals as goal

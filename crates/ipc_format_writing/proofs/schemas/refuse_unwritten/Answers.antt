@@ -1,7 +1,7 @@
 use Rattle.std.proofs.Common.{rules}
-use Rattle.ipc_format_grammar.specs.Writable.{is_writable}
-use Rattle.ipc_format_grammar.specs.Ids.{ids_fit_fields}
-use Rattle.ipc_format_metadata.specs.Views.{ids_views}
+use Rattle.ipc_format_messages.specs.grammar.Writable.{is_writable}
+use Rattle.ipc_format_messages.specs.grammar.Ids.{ids_fit_fields}
+use Rattle.ipc_format_messages.specs.metadata.Views.{ids_views}
 use Rattle.ipc_format_writing.proofs.SchemaMessages.{both_true}
 use Rattle.ipc_format_writing.proofs.schemas.refuse_unwritten.Goals as goal
 

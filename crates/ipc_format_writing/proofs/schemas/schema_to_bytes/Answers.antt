@@ -1,7 +1,7 @@
 use Rattle.std.proofs.Common.{◌≡◌, rules}
 use Rattle.std.specs.Prelude.{Err}
-use Rattle.ipc_format_flatbuffers.specs.Views.{piece_view}
-use Rattle.ipc_format_metadata.specs.Views.{ids_views}
+use Rattle.ipc_format_messages.specs.flatbuffers.Views.{piece_view}
+use Rattle.ipc_format_messages.specs.metadata.Views.{ids_views}
 use Rattle.ipc_format_writing.proofs.SchemaMessages.{schema_refused, root_answer, lay_refused}
 use Rattle.ipc_format_writing.proofs.schemas.schema_to_bytes.Goals as goal
 

@@ -1,6 +1,6 @@
 use Rattle.std.proofs.Common.{rules}
 use Rattle.std.specs.Prelude.{Err}
-use Rattle.ipc_format_grammar.specs.SchemaObjects as objects
+use Rattle.ipc_format_messages.specs.grammar.SchemaObjects as objects
 use Rattle.ipc_format_writing.specs.Pieces.{LaysIf, piece_if}
 use Rattle.ipc_format_writing.proofs.TypeTables.{short_and_refused}
 use Rattle.ipc_format_writing.proofs.tables.lay_type_table.Goals as goal

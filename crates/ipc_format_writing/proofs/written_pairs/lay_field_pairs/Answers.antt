@@ -1,7 +1,7 @@
 use Rattle.std.proofs.Common.{rules}
 use Rattle.std.specs.Prelude.{Err, filter}
-use Rattle.ipc_format_flatbuffers.specs.Views.{Lays}
-use Rattle.ipc_format_grammar.specs.SchemaObjects as objects
+use Rattle.ipc_format_messages.specs.flatbuffers.Views.{Lays}
+use Rattle.ipc_format_messages.specs.grammar.SchemaObjects as objects
 use Rattle.ipc_format_writing.specs.Pieces.{Pair, pair_piece, is_kept, extension_view}
 use Rattle.ipc_format_writing.proofs.PairLists.{all_pairs, pair_refused, pairs_made, kept_here, extension_refused, field_answer}
 use Rattle.ipc_format_writing.proofs.written_pairs.lay_field_pairs.Goals as goal

@@ -1,7 +1,7 @@
 use Rattle.std.proofs.Common.{◌≡◌, ◌++◌, map}
 use Rattle.std.specs.Prelude.{filter}
-use Rattle.ipc_format_flatbuffers.specs.Views.{piece_view}
-use Rattle.ipc_format_grammar.specs.SchemaObjects as objects
+use Rattle.ipc_format_messages.specs.flatbuffers.Views.{piece_view}
+use Rattle.ipc_format_messages.specs.grammar.SchemaObjects as objects
 use Rattle.ipc_format_writing.specs.Pieces.{pair_piece, is_kept, extension_view}
 use Rattle.ipc_format_writing.proofs.PairLists.{all_pairs}
 use Rattle.ipc_format_writing.proofs.written_pairs.lay_field_pairs.Given as goal

@@ -1,8 +1,8 @@
 use Rattle.std.proofs.Common.{◌∷◌, [], rules}
 use Rattle.std.specs.Prelude.{Err}
-use Rattle.ipc_format_flatbuffers.specs.Laying as layout
-use Rattle.ipc_format_flatbuffers.specs.Views.{Lays}
-use Rattle.ipc_format_grammar.specs.Schemas.{extension_name_key, extension_metadata_key}
+use Rattle.ipc_format_messages.specs.flatbuffers.Laying as layout
+use Rattle.ipc_format_messages.specs.flatbuffers.Views.{Lays}
+use Rattle.ipc_format_messages.specs.grammar.Schemas.{extension_name_key, extension_metadata_key}
 use Rattle.ipc_format_writing.specs.Pieces.{Pair, pair_piece}
 use Rattle.ipc_format_writing.proofs.PairLists.{one_refused, one_made, two_made}
 use Rattle.ipc_format_writing.proofs.written_pairs.lay_named.Goals as goal

@@ -1,7 +1,7 @@
 use Rattle.std.proofs.Common.{◌∷◌, [], refl, rules}
 use Rattle.std.specs.Prelude.{Err}
-use Rattle.ipc_format_flatbuffers.specs.Laying.{refers, table_piece, text_piece}
-use Rattle.ipc_format_flatbuffers.specs.Views.{Lays}
+use Rattle.ipc_format_messages.specs.flatbuffers.Laying.{refers, table_piece, text_piece}
+use Rattle.ipc_format_messages.specs.flatbuffers.Views.{Lays}
 use Rattle.ipc_format_writing.proofs.Sizes.{table_over, lays_over}
 use Rattle.ipc_format_writing.proofs.written_pairs.lay_pair.Goals as goal
 

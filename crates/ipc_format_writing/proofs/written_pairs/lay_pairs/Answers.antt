@@ -1,6 +1,6 @@
 use Rattle.std.proofs.Common.{rules}
 use Rattle.std.specs.Prelude.{Err}
-use Rattle.ipc_format_flatbuffers.specs.Views.{Lays}
+use Rattle.ipc_format_messages.specs.flatbuffers.Views.{Lays}
 use Rattle.ipc_format_writing.specs.Pieces.{Pair, pair_piece}
 use Rattle.ipc_format_writing.proofs.PairLists.{pair_refused, pairs_made}
 use Rattle.ipc_format_writing.proofs.written_pairs.lay_pairs.Goals as goal

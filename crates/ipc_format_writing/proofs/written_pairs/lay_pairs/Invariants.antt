@@ -1,5 +1,5 @@
 use Rattle.std.proofs.Common.{◌≡◌, ◌++◌, map}
-use Rattle.ipc_format_flatbuffers.specs.Views.{piece_view}
+use Rattle.ipc_format_messages.specs.flatbuffers.Views.{piece_view}
 use Rattle.ipc_format_writing.specs.Pieces.{pair_piece}
 use Rattle.ipc_format_writing.proofs.written_pairs.lay_pairs.Given as goal
 

@@ -1,12 +1,12 @@
 //! Messages and footers (Message.fbs, File.fbs).
 ghost use Rattle.std.specs.Prelude.{◌≡◌, None};
 ghost use Rattle.std.specs.Int.{w64, cast_unsigned};
-ghost use Rattle.ipc_format_grammar.specs.SchemaObjects as objects;
+ghost use Rattle.ipc_format_writing.specs.grammar.SchemaObjects as objects;
 ghost use Rattle.ipc_format_values.specs.ValueObjects as values;
 
 use crate::fields::{KeyValue, Schema};
-use columnar_memory::Items;
-use ipc_format_messages::{Block, Buffer, FieldNode, MetadataVersion};
+use ipc_format_writing::columnar_memory::Items;
+use ipc_format_writing::messages::{Block, Buffer, FieldNode, MetadataVersion};
 use std::alloc::Global;
 
 /// A record batch (Message.fbs, `RecordBatch`), which is not compressed.
