@@ -1,5 +1,6 @@
 # make demo    builds the proved program as bin/tables and cuts the samples with it
-# make test    the whole gate: every proof from nothing, each test, each program, the must-fail edits
+# make test    the whole gate: every proof from nothing, each test, each program, the must-fail edits;
+#              with MINUTES=n it ends after n minutes, and names what it skipped
 # make bench   measures bin/tables against cp and plain Rust on a stream of about 250 MB, and on a tenth of it, after the four below
 # make bench-memory   measures jobs of the memory layer against plain Rust
 # make bench-flat   measures jobs of flat arrays and their builders against plain Rust
@@ -46,11 +47,13 @@ program:
 		|| { tail -n 20 ../../bin/build.log; exit 1; }
 	cp $(PROGRAM)/out/tables_program bin/tables
 
+test: STARTED := $(shell date +%s)
 test:
+	$(PYTHON) tools/gate.py --selftest
 	$(PYTHON) tools/worked.py
 	$(PYTHON) tools/compare.py --count 400 --seed 7
 	$(PYTHON) tools/streams.py check crates/tables_files/data crates/tables_files/stdout
-	$(RT) ci
+	$(PYTHON) tools/gate.py --started $(STARTED) $(if $(MINUTES),--minutes $(MINUTES)) $(RT)
 
 definitions:
 	$(PYTHON) tools/worked.py
