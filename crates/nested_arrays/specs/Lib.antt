@@ -45,12 +45,12 @@ pub use Rattle.nested_arrays_nulls.specs.generic.ListTypes
 pub use Rattle.nested_arrays_nulls.specs.access.MaskedArrays
 pub use Rattle.nested_arrays_nulls.specs.access.NullLaws
 pub use Rattle.nested_arrays_nulls.specs.access.Nulls
-pub use Rattle.nested_arrays_nulls.specs.walks.NamedValues as ValuesByKeys
-pub use Rattle.nested_arrays_nulls.specs.walks.ReadValues
-pub use Rattle.nested_arrays_nulls.specs.walks.StringParts
-pub use Rattle.nested_arrays_nulls.specs.walks.TextItems
-pub use Rattle.nested_arrays_nulls.specs.walks.TypedValues
-pub use Rattle.nested_arrays_nulls.specs.walks.WalkLaws
+pub use Rattle.nested_arrays_nulls.specs.iterators.NamedValues as ValuesByKeys
+pub use Rattle.nested_arrays_nulls.specs.iterators.ReadValues
+pub use Rattle.nested_arrays_nulls.specs.iterators.StringParts
+pub use Rattle.nested_arrays_nulls.specs.iterators.TextItems
+pub use Rattle.nested_arrays_nulls.specs.iterators.TypedValues
+pub use Rattle.nested_arrays_nulls.specs.iterators.WalkLaws
 pub use Rattle.nested_arrays_nulls.specs.Lengths as PartLengths
 pub use Rattle.nested_arrays_nulls.specs.NullAnswers
 pub use Rattle.nested_arrays_nulls.specs.NullColumns

@@ -26,7 +26,7 @@ pub use nested_arrays_nulls::generic::{
     DictionaryArray, DictionaryKey, DictionaryKeys, DictionaryKeysIter, ListArray,
 };
 pub use nested_arrays_nulls::parts::{FlatArray, FlatNode, ListOffsets};
-pub use nested_arrays_nulls::walks::{
+pub use nested_arrays_nulls::iterators::{
     ArrayPart, ArraySlot, ArrayValues, DictValue, DictionaryValues, DictionaryValuesIter,
     DictionaryValuesIterTyped, FixedSizeBinaryValues, FixedSizeListValuesIter, GenericBinaryArray,
     KeyPlaces, KeyedSlots, KeyedValues, ListValuesIter, MapValuesIter, Slots, StructSlot,

@@ -1,18 +1,18 @@
 -- What arrays of nulls without children store.
 use Rattle.std.proofs.Common.{◌≡◌, ◌∙◌, refl, ap, ℕ, zero, suc, List, [], ◌∷◌, map}
 use Rattle.std.specs.Prelude.{replicate}
-use Rattle.nested_arrays_walks.specs.columnar_memory.Numbers.{Numbers}
-use Rattle.nested_arrays_walks.specs.columnar_memory.Spans.{Spans, ends_from, offsets_of}
-use Rattle.nested_arrays_walks.specs.columnar_memory.declared.DataType.{DataType}
-use Rattle.nested_arrays_walks.specs.columnar_memory.declared.PhysicalType.TheVariants as physical
-use Rattle.nested_arrays_walks.specs.columnar_memory.declared.PrimitiveType.{PrimitiveType}
-use Rattle.nested_arrays_walks.specs.flat_arrays.ByteStrings as strings
-use Rattle.nested_arrays_walks.specs.flat_arrays.ByteStrings.{ByteStrings}
-use Rattle.nested_arrays_walks.specs.flat_arrays.Flat as arrays
-use Rattle.nested_arrays_walks.specs.flat_arrays.Flat.{Flat}
-use Rattle.nested_arrays_walks.specs.flat_arrays.Results.{ForZero}
-use Rattle.nested_arrays_walks.specs.columns.StoredColumns.{flat, texts, byte_strings}
-use Rattle.nested_arrays_walks.specs.flat.FlatColumns.{binary_column, text_column, primitive_column, stored_numbers}
+use Rattle.nested_arrays_iterators.specs.columnar_memory.Numbers.{Numbers}
+use Rattle.nested_arrays_iterators.specs.columnar_memory.Spans.{Spans, ends_from, offsets_of}
+use Rattle.nested_arrays_iterators.specs.columnar_memory.declared.DataType.{DataType}
+use Rattle.nested_arrays_iterators.specs.columnar_memory.declared.PhysicalType.TheVariants as physical
+use Rattle.nested_arrays_iterators.specs.columnar_memory.declared.PrimitiveType.{PrimitiveType}
+use Rattle.nested_arrays_iterators.specs.flat_arrays.ByteStrings as strings
+use Rattle.nested_arrays_iterators.specs.flat_arrays.ByteStrings.{ByteStrings}
+use Rattle.nested_arrays_iterators.specs.flat_arrays.Flat as arrays
+use Rattle.nested_arrays_iterators.specs.flat_arrays.Flat.{Flat}
+use Rattle.nested_arrays_iterators.specs.flat_arrays.Results.{ForZero}
+use Rattle.nested_arrays_iterators.specs.columns.StoredColumns.{flat, texts, byte_strings}
+use Rattle.nested_arrays_iterators.specs.flat.FlatColumns.{binary_column, text_column, primitive_column, stored_numbers}
 use Rattle.nested_arrays_nulls.specs.NullColumns.{flat_nulls, no_items, no_marks}
 
 -- ---- numbers

@@ -1,16 +1,16 @@
 //! Nulls in place of lists and of keys, whose children are given.
 ghost use Rattle.std.specs.Prelude.{◌≡◌, pos, replicate};
-ghost use Rattle.nested_arrays_walks.specs.columnar_memory.Layouts.{physical_type};
-ghost use Rattle.nested_arrays_walks.specs.columnar_memory.declared.PhysicalType.TheVariants as physical;
-ghost use Rattle.nested_arrays_walks.specs.columns.StoredColumns.{dictionary, lists};
-ghost use Rattle.nested_arrays_walks.specs.generic.ListTypes.{list_layout};
+ghost use Rattle.nested_arrays_iterators.specs.columnar_memory.Layouts.{physical_type};
+ghost use Rattle.nested_arrays_iterators.specs.columnar_memory.declared.PhysicalType.TheVariants as physical;
+ghost use Rattle.nested_arrays_iterators.specs.columns.StoredColumns.{dictionary, lists};
+ghost use Rattle.nested_arrays_iterators.specs.generic.ListTypes.{list_layout};
 ghost use Rattle.nested_arrays_nulls.specs.NullAnswers.{IsMade};
 ghost use Rattle.nested_arrays_nulls.specs.NullColumns.{no_items, no_marks};
 
-use nested_arrays_walks::columnar_memory::{Bitmap, DataType, Offset, Offsets, Result};
-use nested_arrays_walks::flat_arrays::PrimitiveArray;
-use nested_arrays_walks::arrays::AnyArray;
-use nested_arrays_walks::generic::{DictionaryArray, DictionaryKey, ListArray};
+use nested_arrays_iterators::columnar_memory::{Bitmap, DataType, Offset, Offsets, Result};
+use nested_arrays_iterators::flat_arrays::PrimitiveArray;
+use nested_arrays_iterators::arrays::AnyArray;
+use nested_arrays_iterators::generic::{DictionaryArray, DictionaryKey, ListArray};
 use std::alloc::Global;
 
 /// So many nulls in place of lists of these items.

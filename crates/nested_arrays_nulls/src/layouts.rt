@@ -1,16 +1,16 @@
 //! Nulls with children, which are given.
 ghost use Rattle.std.specs.Prelude.{◌≡◌, ◌≤◌, ◌^◌, All, pos, replicate};
-ghost use Rattle.nested_arrays_walks.specs.columnar_memory.Layouts.{physical_type};
-ghost use Rattle.nested_arrays_walks.specs.columnar_memory.Results.{OrOutOfMemory};
-ghost use Rattle.nested_arrays_walks.specs.columnar_memory.declared.PhysicalType.TheVariants as physical;
-ghost use Rattle.nested_arrays_walks.specs.columns.Slots.{window};
-ghost use Rattle.nested_arrays_walks.specs.columns.StoredColumns.{column_len, fixed_lists, in_columns, lists, records, unions};
-ghost use Rattle.nested_arrays_walks.specs.arrays.Lengths.{size_of};
+ghost use Rattle.nested_arrays_iterators.specs.columnar_memory.Layouts.{physical_type};
+ghost use Rattle.nested_arrays_iterators.specs.columnar_memory.Results.{OrOutOfMemory};
+ghost use Rattle.nested_arrays_iterators.specs.columnar_memory.declared.PhysicalType.TheVariants as physical;
+ghost use Rattle.nested_arrays_iterators.specs.columns.Slots.{window};
+ghost use Rattle.nested_arrays_iterators.specs.columns.StoredColumns.{column_len, fixed_lists, in_columns, lists, records, unions};
+ghost use Rattle.nested_arrays_iterators.specs.arrays.Lengths.{size_of};
 ghost use Rattle.nested_arrays_nulls.specs.NullAnswers.{IsMade};
 ghost use Rattle.nested_arrays_nulls.specs.NullColumns.{no_items, no_marks, null_places};
 
-use nested_arrays_walks::columnar_memory::{Bitmap, Buffer, DataType, Error, Offsets, Result, UnionMode};
-use nested_arrays_walks::arrays::{AnyArray, FixedSizeListArray, MapArray, StructArray, UnionArray};
+use nested_arrays_iterators::columnar_memory::{Bitmap, Buffer, DataType, Error, Offsets, Result, UnionMode};
+use nested_arrays_iterators::arrays::{AnyArray, FixedSizeListArray, MapArray, StructArray, UnionArray};
 use std::alloc::Global;
 
 /// How many slots a dense union may have, whose offsets have 31 bits.
