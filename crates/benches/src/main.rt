@@ -1,0 +1,44 @@
+//! Times jobs of the layers, and answers a checksum of what each made.
+//!
+//!     benches GROUP JOB SIZE     the job, the least nanoseconds of its rounds, and the checksum
+//!     benches GROUP              each job of the group at a small size: the group, the job and the checksum alone
+//!     benches                    the same of every group
+//!
+//! The groups are `memory`, `flat`, `nested` and `metadata`; what the size counts is said at each.
+#![tactic(auto)]
+
+mod data;
+mod flat;
+mod group;
+mod memory;
+mod metadata;
+mod nested;
+mod timing;
+
+use group::GROUPS;
+use nested_arrays::columnar_memory::{Error, Result};
+use std::env;
+use std::rt::Clock;
+use timing::named;
+
+fn main(rt: HostRuntime) -> Result<()> {
+    let words: Vec<String> = env::args(&rt)?.skip(1).collect(rt.alloc())?;
+    match words.as_slice() {
+        [] => show_all(&rt),
+        [group] => named(&GROUPS, group.as_str())?.show_checksums(&rt),
+        [group, job, size] => {
+            let Ok(size) = size.parse::<usize>() else {
+                return Err(Error::InvalidArgumentError("a size that is no number"));
+            };
+            named(&GROUPS, group.as_str())?.show_time(&rt, job.as_str(), size)
+        }
+        _ => Err(Error::InvalidArgumentError("other words than a group, a job and a size")),
+    }
+}
+
+fn show_all<R: Clock + AllocGlobal + Print>(rt: &R) -> Result<()> {
+    for group in GROUPS {
+        group.show_checksums(rt)?;
+    }
+    Ok(())
+}

@@ -1,0 +1,7 @@
+//! Jobs of the memory layer, beside `tools/plain_memory.rs`. Their size is the number of bits, of lengths where the job is `offsets`.
+mod bits;
+mod data;
+mod job;
+mod values;
+
+pub(crate) use job::{JOBS, MemoryJob};

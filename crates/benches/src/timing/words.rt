@@ -1,0 +1,19 @@
+use nested_arrays::columnar_memory::{Error, Result};
+
+/// What has a name by which it is asked for.
+pub(crate) trait Named: Copy {
+    fn name(&self) -> &'static str;
+}
+
+/// The one of a name.
+///
+/// # Errors
+/// `InvalidArgumentError`: none has this name.
+pub(crate) fn named<N: Named>(choices: &[N], name: &str) -> Result<N> {
+    for choice in choices {
+        if choice.name() == name {
+            return Ok(*choice);
+        }
+    }
+    Err(Error::InvalidArgumentError("a name of no group or job"))
+}
