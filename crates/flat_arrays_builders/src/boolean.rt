@@ -8,12 +8,12 @@ ghost use Rattle.flat_arrays_values.specs.Results.{IsChecked};
 ghost use Rattle.flat_arrays_values.specs.Growth.{grown, with_slots};
 ghost use Rattle.flat_arrays_values.specs.Changes.{Changes, Pops};
 
+use flat_arrays_values::BooleanArray;
 use flat_arrays_values::columnar_memory::{DataType, Error, MutableBitmap, PhysicalType, Result};
 use flat_arrays_values::marks::{
     freeze_mask, is_mask_of, mark_at, push_mark, reserve_marks, shrink_marks, truncate_bits,
     truncate_mask,
 };
-use flat_arrays_values::BooleanArray;
 use std::alloc::Global;
 use std::marker::Model;
 use std::rc::Rc;

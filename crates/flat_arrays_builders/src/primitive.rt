@@ -9,11 +9,13 @@ ghost use Rattle.flat_arrays_values.specs.Results.{ForZero, IsChecked};
 ghost use Rattle.flat_arrays_values.specs.Growth.{grown, with_slots};
 ghost use Rattle.flat_arrays_values.specs.Changes.{Changes, Pops};
 
-use flat_arrays_values::columnar_memory::{Buffer, DataType, Error, MutableBitmap, NativeType, Result};
+use flat_arrays_values::PrimitiveArray;
+use flat_arrays_values::columnar_memory::{
+    Buffer, DataType, Error, MutableBitmap, NativeType, Result,
+};
 use flat_arrays_values::marks::{
     freeze_mask, is_mask_of, mark_at, push_mark, reserve_marks, shrink_marks, truncate_mask,
 };
-use flat_arrays_values::PrimitiveArray;
 use std::alloc::Global;
 use std::marker::Model;
 use std::rc::Rc;

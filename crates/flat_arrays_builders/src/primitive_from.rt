@@ -8,11 +8,10 @@ ghost use Rattle.flat_arrays_values.specs.Flat.{flat, of_slots};
 ghost use Rattle.flat_arrays_values.specs.Results.{ForZero};
 
 use crate::primitive::MutablePrimitiveArray;
-use flat_arrays_values::columnar_memory::{DataType, NativeType, Result};
 use either::Either;
-use flat_arrays_values::IntoMut;
+use flat_arrays_values::columnar_memory::{DataType, NativeType, Result};
 use flat_arrays_values::marks::{freeze_mask, mask_into_mut};
-use flat_arrays_values::PrimitiveArray;
+use flat_arrays_values::{IntoMut, PrimitiveArray};
 use std::alloc::Global;
 
 impl<T: NativeType> MutablePrimitiveArray<T> {

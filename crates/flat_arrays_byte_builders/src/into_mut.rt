@@ -5,11 +5,13 @@ ghost use Rattle.either.specs.Either.{MatchEither};
 ghost use Rattle.flat_arrays_byte_values_builders.specs.Growing.{trimmed};
 
 use crate::{MutableBinaryArray, MutableUtf8Array};
-use flat_arrays_byte_values_builders::columnar_memory::{Bitmap, Buffer, MutableBitmap, Offset, Offsets, OffsetsBuffer, Result};
 use either::Either;
-use flat_arrays_byte_values_builders::values::IntoMut;
 use flat_arrays_byte_values_builders::ByteBuilder;
 use flat_arrays_byte_values_builders::bytes::{BinaryArray, Utf8Array};
+use flat_arrays_byte_values_builders::columnar_memory::{
+    Bitmap, Buffer, MutableBitmap, Offset, Offsets, OffsetsBuffer, Result,
+};
+use flat_arrays_byte_values_builders::values::IntoMut;
 use flat_arrays_byte_values_builders::values::marks::{freeze_mask, mask_into_mut};
 
 /// Offsets, bytes and a mask, as an array shares them.

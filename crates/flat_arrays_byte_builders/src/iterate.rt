@@ -5,7 +5,9 @@ ghost use Rattle.flat_arrays_byte_values_builders.specs.bytes.ByteStrings.{value
 ghost use Rattle.flat_arrays_byte_values_builders.specs.bytes.ByteWalks.{StandsBefore};
 
 use crate::{MutableBinaryArray, MutableUtf8Array};
-use flat_arrays_byte_values_builders::columnar_memory::{BitmapIter, MutableBitmap, Offset, ZipValidity};
+use flat_arrays_byte_values_builders::columnar_memory::{
+    BitmapIter, MutableBitmap, Offset, ZipValidity,
+};
 use flat_arrays_byte_values_builders::{MutableBinaryValuesIter, MutableUtf8ValuesIter};
 
 /// Values beside as many marks, where one of them is false.

@@ -13,7 +13,5 @@ mod utf8_extend;
 
 pub use binary::MutableBinaryArray;
 pub use flat_arrays_byte_values_builders as byte_values_builders;
-pub use flat_arrays_byte_values_builders::bytes;
-pub use flat_arrays_byte_values_builders::columnar_memory;
-pub use flat_arrays_byte_values_builders::values;
+pub use flat_arrays_byte_values_builders::{bytes, columnar_memory, values};
 pub use utf8::MutableUtf8Array;

@@ -10,9 +10,11 @@ ghost use Rattle.flat_arrays_byte_values_builders.specs.bytes.Fits.{IsMaskOf, Is
 ghost use Rattle.flat_arrays_byte_values_builders.specs.values.Results.{AppliesTo};
 ghost use Rattle.flat_arrays_byte_values_builders.specs.Growing.{Grows, IsTaken, IsGrown, OrUnchanged, Pops, frozen_mask, with_slot};
 
-use flat_arrays_byte_values_builders::columnar_memory::{DataType, Error, MutableBitmap, Offset, Offsets, Result};
-use flat_arrays_byte_values_builders::{ByteBuilder, text_layout_of};
 use flat_arrays_byte_values_builders::bytes::Utf8Array;
+use flat_arrays_byte_values_builders::columnar_memory::{
+    DataType, Error, MutableBitmap, Offset, Offsets, Result,
+};
+use flat_arrays_byte_values_builders::{ByteBuilder, text_layout_of};
 use std::alloc::Global;
 use std::marker::Model;
 use std::ops::Deref;

@@ -9,8 +9,7 @@ ghost use Rattle.flat_arrays_byte_values_builders.specs.Growing.{Grows, IsTaken,
 
 use crate::builder::{ByteBuilder, binary_layout_of};
 use flat_arrays_bytes::columnar_memory::{DataType, Offset, Offsets, Result};
-use flat_arrays_bytes::ByteValuesIter;
-use flat_arrays_bytes::BinaryArray;
+use flat_arrays_bytes::{BinaryArray, ByteValuesIter};
 use std::alloc::Global;
 use std::marker::Model;
 use std::ops::Deref;

@@ -11,11 +11,11 @@ ghost use Rattle.flat_arrays_bytes.specs.Texts.{AllTexts};
 ghost use Rattle.flat_arrays_byte_values_builders.specs.Growing.{Grows, IsFilled, IsTaken, OrUnchanged, Pops, frozen_mask};
 ghost use Rattle.flat_arrays_byte_values_builders.specs.Growing.{pushed, trimmed, with_slot, without_last};
 
+use flat_arrays_bytes::HoldsByteStrings;
 use flat_arrays_bytes::columnar_memory::{
     Bitmap, Buffer, DataType, Error, Index, MutableBitmap, Offset, Offsets, OffsetsBuffer,
     PhysicalType, Result,
 };
-use flat_arrays_bytes::HoldsByteStrings;
 use flat_arrays_bytes::values::marks::{is_mask_of, push_mark, reserve_marks, shrink_marks};
 use simdutf8::is_utf8;
 use std::alloc::Global;

@@ -11,8 +11,7 @@ ghost use Rattle.flat_arrays_byte_values_builders.specs.Growing.{Grows, IsTaken,
 
 use crate::builder::{ByteBuilder, text_layout_of};
 use flat_arrays_bytes::columnar_memory::{DataType, Error, Offset, Offsets, Result};
-use flat_arrays_bytes::TextValuesIter;
-use flat_arrays_bytes::Utf8Array;
+use flat_arrays_bytes::{TextValuesIter, Utf8Array};
 use std::alloc::Global;
 use std::marker::Model;
 use std::ops::Deref;

@@ -10,10 +10,10 @@ ghost use Rattle.flat_arrays_bytes.specs.ByteWalks.{StandsBefore};
 ghost use Rattle.flat_arrays_bytes.specs.Equal.{AreEqual, same_array, same_array-equivalence, same_array-per};
 ghost use Rattle.flat_arrays_bytes.specs.Fits.{binary_layout, binary_type, IsBinary, IsChecked, IsMaskOf, KeepsLength};
 
+use crate::{ByteColumn, ByteValuesIter};
 use flat_arrays_values::columnar_memory::{
     Bitmap, BitmapIter, Buffer, DataType, Offset, OffsetsBuffer, PhysicalType, Result, ZipValidity,
 };
-use crate::{ByteColumn, ByteValuesIter};
 use std::alloc::Global;
 use std::marker::Model;
 

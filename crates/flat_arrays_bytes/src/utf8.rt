@@ -10,11 +10,11 @@ ghost use Rattle.flat_arrays_bytes.specs.ByteWalks.{StandsBefore};
 ghost use Rattle.flat_arrays_bytes.specs.Equal.{AreEqual, same_array, same_array-equivalence, same_array-per};
 ghost use Rattle.flat_arrays_bytes.specs.Fits.{text_layout, text_type, IsText, IsChecked, IsMaskOf, KeepsLength};
 
+use crate::{ByteColumn, TextValuesIter, are_texts};
 use flat_arrays_values::columnar_memory::{
     Bitmap, BitmapIter, Buffer, DataType, Error, Offset, OffsetsBuffer, PhysicalType, Result,
     ZipValidity,
 };
-use crate::{ByteColumn, TextValuesIter, are_texts};
 use std::alloc::Global;
 use std::marker::Model;
 use std::str::from_utf8_unchecked;

@@ -1,8 +1,6 @@
 use columnar_memory::Error;
 use either::Either;
-use flat_arrays::IntoMut;
-use flat_arrays::MutableBinaryArray;
-use flat_arrays::BinaryArray;
+use flat_arrays::{BinaryArray, IntoMut, MutableBinaryArray};
 use std::alloc::Global;
 use std::test::Fail;
 

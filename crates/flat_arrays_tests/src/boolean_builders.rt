@@ -1,8 +1,6 @@
 use columnar_memory::Error;
 use either::Either;
-use flat_arrays::IntoMut;
-use flat_arrays::MutableBooleanArray;
-use flat_arrays::BooleanArray;
+use flat_arrays::{BooleanArray, IntoMut, MutableBooleanArray};
 use std::alloc::Global;
 use std::test::Fail;
 

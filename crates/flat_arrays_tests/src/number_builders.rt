@@ -1,8 +1,6 @@
 use columnar_memory::{DataType, Error};
 use either::Either;
-use flat_arrays::IntoMut;
-use flat_arrays::Int32Vec;
-use flat_arrays::Int32Array;
+use flat_arrays::{Int32Array, Int32Vec, IntoMut};
 use std::alloc::Global;
 use std::test::Fail;
 

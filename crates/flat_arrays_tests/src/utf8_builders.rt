@@ -1,8 +1,6 @@
 use columnar_memory::Error;
 use either::Either;
-use flat_arrays::IntoMut;
-use flat_arrays::MutableUtf8Array;
-use flat_arrays::Utf8Array;
+use flat_arrays::{IntoMut, MutableUtf8Array, Utf8Array};
 use std::alloc::Global;
 use std::test::Fail;
 

@@ -22,10 +22,7 @@ pub use error::Error;
 pub use fields::{DictionaryEncodingRef, FieldRef, IntRef, KeyValueRef};
 pub use footer::FooterRef;
 pub use ipc_format_metadata as metadata;
-pub use ipc_format_metadata::columnar_memory;
-pub use ipc_format_metadata::columns;
-pub use ipc_format_metadata::flatbuffers;
-pub use ipc_format_metadata::grammar;
+pub use ipc_format_metadata::{columnar_memory, columns, flatbuffers, grammar};
 pub use messages::{MessageHeaderRef, MessageRef};
 pub use reading::{
     DictionaryBatchParts, MessageParts, RecordBatchParts, dictionary_batch_in, message_in,

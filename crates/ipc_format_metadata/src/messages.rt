@@ -12,16 +12,16 @@ use crate::ipc_schema::IpcSchema;
 use crate::out_of_spec::OutOfSpecKind;
 use crate::pairs::metadata_in;
 use crate::schemas::each_in;
-use crate::writable::can_write;
-use ipc_format_grammar::columnar_memory::{Error, Result, Schema, Steps};
-use ipc_format_grammar::flatbuffers::{
-    Table, Vector, i16_field, root_of, table_field, u8_field, vector_field,
-};
 use crate::sizes::REFERENCE_SIZE;
 use crate::slots::{
     MESSAGE_HEADER, MESSAGE_HEADER_TYPE, SCHEMA_CUSTOM_METADATA, SCHEMA_ENDIANNESS, SCHEMA_FIELDS,
 };
 use crate::tag_numbers::SCHEMA_HEADER;
+use crate::writable::can_write;
+use ipc_format_grammar::columnar_memory::{Error, Result, Schema, Steps};
+use ipc_format_grammar::flatbuffers::{
+    Table, Vector, i16_field, root_of, table_field, u8_field, vector_field,
+};
 use std::alloc::Global;
 
 /// So many levels deep may fields nest.

@@ -13,17 +13,19 @@ use crate::ipc_schema::IpcField;
 use crate::layers::{Layer, OverField, OverFields, layer_of};
 use crate::out_of_spec::OutOfSpecKind;
 use crate::pairs::{encoded_by, extended, metadata_in};
-use crate::tags::tag_of;
-use ipc_format_grammar::columnar_memory::{Boxed, DataType, Error, Field, Items, Result, Steps, Text};
-use ipc_format_grammar::flatbuffers::{
-    Table, Vector, element_at, string_field, table_field, truth_field, u8_field, vector_field,
-};
 use crate::sizes::REFERENCE_SIZE;
 use crate::slots::{
     FIELD_CHILDREN, FIELD_CUSTOM_METADATA, FIELD_DICTIONARY, FIELD_NAME, FIELD_NULLABLE,
     FIELD_TYPE, FIELD_TYPE_TYPE,
 };
 use crate::tag_numbers::TYPE_FLOATING_POINT;
+use crate::tags::tag_of;
+use ipc_format_grammar::columnar_memory::{
+    Boxed, DataType, Error, Field, Items, Result, Steps, Text,
+};
+use ipc_format_grammar::flatbuffers::{
+    Table, Vector, element_at, string_field, table_field, truth_field, u8_field, vector_field,
+};
 use std::alloc::{AllocError, Global};
 use std::result;
 

@@ -6,9 +6,11 @@ ghost use Rattle.ipc_format_grammar.specs.Messages as messages;
 ghost use Rattle.ipc_format_grammar.specs.flatbuffers.Views.{table_of};
 ghost use Rattle.ipc_format_metadata.specs.Leaves as leaves;
 
-use ipc_format_grammar::columnar_memory::{DataType, IntegerType, IntervalUnit, TimeUnit, UnionMode};
-use ipc_format_grammar::flatbuffers::{Table, i16_field, i32_field, truth_field};
 use crate::slots;
+use ipc_format_grammar::columnar_memory::{
+    DataType, IntegerType, IntervalUnit, TimeUnit, UnionMode,
+};
+use ipc_format_grammar::flatbuffers::{Table, i16_field, i32_field, truth_field};
 
 /// The whole numbers of an Int table.
 #[tactic(auto, unfolding(ipc_format_grammar::specs::Types::integer_in))]

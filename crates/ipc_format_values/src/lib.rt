@@ -24,12 +24,7 @@ mod types;
 
 pub use fields::{DictionaryEncoding, Field, Int, KeyValue, Schema};
 pub use ipc_format_writing as writing;
-pub use ipc_format_writing::columnar_memory;
-pub use ipc_format_writing::columns;
-pub use ipc_format_writing::flatbuffers;
-pub use ipc_format_writing::grammar;
-pub use ipc_format_writing::messages;
-pub use ipc_format_writing::metadata;
+pub use ipc_format_writing::{columnar_memory, columns, flatbuffers, grammar, messages, metadata};
 pub use message_values::{DictionaryBatch, Footer, Message, MessageHeader, RecordBatch};
 pub use serializing::serialize_schema;
 pub use taken_batches::{dictionary_batch_of, record_batch_of};

@@ -6,12 +6,12 @@ ghost use Rattle.ipc_format_values.specs.OwnedMessages as owned;
 ghost use Rattle.ipc_format_values.specs.Taken.{Takes};
 
 use crate::taken::taken;
+use crate::{DictionaryBatch, RecordBatch};
 use ipc_format_writing::columnar_memory::{Items, Result as Answer};
 use ipc_format_writing::messages::{
     Block, BlocksRef, Buffer, BuffersRef, DictionaryBatchRef, FieldNode, FieldNodesRef,
     RecordBatchRef,
 };
-use crate::{DictionaryBatch, RecordBatch};
 use std::alloc::{AllocError, Global};
 
 /// The nodes of a vector.

@@ -8,13 +8,13 @@ ghost use Rattle.ipc_format_values.specs.OwnedFields as owned;
 ghost use Rattle.ipc_format_values.specs.Taken.{Takes};
 ghost use Rattle.ipc_format_values.specs.TakenViews.{field_taken, fields_taken};
 
-use crate::taken_pairs::{encoding_if, pairs_in};
 use crate::taken::taken;
+use crate::taken_pairs::{encoding_if, pairs_in};
 use crate::taken_types::type_in;
+use crate::{DictionaryEncoding, Field, KeyValue, Schema, Type_};
 use ipc_format_writing::columnar_memory::{Items, Result as Answer, Steps, Text};
 use ipc_format_writing::messages::{FieldRef, FieldsRef, SchemaRef};
 use ipc_format_writing::metadata::MOST_LEVELS;
-use crate::{DictionaryEncoding, Field, KeyValue, Schema, Type_};
 use std::alloc::{AllocError, Global};
 
 /// A field but for the fields below it.

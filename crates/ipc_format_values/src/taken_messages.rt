@@ -7,15 +7,17 @@ ghost use Rattle.ipc_format_writing.specs.messages.SchemaRefs.{pairs_view};
 ghost use Rattle.ipc_format_values.specs.OwnedMessages as owned;
 ghost use Rattle.ipc_format_values.specs.Taken.{Takes};
 
+use crate::taken::taken;
 use crate::taken_batches::{
     batch_in, blocks_if, blocks_in, dictionary_in, dictionary_is_compressed, is_compressed,
 };
 use crate::taken_fields::schema_in;
 use crate::taken_pairs::pairs_in;
-use crate::taken::taken;
-use ipc_format_writing::columnar_memory::{Result as Answer, Steps};
-use ipc_format_writing::messages::{Error, FooterRef, KeyValuesRef, MessageHeaderRef, MessageRef, TableRef};
 use crate::{Footer, Message, MessageHeader};
+use ipc_format_writing::columnar_memory::{Result as Answer, Steps};
+use ipc_format_writing::messages::{
+    Error, FooterRef, KeyValuesRef, MessageHeaderRef, MessageRef, TableRef,
+};
 use std::alloc::{AllocError, Global};
 
 /// The slot of `Message` and of `Footer`.

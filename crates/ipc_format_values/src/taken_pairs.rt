@@ -8,9 +8,11 @@ ghost use Rattle.ipc_format_values.specs.OwnedFields as fields;
 ghost use Rattle.ipc_format_values.specs.Taken.{Takes};
 
 use crate::taken::taken;
-use ipc_format_writing::columnar_memory::{Items, Result as Answer, Text};
-use ipc_format_writing::messages::{DictionaryEncodingRef, Error, IntRef, KeyValueRef, KeyValuesRef};
 use crate::{DictionaryEncoding, Int, KeyValue};
+use ipc_format_writing::columnar_memory::{Items, Result as Answer, Text};
+use ipc_format_writing::messages::{
+    DictionaryEncodingRef, Error, IntRef, KeyValueRef, KeyValuesRef,
+};
 use std::alloc::{AllocError, Global};
 
 /// A pair, if it has a key and a value; nothing where the view refuses.

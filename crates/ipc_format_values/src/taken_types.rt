@@ -10,14 +10,16 @@ ghost use Rattle.ipc_format_values.specs.Taken.{Takes};
 ghost use Rattle.ipc_format_values.specs.TakenViews.{numbers_view};
 
 use crate::numbers::NumbersRef;
-use crate::taken_pairs::int_of;
 use crate::taken::taken;
+use crate::taken_pairs::int_of;
+use crate::{Precision, Type_};
 use ipc_format_writing::columnar_memory::{Items, Result as Answer, Text};
 use ipc_format_writing::flatbuffers::i32_at;
-use ipc_format_writing::messages::{DecimalRef, Error, TableRef, TimeRef, TimestampRef, TypeRef, UnionRef};
+use ipc_format_writing::messages::{
+    DecimalRef, Error, TableRef, TimeRef, TimestampRef, TypeRef, UnionRef,
+};
 use ipc_format_writing::metadata::sizes::I32_SIZE;
 use ipc_format_writing::metadata::slots::UNION_TYPE_IDS;
-use crate::{Precision, Type_};
 use std::alloc::{AllocError, Global};
 
 /// The slot of `FloatingPoint`.

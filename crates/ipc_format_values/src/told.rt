@@ -11,9 +11,9 @@ ghost use Rattle.ipc_format_values.specs.ValueObjects as values;
 
 use crate::fields::{Field, Int};
 use crate::types::{Precision, Type_};
+use ipc_format_writing::Named;
 use ipc_format_writing::columnar_memory::{DataType, IntegerType, Items, TimeUnit};
 use ipc_format_writing::messages::DateUnit;
-use ipc_format_writing::Named;
 use std::alloc::{AllocError, Global};
 
 /// A type as its field tells it.

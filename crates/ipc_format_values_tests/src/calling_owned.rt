@@ -5,8 +5,7 @@ ghost use Rattle.ipc_format.specs.values.OwnedFields.{top_field_in};
 
 use columnar_memory::Result;
 use ipc_format::messages::FieldRef;
-use ipc_format::values::field_of;
-use ipc_format::values::Field;
+use ipc_format::values::{Field, field_of};
 use std::alloc::Global;
 
 /// The field of a view, with the fields below it.

@@ -12,9 +12,9 @@ ghost use Rattle.ipc_format_writing.specs.MessageWriting.{WritesMessage, Finishe
 use crate::structs::lay_structs;
 use ipc_format_messages::columnar_memory::{Error, Result as Answer};
 use ipc_format_messages::flatbuffers::{Laid, LayError, Slot, lay_table, message_bytes};
-use ipc_format_messages::{Buffer, FieldNode};
 use ipc_format_messages::metadata::sizes::V5;
 use ipc_format_messages::metadata::tag_numbers::{DICTIONARY_BATCH_HEADER, RECORD_BATCH_HEADER};
+use ipc_format_messages::{Buffer, FieldNode};
 use std::alloc::{AllocError, Global};
 
 /// The most bytes of a message's object: with the 8 bytes before it, and the 8 of the message's prefix, 2,147,483,640.

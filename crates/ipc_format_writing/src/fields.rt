@@ -15,8 +15,8 @@ ghost use Rattle.ipc_format_writing.specs.Pieces.{LaysIf, LaysType, piece_if, fi
 
 use crate::beside::first_beside;
 use crate::kinds::kind_of;
-use crate::written_pairs::{Named, lay_field_pairs, optional};
 use crate::tables::{lay_integer, lay_type_table, truth_byte};
+use crate::written_pairs::{Named, lay_field_pairs, optional};
 use ipc_format_messages::columnar_memory::{DataType, Field, IntegerType, Metadata, Text};
 use ipc_format_messages::flatbuffers::{Laid, LayError, Slot, lay_references, lay_table, lay_text};
 use ipc_format_messages::metadata::IpcField;

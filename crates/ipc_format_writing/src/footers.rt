@@ -9,11 +9,11 @@ ghost use Rattle.ipc_format_messages.specs.metadata.Views.{ids_views};
 ghost use Rattle.ipc_format_writing.specs.FooterWriting.{WritesFooter, FinishesFooter, blocks_view, block_view, laid_block};
 
 use crate::structs::lay_structs;
+use crate::{lay_schema, refuse_unwritten};
+use ipc_format_messages::Block;
 use ipc_format_messages::columnar_memory::{Error, Result as Answer, Schema};
 use ipc_format_messages::flatbuffers::{Laid, LayError, Slot, lay_table, message_bytes};
-use ipc_format_messages::Block;
 use ipc_format_messages::metadata::IpcField;
-use crate::{lay_schema, refuse_unwritten};
 use ipc_format_messages::metadata::sizes::V5;
 use std::alloc::{AllocError, Global};
 

@@ -5,7 +5,9 @@ ghost use Rattle.ipc_format_messages.specs.grammar.SchemaObjects as objects;
 ghost use Rattle.ipc_format_messages.specs.grammar.Writable.{report_of, fits_i32};
 ghost use Rattle.ipc_format_writing.specs.Kinds.{table_view, kind_view, kind_told};
 
-use ipc_format_messages::columnar_memory::{DataType, IntegerType, IntervalUnit, Items, Text, TimeUnit, UnionMode};
+use ipc_format_messages::columnar_memory::{
+    DataType, IntegerType, IntervalUnit, Items, Text, TimeUnit, UnionMode,
+};
 use ipc_format_messages::metadata::tag_numbers;
 
 /// A type's own table.
@@ -132,7 +134,10 @@ pub fn kind_of(data_type: &DataType) -> Kind<'_>
                 TypeTable::Timestamp { unit, timezone },
             )
         }
-        DataType::Interval(unit) => (tag_numbers::TYPE_INTERVAL, TypeTable::Unit(interval_unit(*unit))),
+        DataType::Interval(unit) => (
+            tag_numbers::TYPE_INTERVAL,
+            TypeTable::Unit(interval_unit(*unit)),
+        ),
         DataType::List(_) => (tag_numbers::TYPE_LIST, TypeTable::Empty),
         DataType::Struct(_) => (tag_numbers::TYPE_STRUCT, TypeTable::Empty),
         DataType::Union(_, ids, mode) => {
@@ -151,7 +156,10 @@ pub fn kind_of(data_type: &DataType) -> Kind<'_>
             let are_keys_sorted = *are_keys_sorted;
             (tag_numbers::TYPE_MAP, TypeTable::Map { are_keys_sorted })
         }
-        DataType::Duration(unit) => (tag_numbers::TYPE_DURATION, TypeTable::Unit(time_unit(*unit))),
+        DataType::Duration(unit) => (
+            tag_numbers::TYPE_DURATION,
+            TypeTable::Unit(time_unit(*unit)),
+        ),
         DataType::LargeBinary => (tag_numbers::TYPE_LARGE_BINARY, TypeTable::Empty),
         DataType::LargeUtf8 => (tag_numbers::TYPE_LARGE_UTF8, TypeTable::Empty),
         DataType::LargeList(_) => (tag_numbers::TYPE_LARGE_LIST, TypeTable::Empty),

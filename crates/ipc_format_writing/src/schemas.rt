@@ -15,9 +15,9 @@ use crate::fitting::{has_float, ids_fit};
 use crate::written_pairs::{lay_pairs, optional};
 use ipc_format_messages::columnar_memory::{Error, Result as Answer, Schema};
 use ipc_format_messages::flatbuffers::{Laid, LayError, Slot, lay_table, message_bytes};
-use ipc_format_messages::metadata::{IpcField, can_write};
 use ipc_format_messages::metadata::sizes::V5;
 use ipc_format_messages::metadata::tag_numbers::SCHEMA_HEADER;
+use ipc_format_messages::metadata::{IpcField, can_write};
 use std::alloc::Global;
 
 /// The most bytes of the object of a message: with the 8 bytes before it, and the 8 of the message's prefix, it has at most

@@ -20,12 +20,9 @@ pub use nested_arrays_nulls::columns::{
 pub use nested_arrays_nulls::flat::{
     AnyPrimitive, FixedSizeBinaryArray, NullArray, PrimitiveKind, PrimitiveNode,
 };
-pub use nested_arrays_nulls::flat_arrays;
-pub use nested_arrays_nulls::generic::ToBoxed;
 pub use nested_arrays_nulls::generic::{
-    DictionaryArray, DictionaryKey, DictionaryKeys, DictionaryKeysIter, ListArray,
+    DictionaryArray, DictionaryKey, DictionaryKeys, DictionaryKeysIter, ListArray, ToBoxed,
 };
-pub use nested_arrays_nulls::parts::{FlatArray, FlatNode, ListOffsets};
 pub use nested_arrays_nulls::iterators::{
     ArrayPart, ArraySlot, ArrayValues, DictValue, DictionaryValues, DictionaryValuesIter,
     DictionaryValuesIterTyped, FixedSizeBinaryValues, FixedSizeListValuesIter, GenericBinaryArray,
@@ -33,4 +30,5 @@ pub use nested_arrays_nulls::iterators::{
     StructValueIter, TypedDictionaryValues, TypedSlots, TypedValues, UnionIter, Values,
     a_walk_over_places_gives_each_value_once, keys_name_values,
 };
-pub use nested_arrays_nulls::{NullArrays, new_empty_array, new_null_array};
+pub use nested_arrays_nulls::parts::{FlatArray, FlatNode, ListOffsets};
+pub use nested_arrays_nulls::{NullArrays, flat_arrays, new_empty_array, new_null_array};

@@ -5,9 +5,10 @@ ghost use Rattle.nested_arrays_arrays.specs.flat.FlatColumns.{binary_column, boo
 
 use crate::array::Array;
 use nested_arrays_arrays::columnar_memory::{Bitmap, DataType, Error, NativeType, Offset, Result};
-use nested_arrays_arrays::flat_arrays::{BinaryArray, Utf8Array};
-use nested_arrays_arrays::flat_arrays::{BooleanArray, PrimitiveArray};
-use nested_arrays_arrays::flat::{AnyPrimitive, FixedSizeBinaryArray, NullArray, primitive_is_sound};
+use nested_arrays_arrays::flat::{
+    AnyPrimitive, FixedSizeBinaryArray, NullArray, primitive_is_sound,
+};
+use nested_arrays_arrays::flat_arrays::{BinaryArray, BooleanArray, PrimitiveArray, Utf8Array};
 use nested_arrays_arrays::parts::{
     binary_is_sound, boolean_is_sound, fits, mask_booleans, mask_strings, mask_texts, text_is_sound,
 };

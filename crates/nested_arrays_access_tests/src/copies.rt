@@ -1,10 +1,9 @@
 use crate::cases::{dense, letters, lists, numbers};
 use columnar_memory::{Bitmap, Boxed, DataType, Error, Field, Items, OffsetsBuffer, Text};
-use nested_arrays::Array;
-use nested_arrays::{AnyArray, FixedSizeListArray, MapArray, StructArray, equal};
-use nested_arrays::ToBoxed;
-use nested_arrays::ListArray;
-use nested_arrays::ArrayPart;
+use nested_arrays::{
+    AnyArray, Array, ArrayPart, FixedSizeListArray, ListArray, MapArray, StructArray, ToBoxed,
+    equal,
+};
 use std::alloc::{AllocError, Global};
 use std::test::Fail;
 

@@ -1,8 +1,6 @@
 use columnar_memory::{Bitmap, Buffer, DataType, Error};
 use flat_arrays::PrimitiveArray;
-use nested_arrays::{AnyArray, equal};
-use nested_arrays::AnyPrimitive;
-use nested_arrays::FlatArray;
+use nested_arrays::{AnyArray, AnyPrimitive, FlatArray, equal};
 use std::alloc::Global;
 use std::test::Fail;
 

@@ -1,6 +1,5 @@
 use crate::cases::{lists, numbers};
-use flat_arrays::Utf8Array;
-use flat_arrays::PrimitiveArray;
+use flat_arrays::{PrimitiveArray, Utf8Array};
 use nested_arrays::AnyArray;
 use std::test::Fail;
 

@@ -1,10 +1,6 @@
 use columnar_memory::{Boxed, DataType, Error, Field, IntegerType, OffsetsBuffer, Text};
-use flat_arrays::Utf8Array;
-use flat_arrays::PrimitiveArray;
-use nested_arrays::{AnyArray, equal};
-use nested_arrays::AnyPrimitive;
-use nested_arrays::{DictionaryArray, ListArray};
-use nested_arrays::FlatArray;
+use flat_arrays::{PrimitiveArray, Utf8Array};
+use nested_arrays::{AnyArray, AnyPrimitive, DictionaryArray, FlatArray, ListArray, equal};
 use std::alloc::Global;
 use std::test::Fail;
 

@@ -4,11 +4,9 @@ use columnar_memory::{
 };
 use flat_arrays::PrimitiveArray;
 use nested_arrays::{
-    AnyArray, FixedSizeListArray, MapArray, StructArray, UnionArray, equal,
+    AnyArray, AnyPrimitive, DictionaryArray, FixedSizeListArray, FlatArray, ListArray, MapArray,
+    StructArray, UnionArray, equal,
 };
-use nested_arrays::AnyPrimitive;
-use nested_arrays::{DictionaryArray, ListArray};
-use nested_arrays::FlatArray;
 use std::alloc::Global;
 use std::test::Fail;
 

@@ -6,13 +6,10 @@ ghost use Rattle.nested_arrays.specs.ValuesByKeys.{AreNamed};
 
 use crate::cases::numbers;
 use columnar_memory::{Bitmap, Buffer, DataType, Error};
-use flat_arrays::ArrayAccessor;
-use flat_arrays::Utf8Array;
-use flat_arrays::PrimitiveArray;
-use nested_arrays::AnyArray;
-use nested_arrays::DictionaryArray;
-use nested_arrays::FlatArray;
-use nested_arrays::{DictValue, TypedDictionaryValues, keys_name_values};
+use flat_arrays::{ArrayAccessor, PrimitiveArray, Utf8Array};
+use nested_arrays::{
+    AnyArray, DictValue, DictionaryArray, FlatArray, TypedDictionaryValues, keys_name_values,
+};
 use std::alloc::Global;
 use std::test::Fail;
 

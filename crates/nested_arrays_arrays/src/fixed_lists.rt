@@ -13,8 +13,8 @@ ghost use Rattle.nested_arrays_parts.specs.flat.ColumnMasks.{column_mask, Replac
 use crate::any::AnyArray;
 use crate::item_fields::item_field;
 use nested_arrays_parts::columnar_memory::{Bitmap, DataType, Error, Result};
-use nested_arrays_parts::flat::slice_mask;
 use nested_arrays_parts::fits;
+use nested_arrays_parts::flat::slice_mask;
 use std::alloc::Global;
 use std::marker::Model;
 

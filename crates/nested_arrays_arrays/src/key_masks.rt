@@ -9,9 +9,9 @@ ghost use Rattle.nested_arrays_arrays.specs.NamedValues.{firsts, names_value};
 
 use crate::any::{DictionaryNode, Node};
 use nested_arrays_parts::columnar_memory::{Bitmap, Error, Index, Result};
-use nested_arrays_parts::flat_arrays::PrimitiveArray;
-use nested_arrays_parts::flat::{PrimitiveNode, mark_at};
 use nested_arrays_parts::fits;
+use nested_arrays_parts::flat::{PrimitiveNode, mark_at};
+use nested_arrays_parts::flat_arrays::PrimitiveArray;
 
 /// Whether a key is the place of one of so many values.
 #[tactic(auto, using(crate::proofs::KeyMasks::named, crate::proofs::KeyMasks::unnamed))]

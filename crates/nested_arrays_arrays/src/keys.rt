@@ -9,8 +9,8 @@ ghost use Rattle.nested_arrays_arrays.specs.Places.{IsValue};
 use crate::any::{AnyArray, DictionaryNode, Node};
 use crate::places::is_set;
 use nested_arrays_parts::columnar_memory::Index;
-use nested_arrays_parts::flat_arrays::PrimitiveArray;
 use nested_arrays_parts::flat::PrimitiveNode;
+use nested_arrays_parts::flat_arrays::PrimitiveArray;
 use nested_arrays_parts::holds_values;
 
 /// The place that a key names, and the first one where it is negative.

@@ -12,8 +12,8 @@ ghost use Rattle.nested_arrays_parts.specs.flat.ColumnMasks.{column_mask, Replac
 use crate::any::AnyArray;
 use crate::children::{are_fields_of, are_whole, have_len};
 use nested_arrays_parts::columnar_memory::{Bitmap, DataType, Error, Field, Result};
-use nested_arrays_parts::flat::slice_mask;
 use nested_arrays_parts::fits;
+use nested_arrays_parts::flat::slice_mask;
 use std::marker::Model;
 
 /// Structs (Arrow columnar format, "Struct Layout").

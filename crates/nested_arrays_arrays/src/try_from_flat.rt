@@ -6,10 +6,9 @@ ghost use Rattle.nested_arrays_parts.specs.flat.Taken.{Takes};
 ghost use Rattle.nested_arrays_parts.specs.FlatLayouts.{TakesKind, TakesNumbers};
 
 use crate::any::AnyArray;
-use nested_arrays_parts::flat_arrays::{BinaryArray, Utf8Array};
-use nested_arrays_parts::flat_arrays::{BooleanArray, PrimitiveArray};
-use nested_arrays_parts::flat::{AnyPrimitive, FixedSizeBinaryArray, NullArray, PrimitiveKind};
 use nested_arrays_parts::FlatArray;
+use nested_arrays_parts::flat::{AnyPrimitive, FixedSizeBinaryArray, NullArray, PrimitiveKind};
+use nested_arrays_parts::flat_arrays::{BinaryArray, BooleanArray, PrimitiveArray, Utf8Array};
 
 impl<T: PrimitiveKind> TryFrom<AnyArray> for PrimitiveArray<T> {
     type Error = AnyArray;

@@ -1,9 +1,8 @@
 //! Arrays without children as arrays of any type.
 use crate::boxes::ToBoxed;
-use nested_arrays_access::flat_arrays::{BinaryArray, Utf8Array};
-use nested_arrays_access::flat_arrays::{BooleanArray, PrimitiveArray};
 use nested_arrays_access::arrays::AnyArray;
 use nested_arrays_access::flat::{AnyPrimitive, FixedSizeBinaryArray, NullArray, PrimitiveKind};
+use nested_arrays_access::flat_arrays::{BinaryArray, BooleanArray, PrimitiveArray, Utf8Array};
 use nested_arrays_access::parts::FlatArray;
 use std::alloc::AllocError;
 

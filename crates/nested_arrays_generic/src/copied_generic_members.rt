@@ -1,7 +1,7 @@
 //! Lists and dictionaries as arrays of any type.
 use crate::boxes::ToBoxed;
-use nested_arrays_access::arrays::AnyArray;
 use crate::{DictionaryArray, DictionaryKey, ListArray};
+use nested_arrays_access::arrays::AnyArray;
 use std::alloc::AllocError;
 
 impl ToBoxed for ListArray<i32> {

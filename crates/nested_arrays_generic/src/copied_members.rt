@@ -1,6 +1,8 @@
 //! Arrays of any type, and arrays with children, on the heap.
 use crate::boxes::ToBoxed;
-use nested_arrays_access::arrays::{AnyArray, FixedSizeListArray, MapArray, StructArray, UnionArray};
+use nested_arrays_access::arrays::{
+    AnyArray, FixedSizeListArray, MapArray, StructArray, UnionArray,
+};
 use nested_arrays_access::parts::FlatArray;
 use std::alloc::AllocError;
 

@@ -9,10 +9,10 @@ ghost use Rattle.nested_arrays_generic.specs.Dictionaries.{has_order, is_value_t
 ghost use Rattle.nested_arrays_generic.specs.Dictionaries.{IsDictionaryOf};
 
 use crate::keys::{DictionaryKey, name_values};
-use nested_arrays_access::columnar_memory::{Bitmap, Boxed, DataType, Error, PhysicalType, Result};
-use nested_arrays_access::flat_arrays::PrimitiveArray;
 use nested_arrays_access::arrays::AnyArray;
+use nested_arrays_access::columnar_memory::{Bitmap, Boxed, DataType, Error, PhysicalType, Result};
 use nested_arrays_access::flat::{mark_at, primitive_is_sound, unset_marks};
+use nested_arrays_access::flat_arrays::PrimitiveArray;
 use nested_arrays_access::parts::fits;
 use std::alloc::Global;
 use std::marker::Model;

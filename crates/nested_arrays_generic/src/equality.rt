@@ -8,10 +8,10 @@ ghost use Rattle.nested_arrays_access.specs.arrays.Places.{AreItems};
 use crate::dictionaries::DictionaryArray;
 use crate::keys::DictionaryKey;
 use crate::lists::ListArray;
-use nested_arrays_access::columnar_memory::{DataType, Offset, Steps};
 use nested_arrays_access::arrays::{
     AnyArray, CompareSlots, is_null_slot, same_arrays, same_items, same_slot,
 };
+use nested_arrays_access::columnar_memory::{DataType, Offset, Steps};
 
 /// The items of a list: the child, the place of the first, and how many there are; none where the list is null.
 fn items_at<O: Offset>(array: &ListArray<O>, i: usize) -> Option<(&AnyArray, usize, usize)>

@@ -7,8 +7,8 @@ ghost use Rattle.nested_arrays_access.specs.parts.Keys.{kind_of_keys};
 ghost use Rattle.nested_arrays_generic.specs.Dictionaries.{has_no_sign};
 
 use nested_arrays_access::columnar_memory::{Bitmap, Index, IntegerType};
-use nested_arrays_access::flat_arrays::{PrimitiveArray, check_indexes};
 use nested_arrays_access::flat::{PrimitiveKind, mark_at};
+use nested_arrays_access::flat_arrays::{PrimitiveArray, check_indexes};
 
 /// An integer that names a value of a dictionary by its place.
 pub trait DictionaryKey: Index + PrimitiveKind {

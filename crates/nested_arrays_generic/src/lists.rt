@@ -7,8 +7,10 @@ ghost use Rattle.nested_arrays_access.specs.flat.ColumnMasks.{column_mask, unset
 ghost use Rattle.nested_arrays_access.specs.arrays.Answers.{IsCheckedAs, LiesAs};
 ghost use Rattle.nested_arrays_generic.specs.ListTypes.{has_list_item_type, items_field, items_in, list_layout, list_type, IsItemsField};
 
-use nested_arrays_access::columnar_memory::{Bitmap, DataType, Error, Field, Offset, OffsetsBuffer, Result};
 use nested_arrays_access::arrays::{AnyArray, item_field};
+use nested_arrays_access::columnar_memory::{
+    Bitmap, DataType, Error, Field, Offset, OffsetsBuffer, Result,
+};
 use nested_arrays_access::flat::{mark_at, slice_mask, unset_marks};
 use nested_arrays_access::parts::{fits, last_of, slice_offsets};
 use std::alloc::Global;

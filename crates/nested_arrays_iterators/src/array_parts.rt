@@ -4,9 +4,9 @@ ghost use Rattle.nested_arrays_generic.specs.columns.SoundColumns.{is_sound};
 ghost use Rattle.nested_arrays_generic.specs.columns.StoredColumns.{column_len, column_type, cut, slot_at, slots};
 
 use crate::slots::ArraySlot;
+use nested_arrays_generic::arrays::AnyArray;
 use nested_arrays_generic::columnar_memory::DataType;
 use nested_arrays_generic::flat_arrays::{ArrayAccessor, ArrayValuesIter};
-use nested_arrays_generic::arrays::AnyArray;
 use std::alloc::AllocError;
 use std::marker::Model;
 

@@ -6,8 +6,7 @@ ghost use Rattle.nested_arrays_iterators.specs.NamedValues.{AreNamed, ArePlaces,
 ghost use Rattle.nested_arrays_iterators.specs.ReadValues.{IsRead, IsReadWithin};
 
 use crate::slots::ArraySlot;
-use nested_arrays_generic::flat_arrays::{ArrayAccessor, ArrayValuesIter};
-use nested_arrays_generic::flat_arrays::check_indexes;
+use nested_arrays_generic::flat_arrays::{ArrayAccessor, ArrayValuesIter, check_indexes};
 use nested_arrays_generic::{DictionaryArray, DictionaryKey};
 
 /// The slots of a dictionary: what its keys name, or none where a slot is null.

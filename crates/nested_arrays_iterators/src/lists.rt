@@ -6,11 +6,11 @@ ghost use Rattle.nested_arrays_iterators.specs.ReadValues.{IsList, IsListBetween
 
 use crate::array_parts::ArrayPart;
 use crate::values::{ArrayValues, Values};
-use nested_arrays_generic::columnar_memory::{Offset, OffsetsBuffer};
-use nested_arrays_generic::flat_arrays::ArrayValuesIter;
-use nested_arrays_generic::arrays::{AnyArray, FixedSizeListArray, MapArray};
-use nested_arrays_generic::flat::mark_at;
 use nested_arrays_generic::ListArray;
+use nested_arrays_generic::arrays::{AnyArray, FixedSizeListArray, MapArray};
+use nested_arrays_generic::columnar_memory::{Offset, OffsetsBuffer};
+use nested_arrays_generic::flat::mark_at;
+use nested_arrays_generic::flat_arrays::ArrayValuesIter;
 
 /// The items of lists, list by list.
 pub type ListValuesIter<'a, O> = ArrayValuesIter<Values<&'a ListArray<O>>>;

@@ -3,8 +3,8 @@ ghost use Rattle.std.specs.Prelude.{◌≡◌, ◌<◌, All, Some, length, map, 
 ghost use Rattle.nested_arrays_generic.specs.columns.StoredColumns.{column_len, slot_at};
 
 use crate::slots::ArraySlot;
-use nested_arrays_generic::flat_arrays::{ArrayAccessor, ArrayValuesIter};
 use nested_arrays_generic::arrays::AnyArray;
+use nested_arrays_generic::flat_arrays::{ArrayAccessor, ArrayValuesIter};
 use std::marker::Model;
 
 /// The values of a struct's fields at one place. A contract sees the slot of each field.

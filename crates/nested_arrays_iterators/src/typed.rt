@@ -12,13 +12,12 @@ ghost use Rattle.nested_arrays_iterators.specs.NamedValues.{AreNamed};
 ghost use Rattle.nested_arrays_iterators.specs.TextItems.{AreThere, ShowsTexts};
 ghost use Rattle.nested_arrays_iterators.specs.TypedValues.{IsDowncast, IsKeyed, IsKeyedSlot, ShowSlotsByKeys, ShowValuesByKeys};
 
-use nested_arrays_generic::columnar_memory::{Error, Offset, Result};
-use nested_arrays_generic::flat_arrays::{ArrayAccessor, ArrayValuesIter};
-use nested_arrays_generic::flat_arrays::Utf8Array;
 use nested_arrays_generic::access::Array;
 use nested_arrays_generic::arrays::{AnyArray, Node};
-use nested_arrays_generic::{DictionaryArray, DictionaryKey};
+use nested_arrays_generic::columnar_memory::{Error, Offset, Result};
+use nested_arrays_generic::flat_arrays::{ArrayAccessor, ArrayValuesIter, Utf8Array};
 use nested_arrays_generic::parts::{FlatArray, FlatNode};
+use nested_arrays_generic::{DictionaryArray, DictionaryKey};
 
 /// Arrays, by reference, as which the values of a dictionary may be read: arrays of texts. `slot` is the slot that an item shows, and
 /// `layout` says how such arrays lie in memory.

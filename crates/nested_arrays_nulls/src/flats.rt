@@ -8,9 +8,8 @@ ghost use Rattle.nested_arrays_nulls.specs.NullColumns.{flat_nulls};
 use nested_arrays_iterators::columnar_memory::{
     DataType, Error, PhysicalType, PrimitiveType, Result, days_ms, i256, months_days_ns,
 };
-use nested_arrays_iterators::flat_arrays::{BinaryArray, Utf8Array};
-use nested_arrays_iterators::flat_arrays::{BooleanArray, PrimitiveArray};
 use nested_arrays_iterators::flat::{AnyPrimitive, FixedSizeBinaryArray, NullArray, PrimitiveKind};
+use nested_arrays_iterators::flat_arrays::{BinaryArray, BooleanArray, PrimitiveArray, Utf8Array};
 use nested_arrays_iterators::parts::FlatArray;
 use std::alloc::Global;
 

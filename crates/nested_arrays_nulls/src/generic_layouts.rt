@@ -7,9 +7,9 @@ ghost use Rattle.nested_arrays_iterators.specs.generic.ListTypes.{list_layout};
 ghost use Rattle.nested_arrays_nulls.specs.NullAnswers.{IsMade};
 ghost use Rattle.nested_arrays_nulls.specs.NullColumns.{no_items, no_marks};
 
+use nested_arrays_iterators::arrays::AnyArray;
 use nested_arrays_iterators::columnar_memory::{Bitmap, DataType, Offset, Offsets, Result};
 use nested_arrays_iterators::flat_arrays::PrimitiveArray;
-use nested_arrays_iterators::arrays::AnyArray;
 use nested_arrays_iterators::generic::{DictionaryArray, DictionaryKey, ListArray};
 use std::alloc::Global;
 

@@ -5,9 +5,11 @@ ghost use Rattle.nested_arrays_iterators.specs.parts.FlatLayouts.{TakesKind};
 ghost use Rattle.nested_arrays_nulls.specs.NullAnswers.{IsNullArrayAs};
 
 use crate::nulls::new_null_array;
-use nested_arrays_iterators::columnar_memory::{DataType, Error};
 use nested_arrays_iterators::access::Array;
-use nested_arrays_iterators::arrays::{AnyArray, FixedSizeListArray, MapArray, StructArray, UnionArray};
+use nested_arrays_iterators::arrays::{
+    AnyArray, FixedSizeListArray, MapArray, StructArray, UnionArray,
+};
+use nested_arrays_iterators::columnar_memory::{DataType, Error};
 use nested_arrays_iterators::generic::{DictionaryArray, DictionaryKey, ListArray};
 use std::alloc::Global;
 

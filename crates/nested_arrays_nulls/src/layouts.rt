@@ -9,8 +9,12 @@ ghost use Rattle.nested_arrays_iterators.specs.arrays.Lengths.{size_of};
 ghost use Rattle.nested_arrays_nulls.specs.NullAnswers.{IsMade};
 ghost use Rattle.nested_arrays_nulls.specs.NullColumns.{no_items, no_marks, null_places};
 
-use nested_arrays_iterators::columnar_memory::{Bitmap, Buffer, DataType, Error, Offsets, Result, UnionMode};
-use nested_arrays_iterators::arrays::{AnyArray, FixedSizeListArray, MapArray, StructArray, UnionArray};
+use nested_arrays_iterators::arrays::{
+    AnyArray, FixedSizeListArray, MapArray, StructArray, UnionArray,
+};
+use nested_arrays_iterators::columnar_memory::{
+    Bitmap, Buffer, DataType, Error, Offsets, Result, UnionMode,
+};
 use std::alloc::Global;
 
 /// How many slots a dense union may have, whose offsets have 31 bits.

@@ -6,8 +6,8 @@ ghost use Rattle.nested_arrays_nulls.specs.NullLaws.{AreNullSlots};
 ghost use Rattle.nested_arrays_nulls.specs.NullColumns.{null_columns, nulls_as};
 
 use crate::{flats, wholes};
-use nested_arrays_iterators::columnar_memory::{DataType, Error, Field, Result, Text};
 use nested_arrays_iterators::arrays::AnyArray;
+use nested_arrays_iterators::columnar_memory::{DataType, Error, Field, Result, Text};
 use std::alloc::Global;
 
 /// An array of so many nulls of a type, of any depth: each slot is null. Only a union has no nulls of its own: its slots pick the nulls of

@@ -8,8 +8,8 @@ ghost use Rattle.nested_arrays_nulls.specs.NullAnswers.{IsMade};
 ghost use Rattle.nested_arrays_nulls.specs.NullColumns.{first_id, flat_nulls, no_items, no_marks, null_places};
 
 use crate::{flats, generic_layouts, layouts};
-use nested_arrays_iterators::columnar_memory::{DataType, IntegerType, Items, Result, UnionMode};
 use nested_arrays_iterators::arrays::AnyArray;
+use nested_arrays_iterators::columnar_memory::{DataType, IntegerType, Items, Result, UnionMode};
 use nested_arrays_iterators::generic::DictionaryKey;
 use std::alloc::Global;
 

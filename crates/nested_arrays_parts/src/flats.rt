@@ -7,8 +7,7 @@ ghost use Rattle.nested_arrays_flat.specs.FlatColumns.{binary_column, boolean_co
 ghost use Rattle.nested_arrays_parts.specs.Childless.{is_childless};
 
 use nested_arrays_flat::columnar_memory::{DataType, Offset};
-use nested_arrays_flat::flat_arrays::{BinaryArray, Utf8Array};
-use nested_arrays_flat::flat_arrays::BooleanArray;
+use nested_arrays_flat::flat_arrays::{BinaryArray, BooleanArray, Utf8Array};
 use nested_arrays_flat::{AnyPrimitive, FixedSizeBinaryArray, NullArray};
 use std::marker::Model;
 

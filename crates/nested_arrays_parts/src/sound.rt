@@ -5,8 +5,7 @@ ghost use Rattle.nested_arrays_flat.specs.columns.SoundColumns.{is_sound};
 ghost use Rattle.nested_arrays_flat.specs.FlatColumns.{binary_column, boolean_column, text_column};
 
 use nested_arrays_flat::columnar_memory::{Offset, OffsetsBuffer};
-use nested_arrays_flat::flat_arrays::{BinaryArray, Utf8Array};
-use nested_arrays_flat::flat_arrays::BooleanArray;
+use nested_arrays_flat::flat_arrays::{BinaryArray, BooleanArray, Utf8Array};
 use nested_arrays_flat::read_bytes;
 
 /// The column of an array of booleans is sound.

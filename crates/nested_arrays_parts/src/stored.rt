@@ -6,8 +6,8 @@ ghost use Rattle.nested_arrays_flat.specs.FlatColumns.{boolean_column};
 ghost use Rattle.nested_arrays_parts.specs.Forms.{bare, column_form};
 
 use crate::flats::{FlatArray, FlatNode};
-use nested_arrays_flat::flat_arrays::BooleanArray;
 use nested_arrays_flat::AnyPrimitive;
+use nested_arrays_flat::flat_arrays::BooleanArray;
 
 /// Hands to a proof that an array of numbers stores numbers.
 #[tactic(auto, using(crate::proofs::StoredForms::numbers_form))]

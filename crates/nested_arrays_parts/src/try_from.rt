@@ -6,8 +6,7 @@ ghost use Rattle.nested_arrays_flat.specs.Taken.{Takes};
 ghost use Rattle.nested_arrays_parts.specs.FlatLayouts.{is_of_numbers, lies_as, lies_well, TakesKind, TakesNumbers};
 
 use crate::flats::{FlatArray, FlatNode};
-use nested_arrays_flat::flat_arrays::{BinaryArray, Utf8Array};
-use nested_arrays_flat::flat_arrays::{BooleanArray, PrimitiveArray};
+use nested_arrays_flat::flat_arrays::{BinaryArray, BooleanArray, PrimitiveArray, Utf8Array};
 use nested_arrays_flat::{AnyPrimitive, FixedSizeBinaryArray, NullArray, PrimitiveKind};
 
 impl FlatNode {

@@ -7,8 +7,7 @@ use crate::flats::{FlatArray, FlatNode};
 use crate::masks::fits;
 use crate::sound::{binary_is_sound, boolean_is_sound, text_is_sound};
 use nested_arrays_flat::columnar_memory::{Bitmap, Error, Offset, Result};
-use nested_arrays_flat::flat_arrays::{BinaryArray, Utf8Array};
-use nested_arrays_flat::flat_arrays::BooleanArray;
+use nested_arrays_flat::flat_arrays::{BinaryArray, BooleanArray, Utf8Array};
 
 impl FlatArray {
     /// The mask, where there is one: a bit is set where its slot is not null.

@@ -9,8 +9,7 @@ use crate::flats::{FlatArray, FlatNode};
 use crate::numbers::same_numbers;
 use crate::stored::{booleans, bytes, holds_values, numbers, text};
 use nested_arrays_flat::columnar_memory::Offset;
-use nested_arrays_flat::flat_arrays::{BinaryArray, Utf8Array};
-use nested_arrays_flat::flat_arrays::BooleanArray;
+use nested_arrays_flat::flat_arrays::{BinaryArray, BooleanArray, Utf8Array};
 
 /// Whether so many stored booleans from a place on are those of another array from a place on.
 fn same_truths(left: &BooleanArray, i: usize, right: &BooleanArray, j: usize, count: usize) -> bool

@@ -1,9 +1,6 @@
 use columnar_memory::{Bitmap, Boxed, Buffer, DataType, Error, IntegerType};
-use flat_arrays::Utf8Array;
-use flat_arrays::PrimitiveArray;
-use nested_arrays::AnyArray;
-use nested_arrays::DictionaryArray;
-use nested_arrays::FlatArray;
+use flat_arrays::{PrimitiveArray, Utf8Array};
+use nested_arrays::{AnyArray, DictionaryArray, FlatArray};
 use std::alloc::Global;
 use std::test::Fail;
 

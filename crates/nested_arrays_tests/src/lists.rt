@@ -1,9 +1,6 @@
 use columnar_memory::{Boxed, DataType, Error, Field, OffsetsBuffer, Text};
 use flat_arrays::PrimitiveArray;
-use nested_arrays::{AnyArray, FixedSizeListArray};
-use nested_arrays::AnyPrimitive;
-use nested_arrays::ListArray;
-use nested_arrays::FlatArray;
+use nested_arrays::{AnyArray, AnyPrimitive, FixedSizeListArray, FlatArray, ListArray};
 use std::alloc::Global;
 use std::test::Fail;
 

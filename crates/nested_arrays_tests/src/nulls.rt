@@ -1,8 +1,8 @@
 use columnar_memory::{Boxed, DataType, Error, Field, IntegerType, Items, Text, UnionMode};
-use nested_arrays::Array;
-use nested_arrays::{FixedSizeListArray, MapArray, StructArray, UnionArray};
-use nested_arrays::{DictionaryArray, ListArray};
-use nested_arrays::{NullArrays, new_empty_array, new_null_array};
+use nested_arrays::{
+    Array, DictionaryArray, FixedSizeListArray, ListArray, MapArray, NullArrays, StructArray,
+    UnionArray, new_empty_array, new_null_array,
+};
 use std::alloc::Global;
 use std::test::Fail;
 
