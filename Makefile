@@ -11,13 +11,10 @@
 RT ?= rt
 PYTHON ?= python3 -B
 PROGRAM = crates/tables_program
-MEMORY = crates/columnar_memory_bench
-FLAT = crates/flat_arrays_bench
-NESTED = crates/nested_arrays_bench
-METADATA = crates/ipc_format_bench
+BENCHES = crates/benches
 
 .PHONY: demo test bench bench-memory bench-flat bench-nested bench-metadata definitions clean
-.PHONY: program memory-program flat-program nested-program metadata-program
+.PHONY: program benches
 
 # How many inputs `make definitions` compares, and from which seed.
 COUNT ?= 20000
@@ -62,45 +59,15 @@ definitions:
 bench: program bench-memory bench-flat bench-nested bench-metadata
 	$(PYTHON) tools/bench.py cut bin/tables bin
 
-bench-memory: memory-program
-	$(PYTHON) tools/bench.py memory bin/columnar_memory_bench bin
+bench-memory bench-flat bench-nested bench-metadata: bench-%: benches
+	$(PYTHON) tools/bench.py $* bin/benches bin
 
-memory-program:
+benches:
 	@mkdir -p bin
-	@rm -f bin/columnar_memory_bench $(MEMORY)/out/columnar_memory_bench
-	@echo "proving and building $(MEMORY); bin/memory.log says how far it is"
-	@cd $(MEMORY) && $(RT) run > ../../bin/memory.log 2>&1 || { tail -n 20 ../../bin/memory.log; exit 1; }
-	cp $(MEMORY)/out/columnar_memory_bench bin/columnar_memory_bench
-
-bench-flat: flat-program
-	$(PYTHON) tools/bench.py flat bin/flat_arrays_bench bin
-
-flat-program:
-	@mkdir -p bin
-	@rm -f bin/flat_arrays_bench $(FLAT)/out/flat_arrays_bench
-	@echo "proving and building $(FLAT); bin/flat.log says how far it is"
-	@cd $(FLAT) && $(RT) run > ../../bin/flat.log 2>&1 || { tail -n 20 ../../bin/flat.log; exit 1; }
-	cp $(FLAT)/out/flat_arrays_bench bin/flat_arrays_bench
-
-bench-nested: nested-program
-	$(PYTHON) tools/bench.py nested bin/nested_arrays_bench bin
-
-nested-program:
-	@mkdir -p bin
-	@rm -f bin/nested_arrays_bench $(NESTED)/out/nested_arrays_bench
-	@echo "proving and building $(NESTED); bin/nested.log says how far it is"
-	@cd $(NESTED) && $(RT) run > ../../bin/nested.log 2>&1 || { tail -n 20 ../../bin/nested.log; exit 1; }
-	cp $(NESTED)/out/nested_arrays_bench bin/nested_arrays_bench
-
-bench-metadata: metadata-program
-	$(PYTHON) tools/bench.py metadata bin/ipc_format_bench bin
-
-metadata-program:
-	@mkdir -p bin
-	@rm -f bin/ipc_format_bench $(METADATA)/out/ipc_format_bench
-	@echo "proving and building $(METADATA); bin/metadata.log says how far it is"
-	@cd $(METADATA) && $(RT) run > ../../bin/metadata.log 2>&1 || { tail -n 20 ../../bin/metadata.log; exit 1; }
-	cp $(METADATA)/out/ipc_format_bench bin/ipc_format_bench
+	@rm -f bin/benches $(BENCHES)/out/benches
+	@echo "proving and building $(BENCHES); bin/benches.log says how far it is"
+	@cd $(BENCHES) && $(RT) run > ../../bin/benches.log 2>&1 || { tail -n 20 ../../bin/benches.log; exit 1; }
+	cp $(BENCHES)/out/benches bin/benches
 
 clean:
 	rm -rf bin

@@ -2,10 +2,10 @@
 """Measures proved programs against plain Rust of the same jobs, which is built by `rustc -O` from the files beside this one.
 
     bench.py cut PROGRAM FOLDER        `tables cut` on nearly all of a large stream, against plain_cut.rs and `cp` of the same file
-    bench.py memory PROGRAM FOLDER     the jobs of `columnar_memory_bench`, against plain_memory.rs, as a table
-    bench.py flat PROGRAM FOLDER       the jobs of `flat_arrays_bench`, against plain_flat.rs, as a table
-    bench.py nested PROGRAM FOLDER     the jobs of `nested_arrays_bench`, against plain_nested.rs, as a table
-    bench.py metadata PROGRAM FOLDER   the jobs of `ipc_format_bench` at three sizes, against a copy of the metadata's bytes, as a table
+    bench.py memory PROGRAM FOLDER     the jobs of `benches memory`, against plain_memory.rs, as a table
+    bench.py flat PROGRAM FOLDER       the jobs of `benches flat`, against plain_flat.rs, as a table
+    bench.py nested PROGRAM FOLDER     the jobs of `benches nested`, against plain_nested.rs, as a table
+    bench.py metadata PROGRAM FOLDER   the jobs of `benches metadata` at three sizes, against a copy of the metadata's bytes, as a table
 
 What is made stands in FOLDER; streams are taken away at the end. Times of a cut are the best of five rounds, those of the jobs
 the best of 21. Outputs and checksums of both programs have to be the same.
@@ -123,40 +123,40 @@ def measure_cut(program, folder):
     print("ten times the input takes %.1f times as long" % (whole / tenth))
 
 
-def timed(program, job, size):
+def timed(command, job, size):
     """Nanoseconds and checksum of a job."""
-    answer = subprocess.run([program, job, str(size)], check=True, stdout=subprocess.PIPE, text=True).stdout.split()
+    answer = subprocess.run([*command, job, str(size)], check=True, stdout=subprocess.PIPE, text=True).stdout.split()
     return int(answer[1]), answer[2]
 
 
-def measure_job(program, plain, job, size):
+def measure_job(command, plain, job, size):
     """Nanoseconds of the program and of plain Rust, which run in turn."""
-    turns = [(timed(program, job, size), timed(plain, job, size)) for _ in range(TURNS)]
+    turns = [(timed(command, job, size), timed([plain], job, size)) for _ in range(TURNS)]
     for ours, plainly in turns:
         if ours[1] != plainly[1]:
             sys.exit("%s: plain Rust makes another result" % job)
     return min(ours for (ours, _), _ in turns), min(plainly for _, (plainly, _) in turns)
 
 
-def measure_jobs(program, folder, name, jobs):
-    plain = built(folder, name)
+def measure_jobs(program, folder, group, jobs):
+    plain = built(folder, "plain_" + group)
     print("| job | size | ours, ms | plain Rust, ms | ratio |")
     print("|---|---|---|---|---|")
     for job, what, power in jobs:
-        ours, plainly = measure_job(program, plain, job, 1 << power)
+        ours, plainly = measure_job([program, group], plain, job, 1 << power)
         print("| %s | 2^%d | %.1f | %.1f | %.2f |" % (what, power, ours / 1e6, plainly / 1e6, ours / plainly), flush=True)
 
 
 def measure_memory(program, folder):
-    measure_jobs(program, folder, "plain_memory", MEMORY_JOBS)
+    measure_jobs(program, folder, "memory", MEMORY_JOBS)
 
 
 def measure_flat(program, folder):
-    measure_jobs(program, folder, "plain_flat", FLAT_JOBS)
+    measure_jobs(program, folder, "flat", FLAT_JOBS)
 
 
 def measure_nested(program, folder):
-    measure_jobs(program, folder, "plain_nested", NESTED_JOBS)
+    measure_jobs(program, folder, "nested", NESTED_JOBS)
 
 
 def measure_metadata(program, folder):
@@ -164,7 +164,7 @@ def measure_metadata(program, folder):
     print("| fields | metadata, kB | read, ms | write, ms | copy, ms | read / copy | write / copy |")
     print("|---|---|---|---|---|---|---|")
     for fields in FIELDS:
-        turns = [[timed(program, job, fields) for job in ("read", "write", "copy")] for _ in range(TURNS)]
+        turns = [[timed([program, "metadata"], job, fields) for job in ("read", "write", "copy")] for _ in range(TURNS)]
         read, write, copy = (min(turn[k][0] for turn in turns) for k in range(3))
         least[fields] = read, write
         row = (fields, int(turns[0][0][1]) / 1e3, read / 1e6, write / 1e6, copy / 1e6, read / copy, write / copy)

@@ -1,4 +1,4 @@
-//! The jobs of `flat_arrays_bench` in plain Rust, on the same data, to measure against. A column is its type, and windows on shared values and on
+//! The jobs of `benches flat` in plain Rust, on the same data, to measure against. A column is its type, and windows on shared values and on
 //! shared marks; a builder is its values and the bytes of its marks.
 //!
 //!     plain_flat JOB SIZE     the job, the least nanoseconds of its rounds, and the checksum

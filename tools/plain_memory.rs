@@ -1,4 +1,4 @@
-//! The jobs of `columnar_memory_bench` in plain Rust, on the same data, to measure against. Each is done as a plain program would do it: by
+//! The jobs of `benches memory` in plain Rust, on the same data, to measure against. Each is done as a plain program would do it: by
 //! words of 64 bits where bits are many, in memory of the size that the result has.
 //!
 //!     plain_memory JOB SIZE     the job, the least nanoseconds of its rounds, and the checksum

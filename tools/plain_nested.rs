@@ -1,4 +1,4 @@
-//! The jobs of `nested_arrays_bench` in plain Rust, on the same data, to measure against. A column is its type, windows on shared values and
+//! The jobs of `benches nested` in plain Rust, on the same data, to measure against. A column is its type, windows on shared values and
 //! marks, and the columns below it.
 //!
 //!     plain_nested JOB SIZE     the job, the least nanoseconds of its rounds, and the checksum

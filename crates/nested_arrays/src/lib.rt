@@ -31,4 +31,6 @@ pub use nested_arrays_nulls::iterators::{
     a_walk_over_places_gives_each_value_once, keys_name_values,
 };
 pub use nested_arrays_nulls::parts::{FlatArray, FlatNode, ListOffsets};
-pub use nested_arrays_nulls::{NullArrays, flat_arrays, new_empty_array, new_null_array};
+pub use nested_arrays_nulls::{
+    NullArrays, columnar_memory, flat_arrays, new_empty_array, new_null_array,
+};
