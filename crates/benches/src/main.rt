@@ -19,18 +19,18 @@ use group::GROUPS;
 use nested_arrays::columnar_memory::{Error, Result};
 use std::env;
 use std::rt::Clock;
-use timing::named;
+use timing::choice_named;
 
 fn main(rt: HostRuntime) -> Result<()> {
     let words: Vec<String> = env::args(&rt)?.skip(1).collect(rt.alloc())?;
     match words.as_slice() {
         [] => show_all(&rt),
-        [group] => named(&GROUPS, group.as_str())?.show_checksums(&rt),
+        [group] => choice_named(&GROUPS, group.as_str())?.show_checksums(&rt),
         [group, job, size] => {
             let Ok(size) = size.parse::<usize>() else {
                 return Err(Error::InvalidArgumentError("a size that is no number"));
             };
-            named(&GROUPS, group.as_str())?.show_time(&rt, job.as_str(), size)
+            choice_named(&GROUPS, group.as_str())?.show_time(&rt, job.as_str(), size)
         }
         _ => Err(Error::InvalidArgumentError("other words than a group, a job and a size")),
     }

@@ -6,4 +6,4 @@ mod words;
 
 pub(crate) use jobs::{Job, show_checksums, show_time};
 pub(crate) use rounds::{Timed, Work, time_rounds};
-pub(crate) use words::{Named, named};
+pub(crate) use words::{Named, choice_named};

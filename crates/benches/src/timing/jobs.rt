@@ -1,4 +1,4 @@
-use crate::timing::{Named, Timed, named};
+use crate::timing::{Named, Timed, choice_named};
 use nested_arrays::columnar_memory::Result;
 use std::rt::Clock;
 
@@ -40,7 +40,7 @@ pub(crate) fn show_time<J: Job, R: Clock + AllocGlobal + Print>(
     name: &str,
     size: usize,
 ) -> Result<()> {
-    let job = named(jobs, name)?;
+    let job = choice_named(jobs, name)?;
     let timed = job.time(rt, size, J::ROUNDS)?;
     println!(rt; "{} {} {}", job.name(), timed.nanoseconds, timed.checksum)?;
     Ok(())

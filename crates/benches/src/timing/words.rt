@@ -9,7 +9,7 @@ pub(crate) trait Named: Copy {
 ///
 /// # Errors
 /// `InvalidArgumentError`: none has this name.
-pub(crate) fn named<N: Named>(choices: &[N], name: &str) -> Result<N> {
+pub(crate) fn choice_named<N: Named>(choices: &[N], name: &str) -> Result<N> {
     for choice in choices {
         if choice.name() == name {
             return Ok(*choice);
