@@ -85,13 +85,13 @@ def write_bench(path, batches):
     print(rows * batches)
 
 
-def show(path):
+def show(path, name=None):
     content = open(path, "rb").read()
     try:
         fields, batches = read(content)
     except Refused as refused:
         sys.exit("%s: %s" % (path, refused))
-    print("%s: %d bytes, columns %s" % (path, len(content), " ".join(name.decode() for name, _ in fields)))
+    print("%s: %d bytes, columns %s" % (name or path, len(content), " ".join(name.decode() for name, _ in fields)))
     for index, columns in enumerate(batches):
         for row in zip(*columns):
             cells = ["null" if value is None else str(value) for value in row]
