@@ -89,7 +89,9 @@ def main(words):
     if not is_well:
         sys.exit("demo.py: the program did something else than the independent Python code expects")
     show_jobs(words[0] == "run")
-    print("\nEach status and the bytes of each OUT are what the independent Python code expects" + ("; nothing was proved." if words[0] == "try" else "."))
+    print("\nEach status and the bytes of each OUT are what the independent Python code expects.")
+    if words[0] == "try":
+        print("Nothing was proved.")
 
 
 if __name__ == "__main__":
