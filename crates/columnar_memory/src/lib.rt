@@ -2,27 +2,26 @@
 //! hold, data types, bitmaps with their kernels, buffers, offsets and the values that they store.
 #![tactic(auto)]
 
-pub use columnar_memory_bitmap::{
-    BitGatherer, Bitmap, IntoIter as BitmapIntoIter, MutableBitmap, SlicesIterator,
+pub use columnar_memory_buffer::native::types::{
+    Boxed, DataType, EXTENSION_METADATA, EXTENSION_NAME, Error, Field, IntegerType, IntervalUnit,
+    Items, Metadata, PhysicalType, PrimitiveType, Result, Schema, SchemaRef, Text, TimeUnit,
+    UnionMode, get_extension,
 };
-pub use columnar_memory_bits::{
-    BitChunk, BitChunkIter, BitChunkIterExact, BitChunkOnes, BitChunks, BitChunksExact,
-    BitChunksExactMut, BitmapIter, Validity, ZipValidity, ZipValidityIter, bytes_for, count_zeros,
-    fmt, get_bit, is_set, set, set_bit,
+pub use columnar_memory_buffer::native::{
+    Index, IndexRange, NativeType, Offset, Steps, days_ms, i256, months_days_ns,
 };
 pub use columnar_memory_buffer::{
     Buffer, Bytes, IntoIter as BufferIntoIter, Offsets, OffsetsBuffer, OffsetsLengths,
     a_slice_of_a_sliced_buffer_is_one_slice, a_slice_of_sliced_offsets_is_one_slice,
 };
-pub use columnar_memory_content::{Boxed, Items, Metadata, Text};
-pub use columnar_memory_index::{Index, IndexRange, Offset, Steps};
+pub use columnar_memory_kernels::bitmap::bits::{
+    BitChunk, BitChunkIter, BitChunkIterExact, BitChunkOnes, BitChunks, BitChunksExact,
+    BitChunksExactMut, BitmapIter, Validity, ZipValidity, ZipValidityIter, bytes_for, count_zeros,
+    fmt, get_bit, is_set, set, set_bit,
+};
+pub use columnar_memory_kernels::bitmap::{
+    BitGatherer, Bitmap, IntoIter as BitmapIntoIter, MutableBitmap, SlicesIterator,
+};
 pub use columnar_memory_kernels::{
     and, binary, binary_assign, or, quaternary, ternary, unary, unary_assign, xor,
-};
-pub use columnar_memory_native::{NativeType, days_ms, i256, months_days_ns};
-pub use columnar_memory_schema::{
-    DataType, EXTENSION_METADATA, EXTENSION_NAME, Field, Schema, SchemaRef, get_extension,
-};
-pub use columnar_memory_types::{
-    Error, IntegerType, IntervalUnit, PhysicalType, PrimitiveType, Result, TimeUnit, UnionMode,
 };

@@ -6,3 +6,4 @@ pub mod RunLaws
 pub mod RunLemmas
 pub mod SameWords
 mod Gathering
+pub use Rattle.columnar_memory_bits.proofs as bits_lemmas

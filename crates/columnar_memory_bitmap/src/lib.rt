@@ -17,6 +17,8 @@ mod text;
 mod validity;
 
 pub use bitmap::Bitmap;
+pub use columnar_memory_bits as bits;
+pub use columnar_memory_types as types;
 pub use gatherer::BitGatherer;
 pub use into_iter::IntoIter;
 pub use mutable::MutableBitmap;

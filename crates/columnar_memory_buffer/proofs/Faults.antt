@@ -2,10 +2,10 @@
 use Rattle.std.proofs.Common.{◌≡◌, ℕ, ◌+◌, ◌≤◌, List, Option, ap, subst, arith}
 use Rattle.std.specs.Iterator.{Yields}
 use Rattle.columnar_memory_buffer.specs.Spans.{Spans, last_of}
-use Rattle.columnar_memory_types.specs.declared.error.Error.{Error}
-use Rattle.columnar_memory_types.specs.declared.error.Error.TheVariants.{NotYetImplemented, InvalidArgumentError, ExternalFormat, OutOfSpec}
-use Rattle.columnar_memory_types.specs.declared.error.Error.TheVariants.{External, Io, Overflow, OutOfMemory}
-use Rattle.columnar_memory_types.specs.Error.{IsOutOfMemory}
+use Rattle.columnar_memory_native.specs.types.declared.error.Error.{Error}
+use Rattle.columnar_memory_native.specs.types.declared.error.Error.TheVariants.{NotYetImplemented, InvalidArgumentError, ExternalFormat, OutOfSpec}
+use Rattle.columnar_memory_native.specs.types.declared.error.Error.TheVariants.{External, Io, Overflow, OutOfMemory}
+use Rattle.columnar_memory_native.specs.types.Error.{IsOutOfMemory}
 use Rattle.columnar_memory_buffer.specs.Growth.{IsGrowthFault}
 
 -- where the last offset is within the greatest, memory ran out

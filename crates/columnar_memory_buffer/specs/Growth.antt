@@ -1,9 +1,9 @@
 -- How offsets grow.
 use Rattle.std.specs.Prelude.{ℤ, Option, ◌⊎◌, [], ◌∷◌, ◌++◌, ◌≡◌, ℕ, ◌+◌, ◌<◌, ◌≤◌, List, sum, Result, MatchResult}
 use Rattle.std.specs.Iterator.{Drains, Yields}
-use Rattle.columnar_memory_types.specs.declared.error.Error.{Error}
-use Rattle.columnar_memory_types.specs.declared.error.Error.TheVariants.{Overflow, OutOfMemory}
-use Rattle.columnar_memory_types.specs.Error.{IsOutOfMemory, IsOutOfSpec, IsOverflow}
+use Rattle.columnar_memory_native.specs.types.declared.error.Error.{Error}
+use Rattle.columnar_memory_native.specs.types.declared.error.Error.TheVariants.{Overflow, OutOfMemory}
+use Rattle.columnar_memory_native.specs.types.Error.{IsOutOfMemory, IsOutOfSpec, IsOverflow}
 use Rattle.columnar_memory_buffer.specs.Spans.{Spans, AreOffsets, IsWhole, last_of, extended, no_spans}
 
 -- why offsets did not grow to this last one: it passes the greatest, or memory ran out

@@ -4,3 +4,4 @@ pub mod SliceLaws
 pub mod Spans
 pub mod SpansEqual
 pub mod Window
+pub use Rattle.columnar_memory_native.specs as native

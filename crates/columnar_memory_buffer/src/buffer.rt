@@ -3,12 +3,12 @@ ghost use Rattle.std.specs.Bool.{Decides};
 ghost use Rattle.std.specs.Cmp.Lexicographic.{pointwise, lists_per, lists_equiv};
 ghost use Rattle.std.specs.Iterator.{IsFinite};
 ghost use Rattle.std.specs.Iterator.Runs.{WholeRun};
-ghost use Rattle.columnar_memory_types.specs.Error.{IsOutOfMemory};
+ghost use Rattle.columnar_memory_native.specs.types.Error.{IsOutOfMemory};
 ghost use Rattle.columnar_memory_buffer.specs.Window.{window};
 ghost use Rattle.either.specs.Either.{MatchEither};
 
 use crate::Bytes;
-use columnar_memory_types::Result;
+use columnar_memory_native::types::Result;
 use either::Either;
 use std::alloc::{AllocError, Global};
 use std::marker::Model;

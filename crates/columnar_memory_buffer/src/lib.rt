@@ -13,6 +13,7 @@ mod places;
 
 pub use buffer::Buffer;
 pub use bytes::Bytes;
+pub use columnar_memory_native as native;
 pub use into_iter::IntoIter;
 pub use laws::{a_slice_of_a_sliced_buffer_is_one_slice, a_slice_of_sliced_offsets_is_one_slice};
 pub use offsets::Offsets;

@@ -1,13 +1,13 @@
 ghost use Rattle.std.specs.Prelude.{◌≡◌, ◌+◌, ◌<◌, ◌≤◌, ◌↔◌, IsTrue, [], ◌∷◌, length, pos, sum, replicate, MatchOption, MatchResult, IfErr, IfOk};
 ghost use Rattle.std.specs.Iterator.{IsFinite};
-ghost use Rattle.columnar_memory_types.specs.Error.{IsOutOfMemory};
+ghost use Rattle.columnar_memory_native.specs.types.Error.{IsOutOfMemory};
 ghost use Rattle.columnar_memory_buffer.specs.Growth.{CollectsAlong, Grows, GrowsAlong, Holds, IsChecked};
 ghost use Rattle.columnar_memory_buffer.specs.SpansEqual.{spans_eq, spans_eq_equivalence, spans_eq_partial_equivalence};
 ghost use Rattle.columnar_memory_buffer.specs.Spans.{AreOffsets, IsStored, stored, extended, last_of, first_spans, no_spans, offset_at, shortened};
 
 use crate::places::{are_offsets, number_at, span_count};
-use columnar_memory_index::Offset;
-use columnar_memory_types::{Error, Result};
+use columnar_memory_native::Offset;
+use columnar_memory_native::types::{Error, Result};
 use std::alloc::{AllocError, Global};
 use std::marker::Model;
 

@@ -1,6 +1,6 @@
 ghost use Rattle.std.specs.Prelude.{◌≡◌, ◌+◌, ◌-◌, ◌<◌, ◌≤◌, ◌↔◌, IsTrue, length, pos, sum, take, drop, MatchResult};
 ghost use Rattle.either.specs.Either.{MatchEither};
-ghost use Rattle.columnar_memory_types.specs.Error.{IsOutOfMemory};
+ghost use Rattle.columnar_memory_native.specs.types.Error.{IsOutOfMemory};
 ghost use Rattle.columnar_memory_buffer.specs.Growth.{Grows, Holds, IsChecked, IsCheckedInMemory};
 ghost use Rattle.columnar_memory_buffer.specs.SpansEqual.{spans_eq, spans_eq_equivalence, spans_eq_partial_equivalence};
 ghost use Rattle.columnar_memory_buffer.specs.Spans.{AreOffsets, last_of, no_spans, offset_at, spans_between};
@@ -8,8 +8,8 @@ ghost use Rattle.columnar_memory_buffer.specs.Spans.{AreOffsets, last_of, no_spa
 use crate::offsets::converted;
 use crate::places::{are_offsets, number_at, window_of};
 use crate::{Buffer, Offsets, OffsetsLengths};
-use columnar_memory_index::Offset;
-use columnar_memory_types::{Error, Result};
+use columnar_memory_native::Offset;
+use columnar_memory_native::types::{Error, Result};
 use either::Either;
 use std::alloc::{AllocError, Global};
 use std::marker::Model;

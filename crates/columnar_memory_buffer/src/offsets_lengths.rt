@@ -4,7 +4,7 @@ ghost use Rattle.std.specs.Iterator.SizeHint.{IsWithinCount};
 ghost use Rattle.columnar_memory_buffer.specs.Spans.{IsStored, stored};
 
 use crate::places::{number_at, span_count};
-use columnar_memory_index::Offset;
+use columnar_memory_native::Offset;
 use std::marker::Model;
 
 /// The lengths between offsets in order, which a contract sees as those that are left.

@@ -2,7 +2,7 @@
 ghost use Rattle.std.specs.Prelude.{◌≡◌, ◌+◌, ◌≤◌, ◌↔◌, IsTrue, length};
 ghost use Rattle.columnar_memory_buffer.specs.Spans.{AreOffsets, IsStored, IsWhole, NeverFalls, offset_at, spans_between, stored};
 
-use columnar_memory_index::Offset;
+use columnar_memory_native::Offset;
 
 /// The offset at a place, as a number.
 pub fn number_at<O: Offset>(offsets: &[O], index: usize) -> usize

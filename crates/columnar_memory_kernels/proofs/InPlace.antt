@@ -6,11 +6,11 @@ use Rattle.std.proofs.lemmas.List.{get_or_append_left, get_or-append_right, get_
 use Rattle.std.proofs.lemmas.Nat.{div-mul-add}
 use Rattle.std.proofs.lemmas.Grind.{div_ceil_times}
 use Rattle.std.proofs.lemmas.Bool.{cases_lt, cases_eq, eq-eqb, ne_eqb}
-use Rattle.columnar_memory_bits.specs.Windows.{window}
-use Rattle.columnar_memory_bits.specs.Bits.{bit, bit_at, bits_of}
-use Rattle.columnar_memory_bits.specs.Words.{word, word_at, words_bits, words_for}
-use Rattle.columnar_memory_bits.proofs.Windows.{length_window, window_is, window_same, drop_window, take_window}
-use Rattle.columnar_memory_bits.proofs.Bits.{bit_same, bit_at_byte, digit_mod, digit_shr}
+use Rattle.columnar_memory_bitmap.specs.bits.Windows.{window}
+use Rattle.columnar_memory_bitmap.specs.bits.Bits.{bit, bit_at, bits_of}
+use Rattle.columnar_memory_bitmap.specs.bits.Words.{word, word_at, words_bits, words_for}
+use Rattle.columnar_memory_bitmap.proofs.bits_lemmas.Windows.{length_window, window_is, window_same, drop_window, take_window}
+use Rattle.columnar_memory_bitmap.proofs.bits_lemmas.Bits.{bit_same, bit_at_byte, digit_mod, digit_shr}
 use Rattle.std.specs.Int as number
 use Rattle.std.proofs.Common.{◌^◌, set, get_or-set_same, get_or-set_other}
 use Rattle.columnar_memory_kernels.specs.Kernels.{IsWordwise}

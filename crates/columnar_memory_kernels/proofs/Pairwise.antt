@@ -1,13 +1,13 @@
 -- Word functions that act on each bit by one table.
 use Rattle.std.proofs.Common.{◌≡◌, ◌∙◌, ℕ, ◌+◌, ◌*◌, ◌/◌, ◌%◌, ◌<◌, Bool, false, List, length, take, drop, get_or, refl, ap, ap₂, arith}
 use Rattle.std.proofs.lemmas.List.{get_or-take, get_or-drop, length-take-le}
-use Rattle.columnar_memory_bits.specs.Windows.{window}
-use Rattle.columnar_memory_bits.specs.Bits.{bit}
-use Rattle.columnar_memory_bits.specs.Words.{word_at, words_bits}
-use Rattle.columnar_memory_bits.proofs.Windows.{window_of_list, window_is}
-use Rattle.columnar_memory_bits.proofs.Words.{bit_of_list}
+use Rattle.columnar_memory_bitmap.specs.bits.Windows.{window}
+use Rattle.columnar_memory_bitmap.specs.bits.Bits.{bit}
+use Rattle.columnar_memory_bitmap.specs.bits.Words.{word_at, words_bits}
+use Rattle.columnar_memory_bitmap.proofs.bits_lemmas.Windows.{window_of_list, window_is}
+use Rattle.columnar_memory_bitmap.proofs.bits_lemmas.Words.{bit_of_list}
 use Rattle.std.specs.Prelude.{Result, Ok, Err}
-use Rattle.columnar_memory_types.specs.declared.error.Error.{Error}
+use Rattle.columnar_memory_bitmap.specs.types.declared.error.Error.{Error}
 use Rattle.columnar_memory_bitmap.specs.Results.{OrOutOfMemory}
 use Rattle.columnar_memory_bitmap.specs.Operators.{pairwise}
 use Rattle.columnar_memory_bitmap.proofs.Combining.{pairwise-window}

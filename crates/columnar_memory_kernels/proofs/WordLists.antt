@@ -3,9 +3,9 @@ use Rattle.std.proofs.Common.{◌≡◌, ◌∙◌, ℕ, zero, suc, ◌+◌, ◌
 use Rattle.std.proofs.Common.{slice_index, ap, sym, subst, arith, ◌⊎◌, inl, inr, length-append}
 use Rattle.std.proofs.Math.Nat.{div-lt_iff_lt-mul}
 use Rattle.std.proofs.lemmas.List.{get_or_append_left, get_or-append_right}
-use Rattle.columnar_memory_bits.specs.Bits.{bit}
-use Rattle.columnar_memory_bits.specs.Words.{word_bits, words_bits}
-use Rattle.columnar_memory_bits.proofs.Windows.{length_window, get_or_window}
+use Rattle.columnar_memory_bitmap.specs.bits.Bits.{bit}
+use Rattle.columnar_memory_bitmap.specs.bits.Words.{word_bits, words_bits}
+use Rattle.columnar_memory_bitmap.proofs.bits_lemmas.Windows.{length_window, get_or_window}
 
 pub length_words : (w : ℕ) (words : List ℕ) → length (words_bits w words) ≡ w * length words
 length_words w [] = omega arith

@@ -4,12 +4,12 @@ use Rattle.std.proofs.Common.{refl, ap, ap₂, sym, arith, length-append, length
 use Rattle.std.proofs.lemmas.List.{append-nil, take_all}
 use Rattle.std.proofs.lemmas.Grind.{flat_map-append}
 use Rattle.std.proofs.lemmas.Bool.{cases_lt}
-use Rattle.columnar_memory_bits.specs.Bits.{bit, bit_at, IsPacked}
-use Rattle.columnar_memory_types.specs.declared.error.Error.{Error}
+use Rattle.columnar_memory_bitmap.specs.bits.Bits.{bit, bit_at, IsPacked}
+use Rattle.columnar_memory_bitmap.specs.types.declared.error.Error.{Error}
 use Rattle.columnar_memory_bitmap.specs.Results.{OrOutOfMemory}
-use Rattle.columnar_memory_bits.specs.Words.{word, word_at, word_bits, words_bits, words_for}
-use Rattle.columnar_memory_bits.proofs.Windows.{take_window}
-use Rattle.columnar_memory_bits.proofs.Appends.{bit_at_beyond}
+use Rattle.columnar_memory_bitmap.specs.bits.Words.{word, word_at, word_bits, words_bits, words_for}
+use Rattle.columnar_memory_bitmap.proofs.bits_lemmas.Windows.{take_window}
+use Rattle.columnar_memory_bitmap.proofs.bits_lemmas.Appends.{bit_at_beyond}
 use Rattle.columnar_memory_kernels.specs.Kernels.{IsWordwise, part}
 use Rattle.columnar_memory_kernels.proofs.WordLists.{length_words, more_each}
 

@@ -1,6 +1,6 @@
 -- Kernels: a function of words on the words of lists of booleans (Arrow columnar format, "Validity bitmaps").
 use Rattle.std.specs.Prelude.{◌≡◌, ℕ, ◌+◌, ◌<◌, ◌≤◌, Bool, List, length, take, drop, slice_index}
-use Rattle.columnar_memory_bits.specs.Words.{word, words_for, words_bits}
+use Rattle.columnar_memory_bitmap.specs.bits.Words.{word, words_for, words_bits}
 
 -- The booleans are those of words of w bits, cut to n: each word is an answer at its place.
 pub record IsWordwise (w : ℕ) (answers : ℕ → ℕ → Type 0) (n : ℕ) (result : List Bool) : Type 0 where

@@ -1,2 +1,3 @@
 pub mod Kernels
 pub mod Writes
+pub use Rattle.columnar_memory_bitmap.specs as bitmap

@@ -1,5 +1,5 @@
 ghost use Rattle.std.specs.Prelude.{◌≡◌, ◌+◌, ◌≤◌, ◌&&◌, ◌||◌, length};
-ghost use Rattle.columnar_memory_bits.specs.Words.{word_at};
+ghost use Rattle.columnar_memory_bitmap.specs.bits.Words.{word_at};
 ghost use Rattle.columnar_memory_bitmap.specs.Operators as operator;
 ghost use Rattle.columnar_memory_bitmap.specs.Operators.{pairwise};
 ghost use Rattle.columnar_memory_bitmap.specs.Results.{OrOutOfMemory};
@@ -7,7 +7,7 @@ ghost use Rattle.columnar_memory_kernels.specs.Kernels.{IsWordwise, part};
 
 use crate::words::{BitWords, answered_words};
 use columnar_memory_bitmap::Bitmap;
-use columnar_memory_types::Result;
+use columnar_memory_bitmap::types::Result;
 use std::alloc::Global;
 
 /// The answers of a function to the words of a bitmap.

@@ -11,4 +11,5 @@ mod words;
 mod write;
 
 pub use assign::{binary_assign, unary_assign};
+pub use columnar_memory_bitmap as bitmap;
 pub use kernels::{and, binary, or, quaternary, ternary, unary, xor};

@@ -1,9 +1,9 @@
 ghost use Rattle.std.specs.Prelude.{◌≡◌, ◌+◌, ◌-◌, ◌*◌, ◌≤◌, ◌<◌, min, length, IfOk};
-ghost use Rattle.columnar_memory_bits.specs.Bits.{bits_of, IsPacked};
+ghost use Rattle.columnar_memory_bitmap.specs.bits.Bits.{bits_of, IsPacked};
 ghost use Rattle.columnar_memory_kernels.specs.Kernels.{IsWordwise, TakesParts, part};
 
 use columnar_memory_bitmap::Bitmap;
-use columnar_memory_bits::{append_word, load_word};
+use columnar_memory_bitmap::bits::{append_word, load_word};
 use std::alloc::{AllocError, Global};
 use std::marker::Model;
 
@@ -17,7 +17,7 @@ pub(crate) struct BitWords<'a> {
 
 impl<'a> Model for BitWords<'a> {
     ghost use Rattle.std.specs.Prelude.{◌+◌, ◌*◌, ◌^◌, ◌≤◌, ◌<◌, List, Bool, length};
-    ghost use Rattle.columnar_memory_bits.specs.Bits.{bits_of};
+    ghost use Rattle.columnar_memory_bitmap.specs.bits.Bits.{bits_of};
 
     ghost Value = { List Bool };
 

@@ -1,8 +1,8 @@
 ghost use Rattle.std.specs.Prelude.{◌≡◌, ◌⊎◌, ◌+◌, ◌*◌, ◌/◌, ◌%◌, ◌^◌, ◌<◌, ◌≤◌, length, slice_set};
-ghost use Rattle.columnar_memory_bits.specs.Bits.{bit};
+ghost use Rattle.columnar_memory_bitmap.specs.bits.Bits.{bit};
 ghost use Rattle.columnar_memory_kernels.specs.Writes.{WritesWord};
 
-use columnar_memory_bits::{low_bits, set_bit};
+use columnar_memory_bitmap::bits::{low_bits, set_bit};
 
 /// Whether bit `i` of a word is set, the least significant first.
 fn word_bit(word: u64, i: usize) -> bool

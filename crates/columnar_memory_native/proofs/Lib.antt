@@ -1,0 +1,1 @@
+pub use Rattle.columnar_memory_types.proofs as types_lemmas

@@ -1,7 +1,7 @@
 ghost use Rattle.std.specs.Prelude.{◌≡◌, ◌+◌, ◌≤ℤ◌, ℕ, pos, length};
-ghost use Rattle.columnar_memory_index.specs.Natural.{IsValueOf};
+ghost use Rattle.columnar_memory_native.specs.Natural.{IsValueOf};
 
-use columnar_memory_index::{Index, IndexRange, Offset, Steps};
+use columnar_memory_native::{Index, IndexRange, Offset, Steps};
 
 // The offset that lies a number of items after this one.
 fn offset_after<O: Offset>(last: &O, length: usize) -> Option<O>

@@ -5,9 +5,9 @@ use Rattle.std.proofs.iter.runs.Made.{run_of_exit}
 use Rattle.std.specs.Prelude.{Option, Some, None, Result}
 use Rattle.std.specs.Iterator.{Yields}
 use Rattle.std.specs.Iterator.Runs.{WholeRun}
-use Rattle.columnar_memory.specs.declared.Error.{Error}
-use Rattle.columnar_memory.specs.Error.{IsOutOfMemory}
-use Rattle.flat_arrays_masks.specs.Changes.{Changes}
+use Rattle.flat_arrays_values.specs.columnar_memory.declared.Error.{Error}
+use Rattle.flat_arrays_values.specs.columnar_memory.Error.{IsOutOfMemory}
+use Rattle.flat_arrays_values.specs.Changes.{Changes}
 
 -- a run that ended at an item for which there was no memory
 pub stopped : {S X A : Type 0} (steps : S → Option X → S → Type 0) (changed : List X → A) (given it : S) (xs : List X) (here : S) (x : X) (rest : S)

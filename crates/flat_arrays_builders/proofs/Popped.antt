@@ -1,9 +1,9 @@
 -- The last slot of a list taken off.
 use Rattle.std.proofs.Common.{◌≡◌, ◌∙◌, ℕ, ◌-◌, Bool, List, [], ◌∷◌, length, refl, ap, sym, arith}
 use Rattle.std.specs.Prelude.{Option, Some, None, slice_get, unwrap_or}
-use Rattle.columnar_memory.specs.declared.DataType.{DataType}
+use Rattle.flat_arrays_values.specs.columnar_memory.declared.DataType.{DataType}
 use Rattle.flat_arrays_values.specs.Flat.{Flat, flat, cut, slots_of, IsMaskOf}
-use Rattle.flat_arrays_masks.specs.Changes.{Pops}
+use Rattle.flat_arrays_values.specs.Changes.{Pops}
 
 nothing-left : {V : Type 0} (data_type : DataType) (values : List V) (validity : Option (List Bool)) → length values ≡ 0
     → IsMaskOf (length values) validity → Pops (flat data_type values validity) None (flat data_type values validity)

@@ -4,7 +4,7 @@ use Rattle.std.specs.Bool.{Decides}
 use Rattle.std.specs.Option.{option_eq}
 use Rattle.std.specs.Cmp.{IsEquivalence, IsPartialEquivalence, partial_equiv_from_equiv, on_equiv}
 use Rattle.std.specs.Cmp.Lexicographic.{pointwise, pointwise_decides, lists_equiv, options_equiv}
-use Rattle.columnar_memory.specs.Sameness.{equivalence_from_Decides}
+use Rattle.flat_arrays_values.specs.columnar_memory.Sameness.{equivalence_from_Decides}
 use Rattle.flat_arrays_values.specs.Flat.{Flat, slots_of}
 use Rattle.flat_arrays_values.specs.FlatEqual.{option_eq-Decides}
 

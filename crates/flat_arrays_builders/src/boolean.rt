@@ -1,19 +1,19 @@
 ghost use Rattle.std.specs.Prelude.{◌≡◌, ◌<◌, ◌≤◌, [], ◌∷◌, length, slice_get, option_copied, ◌↔◌, IfErr, IsTrue, None, Some, false};
-ghost use Rattle.columnar_memory.specs.Error.{IsOutOfMemory};
-ghost use Rattle.columnar_memory.specs.Layouts.{physical_type};
-ghost use Rattle.columnar_memory.specs.Results.{OrOutOfMemory};
-ghost use Rattle.columnar_memory.specs.declared.PhysicalType.TheVariants as layouts;
+ghost use Rattle.flat_arrays_values.specs.columnar_memory.Error.{IsOutOfMemory};
+ghost use Rattle.flat_arrays_values.specs.columnar_memory.Layouts.{physical_type};
+ghost use Rattle.flat_arrays_values.specs.columnar_memory.Results.{OrOutOfMemory};
+ghost use Rattle.flat_arrays_values.specs.columnar_memory.declared.PhysicalType.TheVariants as layouts;
 ghost use Rattle.flat_arrays_values.specs.Flat.{cut, flat, marks_of, slots_of, IsFlat, IsMaskOf};
 ghost use Rattle.flat_arrays_values.specs.Results.{IsChecked};
-ghost use Rattle.flat_arrays_masks.specs.Growth.{grown, with_slots};
-ghost use Rattle.flat_arrays_masks.specs.Changes.{Changes, Pops};
+ghost use Rattle.flat_arrays_values.specs.Growth.{grown, with_slots};
+ghost use Rattle.flat_arrays_values.specs.Changes.{Changes, Pops};
 
-use columnar_memory::{DataType, Error, MutableBitmap, PhysicalType, Result};
-use flat_arrays_masks::{
+use flat_arrays_values::BooleanArray;
+use flat_arrays_values::columnar_memory::{DataType, Error, MutableBitmap, PhysicalType, Result};
+use flat_arrays_values::marks::{
     freeze_mask, is_mask_of, mark_at, push_mark, reserve_marks, shrink_marks, truncate_bits,
     truncate_mask,
 };
-use flat_arrays_values::BooleanArray;
 use std::alloc::Global;
 use std::marker::Model;
 use std::rc::Rc;
@@ -32,7 +32,7 @@ pub struct MutableBooleanArray {
 impl Model for MutableBooleanArray {
     ghost use Rattle.std.specs.Prelude.{Bool};
     ghost use Rattle.std.specs.Coded.{coded_bool};
-    ghost use Rattle.columnar_memory.specs.declared.PhysicalType.TheVariants as layouts;
+    ghost use Rattle.flat_arrays_values.specs.columnar_memory.declared.PhysicalType.TheVariants as layouts;
     ghost use Rattle.flat_arrays_values.specs.Flat.{Flat, flat, flat_code, IsFlat};
 
     ghost Value = { Flat Bool };
@@ -174,7 +174,7 @@ impl MutableBooleanArray {
     }
 
     /// The slot at a place: its value, or none where it is null.
-    #[tactic(auto, using(flat_arrays_values::proofs::Marks::slot_lemmas))]
+    #[tactic(auto, using(flat_arrays_values::proofs::MarkPlaces::slot_lemmas))]
     pub fn get(&self, i: usize) -> Option<bool>
         requires { i < length self.now.values }
         ensures { slice_get (slots_of self.now) i ≡ Some result }
@@ -208,7 +208,7 @@ impl MutableBooleanArray {
 
     /// Adds a value and its mark at the end.
     #[inline(always)]
-    #[tactic(auto, using(flat_arrays_masks::proofs::Marked::cut_back, flat_arrays_masks::proofs::Marked::masked))]
+    #[tactic(auto, using(flat_arrays_values::proofs::Marked::cut_back, flat_arrays_values::proofs::Marked::masked))]
     pub(crate) fn push_marked(&mut self, value: bool, mark: bool) -> Result<()>
         ensures { Changes result self.old self.new (grown self.old (value ∷ []) (mark ∷ [])) }
     {

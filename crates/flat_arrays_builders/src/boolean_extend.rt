@@ -2,12 +2,12 @@
 ghost use Rattle.std.specs.Prelude.{replicate, false};
 ghost use Rattle.std.specs.Iterator.{IsFinite};
 ghost use Rattle.flat_arrays_values.specs.Flat.{marks_of};
-ghost use Rattle.flat_arrays_masks.specs.Growth.{grown, with_slots, with_values};
-ghost use Rattle.flat_arrays_masks.specs.Changes.{Changes, ChangesAlong};
+ghost use Rattle.flat_arrays_values.specs.Growth.{grown, with_slots, with_values};
+ghost use Rattle.flat_arrays_values.specs.Changes.{Changes, ChangesAlong};
 
 use crate::boolean::MutableBooleanArray;
-use columnar_memory::Result;
-use flat_arrays_masks::{append, extend_constant_marks, extend_marks, truncate_bits};
+use flat_arrays_values::columnar_memory::Result;
+use flat_arrays_values::marks::{append, extend_constant_marks, extend_marks, truncate_bits};
 
 impl MutableBooleanArray {
     /// Adds the slots of an iterator that ends, one after another, until one finds no memory: the slots before it stay. A null stores
@@ -85,7 +85,7 @@ impl MutableBooleanArray {
     ///
     /// # Errors
     /// `OutOfMemory`: the slots found no memory.
-    #[tactic(auto, using(flat_arrays_masks::proofs::Marked::cut_back, flat_arrays_masks::proofs::Marked::masked))]
+    #[tactic(auto, using(flat_arrays_values::proofs::Marked::cut_back, flat_arrays_values::proofs::Marked::masked))]
     pub fn try_extend_from_self(&mut self, other: &Self) -> Result<()>
         ensures { Changes result self.old self.new (grown self.old other.now.values (marks_of other.now)) }
     {

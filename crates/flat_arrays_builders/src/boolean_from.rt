@@ -2,15 +2,14 @@
 ghost use Rattle.std.specs.Prelude.{◌≡◌, None, false};
 ghost use Rattle.std.specs.Iterator.{IsFinite};
 ghost use Rattle.std.specs.Iterator.Runs.{WholeRun};
-ghost use Rattle.columnar_memory.specs.Results.{OrOutOfMemory};
+ghost use Rattle.flat_arrays_values.specs.columnar_memory.Results.{OrOutOfMemory};
 ghost use Rattle.flat_arrays_values.specs.Flat.{flat, of_slots};
 
 use crate::boolean::MutableBooleanArray;
-use columnar_memory::{DataType, MutableBitmap, Result};
 use either::Either;
-use flat_arrays_access::IntoMut;
-use flat_arrays_masks::{freeze_mask, mask_into_mut};
-use flat_arrays_values::BooleanArray;
+use flat_arrays_values::columnar_memory::{DataType, MutableBitmap, Result};
+use flat_arrays_values::marks::{freeze_mask, mask_into_mut};
+use flat_arrays_values::{BooleanArray, IntoMut};
 use std::alloc::Global;
 
 impl MutableBooleanArray {

@@ -1,16 +1,16 @@
 //! Changed parts of builders of boolean arrays.
 ghost use Rattle.std.specs.Prelude.{◌≡◌, ◌<◌, Bool, List, length, false};
 ghost use Rattle.std.specs.Option.{ForSome};
-ghost use Rattle.columnar_memory.specs.Layouts.{physical_type};
-ghost use Rattle.columnar_memory.specs.declared.PhysicalType.TheVariants as layouts;
+ghost use Rattle.flat_arrays_values.specs.columnar_memory.Layouts.{physical_type};
+ghost use Rattle.flat_arrays_values.specs.columnar_memory.declared.PhysicalType.TheVariants as layouts;
 ghost use Rattle.flat_arrays_values.specs.Flat.{flat, IsMaskOf};
 ghost use Rattle.flat_arrays_values.specs.Results.{AppliesTo};
-ghost use Rattle.flat_arrays_masks.specs.Growth.{with_slot};
-ghost use Rattle.flat_arrays_masks.specs.Changes.{Changes};
+ghost use Rattle.flat_arrays_values.specs.Growth.{with_slot};
+ghost use Rattle.flat_arrays_values.specs.Changes.{Changes};
 
 use crate::boolean::MutableBooleanArray;
-use columnar_memory::{DataType, MutableBitmap, Result};
-use flat_arrays_masks::{apply_to_mask, set_mark};
+use flat_arrays_values::columnar_memory::{DataType, MutableBitmap, Result};
+use flat_arrays_values::marks::{apply_to_mask, set_mark};
 use std::mem;
 
 impl MutableBooleanArray {
@@ -18,7 +18,7 @@ impl MutableBooleanArray {
     ///
     /// # Errors
     /// `OutOfMemory`: the mask found no memory.
-    #[tactic(auto, using(flat_arrays_masks::proofs::Marked::masked))]
+    #[tactic(auto, using(flat_arrays_values::proofs::Marked::masked))]
     pub fn set(&mut self, i: usize, slot: Option<bool>) -> Result<()>
         requires { i < length self.old.values }
         ensures { Changes result self.old self.new (with_slot false self.old i slot) }

@@ -7,7 +7,7 @@ ghost use Rattle.flat_arrays_builders.specs.SlotsEqual.{same_slots, same_slots-e
 
 use crate::boolean::MutableBooleanArray;
 use crate::primitive::MutablePrimitiveArray;
-use columnar_memory::NativeType;
+use flat_arrays_values::columnar_memory::NativeType;
 
 impl<T: NativeType> MutablePrimitiveArray<T> {
     /// Whether a slot is the same as another's at its place.

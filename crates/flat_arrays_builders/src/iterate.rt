@@ -5,7 +5,7 @@ ghost use Rattle.flat_arrays_values.specs.Iteration.{StandsBefore};
 
 use crate::boolean::MutableBooleanArray;
 use crate::primitive::MutablePrimitiveArray;
-use columnar_memory::{BitmapIter, NativeType, ZipValidity};
+use flat_arrays_values::columnar_memory::{BitmapIter, NativeType, ZipValidity};
 use std::slice::Iter;
 
 impl<T: NativeType> MutablePrimitiveArray<T> {
@@ -17,7 +17,7 @@ impl<T: NativeType> MutablePrimitiveArray<T> {
     }
 
     /// The slots in order: a reference to the value, or none where the slot is null.
-    #[tactic(auto, using(flat_arrays_values::proofs::Marks::mask_lemmas))]
+    #[tactic(auto, using(flat_arrays_values::proofs::MarkPlaces::mask_lemmas))]
     pub fn iter(&self) -> ZipValidity<&T, Iter<'_, T>, BitmapIter<'_>>
         ensures { StandsBefore iter_rest (λ bits. bits) self.now result }
     {
@@ -37,7 +37,7 @@ impl MutableBooleanArray {
     }
 
     /// The slots in order: the value, or none where the slot is null.
-    #[tactic(auto, using(flat_arrays_values::proofs::Marks::mask_lemmas))]
+    #[tactic(auto, using(flat_arrays_values::proofs::MarkPlaces::mask_lemmas))]
     pub fn iter(&self) -> ZipValidity<bool, BitmapIter<'_>, BitmapIter<'_>>
         ensures { StandsBefore (λ values. values) (λ bits. bits) self.now result }
     {

@@ -16,6 +16,8 @@ mod primitive_from;
 mod primitive_set;
 
 pub use boolean::MutableBooleanArray;
+pub use flat_arrays_values as values;
+pub use flat_arrays_values::columnar_memory;
 pub use names::{
     DaysMsVec, Int8Vec, Int16Vec, Int32Vec, Int64Vec, Int128Vec, Int256Vec, MonthsDaysNsVec,
     UInt8Vec, UInt16Vec, UInt32Vec, UInt64Vec,

@@ -1,6 +1,6 @@
 //! The builders of primitive arrays by their values.
 use crate::primitive::MutablePrimitiveArray;
-use columnar_memory::{days_ms, i256, months_days_ns};
+use flat_arrays_values::columnar_memory::{days_ms, i256, months_days_ns};
 
 pub type Int8Vec = MutablePrimitiveArray<i8>;
 

@@ -3,12 +3,12 @@ ghost use Rattle.std.specs.Prelude.{length, replicate};
 ghost use Rattle.std.specs.Iterator.{IsFinite};
 ghost use Rattle.flat_arrays_values.specs.Flat.{marks, marks_of, IsMaskOf};
 ghost use Rattle.flat_arrays_values.specs.Results.{ForZero};
-ghost use Rattle.flat_arrays_masks.specs.Growth.{grown, with_slots, with_values};
-ghost use Rattle.flat_arrays_masks.specs.Changes.{Changes, ChangesAlong};
+ghost use Rattle.flat_arrays_values.specs.Growth.{grown, with_slots, with_values};
+ghost use Rattle.flat_arrays_values.specs.Changes.{Changes, ChangesAlong};
 
 use crate::primitive::MutablePrimitiveArray;
-use columnar_memory::{Error, MutableBitmap, NativeType, Result};
-use flat_arrays_masks::{extend_constant_marks, extend_marks};
+use flat_arrays_values::columnar_memory::{Error, MutableBitmap, NativeType, Result};
+use flat_arrays_values::marks::{extend_constant_marks, extend_marks};
 
 impl<T: NativeType> MutablePrimitiveArray<T> {
     /// Adds the slots of an iterator that ends, one after another, until one finds no memory: the slots before it stay. A null stores
@@ -108,7 +108,7 @@ impl<T: NativeType> MutablePrimitiveArray<T> {
     }
 
     /// Adds a copy of some values, with their marks, at the end.
-    #[tactic(auto, using(flat_arrays_masks::proofs::Marked::cut_back, flat_arrays_masks::proofs::Marked::masked))]
+    #[tactic(auto, using(flat_arrays_values::proofs::Marked::cut_back, flat_arrays_values::proofs::Marked::masked))]
     fn extend_marked(&mut self, values: &[T], validity: &Option<MutableBitmap>) -> Result<()>
         requires { IsMaskOf (length values.now) validity.now }
         ensures { Changes result self.old self.new (grown self.old values.now (marks (length values.now) validity.now)) }

@@ -2,17 +2,16 @@
 ghost use Rattle.std.specs.Prelude.{◌≡◌, None};
 ghost use Rattle.std.specs.Iterator.{IsFinite};
 ghost use Rattle.std.specs.Iterator.Runs.{WholeRun};
-ghost use Rattle.columnar_memory.specs.Conversions.{type_of_primitive};
-ghost use Rattle.columnar_memory.specs.Results.{OrOutOfMemory};
+ghost use Rattle.flat_arrays_values.specs.columnar_memory.Conversions.{type_of_primitive};
+ghost use Rattle.flat_arrays_values.specs.columnar_memory.Results.{OrOutOfMemory};
 ghost use Rattle.flat_arrays_values.specs.Flat.{flat, of_slots};
 ghost use Rattle.flat_arrays_values.specs.Results.{ForZero};
 
 use crate::primitive::MutablePrimitiveArray;
-use columnar_memory::{DataType, NativeType, Result};
 use either::Either;
-use flat_arrays_access::IntoMut;
-use flat_arrays_masks::{freeze_mask, mask_into_mut};
-use flat_arrays_values::PrimitiveArray;
+use flat_arrays_values::columnar_memory::{DataType, NativeType, Result};
+use flat_arrays_values::marks::{freeze_mask, mask_into_mut};
+use flat_arrays_values::{IntoMut, PrimitiveArray};
 use std::alloc::Global;
 
 impl<T: NativeType> MutablePrimitiveArray<T> {

@@ -3,16 +3,16 @@ ghost use Rattle.std.specs.Prelude.{◌≡◌, ◌<◌, Bool, List, length};
 ghost use Rattle.std.specs.Option.{ForSome};
 ghost use Rattle.std.specs.declared.alloc.Global.{Global};
 ghost use Rattle.std.specs.declared.vec.Vec.{Vec};
-ghost use Rattle.columnar_memory.specs.Layouts.{physical_type};
-ghost use Rattle.columnar_memory.specs.declared.PhysicalType.TheVariants as layouts;
+ghost use Rattle.flat_arrays_values.specs.columnar_memory.Layouts.{physical_type};
+ghost use Rattle.flat_arrays_values.specs.columnar_memory.declared.PhysicalType.TheVariants as layouts;
 ghost use Rattle.flat_arrays_values.specs.Flat.{flat, IsMaskOf};
 ghost use Rattle.flat_arrays_values.specs.Results.{AppliesTo, ForZero};
-ghost use Rattle.flat_arrays_masks.specs.Growth.{with_slot};
-ghost use Rattle.flat_arrays_masks.specs.Changes.{Changes};
+ghost use Rattle.flat_arrays_values.specs.Growth.{with_slot};
+ghost use Rattle.flat_arrays_values.specs.Changes.{Changes};
 
 use crate::primitive::MutablePrimitiveArray;
-use columnar_memory::{DataType, MutableBitmap, NativeType, Result};
-use flat_arrays_masks::{apply_to_mask, set_mark};
+use flat_arrays_values::columnar_memory::{DataType, MutableBitmap, NativeType, Result};
+use flat_arrays_values::marks::{apply_to_mask, set_mark};
 use std::mem;
 
 impl<T: NativeType> MutablePrimitiveArray<T> {
@@ -20,7 +20,7 @@ impl<T: NativeType> MutablePrimitiveArray<T> {
     ///
     /// # Errors
     /// `OutOfMemory`: the mask found no memory.
-    #[tactic(auto, using(flat_arrays_masks::proofs::Marked::masked))]
+    #[tactic(auto, using(flat_arrays_values::proofs::Marked::masked))]
     pub fn set(&mut self, i: usize, slot: Option<T>) -> Result<()>
         requires { i < length self.old.values }
         ensures { ForZero T.numbers T.PRIMITIVE (λ zero. Changes result self.old self.new (with_slot zero self.old i slot)) }

@@ -1,1 +1,6 @@
 pub mod Taken
+pub use Rattle.flat_arrays_byte_values_builders.proofs.bytes_lemmas
+pub use Rattle.flat_arrays_byte_values_builders.proofs as byte_values_builders_lemmas
+pub use Rattle.flat_arrays_byte_values_builders.proofs.values_lemmas
+pub use Rattle.flat_arrays_byte_values_builders.proofs.columnar_memory_lemmas
+pub mod Passed

@@ -1,8 +1,8 @@
 -- Builders that took arrays over.
 use Rattle.std.proofs.Common.{◌≡◌, ◌≤◌, length, subst, sym}
-use Rattle.columnar_memory.specs.Spans.{last_of}
-use Rattle.flat_arrays_byte_columns.specs.ByteStrings.{ByteStrings, values_of}
-use Rattle.flat_arrays_byte_columns.specs.Texts.{AllTexts}
+use Rattle.flat_arrays_byte_values_builders.specs.columnar_memory.Spans.{last_of}
+use Rattle.flat_arrays_byte_values_builders.specs.bytes.ByteStrings.{ByteStrings, values_of}
+use Rattle.flat_arrays_byte_values_builders.specs.bytes.Texts.{AllTexts}
 use Rattle.flat_arrays_byte_values_builders.proofs.Growth.{values_of-trimmed}
 use Rattle.flat_arrays_byte_values_builders.specs.Growing.{trimmed}
 

@@ -3,8 +3,8 @@ use Rattle.std.specs.Prelude.{◌≡◌, ℕ, Bool, Option, List}
 use Rattle.std.specs.Bool.{Decides}
 use Rattle.std.specs.Cmp.{IsEquivalence, IsPartialEquivalence, partial_equiv_from_equiv}
 use Rattle.std.specs.Coded.{Coded, coded_list, coded_option, coded_ℕ}
-use Rattle.columnar_memory.specs.Sameness.{same, same-Decides, same_equivalence}
-use Rattle.flat_arrays_byte_columns.specs.ByteStrings.{ByteStrings, slots_of}
+use Rattle.flat_arrays_byte_values_builders.specs.columnar_memory.Sameness.{same, same-Decides, same_equivalence}
+use Rattle.flat_arrays_byte_values_builders.specs.bytes.ByteStrings.{ByteStrings, slots_of}
 
 abbrev pub slots_code : Coded (List (Option (List ℕ)))
 slots_code = coded_list (coded_option (coded_list coded_ℕ))

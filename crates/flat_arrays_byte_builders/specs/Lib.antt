@@ -1,1 +1,5 @@
 pub mod ByteSlotsEqual
+pub use Rattle.flat_arrays_byte_values_builders.specs as byte_values_builders
+pub use Rattle.flat_arrays_byte_values_builders.specs.bytes
+pub use Rattle.flat_arrays_byte_values_builders.specs.values
+pub use Rattle.flat_arrays_byte_values_builders.specs.columnar_memory

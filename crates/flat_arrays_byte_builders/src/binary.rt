@@ -1,17 +1,19 @@
 ghost use Rattle.std.specs.Prelude.{◌≡◌, Bool, List, None, [], length, option_map, IfErr};
 ghost use Rattle.std.specs.Option.{ForSome, option_copied};
-ghost use Rattle.columnar_memory.specs.Error.{IsOutOfMemory};
-ghost use Rattle.columnar_memory.specs.Layouts.{physical_type};
-ghost use Rattle.columnar_memory.specs.Results.{OrOutOfMemory};
-ghost use Rattle.columnar_memory.specs.Spans.{no_spans};
-ghost use Rattle.flat_arrays_byte_columns.specs.ByteStrings.{byte_strings, len_of, with_mask};
-ghost use Rattle.flat_arrays_byte_columns.specs.Fits.{IsBinary, IsMaskOf, binary_layout, binary_type};
-ghost use Rattle.flat_arrays_values.specs.Results.{AppliesTo};
+ghost use Rattle.flat_arrays_byte_values_builders.specs.columnar_memory.Error.{IsOutOfMemory};
+ghost use Rattle.flat_arrays_byte_values_builders.specs.columnar_memory.Layouts.{physical_type};
+ghost use Rattle.flat_arrays_byte_values_builders.specs.columnar_memory.Results.{OrOutOfMemory};
+ghost use Rattle.flat_arrays_byte_values_builders.specs.columnar_memory.Spans.{no_spans};
+ghost use Rattle.flat_arrays_byte_values_builders.specs.bytes.ByteStrings.{byte_strings, len_of, with_mask};
+ghost use Rattle.flat_arrays_byte_values_builders.specs.bytes.Fits.{IsBinary, IsMaskOf, binary_layout, binary_type};
+ghost use Rattle.flat_arrays_byte_values_builders.specs.values.Results.{AppliesTo};
 ghost use Rattle.flat_arrays_byte_values_builders.specs.Growing.{Grows, IsTaken, IsGrown, OrUnchanged, Pops, frozen_mask, with_slot};
 
-use columnar_memory::{DataType, MutableBitmap, Offset, Offsets, Result};
+use flat_arrays_byte_values_builders::bytes::BinaryArray;
+use flat_arrays_byte_values_builders::columnar_memory::{
+    DataType, MutableBitmap, Offset, Offsets, Result,
+};
 use flat_arrays_byte_values_builders::{ByteBuilder, binary_layout_of};
-use flat_arrays_bytes::BinaryArray;
 use std::alloc::Global;
 use std::marker::Model;
 use std::ops::Deref;
@@ -26,9 +28,9 @@ pub struct MutableBinaryArray<O: Offset> {
 
 impl<O: Offset> Model for MutableBinaryArray<O> {
     ghost use Rattle.std.specs.Prelude.{◌≡◌};
-    ghost use Rattle.flat_arrays_byte_columns.specs.ByteStrings.{ByteStrings, byte_strings_code};
-    ghost use Rattle.columnar_memory.specs.Layouts.{physical_type};
-    ghost use Rattle.flat_arrays_byte_columns.specs.Fits.{binary_layout};
+    ghost use Rattle.flat_arrays_byte_values_builders.specs.bytes.ByteStrings.{ByteStrings, byte_strings_code};
+    ghost use Rattle.flat_arrays_byte_values_builders.specs.columnar_memory.Layouts.{physical_type};
+    ghost use Rattle.flat_arrays_byte_values_builders.specs.bytes.Fits.{binary_layout};
 
     ghost Value = { ByteStrings };
 

@@ -1,10 +1,10 @@
 //! `==` of builders: of their slots alone.
 ghost use Rattle.std.specs.Prelude.{◌≡◌, ◌↔◌, IsTrue};
-ghost use Rattle.flat_arrays_byte_columns.specs.ByteStrings.{slots_of};
+ghost use Rattle.flat_arrays_byte_values_builders.specs.bytes.ByteStrings.{slots_of};
 ghost use Rattle.flat_arrays_byte_builders.specs.ByteSlotsEqual.{same_slots, same_slots-equivalence, same_slots-per};
 
 use crate::{MutableBinaryArray, MutableUtf8Array};
-use columnar_memory::Offset;
+use flat_arrays_byte_values_builders::columnar_memory::Offset;
 
 impl<O: Offset> PartialEq for MutableBinaryArray<O> {
     ghost eq = { same_slots };

@@ -2,7 +2,7 @@
 ghost use Rattle.std.specs.Prelude.{◌≡◌};
 
 use crate::{MutableBinaryArray, MutableUtf8Array};
-use columnar_memory::Offset;
+use flat_arrays_byte_values_builders::columnar_memory::Offset;
 use flat_arrays_byte_values_builders::{MutableBinaryValuesArray, MutableUtf8ValuesArray};
 
 impl<O: Offset> From<MutableBinaryValuesArray<O>> for MutableBinaryArray<O> {

@@ -1,16 +1,18 @@
 //! Arrays of byte strings and of texts that their builders take over.
 ghost use Rattle.std.specs.Prelude.{◌≡◌};
-ghost use Rattle.columnar_memory.specs.Results.{OrOutOfMemory};
+ghost use Rattle.flat_arrays_byte_values_builders.specs.columnar_memory.Results.{OrOutOfMemory};
 ghost use Rattle.either.specs.Either.{MatchEither};
 ghost use Rattle.flat_arrays_byte_values_builders.specs.Growing.{trimmed};
 
 use crate::{MutableBinaryArray, MutableUtf8Array};
-use columnar_memory::{Bitmap, Buffer, MutableBitmap, Offset, Offsets, OffsetsBuffer, Result};
 use either::Either;
-use flat_arrays_access::IntoMut;
 use flat_arrays_byte_values_builders::ByteBuilder;
-use flat_arrays_bytes::{BinaryArray, Utf8Array};
-use flat_arrays_masks::{freeze_mask, mask_into_mut};
+use flat_arrays_byte_values_builders::bytes::{BinaryArray, Utf8Array};
+use flat_arrays_byte_values_builders::columnar_memory::{
+    Bitmap, Buffer, MutableBitmap, Offset, Offsets, OffsetsBuffer, Result,
+};
+use flat_arrays_byte_values_builders::values::IntoMut;
+use flat_arrays_byte_values_builders::values::marks::{freeze_mask, mask_into_mut};
 
 /// Offsets, bytes and a mask, as an array shares them.
 type SharedParts<O> = (OffsetsBuffer<O>, Buffer<u8>, Option<Bitmap>);

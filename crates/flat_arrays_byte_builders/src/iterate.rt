@@ -1,11 +1,13 @@
 //! Walks over the values and the slots of builders, from both ends.
 ghost use Rattle.std.specs.Prelude.{◌≡◌, MatchOption, ◌==◌, if◌then◌else◌};
-ghost use Rattle.columnar_memory.specs.Bits.{unset_count};
-ghost use Rattle.flat_arrays_byte_columns.specs.ByteStrings.{values_of};
-ghost use Rattle.flat_arrays_bytes.specs.ByteWalks.{StandsBefore};
+ghost use Rattle.flat_arrays_byte_values_builders.specs.columnar_memory.Bits.{unset_count};
+ghost use Rattle.flat_arrays_byte_values_builders.specs.bytes.ByteStrings.{values_of};
+ghost use Rattle.flat_arrays_byte_values_builders.specs.bytes.ByteWalks.{StandsBefore};
 
 use crate::{MutableBinaryArray, MutableUtf8Array};
-use columnar_memory::{BitmapIter, MutableBitmap, Offset, ZipValidity};
+use flat_arrays_byte_values_builders::columnar_memory::{
+    BitmapIter, MutableBitmap, Offset, ZipValidity,
+};
 use flat_arrays_byte_values_builders::{MutableBinaryValuesIter, MutableUtf8ValuesIter};
 
 /// Values beside as many marks, where one of them is false.

@@ -12,4 +12,6 @@ mod utf8;
 mod utf8_extend;
 
 pub use binary::MutableBinaryArray;
+pub use flat_arrays_byte_values_builders as byte_values_builders;
+pub use flat_arrays_byte_values_builders::{bytes, columnar_memory, values};
 pub use utf8::MutableUtf8Array;

@@ -1,18 +1,20 @@
 ghost use Rattle.std.specs.Prelude.{◌≡◌, ◌<◌, Bool, List, None, Some, slice_get, [], length, option_map, IfErr};
 ghost use Rattle.std.specs.Option.{ForSome, option_copied};
 ghost use Rattle.std.specs.String.{string_bytes};
-ghost use Rattle.columnar_memory.specs.Error.{IsOutOfMemory};
-ghost use Rattle.columnar_memory.specs.Layouts.{physical_type};
-ghost use Rattle.columnar_memory.specs.Results.{OrOutOfMemory};
-ghost use Rattle.columnar_memory.specs.Spans.{no_spans};
-ghost use Rattle.flat_arrays_byte_columns.specs.ByteStrings.{byte_strings, len_of, values_of, with_mask};
-ghost use Rattle.flat_arrays_byte_columns.specs.Fits.{IsMaskOf, IsText, text_layout, text_type};
-ghost use Rattle.flat_arrays_values.specs.Results.{AppliesTo};
+ghost use Rattle.flat_arrays_byte_values_builders.specs.columnar_memory.Error.{IsOutOfMemory};
+ghost use Rattle.flat_arrays_byte_values_builders.specs.columnar_memory.Layouts.{physical_type};
+ghost use Rattle.flat_arrays_byte_values_builders.specs.columnar_memory.Results.{OrOutOfMemory};
+ghost use Rattle.flat_arrays_byte_values_builders.specs.columnar_memory.Spans.{no_spans};
+ghost use Rattle.flat_arrays_byte_values_builders.specs.bytes.ByteStrings.{byte_strings, len_of, values_of, with_mask};
+ghost use Rattle.flat_arrays_byte_values_builders.specs.bytes.Fits.{IsMaskOf, IsText, text_layout, text_type};
+ghost use Rattle.flat_arrays_byte_values_builders.specs.values.Results.{AppliesTo};
 ghost use Rattle.flat_arrays_byte_values_builders.specs.Growing.{Grows, IsTaken, IsGrown, OrUnchanged, Pops, frozen_mask, with_slot};
 
-use columnar_memory::{DataType, Error, MutableBitmap, Offset, Offsets, Result};
+use flat_arrays_byte_values_builders::bytes::Utf8Array;
+use flat_arrays_byte_values_builders::columnar_memory::{
+    DataType, Error, MutableBitmap, Offset, Offsets, Result,
+};
 use flat_arrays_byte_values_builders::{ByteBuilder, text_layout_of};
-use flat_arrays_bytes::Utf8Array;
 use std::alloc::Global;
 use std::marker::Model;
 use std::ops::Deref;
@@ -28,10 +30,10 @@ pub struct MutableUtf8Array<O: Offset> {
 
 impl<O: Offset> Model for MutableUtf8Array<O> {
     ghost use Rattle.std.specs.Prelude.{◌≡◌};
-    ghost use Rattle.flat_arrays_byte_columns.specs.ByteStrings.{ByteStrings, byte_strings_code, values_of};
-    ghost use Rattle.columnar_memory.specs.Layouts.{physical_type};
-    ghost use Rattle.flat_arrays_byte_columns.specs.Fits.{text_layout};
-    ghost use Rattle.flat_arrays_byte_columns.specs.Texts.{AllTexts};
+    ghost use Rattle.flat_arrays_byte_values_builders.specs.bytes.ByteStrings.{ByteStrings, byte_strings_code, values_of};
+    ghost use Rattle.flat_arrays_byte_values_builders.specs.columnar_memory.Layouts.{physical_type};
+    ghost use Rattle.flat_arrays_byte_values_builders.specs.bytes.Fits.{text_layout};
+    ghost use Rattle.flat_arrays_byte_values_builders.specs.bytes.Texts.{AllTexts};
 
     ghost Value = { ByteStrings };
 
@@ -105,7 +107,7 @@ impl<O: Offset> MutableUtf8Array<O> {
     }
 
     /// The stored text at a place, also where the slot is null.
-    #[tactic(auto, using(flat_arrays_byte_columns::proofs::Places::text_among))]
+    #[tactic(auto, using(crate::proofs::Passed::text_among))]
     pub fn value(&self, index: usize) -> &str
         requires { index < len_of self.now }
         ensures { slice_get (values_of self.now) index ≡ Some result.now }

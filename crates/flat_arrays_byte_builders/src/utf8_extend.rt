@@ -1,13 +1,13 @@
 //! Slots added to builders of texts many at once, and builders made of many.
 ghost use Rattle.std.specs.Prelude.{None, Some, [], map, option_map};
 ghost use Rattle.std.specs.Iterator.{IsFinite};
-ghost use Rattle.columnar_memory.specs.Spans.{no_spans};
-ghost use Rattle.flat_arrays_byte_columns.specs.ByteStrings.{byte_strings};
-ghost use Rattle.flat_arrays_byte_columns.specs.Fits.{text_type};
+ghost use Rattle.flat_arrays_byte_values_builders.specs.columnar_memory.Spans.{no_spans};
+ghost use Rattle.flat_arrays_byte_values_builders.specs.bytes.ByteStrings.{byte_strings};
+ghost use Rattle.flat_arrays_byte_values_builders.specs.bytes.Fits.{text_type};
 ghost use Rattle.flat_arrays_byte_values_builders.specs.Growing.{GathersAlong, Grows, GrowsAlong, IsGathered, joined, with_slot};
 
 use crate::MutableUtf8Array;
-use columnar_memory::{Offset, Result};
+use flat_arrays_byte_values_builders::columnar_memory::{Offset, Result};
 use std::alloc::Global;
 use std::convert::AsStr;
 

@@ -6,10 +6,10 @@ use Rattle.std.proofs.lemmas.List.{map-append}
 use Rattle.std.specs.Prelude.{Option, Some, None}
 use Rattle.std.specs.Iterator.{Yields}
 use Rattle.std.specs.Iterator.Runs.{WholeRun}
-use Rattle.columnar_memory.specs.Growth.{IsGrowthFault}
-use Rattle.columnar_memory.specs.Spans.{last_of}
-use Rattle.columnar_memory_types.specs.declared.error.Error.{Error}
-use Rattle.flat_arrays_byte_columns.specs.ByteStrings.{ByteStrings}
+use Rattle.flat_arrays_bytes.specs.columnar_memory.Growth.{IsGrowthFault}
+use Rattle.flat_arrays_bytes.specs.columnar_memory.Spans.{last_of}
+use Rattle.flat_arrays_bytes.specs.columnar_memory.declared.error.Error.{Error}
+use Rattle.flat_arrays_bytes.specs.ByteStrings.{ByteStrings}
 use Rattle.flat_arrays_byte_values_builders.specs.Growing.{with_slot, with_slots}
 
 -- one more slot behind many

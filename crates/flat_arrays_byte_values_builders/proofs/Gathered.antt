@@ -5,14 +5,14 @@ use Rattle.std.proofs.lemmas.Iterator.{YieldsList, items_from_drains}
 use Rattle.std.proofs.lemmas.List.{map-append, map-id}
 use Rattle.std.specs.Prelude.{Option, Some, None, Result, Ok, Err}
 use Rattle.std.specs.Iterator.{AlwaysYields, DrainsIf, Yields}
-use Rattle.columnar_memory.specs.Error.{IsOutOfMemory, IsOverflow}
-use Rattle.columnar_memory.specs.Growth.{IsGrowthFault}
-use Rattle.columnar_memory.specs.Spans.{last_of}
-use Rattle.columnar_memory_buffer.proofs.Runs.{last_of-extended, sum-cons}
-use Rattle.columnar_memory_types.specs.declared.error.Error.{Error}
-use Rattle.columnar_memory_types.specs.declared.error.Error.TheVariants.{NotYetImplemented, InvalidArgumentError, ExternalFormat, OutOfSpec}
-use Rattle.columnar_memory_types.specs.declared.error.Error.TheVariants.{External, Io, Overflow, OutOfMemory}
-use Rattle.flat_arrays_byte_columns.specs.ByteStrings.{ByteStrings}
+use Rattle.flat_arrays_bytes.specs.columnar_memory.Error.{IsOutOfMemory, IsOverflow}
+use Rattle.flat_arrays_bytes.specs.columnar_memory.Growth.{IsGrowthFault}
+use Rattle.flat_arrays_bytes.specs.columnar_memory.Spans.{last_of}
+use Rattle.flat_arrays_bytes.proofs.columnar_memory_lemmas.buffer_lemmas.Runs.{last_of-extended, sum-cons}
+use Rattle.flat_arrays_bytes.specs.columnar_memory.declared.error.Error.{Error}
+use Rattle.flat_arrays_bytes.specs.columnar_memory.declared.error.Error.TheVariants.{NotYetImplemented, InvalidArgumentError, ExternalFormat, OutOfSpec}
+use Rattle.flat_arrays_bytes.specs.columnar_memory.declared.error.Error.TheVariants.{External, Io, Overflow, OutOfMemory}
+use Rattle.flat_arrays_bytes.specs.ByteStrings.{ByteStrings}
 use Rattle.flat_arrays_byte_values_builders.proofs.Along.{item_added}
 use Rattle.flat_arrays_byte_values_builders.specs.Growing.{GathersAlong, IsGathered, with_slot, with_slots}
 

@@ -6,19 +6,19 @@ use Rattle.std.proofs.lemmas.List.{replicate-append-replicate, take-append-drop,
 use Rattle.std.proofs.Math.Seq.{drop-append_seam, take-append_seam, take-length}
 use Rattle.std.specs.Prelude.{Bool, true, false, Option, Some, None, map, replicate, slice_get, option_map}
 use Rattle.std.specs.List.{zip}
-use Rattle.columnar_memory_buffer.proofs.Runs.{first_spans-extended, last_of-extended, offset_at-le-last_of, sum-cons}
-use Rattle.columnar_memory.specs.Bits.{unset_count}
-use Rattle.columnar_memory.specs.Growth.{IsGrowthFault}
-use Rattle.columnar_memory.specs.Spans.{Spans, extended, first_spans, last_of, offset_at, shortened}
-use Rattle.columnar_memory_types.specs.declared.error.Error.{Error}
-use Rattle.columnar_memory_types.specs.declared.kinds.PhysicalType.{PhysicalType}
-use Rattle.flat_arrays_byte_columns.proofs.Cuts.{slots_of-cut, values_of-cut}
-use Rattle.flat_arrays_byte_columns.proofs.Ranges.{range_all, range_last}
-use Rattle.flat_arrays_byte_columns.proofs.Slots.{length_slots, length_values}
-use Rattle.flat_arrays_byte_columns.specs.ByteStrings.{ByteStrings, cut, cut_by, len_of, marks, marks_of, slot_of, slots_of, values_of}
-use Rattle.flat_arrays_byte_columns.specs.Fits.{Fits, IsMaskOf}
-use Rattle.flat_arrays_masks.proofs.Marked.{all-true, made, none_or_some, unmade}
-use Rattle.flat_arrays_masks.specs.Growth.{with_marks}
+use Rattle.flat_arrays_bytes.proofs.columnar_memory_lemmas.buffer_lemmas.Runs.{first_spans-extended, last_of-extended, offset_at-le-last_of, sum-cons}
+use Rattle.flat_arrays_bytes.specs.columnar_memory.Bits.{unset_count}
+use Rattle.flat_arrays_bytes.specs.columnar_memory.Growth.{IsGrowthFault}
+use Rattle.flat_arrays_bytes.specs.columnar_memory.Spans.{Spans, extended, first_spans, last_of, offset_at, shortened}
+use Rattle.flat_arrays_bytes.specs.columnar_memory.declared.error.Error.{Error}
+use Rattle.flat_arrays_bytes.specs.columnar_memory.declared.kinds.PhysicalType.{PhysicalType}
+use Rattle.flat_arrays_bytes.proofs.Cuts.{slots_of-cut, values_of-cut}
+use Rattle.flat_arrays_bytes.proofs.Ranges.{range_all, range_last}
+use Rattle.flat_arrays_bytes.proofs.Slots.{length_slots, length_values}
+use Rattle.flat_arrays_bytes.specs.ByteStrings.{ByteStrings, cut, cut_by, len_of, marks, marks_of, slot_of, slots_of, values_of}
+use Rattle.flat_arrays_bytes.specs.Fits.{Fits, IsMaskOf}
+use Rattle.flat_arrays_bytes.proofs.values_lemmas.Marked.{all-true, made, none_or_some, unmade}
+use Rattle.flat_arrays_bytes.specs.values.Growth.{with_marks}
 use Rattle.flat_arrays_byte_values_builders.specs.Growing.{IsFilled, first_slots, joined, pushed, trimmed, with_slot, with_slots, without_last}
 
 -- ---- values

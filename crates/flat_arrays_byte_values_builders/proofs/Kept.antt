@@ -5,15 +5,15 @@ use Rattle.std.proofs.lemmas.Option.{get_or_from_slice_get}
 use Rattle.std.specs.Prelude.{Bool, true, false, Option, Some, None, map, Result, Ok, Err, replicate, slice_get, take}
 use Rattle.std.specs.List.{zip}
 use Rattle.std.specs.Str.{IsUtf8}
-use Rattle.columnar_memory_types.specs.declared.error.Error.{Error}
-use Rattle.columnar_memory_types.specs.declared.kinds.PhysicalType.{PhysicalType}
-use Rattle.columnar_memory_schema.specs.Layouts.{physical_type}
-use Rattle.flat_arrays_byte_columns.proofs.Cuts.{AllTexts-cut}
-use Rattle.flat_arrays_byte_columns.proofs.Slots.{none_unset}
-use Rattle.flat_arrays_byte_columns.specs.ByteStrings.{ByteStrings, len_of, marks, marks_of, slot_of, slots_of, values_of}
-use Rattle.flat_arrays_byte_columns.specs.Texts.{AllTexts}
-use Rattle.flat_arrays_masks.proofs.Marked.{unmade}
-use Rattle.flat_arrays_masks.specs.Growth.{with_marks}
+use Rattle.flat_arrays_bytes.specs.columnar_memory.declared.error.Error.{Error}
+use Rattle.flat_arrays_bytes.specs.columnar_memory.declared.kinds.PhysicalType.{PhysicalType}
+use Rattle.flat_arrays_bytes.specs.columnar_memory.Layouts.{physical_type}
+use Rattle.flat_arrays_bytes.proofs.Cuts.{AllTexts-cut}
+use Rattle.flat_arrays_bytes.proofs.Slots.{none_unset}
+use Rattle.flat_arrays_bytes.specs.ByteStrings.{ByteStrings, len_of, marks, marks_of, slot_of, slots_of, values_of}
+use Rattle.flat_arrays_bytes.specs.Texts.{AllTexts}
+use Rattle.flat_arrays_bytes.proofs.values_lemmas.Marked.{unmade}
+use Rattle.flat_arrays_bytes.specs.values.Growth.{with_marks}
 use Rattle.flat_arrays_byte_values_builders.proofs.Growth.{values_of-first_slots, values_of-joined, values_of-pushed}
 use Rattle.flat_arrays_byte_values_builders.specs.Growing.{Grows, IsFilled, OrUnchanged, Pops, joined, pushed, without_last}
 

@@ -5,18 +5,18 @@ use Rattle.std.proofs.Math.Seq.{take-append_seam}
 use Rattle.std.specs.Prelude.{Bool, true, false, Option, Some, None, is_some, unwrap_or, if◌then◌else◌, Result, Ok, Err, IsTrue, ◌↔◌}
 use Rattle.std.specs.Option.{ForSome}
 use Rattle.std.specs.Result.{is_err}
-use Rattle.columnar_memory.specs.Error.{IsOutOfMemory}
-use Rattle.columnar_memory.specs.Growth as offsets
-use Rattle.columnar_memory.specs.Growth.{IsGrowthFault}
-use Rattle.columnar_memory.specs.Spans.{Spans}
-use Rattle.columnar_memory_types.specs.declared.error.Error.{Error}
-use Rattle.columnar_memory_types.specs.declared.error.Error.TheVariants.{NotYetImplemented, InvalidArgumentError, ExternalFormat, OutOfSpec}
-use Rattle.columnar_memory_types.specs.declared.error.Error.TheVariants.{External, Io, Overflow, OutOfMemory}
-use Rattle.flat_arrays_byte_columns.specs.ByteStrings.{ByteStrings, byte_strings, cut_mask, marks}
-use Rattle.flat_arrays_byte_columns.specs.Fits.{IsMaskOf}
-use Rattle.flat_arrays_masks.specs.Growth.{with_marks}
+use Rattle.flat_arrays_bytes.specs.columnar_memory.Error.{IsOutOfMemory}
+use Rattle.flat_arrays_bytes.specs.columnar_memory.Growth as offsets
+use Rattle.flat_arrays_bytes.specs.columnar_memory.Growth.{IsGrowthFault}
+use Rattle.flat_arrays_bytes.specs.columnar_memory.Spans.{Spans}
+use Rattle.flat_arrays_bytes.specs.columnar_memory.declared.error.Error.{Error}
+use Rattle.flat_arrays_bytes.specs.columnar_memory.declared.error.Error.TheVariants.{NotYetImplemented, InvalidArgumentError, ExternalFormat, OutOfSpec}
+use Rattle.flat_arrays_bytes.specs.columnar_memory.declared.error.Error.TheVariants.{External, Io, Overflow, OutOfMemory}
+use Rattle.flat_arrays_bytes.specs.ByteStrings.{ByteStrings, byte_strings, cut_mask, marks}
+use Rattle.flat_arrays_bytes.specs.Fits.{IsMaskOf}
+use Rattle.flat_arrays_bytes.specs.values.Growth.{with_marks}
 use Rattle.flat_arrays_byte_values_builders.proofs.Growth.{mask_of-grown}
-use Rattle.flat_arrays_values.specs.Flat as flat
+use Rattle.flat_arrays_bytes.specs.values.Flat as flat
 use mathlib.Core.Bool.{true≢false}
 
 pub flat_mask : (n : ℕ) (mask : Option (List Bool)) → IsMaskOf n mask → flat.IsMaskOf n mask

@@ -2,8 +2,8 @@
 use Rattle.std.proofs.Common.{◌≡◌, ℕ, ◌-◌, ◌≤◌, List, [], ◌∷◌, length, take, ap, ◌∙◌, arith}
 use Rattle.std.proofs.Math.Seq.{take-append_seam}
 use Rattle.std.specs.Prelude.{Option}
-use Rattle.flat_arrays_byte_columns.proofs.Slots.{length_slots}
-use Rattle.flat_arrays_byte_columns.specs.ByteStrings.{ByteStrings, len_of, slots_of}
+use Rattle.flat_arrays_bytes.proofs.Slots.{length_slots}
+use Rattle.flat_arrays_bytes.specs.ByteStrings.{ByteStrings, len_of, slots_of}
 use Rattle.flat_arrays_byte_values_builders.proofs.Growth.{IsFilled-with_slot, len_of-with_slot, slots_of-first_slots, slots_of-joined}
 use Rattle.flat_arrays_byte_values_builders.proofs.Growth.{slots_of-trimmed, slots_of-with_slot, slots_of-with_slots}
 use Rattle.flat_arrays_byte_values_builders.specs.Growing.{IsFilled, with_slot, without_last}

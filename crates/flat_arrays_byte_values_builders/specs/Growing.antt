@@ -3,16 +3,16 @@ use Rattle.std.specs.Prelude.{◌≡◌, ℕ, ◌-◌, ◌<◌, ◌≤◌, ◌�
 use Rattle.std.specs.Prelude.{Result, MatchResult, if◌then◌else◌, ◌==◌, option_map}
 use Rattle.std.specs.Iterator.{Yields}
 use Rattle.std.specs.Iterator.Runs.{WholeRun}
-use Rattle.columnar_memory.specs.Bits.{unset_count}
-use Rattle.columnar_memory.specs.Error.{IsOutOfMemory, IsOutOfSpec, IsOverflow}
-use Rattle.columnar_memory.specs.Growth.{IsGrowthFault}
-use Rattle.columnar_memory.specs.Layouts.{physical_type}
-use Rattle.columnar_memory.specs.Spans.{extended, first_spans, last_of, offset_at}
-use Rattle.columnar_memory_types.specs.declared.error.Error.{Error}
-use Rattle.columnar_memory_types.specs.declared.kinds.PhysicalType.{PhysicalType}
-use Rattle.flat_arrays_byte_columns.specs.ByteStrings.{ByteStrings, byte_strings, len_of, marks_of, slots_of}
-use Rattle.flat_arrays_byte_columns.specs.Fits.{IsMaskOf}
-use Rattle.flat_arrays_masks.specs.Growth.{with_marks}
+use Rattle.flat_arrays_bytes.specs.columnar_memory.Bits.{unset_count}
+use Rattle.flat_arrays_bytes.specs.columnar_memory.Error.{IsOutOfMemory, IsOutOfSpec, IsOverflow}
+use Rattle.flat_arrays_bytes.specs.columnar_memory.Growth.{IsGrowthFault}
+use Rattle.flat_arrays_bytes.specs.columnar_memory.Layouts.{physical_type}
+use Rattle.flat_arrays_bytes.specs.columnar_memory.Spans.{extended, first_spans, last_of, offset_at}
+use Rattle.flat_arrays_bytes.specs.columnar_memory.declared.error.Error.{Error}
+use Rattle.flat_arrays_bytes.specs.columnar_memory.declared.kinds.PhysicalType.{PhysicalType}
+use Rattle.flat_arrays_bytes.specs.ByteStrings.{ByteStrings, byte_strings, len_of, marks_of, slots_of}
+use Rattle.flat_arrays_bytes.specs.Fits.{IsMaskOf}
+use Rattle.flat_arrays_bytes.specs.values.Growth.{with_marks}
 
 -- a mask has a mark for each value, and the last value ends where the bytes end
 pub record IsFilled (a : ByteStrings) : Type 0 where

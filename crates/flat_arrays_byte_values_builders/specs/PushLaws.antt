@@ -1,7 +1,7 @@
 -- What holds of every push, and of slots that came together.
 use Rattle.std.specs.Prelude.{◌≡◌, ℕ, ◌≤◌, Option, List, [], ◌∷◌, ◌++◌, length}
-use Rattle.columnar_memory.specs.Spans.{last_of}
-use Rattle.flat_arrays_byte_columns.specs.ByteStrings.{ByteStrings, slots_of}
+use Rattle.flat_arrays_bytes.specs.columnar_memory.Spans.{last_of}
+use Rattle.flat_arrays_bytes.specs.ByteStrings.{ByteStrings, slots_of}
 use Rattle.flat_arrays_byte_values_builders.specs.Growing.{IsFilled, joined, trimmed, with_slot, with_slots, without_last}
 
 -- a push adds its slot behind the others, and without the last slot they are as before

@@ -1,16 +1,15 @@
 ghost use Rattle.std.specs.Prelude.{◌≡◌, None, [], true, option_map, IfErr};
-ghost use Rattle.columnar_memory.specs.Error.{IsOutOfMemory};
-ghost use Rattle.columnar_memory.specs.Layouts.{physical_type};
-ghost use Rattle.columnar_memory.specs.Results.{OrOutOfMemory};
-ghost use Rattle.columnar_memory.specs.Spans.{no_spans};
-ghost use Rattle.flat_arrays_byte_columns.specs.ByteStrings.{byte_strings, values_of};
-ghost use Rattle.flat_arrays_byte_columns.specs.Fits.{IsBinary, binary_layout, binary_type};
+ghost use Rattle.flat_arrays_bytes.specs.columnar_memory.Error.{IsOutOfMemory};
+ghost use Rattle.flat_arrays_bytes.specs.columnar_memory.Layouts.{physical_type};
+ghost use Rattle.flat_arrays_bytes.specs.columnar_memory.Results.{OrOutOfMemory};
+ghost use Rattle.flat_arrays_bytes.specs.columnar_memory.Spans.{no_spans};
+ghost use Rattle.flat_arrays_bytes.specs.ByteStrings.{byte_strings, values_of};
+ghost use Rattle.flat_arrays_bytes.specs.Fits.{IsBinary, binary_layout, binary_type};
 ghost use Rattle.flat_arrays_byte_values_builders.specs.Growing.{Grows, IsTaken, IsValues, OrUnchanged, Pops, pushed};
 
 use crate::builder::{ByteBuilder, binary_layout_of};
-use columnar_memory::{DataType, Offset, Offsets, Result};
-use flat_arrays_byte_columns::ByteValuesIter;
-use flat_arrays_bytes::BinaryArray;
+use flat_arrays_bytes::columnar_memory::{DataType, Offset, Offsets, Result};
+use flat_arrays_bytes::{BinaryArray, ByteValuesIter};
 use std::alloc::Global;
 use std::marker::Model;
 use std::ops::Deref;
@@ -28,9 +27,9 @@ pub struct MutableBinaryValuesArray<O: Offset> {
 
 impl<O: Offset> Model for MutableBinaryValuesArray<O> {
     ghost use Rattle.std.specs.Prelude.{◌≡◌, None};
-    ghost use Rattle.flat_arrays_byte_columns.specs.ByteStrings.{ByteStrings, byte_strings_code};
-    ghost use Rattle.columnar_memory.specs.Layouts.{physical_type};
-    ghost use Rattle.flat_arrays_byte_columns.specs.Fits.{binary_layout};
+    ghost use Rattle.flat_arrays_bytes.specs.ByteStrings.{ByteStrings, byte_strings_code};
+    ghost use Rattle.flat_arrays_bytes.specs.columnar_memory.Layouts.{physical_type};
+    ghost use Rattle.flat_arrays_bytes.specs.Fits.{binary_layout};
 
     ghost Value = { ByteStrings };
 

@@ -1,22 +1,22 @@
 //! Byte strings that grow, with validity marks: what builders of bytes and of texts hold.
 ghost use Rattle.std.specs.Prelude.{◌≡◌, ◌+◌, ◌-◌, ◌<◌, ◌≤◌, ◌↔◌, IsTrue, Some, None, [], length, slice_get, IfErr, option_map, take};
 ghost use Rattle.std.specs.Option.{option_copied};
-ghost use Rattle.columnar_memory.specs.Error.{IsOutOfMemory};
-ghost use Rattle.columnar_memory.specs.Layouts.{physical_type};
-ghost use Rattle.columnar_memory.specs.Results.{OrOutOfMemory};
-ghost use Rattle.columnar_memory.specs.Spans.{last_of, no_spans, shortened};
-ghost use Rattle.flat_arrays_byte_columns.specs.ByteStrings.{byte_strings, len_of, marks_of, slots_of, values_of, with_mask};
-ghost use Rattle.flat_arrays_byte_columns.specs.Fits.{Fits, IsMaskOf, binary_layout, text_layout};
-ghost use Rattle.flat_arrays_byte_columns.specs.Texts.{AllTexts};
+ghost use Rattle.flat_arrays_bytes.specs.columnar_memory.Error.{IsOutOfMemory};
+ghost use Rattle.flat_arrays_bytes.specs.columnar_memory.Layouts.{physical_type};
+ghost use Rattle.flat_arrays_bytes.specs.columnar_memory.Results.{OrOutOfMemory};
+ghost use Rattle.flat_arrays_bytes.specs.columnar_memory.Spans.{last_of, no_spans, shortened};
+ghost use Rattle.flat_arrays_bytes.specs.ByteStrings.{byte_strings, len_of, marks_of, slots_of, values_of, with_mask};
+ghost use Rattle.flat_arrays_bytes.specs.Fits.{Fits, IsMaskOf, binary_layout, text_layout};
+ghost use Rattle.flat_arrays_bytes.specs.Texts.{AllTexts};
 ghost use Rattle.flat_arrays_byte_values_builders.specs.Growing.{Grows, IsFilled, IsTaken, OrUnchanged, Pops, frozen_mask};
 ghost use Rattle.flat_arrays_byte_values_builders.specs.Growing.{pushed, trimmed, with_slot, without_last};
 
-use columnar_memory::{
+use flat_arrays_bytes::HoldsByteStrings;
+use flat_arrays_bytes::columnar_memory::{
     Bitmap, Buffer, DataType, Error, Index, MutableBitmap, Offset, Offsets, OffsetsBuffer,
     PhysicalType, Result,
 };
-use flat_arrays_byte_columns::HoldsByteStrings;
-use flat_arrays_masks::{is_mask_of, push_mark, reserve_marks, shrink_marks};
+use flat_arrays_bytes::values::marks::{is_mask_of, push_mark, reserve_marks, shrink_marks};
 use simdutf8::is_utf8;
 use std::alloc::Global;
 use std::marker::Model;
@@ -37,7 +37,7 @@ pub struct ByteBuilder<O: Offset> {
 }
 
 impl<O: Offset> Model for ByteBuilder<O> {
-    ghost use Rattle.flat_arrays_byte_columns.specs.ByteStrings.{ByteStrings, byte_strings, byte_strings_code};
+    ghost use Rattle.flat_arrays_bytes.specs.ByteStrings.{ByteStrings, byte_strings, byte_strings_code};
     ghost use Rattle.flat_arrays_byte_values_builders.specs.Growing.{IsFilled};
 
     ghost Value = { ByteStrings };
@@ -242,7 +242,7 @@ impl<O: Offset> ByteBuilder<O> {
     }
 
     /// The stored byte string at a place, also where the slot is null.
-    #[tactic(auto, using(flat_arrays_byte_columns::proofs::Places::value_between))]
+    #[tactic(auto, using(flat_arrays_bytes::proofs::Places::value_between))]
     pub fn value(&self, index: usize) -> &[u8]
         requires { index < len_of self.now }
         ensures { slice_get (values_of self.now) index ≡ Some result.now }
@@ -252,7 +252,7 @@ impl<O: Offset> ByteBuilder<O> {
     }
 
     /// Whether the slot at a place has a value.
-    #[tactic(auto, using(flat_arrays_byte_columns::proofs::Slots::marks_all))]
+    #[tactic(auto, using(flat_arrays_bytes::proofs::Slots::marks_all))]
     pub fn is_valid(&self, index: usize) -> bool
         requires { index < len_of self.now }
         ensures { slice_get (marks_of self.now) index ≡ Some result }

@@ -1,17 +1,17 @@
 //! Builders of byte strings that take over the slots of another, or another mask.
 ghost use Rattle.std.specs.Prelude.{◌≡◌, ◌+◌, ◌<◌, ◌≤◌, ◌↔◌, ◌++◌, Bool, IsTrue, List, None, MatchResult, length, if◌then◌else◌};
 ghost use Rattle.std.specs.Option.{ForSome};
-ghost use Rattle.columnar_memory.specs.Error.{IsOutOfMemory};
-ghost use Rattle.columnar_memory.specs.Spans.{last_of};
-ghost use Rattle.flat_arrays_byte_columns.specs.ByteStrings.{cut_mask, len_of, marks, with_mask};
-ghost use Rattle.flat_arrays_byte_columns.specs.Fits.{IsMaskOf};
-ghost use Rattle.flat_arrays_masks.specs.Growth.{with_marks};
-ghost use Rattle.flat_arrays_values.specs.Results.{AppliesTo};
+ghost use Rattle.flat_arrays_bytes.specs.columnar_memory.Error.{IsOutOfMemory};
+ghost use Rattle.flat_arrays_bytes.specs.columnar_memory.Spans.{last_of};
+ghost use Rattle.flat_arrays_bytes.specs.ByteStrings.{cut_mask, len_of, marks, with_mask};
+ghost use Rattle.flat_arrays_bytes.specs.Fits.{IsMaskOf};
+ghost use Rattle.flat_arrays_bytes.specs.values.Growth.{with_marks};
+ghost use Rattle.flat_arrays_bytes.specs.values.Results.{AppliesTo};
 ghost use Rattle.flat_arrays_byte_values_builders.specs.Growing.{Grows, IsFilled, joined};
 
 use crate::builder::{ByteBuilder, end_of};
-use columnar_memory::{Error, MutableBitmap, Offset, Offsets, Result};
-use flat_arrays_masks::{apply_to_mask, extend_marks, truncate_mask};
+use flat_arrays_bytes::columnar_memory::{Error, MutableBitmap, Offset, Offsets, Result};
+use flat_arrays_bytes::values::marks::{apply_to_mask, extend_marks, truncate_mask};
 
 /// Where the first span begins, as a number.
 fn start_of<O: Offset>(offsets: &Offsets<O>) -> usize

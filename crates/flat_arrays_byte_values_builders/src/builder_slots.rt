@@ -1,10 +1,10 @@
 //! The slots of builders of byte strings.
 ghost use Rattle.std.specs.Prelude.{◌≡◌, ◌<◌, ◌↔◌, IsTrue, Some, slice_get};
 ghost use Rattle.std.specs.Option.{option_copied};
-ghost use Rattle.flat_arrays_byte_columns.specs.ByteStrings.{len_of, slots_of};
+ghost use Rattle.flat_arrays_bytes.specs.ByteStrings.{len_of, slots_of};
 
 use crate::builder::ByteBuilder;
-use columnar_memory::Offset;
+use flat_arrays_bytes::columnar_memory::Offset;
 
 /// Whether two slots are both null or hold the same bytes.
 fn is_same_slot(a: Option<&[u8]>, b: Option<&[u8]>) -> bool

@@ -13,5 +13,7 @@ mod utf8_values_extend;
 
 pub use binary_values::{MutableBinaryValuesArray, MutableBinaryValuesIter};
 pub use builder::{ByteBuilder, Parts, binary_layout_of, text_layout_of};
+pub use flat_arrays_bytes as bytes;
+pub use flat_arrays_bytes::{columnar_memory, values};
 pub use laws::{a_push_adds_one_slot, joined_slots_stand_behind_the_others};
 pub use utf8_values::{MutableUtf8ValuesArray, MutableUtf8ValuesIter};

@@ -1,18 +1,17 @@
 ghost use Rattle.std.specs.Prelude.{◌≡◌, ◌<◌, None, Some, slice_get, [], true, option_map, IfErr};
 ghost use Rattle.std.specs.String.{string_bytes};
-ghost use Rattle.columnar_memory.specs.Error.{IsOutOfMemory};
-ghost use Rattle.columnar_memory.specs.Layouts.{physical_type};
-ghost use Rattle.columnar_memory.specs.Results.{OrOutOfMemory};
-ghost use Rattle.columnar_memory.specs.Spans.{no_spans};
-ghost use Rattle.flat_arrays_byte_columns.specs.ByteStrings.{byte_strings, len_of, values_of};
-ghost use Rattle.flat_arrays_byte_columns.specs.Fits.{IsText, text_layout, text_type};
-ghost use Rattle.flat_arrays_byte_columns.specs.Texts.{AllTexts};
+ghost use Rattle.flat_arrays_bytes.specs.columnar_memory.Error.{IsOutOfMemory};
+ghost use Rattle.flat_arrays_bytes.specs.columnar_memory.Layouts.{physical_type};
+ghost use Rattle.flat_arrays_bytes.specs.columnar_memory.Results.{OrOutOfMemory};
+ghost use Rattle.flat_arrays_bytes.specs.columnar_memory.Spans.{no_spans};
+ghost use Rattle.flat_arrays_bytes.specs.ByteStrings.{byte_strings, len_of, values_of};
+ghost use Rattle.flat_arrays_bytes.specs.Fits.{IsText, text_layout, text_type};
+ghost use Rattle.flat_arrays_bytes.specs.Texts.{AllTexts};
 ghost use Rattle.flat_arrays_byte_values_builders.specs.Growing.{Grows, IsTaken, IsValues, OrUnchanged, Pops, pushed};
 
 use crate::builder::{ByteBuilder, text_layout_of};
-use columnar_memory::{DataType, Error, Offset, Offsets, Result};
-use flat_arrays_byte_columns::TextValuesIter;
-use flat_arrays_bytes::Utf8Array;
+use flat_arrays_bytes::columnar_memory::{DataType, Error, Offset, Offsets, Result};
+use flat_arrays_bytes::{TextValuesIter, Utf8Array};
 use std::alloc::Global;
 use std::marker::Model;
 use std::ops::Deref;
@@ -31,10 +30,10 @@ pub struct MutableUtf8ValuesArray<O: Offset> {
 
 impl<O: Offset> Model for MutableUtf8ValuesArray<O> {
     ghost use Rattle.std.specs.Prelude.{◌≡◌, None};
-    ghost use Rattle.flat_arrays_byte_columns.specs.ByteStrings.{ByteStrings, byte_strings_code, values_of};
-    ghost use Rattle.columnar_memory.specs.Layouts.{physical_type};
-    ghost use Rattle.flat_arrays_byte_columns.specs.Fits.{text_layout};
-    ghost use Rattle.flat_arrays_byte_columns.specs.Texts.{AllTexts};
+    ghost use Rattle.flat_arrays_bytes.specs.ByteStrings.{ByteStrings, byte_strings_code, values_of};
+    ghost use Rattle.flat_arrays_bytes.specs.columnar_memory.Layouts.{physical_type};
+    ghost use Rattle.flat_arrays_bytes.specs.Fits.{text_layout};
+    ghost use Rattle.flat_arrays_bytes.specs.Texts.{AllTexts};
 
     ghost Value = { ByteStrings };
 
@@ -104,7 +103,7 @@ impl<O: Offset> MutableUtf8ValuesArray<O> {
     }
 
     /// The stored text at a place.
-    #[tactic(auto, using(flat_arrays_byte_columns::proofs::Places::text_among))]
+    #[tactic(auto, using(flat_arrays_bytes::proofs::Places::text_among))]
     pub fn value(&self, index: usize) -> &str
         requires { index < len_of self.now }
         ensures { slice_get (values_of self.now) index ≡ Some result.now }

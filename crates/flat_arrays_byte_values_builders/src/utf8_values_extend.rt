@@ -1,13 +1,13 @@
 //! Texts added to builders many at once, and builders made of many.
 ghost use Rattle.std.specs.Prelude.{None, Some, [], map};
 ghost use Rattle.std.specs.Iterator.{IsFinite};
-ghost use Rattle.columnar_memory.specs.Spans.{no_spans};
-ghost use Rattle.flat_arrays_byte_columns.specs.ByteStrings.{byte_strings};
-ghost use Rattle.flat_arrays_byte_columns.specs.Fits.{text_type};
+ghost use Rattle.flat_arrays_bytes.specs.columnar_memory.Spans.{no_spans};
+ghost use Rattle.flat_arrays_bytes.specs.ByteStrings.{byte_strings};
+ghost use Rattle.flat_arrays_bytes.specs.Fits.{text_type};
 ghost use Rattle.flat_arrays_byte_values_builders.specs.Growing.{GathersAlong, Grows, GrowsAlong, IsGathered, joined};
 
 use crate::MutableUtf8ValuesArray;
-use columnar_memory::{Offset, Result};
+use flat_arrays_bytes::columnar_memory::{Offset, Result};
 use std::alloc::Global;
 use std::convert::AsStr;
 

@@ -12,16 +12,16 @@ use Rattle.std.specs.Iterator.Runs.{EachRunFrom, IsCopiedRun, Run, SomeRun, Whol
 use Rattle.std.specs.List.{concat, fold}
 use Rattle.std.specs.Prelude.{◌⊎◌, Option, Result, MatchResult, Some, None, is_some, option_map, if◌then◌else◌, ◌==◌}
 use Rattle.std.specs.Str.{IsUtf8}
-use Rattle.columnar_memory.specs.Bits.{unset_count}
-use Rattle.columnar_memory.specs.Error.{IsOutOfMemory, IsOverflow}
-use Rattle.columnar_memory.specs.Spans.{Spans, extended, last_of}
-use Rattle.columnar_memory_buffer.proofs.Runs.{last_of-extended, sum-cons}
-use Rattle.columnar_memory_schema.specs.declared.data_type.DataType.{DataType}
-use Rattle.columnar_memory_types.specs.declared.error.Error.{Error}
-use Rattle.flat_arrays_byte_columns.specs.ByteStrings.{ByteStrings, byte_strings, cut_by, mask_of, of_slots, of_values, packed, stored_for}
+use Rattle.flat_arrays_values.specs.columnar_memory.Bits.{unset_count}
+use Rattle.flat_arrays_values.specs.columnar_memory.Error.{IsOutOfMemory, IsOverflow}
+use Rattle.flat_arrays_values.specs.columnar_memory.Spans.{Spans, extended, last_of}
+use Rattle.flat_arrays_values.proofs.columnar_memory_lemmas.buffer_lemmas.Runs.{last_of-extended, sum-cons}
+use Rattle.flat_arrays_values.specs.columnar_memory.declared.data_type.DataType.{DataType}
+use Rattle.flat_arrays_values.specs.columnar_memory.declared.error.Error.{Error}
+use Rattle.flat_arrays_bytes.specs.ByteStrings.{ByteStrings, byte_strings, cut_by, mask_of, of_slots, of_values, packed, stored_for}
 use Rattle.flat_arrays_bytes.specs.Collected.{CollectsAlong, IsCollected}
-use Rattle.flat_arrays_byte_columns.specs.Fits.{IsMaskOf}
-use Rattle.flat_arrays_byte_columns.specs.Texts.{AllTexts}
+use Rattle.flat_arrays_bytes.specs.Fits.{IsMaskOf}
+use Rattle.flat_arrays_bytes.specs.Texts.{AllTexts}
 use mathlib.Core.Logic.{inl, inr}
 
 -- these byte strings stand one after another, and the last one ends within the greatest offset

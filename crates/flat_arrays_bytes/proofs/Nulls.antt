@@ -3,12 +3,12 @@ use Rattle.std.proofs.Common.{◌≡◌, ℕ, [], sum, ◌∙◌, sym, arith, ze
 use Rattle.std.proofs.lemmas.List.{length-replicate}
 use Rattle.std.proofs.lemmas.Str.{IsUtf8-nil}
 use Rattle.std.specs.Prelude.{Bool, false, replicate}
-use Rattle.columnar_memory_buffer.proofs.Runs.{sum-cons}
-use Rattle.columnar_memory_schema.specs.Layouts.{physical_type}
-use Rattle.columnar_memory_schema.specs.declared.data_type.DataType.{DataType}
-use Rattle.flat_arrays_byte_columns.specs.ByteStrings.{cut_by, nulls}
-use Rattle.flat_arrays_byte_columns.specs.Fits.{IsText, text_layout}
-use Rattle.flat_arrays_byte_columns.specs.Texts.{AllTexts}
+use Rattle.flat_arrays_values.proofs.columnar_memory_lemmas.buffer_lemmas.Runs.{sum-cons}
+use Rattle.flat_arrays_values.specs.columnar_memory.Layouts.{physical_type}
+use Rattle.flat_arrays_values.specs.columnar_memory.declared.data_type.DataType.{DataType}
+use Rattle.flat_arrays_bytes.specs.ByteStrings.{cut_by, nulls}
+use Rattle.flat_arrays_bytes.specs.Fits.{IsText, text_layout}
+use Rattle.flat_arrays_bytes.specs.Texts.{AllTexts}
 
 sum-zeros : (n : ℕ) → sum (replicate n 0) ≡ 0
 sum-zeros zero = omega arith

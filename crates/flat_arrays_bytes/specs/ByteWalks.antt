@@ -1,11 +1,11 @@
 -- Walks over the slots of an array of byte strings or texts.
 use Rattle.std.specs.Prelude.{◌≡◌, ℕ, Bool, List, MatchOption, ◌==◌, if◌then◌else◌}
-use Rattle.columnar_memory.specs.Bits.{unset_count}
-use Rattle.columnar_memory_bits.specs.declared.zip_validity.ZipValidity.{ZipValidity}
-use Rattle.columnar_memory_bits.specs.declared.zip_validity.ZipValidity.TheVariants.{Required, Optional}
-use Rattle.flat_arrays_access.specs.Walks.{slots_left, IsEven}
-use Rattle.flat_arrays_byte_columns.specs.ByteStrings.{ByteStrings, len_of, slots_of, values_of}
-use Rattle.flat_arrays_byte_columns.specs.Fits.{IsMaskOf}
+use Rattle.flat_arrays_values.specs.columnar_memory.Bits.{unset_count}
+use Rattle.flat_arrays_values.specs.columnar_memory.declared.zip_validity.ZipValidity.{ZipValidity}
+use Rattle.flat_arrays_values.specs.columnar_memory.declared.zip_validity.ZipValidity.TheVariants.{Required, Optional}
+use Rattle.flat_arrays_values.specs.Walks.{slots_left, IsEven}
+use Rattle.flat_arrays_bytes.specs.ByteStrings.{ByteStrings, len_of, slots_of, values_of}
+use Rattle.flat_arrays_bytes.specs.Fits.{IsMaskOf}
 
 -- a walk stands before an array: before its values alone where no mark is false, else beside the marks
 abbrev pub StandsBefore : {T : Type 0} → ByteStrings → ZipValidity T (List (List ℕ)) (List Bool) → Type 0

@@ -1,10 +1,10 @@
 -- What the calls answer that make an array of byte strings or texts of values or of slots.
 use Rattle.std.specs.Prelude.{◌≡◌, ℕ, ◌+◌, ◌<◌, ◌≤◌, ◌⊎◌, List, [], ◌∷◌, ◌++◌, Option, Result, MatchResult, length}
 use Rattle.std.specs.Iterator.Runs.{SomeRun, WholeRun}
-use Rattle.columnar_memory.specs.Error.{IsOutOfMemory, IsOverflow}
-use Rattle.columnar_memory.specs.Spans.{Spans, extended, last_of}
-use Rattle.columnar_memory_types.specs.declared.error.Error.{Error}
-use Rattle.flat_arrays_byte_columns.specs.ByteStrings.{ByteStrings}
+use Rattle.flat_arrays_values.specs.columnar_memory.Error.{IsOutOfMemory, IsOverflow}
+use Rattle.flat_arrays_values.specs.columnar_memory.Spans.{Spans, extended, last_of}
+use Rattle.flat_arrays_values.specs.columnar_memory.declared.error.Error.{Error}
+use Rattle.flat_arrays_bytes.specs.ByteStrings.{ByteStrings}
 
 -- the array, whose last value ends within the greatest offset, or a refusal: it would pass the greatest offset, or memory ran out
 abbrev pub IsCollected : ℕ → ByteStrings → Result ByteStrings Error → Type 0

@@ -1,10 +1,10 @@
 //! Arrays of byte strings and texts as arrays that are read by their places.
 ghost use Rattle.std.specs.Prelude.{◌≡◌, Some, slice_get};
-ghost use Rattle.flat_arrays_byte_columns.specs.ByteStrings.{len_of, values_of};
+ghost use Rattle.flat_arrays_bytes.specs.ByteStrings.{len_of, values_of};
 
 use crate::{BinaryArray, Utf8Array};
-use columnar_memory::Offset;
-use flat_arrays_access::ArrayAccessor;
+use flat_arrays_values::ArrayAccessor;
+use flat_arrays_values::columnar_memory::Offset;
 
 impl<'a, O: Offset> ArrayAccessor for &'a BinaryArray<O> {
     type Item = &'a [u8];

@@ -1,19 +1,19 @@
 ghost use Rattle.std.specs.Prelude.{◌≡◌, ◌+◌, ◌<◌, ◌≤◌, ◌↔◌, IsTrue, Bool, Some};
 ghost use Rattle.std.specs.Prelude.{None, List, MatchOption, not, [], length, slice_get, unwrap_or};
 ghost use Rattle.std.specs.Option.{ForSome, option_copied};
-ghost use Rattle.columnar_memory.specs.Bits.{unset_count};
-ghost use Rattle.columnar_memory.specs.Layouts.{physical_type};
-ghost use Rattle.columnar_memory.specs.Results.{OrOutOfMemory};
-ghost use Rattle.columnar_memory.specs.Spans.{no_spans};
-ghost use Rattle.flat_arrays_byte_columns.specs.ByteStrings.{byte_strings, cut, len_of, marks_of, nulls, slots_of, values_of, with_mask};
+ghost use Rattle.flat_arrays_values.specs.columnar_memory.Bits.{unset_count};
+ghost use Rattle.flat_arrays_values.specs.columnar_memory.Layouts.{physical_type};
+ghost use Rattle.flat_arrays_values.specs.columnar_memory.Results.{OrOutOfMemory};
+ghost use Rattle.flat_arrays_values.specs.columnar_memory.Spans.{no_spans};
+ghost use Rattle.flat_arrays_bytes.specs.ByteStrings.{byte_strings, cut, len_of, marks_of, nulls, slots_of, values_of, with_mask};
 ghost use Rattle.flat_arrays_bytes.specs.ByteWalks.{StandsBefore};
-ghost use Rattle.flat_arrays_byte_columns.specs.Equal.{AreEqual, same_array, same_array-equivalence, same_array-per};
-ghost use Rattle.flat_arrays_byte_columns.specs.Fits.{binary_layout, binary_type, IsBinary, IsChecked, IsMaskOf, KeepsLength};
+ghost use Rattle.flat_arrays_bytes.specs.Equal.{AreEqual, same_array, same_array-equivalence, same_array-per};
+ghost use Rattle.flat_arrays_bytes.specs.Fits.{binary_layout, binary_type, IsBinary, IsChecked, IsMaskOf, KeepsLength};
 
-use columnar_memory::{
+use crate::{ByteColumn, ByteValuesIter};
+use flat_arrays_values::columnar_memory::{
     Bitmap, BitmapIter, Buffer, DataType, Offset, OffsetsBuffer, PhysicalType, Result, ZipValidity,
 };
-use flat_arrays_byte_columns::{ByteColumn, ByteValuesIter};
 use std::alloc::Global;
 use std::marker::Model;
 
@@ -28,8 +28,8 @@ pub struct BinaryArray<O: Offset> {
 }
 
 impl<O: Offset> Model for BinaryArray<O> {
-    ghost use Rattle.flat_arrays_byte_columns.specs.ByteStrings.{ByteStrings, byte_strings_code};
-    ghost use Rattle.flat_arrays_byte_columns.specs.Fits.{IsBinary};
+    ghost use Rattle.flat_arrays_bytes.specs.ByteStrings.{ByteStrings, byte_strings_code};
+    ghost use Rattle.flat_arrays_bytes.specs.Fits.{IsBinary};
 
     ghost Value = { ByteStrings };
 
@@ -181,7 +181,7 @@ impl<O: Offset> BinaryArray<O> {
     }
 
     /// The slot at a place: its byte string, or none where it is null or where there is no such place.
-    #[tactic(auto, using(flat_arrays_byte_columns::proofs::Slots::past_slots))]
+    #[tactic(auto, using(crate::proofs::Slots::past_slots))]
     pub fn get(&self, index: usize) -> Option<&[u8]>
         ensures { option_copied result ≡ unwrap_or (slice_get (slots_of self.now) index) None }
     {

@@ -1,15 +1,15 @@
 //! Arrays of byte strings made of values and of slots.
 ghost use Rattle.std.specs.Prelude.{◌≡◌, ◌≤◌, length, map, option_map};
 ghost use Rattle.std.specs.Iterator.{IsFinite};
-ghost use Rattle.columnar_memory.specs.Results.{OrOutOfMemory};
-ghost use Rattle.columnar_memory.specs.Spans.{last_of};
-ghost use Rattle.flat_arrays_byte_columns.specs.ByteStrings.{byte_strings, of_slots, of_values};
+ghost use Rattle.flat_arrays_values.specs.columnar_memory.Results.{OrOutOfMemory};
+ghost use Rattle.flat_arrays_values.specs.columnar_memory.Spans.{last_of};
+ghost use Rattle.flat_arrays_bytes.specs.ByteStrings.{byte_strings, of_slots, of_values};
 ghost use Rattle.flat_arrays_bytes.specs.Collected.{CollectsAlong, IsCollected};
-ghost use Rattle.flat_arrays_byte_columns.specs.Fits.{IsMaskOf, binary_type};
+ghost use Rattle.flat_arrays_bytes.specs.Fits.{IsMaskOf, binary_type};
 
 use crate::binary::BinaryArray;
 use crate::gather::{push_value, stored_bytes};
-use columnar_memory::{BitGatherer, Bitmap, Buffer, Offset, Offsets, Result};
+use flat_arrays_values::columnar_memory::{BitGatherer, Bitmap, Buffer, Offset, Offsets, Result};
 use std::alloc::Global;
 use std::convert::AsSlice;
 

@@ -2,7 +2,7 @@
 ghost use Rattle.std.specs.Prelude.{◌≡◌};
 
 use crate::{BinaryArray, Utf8Array};
-use columnar_memory::Offset;
+use flat_arrays_values::columnar_memory::Offset;
 use std::alloc::AllocError;
 
 impl<O: Offset> Clone for BinaryArray<O> {

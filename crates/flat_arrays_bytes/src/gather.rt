@@ -3,7 +3,7 @@ ghost use Rattle.std.specs.Prelude.{◌≡◌, option_map, unwrap_or, []};
 ghost use Rattle.std.specs.Str.{IsUtf8};
 ghost use Rattle.flat_arrays_bytes.specs.Collected.{Follows};
 
-use columnar_memory::{Offset, Offsets, Result};
+use flat_arrays_values::columnar_memory::{Offset, Offsets, Result};
 use std::convert::{AsSlice, AsStr};
 
 /// Puts a byte string behind the others.

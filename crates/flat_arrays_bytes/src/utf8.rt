@@ -1,20 +1,20 @@
 ghost use Rattle.std.specs.Prelude.{◌≡◌, ◌+◌, ◌<◌, ◌≤◌, ◌↔◌, IsTrue, Bool, Some};
 ghost use Rattle.std.specs.Prelude.{None, List, MatchOption, not, [], length, slice_get, unwrap_or};
 ghost use Rattle.std.specs.Option.{ForSome, option_copied};
-ghost use Rattle.columnar_memory.specs.Bits.{unset_count};
-ghost use Rattle.columnar_memory.specs.Layouts.{physical_type};
-ghost use Rattle.columnar_memory.specs.Results.{OrOutOfMemory};
-ghost use Rattle.columnar_memory.specs.Spans.{no_spans};
-ghost use Rattle.flat_arrays_byte_columns.specs.ByteStrings.{byte_strings, cut, len_of, marks_of, nulls, slots_of, values_of, with_mask};
+ghost use Rattle.flat_arrays_values.specs.columnar_memory.Bits.{unset_count};
+ghost use Rattle.flat_arrays_values.specs.columnar_memory.Layouts.{physical_type};
+ghost use Rattle.flat_arrays_values.specs.columnar_memory.Results.{OrOutOfMemory};
+ghost use Rattle.flat_arrays_values.specs.columnar_memory.Spans.{no_spans};
+ghost use Rattle.flat_arrays_bytes.specs.ByteStrings.{byte_strings, cut, len_of, marks_of, nulls, slots_of, values_of, with_mask};
 ghost use Rattle.flat_arrays_bytes.specs.ByteWalks.{StandsBefore};
-ghost use Rattle.flat_arrays_byte_columns.specs.Equal.{AreEqual, same_array, same_array-equivalence, same_array-per};
-ghost use Rattle.flat_arrays_byte_columns.specs.Fits.{text_layout, text_type, IsText, IsChecked, IsMaskOf, KeepsLength};
+ghost use Rattle.flat_arrays_bytes.specs.Equal.{AreEqual, same_array, same_array-equivalence, same_array-per};
+ghost use Rattle.flat_arrays_bytes.specs.Fits.{text_layout, text_type, IsText, IsChecked, IsMaskOf, KeepsLength};
 
-use columnar_memory::{
+use crate::{ByteColumn, TextValuesIter, are_texts};
+use flat_arrays_values::columnar_memory::{
     Bitmap, BitmapIter, Buffer, DataType, Error, Offset, OffsetsBuffer, PhysicalType, Result,
     ZipValidity,
 };
-use flat_arrays_byte_columns::{ByteColumn, TextValuesIter, are_texts};
 use std::alloc::Global;
 use std::marker::Model;
 use std::str::from_utf8_unchecked;
@@ -30,8 +30,8 @@ pub struct Utf8Array<O: Offset> {
 }
 
 impl<O: Offset> Model for Utf8Array<O> {
-    ghost use Rattle.flat_arrays_byte_columns.specs.ByteStrings.{ByteStrings, byte_strings_code};
-    ghost use Rattle.flat_arrays_byte_columns.specs.Fits.{IsText};
+    ghost use Rattle.flat_arrays_bytes.specs.ByteStrings.{ByteStrings, byte_strings_code};
+    ghost use Rattle.flat_arrays_bytes.specs.Fits.{IsText};
 
     ghost Value = { ByteStrings };
 
@@ -178,7 +178,7 @@ impl<O: Offset> Utf8Array<O> {
     }
 
     /// The stored text at a place, also where the slot is null.
-    #[tactic(auto, using(flat_arrays_byte_columns::proofs::Places::text_among))]
+    #[tactic(auto, using(crate::proofs::Places::text_among))]
     pub fn value(&self, index: usize) -> &str
         requires { index < len_of self.now }
         ensures { slice_get (values_of self.now) index ≡ Some result.now }
@@ -188,7 +188,7 @@ impl<O: Offset> Utf8Array<O> {
     }
 
     /// The slot at a place: its text, or none where it is null or where there is no such place.
-    #[tactic(auto, using(flat_arrays_byte_columns::proofs::Slots::past_slots))]
+    #[tactic(auto, using(crate::proofs::Slots::past_slots))]
     pub fn get(&self, index: usize) -> Option<&str>
         ensures { option_copied result ≡ unwrap_or (slice_get (slots_of self.now) index) None }
     {

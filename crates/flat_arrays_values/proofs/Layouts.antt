@@ -1,19 +1,19 @@
 -- The layout of the plainest types.
 use Rattle.std.proofs.Common.{◌≡◌}
 use denote.Hole.Carrier
-use Rattle.columnar_memory_types.specs.declared.kinds.PhysicalType.{PhysicalType}
-use Rattle.columnar_memory_types.specs.declared.kinds.PhysicalType.TheVariants as layouts
-use Rattle.columnar_memory_types.specs.declared.kinds.PrimitiveType.{PrimitiveType}
-use Rattle.columnar_memory_types.specs.declared.kinds.PrimitiveType.TheVariants as kinds
-use Rattle.columnar_memory_types.specs.declared.units.IntervalUnit.TheVariants as intervals
-use Rattle.columnar_memory_schema.specs.declared.data_type.DataType.{DataType, map-DataType}
-use Rattle.columnar_memory_schema.specs.declared.data_type.Field.{Field}
-use Rattle.columnar_memory_schema.specs.declared.data_type.DataType.TheVariants as types
-use Rattle.columnar_memory_schema.specs.declared.data_type.DataType.TheOpen as layer
-use Rattle.columnar_memory_schema.specs.declared.data_type.DataType.TheViews.{roll-DataType}
-use Rattle.columnar_memory_schema.specs.declared.data_type.DataType.TheFolds.{fold-Field, fold-roll-DataType}
-use Rattle.columnar_memory_schema.specs.Conversions.{type_of_primitive}
-use Rattle.columnar_memory_schema.specs.Layouts.{physical_step, physical_type}
+use Rattle.columnar_memory.specs.declared.kinds.PhysicalType.{PhysicalType}
+use Rattle.columnar_memory.specs.declared.kinds.PhysicalType.TheVariants as layouts
+use Rattle.columnar_memory.specs.declared.kinds.PrimitiveType.{PrimitiveType}
+use Rattle.columnar_memory.specs.declared.kinds.PrimitiveType.TheVariants as kinds
+use Rattle.columnar_memory.specs.declared.units.IntervalUnit.TheVariants as intervals
+use Rattle.columnar_memory.specs.declared.data_type.DataType.{DataType, map-DataType}
+use Rattle.columnar_memory.specs.declared.data_type.Field.{Field}
+use Rattle.columnar_memory.specs.declared.data_type.DataType.TheVariants as types
+use Rattle.columnar_memory.specs.declared.data_type.DataType.TheOpen as layer
+use Rattle.columnar_memory.specs.declared.data_type.DataType.TheViews.{roll-DataType}
+use Rattle.columnar_memory.specs.declared.data_type.DataType.TheFolds.{fold-Field, fold-roll-DataType}
+use Rattle.columnar_memory.specs.Conversions.{type_of_primitive}
+use Rattle.columnar_memory.specs.Layouts.{physical_step, physical_type}
 
 -- how one layer of a type lies in memory
 step : (x : layer.DataType-F DataType Field) → physical_type (roll-DataType x) ≡ physical_step (map-DataType DataType Field PhysicalType (Unit {0})

@@ -1,5 +1,9 @@
+pub mod WalkSlots
 pub mod Cuts
 pub mod Layouts
-pub mod Marks
+pub mod MarkPlaces
 pub mod SameSlots
 pub mod Walks
+pub mod Added
+pub mod Marked
+pub use Rattle.columnar_memory.proofs as columnar_memory_lemmas

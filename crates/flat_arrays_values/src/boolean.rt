@@ -140,7 +140,7 @@ impl BooleanArray {
     }
 
     /// The slot at a place: its value, or none where it is null or where there is no such place.
-    #[tactic(auto, using(crate::proofs::Marks::past_slots))]
+    #[tactic(auto, using(crate::proofs::MarkPlaces::past_slots))]
     pub fn get(&self, i: usize) -> Option<bool>
         ensures { result ≡ unwrap_or (slice_get (slots_of self.now) i) None }
     {
@@ -148,7 +148,7 @@ impl BooleanArray {
     }
 
     /// The slot at a place that there is: its value, or none where it is null.
-    #[tactic(auto, using(crate::proofs::Marks::slot_lemmas))]
+    #[tactic(auto, using(crate::proofs::MarkPlaces::slot_lemmas))]
     pub(crate) fn slot(&self, i: usize) -> Option<bool>
         requires { i < length self.now.values }
         ensures { slice_get (slots_of self.now) i ≡ Some result }

@@ -17,7 +17,7 @@ impl<T: NativeType> PrimitiveArray<T> {
     }
 
     /// The slots in order: a reference to the value, or none where the slot is null.
-    #[tactic(auto, using(crate::proofs::Marks::mask_lemmas))]
+    #[tactic(auto, using(crate::proofs::MarkPlaces::mask_lemmas))]
     pub fn iter(&self) -> ZipValidity<&T, Iter<'_, T>, BitmapIter<'_>>
         ensures { StandsBefore iter_rest (λ bits. bits) self.now result }
     {
@@ -46,7 +46,7 @@ impl BooleanArray {
     }
 
     /// The slots in order: the value, or none where the slot is null.
-    #[tactic(auto, using(crate::proofs::Marks::mask_lemmas))]
+    #[tactic(auto, using(crate::proofs::MarkPlaces::mask_lemmas))]
     pub fn iter(&self) -> ZipValidity<bool, BitmapIter<'_>, BitmapIter<'_>>
         ensures { StandsBefore (λ values. values) (λ bits. bits) self.now result }
     {

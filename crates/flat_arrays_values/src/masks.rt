@@ -20,7 +20,7 @@ pub fn is_mask_of(validity: &Option<Bitmap>, len: usize) -> bool
 }
 
 /// The mark at a place.
-#[tactic(auto, using(crate::proofs::Marks::mask_lemmas))]
+#[tactic(auto, using(crate::proofs::MarkPlaces::mask_lemmas))]
 pub fn mark_at(validity: &Option<Bitmap>, i: usize) -> bool
     requires { ForSome validity.now (λ mask. i < length mask) }
     ensures { (n : ℕ) → i < n → slice_get (marks n validity.now) i ≡ Some result }
@@ -32,7 +32,7 @@ pub fn mark_at(validity: &Option<Bitmap>, i: usize) -> bool
 }
 
 /// How many marks are false.
-#[tactic(auto, using(crate::proofs::Marks::mask_lemmas))]
+#[tactic(auto, using(crate::proofs::MarkPlaces::mask_lemmas))]
 pub fn unset_marks(validity: &Option<Bitmap>) -> usize
     ensures { (n : ℕ) → result ≡ unset_count (marks n validity.now) }
 {
@@ -43,7 +43,7 @@ pub fn unset_marks(validity: &Option<Bitmap>) -> usize
 }
 
 /// Narrows a mask, if there is one, to the `count` marks from `offset` on.
-#[tactic(auto, using(crate::proofs::Marks::windows))]
+#[tactic(auto, using(crate::proofs::MarkPlaces::windows))]
 pub fn slice_mask(validity: &mut Option<Bitmap>, offset: usize, count: usize)
     requires { ForSome validity.old (λ mask. offset + count ≤ length mask) }
     ensures { validity.new ≡ cut_mask validity.old offset count }
@@ -68,7 +68,7 @@ pub fn mask_from(bits: MutableBitmap) -> Result<Option<Bitmap>>
 }
 
 /// Replaces a mask, if there is one, by what a function gives for it, which has as many marks.
-#[tactic(auto, using(crate::proofs::Marks::applied))]
+#[tactic(auto, using(crate::proofs::MarkPlaces::applied))]
 pub fn apply_to_mask<F: FnOnce(Bitmap) -> Bitmap + Drop>(validity: &mut Option<Bitmap>, f: F)
     requires callable { ForSome validity.old (F.pre f) }
     requires keeps { ForSome validity.old (λ mask. (made : List Bool) → F.post f mask made → length made ≡ length mask) }

@@ -144,7 +144,7 @@ impl<T: NativeType> PrimitiveArray<T> {
     }
 
     /// The slot at a place: its value, or none where it is null or where there is no such place.
-    #[tactic(auto, using(crate::proofs::Marks::past_slots))]
+    #[tactic(auto, using(crate::proofs::MarkPlaces::past_slots))]
     pub fn get(&self, i: usize) -> Option<T>
         ensures { result ≡ unwrap_or (slice_get (slots_of self.now) i) None }
     {
@@ -152,7 +152,7 @@ impl<T: NativeType> PrimitiveArray<T> {
     }
 
     /// The slot at a place that there is: its value, or none where it is null.
-    #[tactic(auto, using(crate::proofs::Marks::slot_lemmas))]
+    #[tactic(auto, using(crate::proofs::MarkPlaces::slot_lemmas))]
     pub(crate) fn slot(&self, i: usize) -> Option<T>
         requires { i < length self.now.values }
         ensures { slice_get (slots_of self.now) i ≡ Some result }

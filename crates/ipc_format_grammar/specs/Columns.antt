@@ -9,7 +9,7 @@ use Rattle.std.specs.List.{list_all}
 use Rattle.std.specs.Str.{is_utf8}
 use Rattle.std.specs.Int.{Width, w8, w32, w64, byte_len}
 use Rattle.ipc_format_flatbuffers.specs.Reading.{◌>>=◌, guard, window_at}
-use Rattle.columnar_memory_schema.specs.Equality.{same_type}
+use Rattle.columnar_memory_types.specs.Equality.{same_type}
 use Rattle.columnar_memory.specs.declared.DataType.{DataType}
 use Rattle.columnar_memory.specs.declared.DataType.TheOpen as layer
 use Rattle.columnar_memory.specs.declared.DataType.TheFolds.{para-DataType}

@@ -24,3 +24,6 @@ pub mod WrittenMessages
 pub mod WrittenStreams
 pub mod WrittenFiles
 pub mod Seals
+pub use Rattle.ipc_format_flatbuffers.specs as flatbuffers
+pub use Rattle.nested_arrays_columns.specs as columns
+pub use Rattle.columnar_memory.specs as columnar_memory

@@ -3,3 +3,7 @@
 //!
 //! It has definitions for contracts, and no code.
 #![tactic(auto)]
+
+pub use columnar_memory;
+pub use ipc_format_flatbuffers as flatbuffers;
+pub use nested_arrays_columns as columns;

@@ -2,9 +2,9 @@
 use Rattle.std.proofs.Common.{◌≡◌, ◌∙◌, ℕ, suc, ◌+◌, ◌-◌, ◌*◌, ◌≤◌, ◌<◌, ◌^◌, List, true, refl, sym, ap, arith, zero-add, add-zero, rules, nat_lt}
 use Rattle.std.specs.Prelude.{Option, Some, None}
 use Rattle.std.specs.Option.{option_map}
-use Rattle.ipc_format_flatbuffers.specs.Reading.{◌>>=◌}
-use Rattle.ipc_format_flatbuffers.specs.FlatBuffers.{Vector}
-use Rattle.ipc_format_grammar.specs.Messages.{Pair, pair_at, struct_at, natural, lengths_from, lengths_sum}
+use Rattle.ipc_format_metadata.specs.flatbuffers.Reading.{◌>>=◌}
+use Rattle.ipc_format_metadata.specs.flatbuffers.FlatBuffers.{Vector}
+use Rattle.ipc_format_metadata.specs.grammar.Messages.{Pair, pair_at, struct_at, natural, lengths_from, lengths_sum}
 use Rattle.ipc_format_messages.specs.BufferLengths.{length_at, IsNoneOrLong}
 
 -- what m buffers state together, from buffer k on

@@ -1,8 +1,8 @@
 -- How many bytes the buffers of a batch state.
 use Rattle.std.specs.Prelude.{◌≡◌, ℕ, List, Option, ◌≤◌, ◌^◌, Some}
-use Rattle.ipc_format_flatbuffers.specs.Reading.{◌>>=◌}
-use Rattle.ipc_format_flatbuffers.specs.FlatBuffers.{Vector}
-use Rattle.ipc_format_grammar.specs.Messages.{struct_at, natural}
+use Rattle.ipc_format_metadata.specs.flatbuffers.Reading.{◌>>=◌}
+use Rattle.ipc_format_metadata.specs.flatbuffers.FlatBuffers.{Vector}
+use Rattle.ipc_format_metadata.specs.grammar.Messages.{struct_at, natural}
 
 -- how many bytes buffer k states; a negative number is none
 unfoldable pub length_at : List ℕ → Vector → ℕ → Option ℕ

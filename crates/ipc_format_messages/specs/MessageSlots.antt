@@ -3,12 +3,12 @@
 use Rattle.std.specs.Prelude.{ℕ, ◌+◌, ◌*◌, ℤ, pos, Bool, List, Option, Some, None, nat_lt, if◌then◌else◌}
 use Rattle.std.specs.Option.{option_map}
 use Rattle.std.specs.Int.{w8, w16, w32, w64}
-use Rattle.ipc_format_flatbuffers.specs.Reading.{◌>>=◌}
-use Rattle.ipc_format_flatbuffers.specs.FlatBuffers.{Table, Vector, signed_at, number_field, signed_field, truth_field, table_field}
-use Rattle.ipc_format_flatbuffers.specs.FlatBuffers.{vector_field, root_of}
-use Rattle.ipc_format_grammar.specs.Messages as format
-use Rattle.ipc_format_grammar.specs.Messages.{Version, version_of}
-use Rattle.ipc_format_grammar.specs.SlotNumbers as slots
+use Rattle.ipc_format_metadata.specs.flatbuffers.Reading.{◌>>=◌}
+use Rattle.ipc_format_metadata.specs.flatbuffers.FlatBuffers.{Table, Vector, signed_at, number_field, signed_field, truth_field, table_field}
+use Rattle.ipc_format_metadata.specs.flatbuffers.FlatBuffers.{vector_field, root_of}
+use Rattle.ipc_format_metadata.specs.grammar.Messages as format
+use Rattle.ipc_format_metadata.specs.grammar.Messages.{Version, version_of}
+use Rattle.ipc_format_metadata.specs.grammar.SlotNumbers as slots
 
 -- a table of a message, with the message's bytes
 pub record TableIn : Type 0 where

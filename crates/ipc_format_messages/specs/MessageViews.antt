@@ -1,6 +1,6 @@
 -- The values of the code as the definitions of the format have them.
-use Rattle.ipc_format_flatbuffers.specs.Views.{table_of, vector_of}
-use Rattle.ipc_format_grammar.specs.Messages as format
+use Rattle.ipc_format_metadata.specs.flatbuffers.Views.{table_of, vector_of}
+use Rattle.ipc_format_metadata.specs.grammar.Messages as format
 use Rattle.ipc_format_messages.specs.MessageSlots.{TableIn, VectorIn, HeaderIn, BlockIn}
 use Rattle.ipc_format_messages.specs.declared.tables.TableRef.{TableRef}
 use Rattle.ipc_format_messages.specs.declared.messages.MessageRef.{MessageRef}

@@ -1,6 +1,6 @@
 -- Views of schemas and of what stands in them, as the definitions of their slots have them.
 use Rattle.std.specs.Prelude.{Bool, true, false}
-use Rattle.ipc_format_flatbuffers.specs.Views.{vector_of}
+use Rattle.ipc_format_metadata.specs.flatbuffers.Views.{vector_of}
 use Rattle.ipc_format_messages.specs.MessageSlots.{TableIn, VectorIn}
 use Rattle.ipc_format_messages.specs.MessageViews.{table_view}
 use Rattle.ipc_format_messages.specs.declared.vectors.TablesRef.{TablesRef}

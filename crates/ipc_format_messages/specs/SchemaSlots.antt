@@ -1,11 +1,11 @@
 -- What the slots of schemas, fields and what stands beside them give, each by itself (Schema.fbs).
 use Rattle.std.specs.Prelude.{ℕ, ℤ, pos, Bool, List, Option, Some, None, nat_lt, if◌then◌else◌}
 use Rattle.std.specs.Int.{w16, w32}
-use Rattle.ipc_format_flatbuffers.specs.Reading.{◌>>=◌}
-use Rattle.ipc_format_flatbuffers.specs.FlatBuffers.{signed_field, truth_field, string_field, element_at}
-use Rattle.ipc_format_grammar.specs.Schemas.{is_little_of}
+use Rattle.ipc_format_metadata.specs.flatbuffers.Reading.{◌>>=◌}
+use Rattle.ipc_format_metadata.specs.flatbuffers.FlatBuffers.{signed_field, truth_field, string_field, element_at}
+use Rattle.ipc_format_metadata.specs.grammar.Schemas.{is_little_of}
 use Rattle.ipc_format_messages.specs.MessageSlots.{TableIn, VectorIn, table_in, vector_in, long_in}
-use Rattle.ipc_format_grammar.specs.SlotNumbers as slots
+use Rattle.ipc_format_metadata.specs.grammar.SlotNumbers as slots
 
 -- a text, if it is there
 abbrev pub text_in : TableIn → ℕ → Option (Option (List ℕ))

@@ -1,6 +1,6 @@
 -- Views of types, as the definitions of their slots have them.
 use Rattle.std.specs.Prelude.{Bool, true, false}
-use Rattle.ipc_format_grammar.specs.Types as kind
+use Rattle.ipc_format_metadata.specs.grammar.Types as kind
 use Rattle.ipc_format_messages.specs.MessageViews.{table_view}
 use Rattle.ipc_format_messages.specs.TypeSlots.{TypeIn}
 use Rattle.ipc_format_messages.specs.declared.types.DateUnit.{DateUnit}

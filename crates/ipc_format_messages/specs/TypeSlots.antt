@@ -1,17 +1,17 @@
 -- What the slots of a field's type and of the types' tables give, each by itself (Schema.fbs, union Type and its tables).
 use Rattle.std.specs.Prelude.{ℕ, zero, suc, ℤ, pos, Bool, true, false, List, Option, Some, None}
 use Rattle.std.specs.Int.{w8, w16, w32}
-use Rattle.columnar_memory.specs.declared.TimeUnit.{TimeUnit}
-use Rattle.columnar_memory.specs.declared.UnionMode.{UnionMode}
-use Rattle.columnar_memory.specs.declared.IntervalUnit.{IntervalUnit}
-use Rattle.columnar_memory.specs.declared.IntervalUnit.TheVariants as intervals
-use Rattle.ipc_format_flatbuffers.specs.Reading.{◌>>=◌}
-use Rattle.ipc_format_flatbuffers.specs.FlatBuffers.{number_field, signed_field}
-use Rattle.ipc_format_grammar.specs.Types.{Tag, tag_of, mode_of}
+use Rattle.ipc_format_metadata.specs.columnar_memory.declared.TimeUnit.{TimeUnit}
+use Rattle.ipc_format_metadata.specs.columnar_memory.declared.UnionMode.{UnionMode}
+use Rattle.ipc_format_metadata.specs.columnar_memory.declared.IntervalUnit.{IntervalUnit}
+use Rattle.ipc_format_metadata.specs.columnar_memory.declared.IntervalUnit.TheVariants as intervals
+use Rattle.ipc_format_metadata.specs.flatbuffers.Reading.{◌>>=◌}
+use Rattle.ipc_format_metadata.specs.flatbuffers.FlatBuffers.{number_field, signed_field}
+use Rattle.ipc_format_metadata.specs.grammar.Types.{Tag, tag_of, mode_of}
 use Rattle.ipc_format_metadata.specs.Leaves.{unit_in}
 use Rattle.ipc_format_messages.specs.MessageSlots.{TableIn, table_in}
 use Rattle.ipc_format_messages.specs.SchemaSlots.{text_in, truth_in}
-use Rattle.ipc_format_grammar.specs.SlotNumbers as slots
+use Rattle.ipc_format_metadata.specs.grammar.SlotNumbers as slots
 
 -- a type: its kind, and its own table
 pub record TypeIn : Type 0 where

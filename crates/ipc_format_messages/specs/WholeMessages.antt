@@ -1,7 +1,7 @@
 -- Messages and batches that are read whole, as the grammar has them.
 use Rattle.std.specs.Prelude.{◌≡◌, ℕ, List}
-use Rattle.ipc_format_flatbuffers.specs.Views.{table_of, vector_of}
-use Rattle.ipc_format_grammar.specs.Messages as format
+use Rattle.ipc_format_metadata.specs.flatbuffers.Views.{table_of, vector_of}
+use Rattle.ipc_format_metadata.specs.grammar.Messages as format
 use Rattle.ipc_format_messages.specs.MessageViews.{kind_view, header_view}
 use Rattle.ipc_format_messages.specs.declared.reading.MessageParts.{MessageParts}
 use Rattle.ipc_format_messages.specs.declared.reading.RecordBatchParts.{RecordBatchParts}

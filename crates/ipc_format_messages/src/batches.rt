@@ -8,8 +8,8 @@ ghost use Rattle.ipc_format_messages.specs.MessageViews.{table_view, nodes_view,
 use crate::error::Error;
 use crate::tables::TableRef;
 use crate::vectors::{BuffersRef, FieldNodesRef};
-use ipc_format_slots::sizes::PAIR_SIZE;
-use ipc_format_slots::slots::{
+use ipc_format_metadata::sizes::PAIR_SIZE;
+use ipc_format_metadata::slots::{
     DICTIONARY_BATCH_DATA, DICTIONARY_BATCH_ID, DICTIONARY_BATCH_IS_DELTA, RECORD_BATCH_BUFFERS,
     RECORD_BATCH_COMPRESSION, RECORD_BATCH_LENGTH, RECORD_BATCH_NODES,
 };

@@ -1,7 +1,7 @@
 ghost use Rattle.std.specs.Prelude.{codes};
 ghost use Rattle.ipc_format_metadata.specs.Names.{IsNamed};
 
-use columnar_memory::Error as MemoryError;
+use ipc_format_metadata::columnar_memory::Error as MemoryError;
 
 /// Why a view does not answer.
 #[derive(Clone, Copy, Debug, PartialEq, Eq)]

@@ -12,7 +12,7 @@ use crate::error::Error;
 use crate::schemas::{FieldsRef, KeyValuesRef};
 use crate::tables::TableRef;
 use crate::types::{TypeRef, type_of};
-use ipc_format_slots::slots::{
+use ipc_format_metadata::slots::{
     DICTIONARY_ENCODING_ID, DICTIONARY_ENCODING_INDEX_TYPE, DICTIONARY_ENCODING_IS_ORDERED,
     FIELD_CHILDREN, FIELD_CUSTOM_METADATA, FIELD_DICTIONARY, FIELD_NAME, FIELD_NULLABLE,
     FIELD_TYPE, FIELD_TYPE_TYPE, INT_BIT_WIDTH, INT_IS_SIGNED, KEY_VALUE_KEY, KEY_VALUE_VALUE,

@@ -10,8 +10,8 @@ use crate::schemas::SchemaRef;
 use crate::tables::TableRef;
 use crate::values::{MetadataVersion, version_of};
 use crate::vectors::BlocksRef;
-use ipc_format_slots::sizes::BLOCK_SIZE;
-use ipc_format_slots::slots::{
+use ipc_format_metadata::sizes::BLOCK_SIZE;
+use ipc_format_metadata::slots::{
     FOOTER_DICTIONARIES, FOOTER_RECORD_BATCHES, FOOTER_SCHEMA, FOOTER_VERSION,
 };
 

@@ -21,6 +21,8 @@ pub use batches::{BodyCompressionRef, DictionaryBatchRef, RecordBatchRef};
 pub use error::Error;
 pub use fields::{DictionaryEncodingRef, FieldRef, IntRef, KeyValueRef};
 pub use footer::FooterRef;
+pub use ipc_format_metadata as metadata;
+pub use ipc_format_metadata::{columnar_memory, columns, flatbuffers, grammar};
 pub use messages::{MessageHeaderRef, MessageRef};
 pub use reading::{
     DictionaryBatchParts, MessageParts, RecordBatchParts, dictionary_batch_in, message_in,

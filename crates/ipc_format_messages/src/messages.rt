@@ -10,10 +10,12 @@ use crate::error::Error;
 use crate::schemas::SchemaRef;
 use crate::tables::TableRef;
 use crate::values::{MetadataVersion, version_of};
-use ipc_format_slots::slots::{
+use ipc_format_metadata::slots::{
     MESSAGE_BODY_LENGTH, MESSAGE_HEADER, MESSAGE_HEADER_TYPE, MESSAGE_VERSION,
 };
-use ipc_format_slots::tags::{DICTIONARY_BATCH_HEADER, RECORD_BATCH_HEADER, SCHEMA_HEADER};
+use ipc_format_metadata::tag_numbers::{
+    DICTIONARY_BATCH_HEADER, RECORD_BATCH_HEADER, SCHEMA_HEADER,
+};
 
 /// A message's metadata (Message.fbs, `Message`).
 #[derive(Clone, Copy, Debug)]

@@ -3,8 +3,8 @@
 //! Each function gives `None` exactly where the bytes break a rule of the format there.
 ghost use Rattle.std.specs.Prelude.{◌≡◌, IfSome};
 ghost use Rattle.std.specs.Option.{option_map};
-ghost use Rattle.ipc_format_flatbuffers.specs.Views.{table_of};
-ghost use Rattle.ipc_format_grammar.specs.Messages as format;
+ghost use Rattle.ipc_format_metadata.specs.flatbuffers.Views.{table_of};
+ghost use Rattle.ipc_format_metadata.specs.grammar.Messages as format;
 ghost use Rattle.ipc_format_messages.specs.WholeMessages.{message_parts_view, batch_parts_view, dictionary_parts_view, StandsIn};
 ghost use Rattle.ipc_format_messages.specs.MessageViews.{version_view};
 
@@ -13,11 +13,11 @@ use crate::messages::{MessageHeaderRef, header_of};
 use crate::tables::TableRef;
 use crate::values::{MetadataVersion, version_of};
 use crate::vectors::{BuffersRef, FieldNodesRef};
-use ipc_format_flatbuffers::{
+use ipc_format_metadata::flatbuffers::{
     i16_field, i64_field, root_of, table_field, truth_field, u8_field, vector_field,
 };
-use ipc_format_slots::sizes::PAIR_SIZE;
-use ipc_format_slots::slots::{
+use ipc_format_metadata::sizes::PAIR_SIZE;
+use ipc_format_metadata::slots::{
     DICTIONARY_BATCH_DATA, DICTIONARY_BATCH_ID, DICTIONARY_BATCH_IS_DELTA, MESSAGE_BODY_LENGTH,
     MESSAGE_HEADER, MESSAGE_HEADER_TYPE, MESSAGE_VERSION, RECORD_BATCH_BUFFERS,
     RECORD_BATCH_COMPRESSION, RECORD_BATCH_NODES,
@@ -49,7 +49,7 @@ pub struct DictionaryBatchParts<'a> {
 
 /// The message of some metadata. A header of another kind than a schema or a batch is refused. A schema has no body, and what its message
 /// states of one is not looked at.
-#[tactic(auto, unfolding(ipc_format_grammar::specs::Messages::message_in))]
+#[tactic(auto, unfolding(crate::proofs::Passed::message_in))]
 pub fn message_in(bytes: &[u8]) -> Option<MessageParts<'_>>
     ensures value { option_map message_parts_view result ≡ format.message_in bytes.now }
     ensures stands { IfSome result (StandsIn bytes.now) }
@@ -71,7 +71,7 @@ pub fn message_in(bytes: &[u8]) -> Option<MessageParts<'_>>
 }
 
 /// The version that a message's metadata states.
-#[tactic(auto, unfolding(ipc_format_grammar::specs::Messages::version_in))]
+#[tactic(auto, unfolding(crate::proofs::Passed::version_in))]
 pub fn version_in(bytes: &[u8]) -> Option<MetadataVersion>
     ensures { option_map version_view result ≡ format.version_in bytes.now }
 {
@@ -81,7 +81,7 @@ pub fn version_in(bytes: &[u8]) -> Option<MetadataVersion>
 }
 
 /// The parts of a record batch. Its vectors of nodes and buffers must both be there.
-#[tactic(auto, unfolding(ipc_format_grammar::specs::Messages::record_batch_in))]
+#[tactic(auto, unfolding(crate::proofs::Passed::record_batch_in))]
 pub fn record_batch_in<'a>(batch: &RecordBatchRef<'a>) -> Option<RecordBatchParts<'a>>
     ensures value { option_map batch_parts_view result ≡ format.record_batch_in batch.now.table.bytes.now (table_of batch.now.table.place) }
     ensures nodes { IfSome result (λ parts. parts.nodes.bytes.now ≡ batch.now.table.bytes.now) }
@@ -105,7 +105,7 @@ pub fn record_batch_in<'a>(batch: &RecordBatchRef<'a>) -> Option<RecordBatchPart
 }
 
 /// The parts of a dictionary batch. Its values must be there.
-#[tactic(auto, unfolding(ipc_format_grammar::specs::Messages::dictionary_batch_in))]
+#[tactic(auto, unfolding(crate::proofs::Passed::dictionary_batch_in))]
 pub fn dictionary_batch_in<'a>(batch: &DictionaryBatchRef<'a>) -> Option<DictionaryBatchParts<'a>>
     ensures value { option_map dictionary_parts_view result
         ≡ format.dictionary_batch_in batch.now.table.bytes.now (table_of batch.now.table.place) }

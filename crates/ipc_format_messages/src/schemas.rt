@@ -2,7 +2,7 @@
 ghost use Rattle.std.specs.Prelude.{◌≡◌};
 ghost use Rattle.std.specs.Option.{option_map};
 ghost use Rattle.std.specs.Result.{result_ok};
-ghost use Rattle.ipc_format_grammar.specs.Schemas as format;
+ghost use Rattle.ipc_format_metadata.specs.grammar.Schemas as format;
 ghost use Rattle.ipc_format_messages.specs.MessageViews.{table_view};
 ghost use Rattle.ipc_format_messages.specs.SchemaRefs.{is_little, fields_view, pairs_view, field_view, pair_view};
 ghost use Rattle.ipc_format_messages.specs.SchemaSlots as slots;
@@ -11,7 +11,7 @@ use crate::error::Error;
 use crate::fields::{FieldRef, KeyValueRef};
 use crate::tables::TableRef;
 use crate::vectors::TablesRef;
-use ipc_format_slots::slots::{SCHEMA_CUSTOM_METADATA, SCHEMA_ENDIANNESS, SCHEMA_FIELDS};
+use ipc_format_metadata::slots::{SCHEMA_CUSTOM_METADATA, SCHEMA_ENDIANNESS, SCHEMA_FIELDS};
 
 /// A schema's table (Schema.fbs, `Schema`).
 #[derive(Clone, Copy, Debug)]

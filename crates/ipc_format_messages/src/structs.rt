@@ -1,15 +1,15 @@
 //! The structs of vectors: nodes and buffers of a record batch, blocks of a footer (Message.fbs, File.fbs).
 ghost use Rattle.std.specs.Prelude.{◌≡◌, ◌↔◌, IsTrue, MatchOption, Some};
 ghost use Rattle.std.specs.Option.{option_map};
-ghost use Rattle.ipc_format_flatbuffers.specs.Views.{vector_of};
-ghost use Rattle.ipc_format_grammar.specs.Messages as format;
+ghost use Rattle.ipc_format_metadata.specs.flatbuffers.Views.{vector_of};
+ghost use Rattle.ipc_format_metadata.specs.grammar.Messages as format;
 ghost use Rattle.ipc_format_messages.specs.BufferLengths.{length_at, IsNoneOrLong};
 ghost use Rattle.ipc_format_messages.specs.MessageSlots as slots;
 ghost use Rattle.ipc_format_messages.specs.MessageViews.{node_view, buffer_view, block_view};
 
 use crate::values::{Block, Buffer, FieldNode};
 use crate::vectors::{BlocksRef, BuffersRef, FieldNodesRef};
-use ipc_format_flatbuffers::{i32_at, i64_at};
+use ipc_format_metadata::flatbuffers::{i32_at, i64_at};
 
 impl<'a> FieldNodesRef<'a> {
     /// How many nodes there are.
@@ -27,7 +27,7 @@ impl<'a> FieldNodesRef<'a> {
     }
 
     /// Node `k`, where there are so many.
-    #[tactic(auto, unfolding(ipc_format_grammar::specs::Messages::struct_at, ipc_format_grammar::specs::Messages::pair_at))]
+    #[tactic(auto, unfolding(crate::proofs::Passed::struct_at, crate::proofs::Passed::pair_at))]
     pub fn get(&self, k: usize) -> Option<FieldNode>
         ensures { option_map node_view result ≡ format.struct_at self.now.bytes.now (vector_of self.now.vector) k }
     {
@@ -57,7 +57,7 @@ impl<'a> BuffersRef<'a> {
     }
 
     /// Buffer `k`, where there are so many.
-    #[tactic(auto, unfolding(ipc_format_grammar::specs::Messages::struct_at, ipc_format_grammar::specs::Messages::pair_at))]
+    #[tactic(auto, unfolding(crate::proofs::Passed::struct_at, crate::proofs::Passed::pair_at))]
     pub fn get(&self, k: usize) -> Option<Buffer>
         ensures { option_map buffer_view result ≡ format.struct_at self.now.bytes.now (vector_of self.now.vector) k }
     {

@@ -3,8 +3,8 @@ ghost use Rattle.std.specs.Prelude.{◌≡◌, ◌↔◌, IsTrue, ◌+◌, ◌*�
 ghost use Rattle.std.specs.Option.{option_map, option_copied};
 ghost use Rattle.std.specs.Result.{result_ok};
 ghost use Rattle.std.specs.Int.{w8, w16, w32, w64};
-ghost use Rattle.ipc_format_flatbuffers.specs.FlatBuffers as format;
-ghost use Rattle.ipc_format_flatbuffers.specs.Views.{table_of, vector_of};
+ghost use Rattle.ipc_format_metadata.specs.flatbuffers.FlatBuffers as format;
+ghost use Rattle.ipc_format_metadata.specs.flatbuffers.Views.{table_of, vector_of};
 ghost use Rattle.ipc_format_messages.specs.MessageSlots as slots;
 ghost use Rattle.ipc_format_messages.specs.MessageViews.{table_view};
 ghost use Rattle.ipc_format_messages.specs.SchemaSlots as schema_slots;
@@ -12,11 +12,11 @@ ghost use Rattle.ipc_format_messages.specs.SchemaRefs.{tables_view};
 
 use crate::error::Error;
 use crate::vectors::TablesRef;
-use ipc_format_flatbuffers::{
+use ipc_format_metadata::flatbuffers::{
     Table, Vector, element_at, i16_field, i32_field, i64_field, root_of, string_field, table_field,
     truth_field, u8_field, vector_field,
 };
-use ipc_format_slots::sizes::REFERENCE_SIZE;
+use ipc_format_metadata::sizes::REFERENCE_SIZE;
 
 /// A table of a message, with the message's bytes.
 #[derive(Clone, Copy, Debug)]

@@ -9,13 +9,13 @@ ghost use Rattle.ipc_format_messages.specs.TypeSlots as slots;
 use crate::error::Error;
 use crate::fields::IntRef;
 use crate::tables::TableRef;
-use columnar_memory::{IntervalUnit, TimeUnit, UnionMode};
-use ipc_format_flatbuffers::{i16_field, i32_field};
-use ipc_format_metadata::{Tag, mode_of, tag_of, unit_in};
-use ipc_format_slots::slots::{
+use ipc_format_metadata::columnar_memory::{IntervalUnit, TimeUnit, UnionMode};
+use ipc_format_metadata::flatbuffers::{i16_field, i32_field};
+use ipc_format_metadata::slots::{
     DECIMAL_BIT_WIDTH, DECIMAL_PRECISION, DECIMAL_SCALE, FIXED_SIZE, MAP_KEYS_SORTED,
     TIME_BIT_WIDTH, TIMESTAMP_TIMEZONE, UNION_MODE, UNIT,
 };
+use ipc_format_metadata::{Tag, mode_of, tag_of, unit_in};
 
 /// A field's type, by its own table (Schema.fbs, union `Type`). A table without slots that are looked at stands by itself.
 #[derive(Clone, Copy, Debug)]

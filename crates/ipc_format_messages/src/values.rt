@@ -1,7 +1,7 @@
 //! The values that messages and footers hold (Schema.fbs, Message.fbs, File.fbs).
 ghost use Rattle.std.specs.Prelude.{◌≡◌};
 ghost use Rattle.std.specs.Option.{option_map};
-ghost use Rattle.ipc_format_grammar.specs.Messages as format;
+ghost use Rattle.ipc_format_metadata.specs.grammar.Messages as format;
 ghost use Rattle.ipc_format_messages.specs.MessageViews.{version_view};
 
 /// A version of Arrow's metadata (Schema.fbs, `MetadataVersion`).

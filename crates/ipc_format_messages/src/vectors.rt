@@ -1,7 +1,7 @@
 //! Where vectors of structs and of tables stand in a message.
 ghost use Rattle.std.specs.Prelude.{◌+◌, ◌*◌, ◌≤◌, length};
 
-use ipc_format_flatbuffers::Vector;
+use ipc_format_metadata::flatbuffers::Vector;
 
 /// The nodes of a record batch, in pre-order of its columns.
 #[derive(Clone, Copy, Debug)]

@@ -1,8 +1,8 @@
 -- A field, case by case.
 use Rattle.std.proofs.Common.{◌≡◌, ◌∙◌, ℕ, zero, suc, ◌-◌, ◌≢◌, List, Bool, refl, ap, arith}
 use Rattle.std.specs.Prelude.{Some, None}
-use Rattle.ipc_format_flatbuffers.specs.Reading.{◌>>=◌}
-use Rattle.ipc_format_flatbuffers.specs.FlatBuffers.{Table}
+use Rattle.ipc_format_grammar.specs.flatbuffers.Reading.{◌>>=◌}
+use Rattle.ipc_format_grammar.specs.flatbuffers.FlatBuffers.{Table}
 use Rattle.ipc_format_grammar.specs.Schemas.{field_in}
 use Rattle.ipc_format_metadata.specs.Steps.{type_found, head_in, completed}
 use Rattle.ipc_format_metadata.proofs.FieldSteps.{field-by}

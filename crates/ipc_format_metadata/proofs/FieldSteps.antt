@@ -2,8 +2,8 @@
 use Rattle.std.proofs.Common.{◌≡◌, ◌∙◌, ℕ, zero, suc, List, Bool, refl}
 use Rattle.std.specs.Prelude.{Option, Some, None}
 use Rattle.std.specs.Int.{w8}
-use Rattle.ipc_format_flatbuffers.specs.Reading.{◌>>=◌}
-use Rattle.ipc_format_flatbuffers.specs.FlatBuffers.{Table, number_field, truth_field, table_field, string_field}
+use Rattle.ipc_format_grammar.specs.flatbuffers.Reading.{◌>>=◌}
+use Rattle.ipc_format_grammar.specs.flatbuffers.FlatBuffers.{Table, number_field, truth_field, table_field, string_field}
 use Rattle.ipc_format_grammar.specs.Types.{tag_of}
 use Rattle.ipc_format_grammar.specs.Schemas.{type_in, field_in}
 use Rattle.ipc_format_metadata.specs.Steps.{type_found, head_in, completed}

@@ -1,8 +1,8 @@
 -- Pairs of custom metadata, one after another.
 use Rattle.std.proofs.Common.{◌≡◌, ◌∙◌, ℕ, suc, ◌+◌, ◌-◌, ◌<◌, List, [], refl, ap, arith}
 use Rattle.std.specs.Prelude.{Option, Some, None}
-use Rattle.ipc_format_flatbuffers.specs.Reading.{◌>>=◌}
-use Rattle.ipc_format_flatbuffers.specs.FlatBuffers.{Table, Vector, element_at, string_field, vector_field}
+use Rattle.ipc_format_grammar.specs.flatbuffers.Reading.{◌>>=◌}
+use Rattle.ipc_format_grammar.specs.flatbuffers.FlatBuffers.{Table, Vector, element_at, string_field, vector_field}
 use Rattle.ipc_format_grammar.specs.Schemas.{with_found, pairs_from, metadata_in}
 use Rattle.ipc_format_metadata.specs.Parts.{pair_in}
 

@@ -3,8 +3,8 @@ use Rattle.std.proofs.Common.{◌≡◌, ◌∙◌, ℕ, suc, ◌+◌, ◌-◌, 
 use Rattle.std.proofs.lemmas.List.{append-nil}
 use Rattle.std.specs.Prelude.{Option, Some, None, ℤ}
 use Rattle.std.specs.Int.{w32}
-use Rattle.ipc_format_flatbuffers.specs.Reading.{◌>>=◌}
-use Rattle.ipc_format_flatbuffers.specs.FlatBuffers.{signed_at}
+use Rattle.ipc_format_grammar.specs.flatbuffers.Reading.{◌>>=◌}
+use Rattle.ipc_format_grammar.specs.flatbuffers.FlatBuffers.{signed_at}
 use Rattle.ipc_format_grammar.specs.Types.{numbers_from}
 use Rattle.ipc_format_metadata.proofs.Options.{bind-some}
 

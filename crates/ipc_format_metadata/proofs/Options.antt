@@ -1,8 +1,8 @@
 -- Reading one thing after another.
 use Rattle.std.proofs.Common.{◌≡◌, ◌∙◌, refl, ap}
 use Rattle.std.specs.Prelude.{Option, Some, None, Result, Ok, Err}
-use Rattle.columnar_memory.specs.declared.Error.{Error}
-use Rattle.columnar_memory.specs.declared.Error.TheVariants.{
+use Rattle.ipc_format_grammar.specs.columnar_memory.declared.Error.{Error}
+use Rattle.ipc_format_grammar.specs.columnar_memory.declared.Error.TheVariants.{
   NotYetImplemented,
   InvalidArgumentError,
   ExternalFormat,
@@ -12,7 +12,7 @@ use Rattle.columnar_memory.specs.declared.Error.TheVariants.{
   Overflow,
   OutOfMemory,
 }
-use Rattle.ipc_format_flatbuffers.specs.Reading.{◌>>=◌}
+use Rattle.ipc_format_grammar.specs.flatbuffers.Reading.{◌>>=◌}
 use Rattle.ipc_format_metadata.specs.Reading.{Refuses, Reads}
 
 pub bind-some : {A : Type 0} (o : Option A) → (o >>= (λ x. Some x)) ≡ o

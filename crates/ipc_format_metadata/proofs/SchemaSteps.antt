@@ -2,9 +2,9 @@
 use Rattle.std.proofs.Common.{◌≡◌, ◌∙◌, ◌≢◌, ℕ, zero, suc, List, Bool, true, false, refl, length}
 use Rattle.std.specs.Prelude.{Option, Some, None, ℤ, pos}
 use Rattle.std.specs.Int.{w8, w16}
-use Rattle.columnar_memory.specs.declared.Error.{Error}
-use Rattle.ipc_format_flatbuffers.specs.Reading.{◌>>=◌, guard}
-use Rattle.ipc_format_flatbuffers.specs.FlatBuffers.{Table, Vector, signed_field, number_field, table_field, vector_field, element_at, root_of}
+use Rattle.ipc_format_grammar.specs.columnar_memory.declared.Error.{Error}
+use Rattle.ipc_format_grammar.specs.flatbuffers.Reading.{◌>>=◌, guard}
+use Rattle.ipc_format_grammar.specs.flatbuffers.FlatBuffers.{Table, Vector, signed_field, number_field, table_field, vector_field, element_at, root_of}
 use Rattle.ipc_format_grammar.specs.Messages as message
 use Rattle.ipc_format_grammar.specs.Schemas.{FieldIn, SchemaIn, field_in, each_of, metadata_in, any_schema_in, is_little_of, fields_of, ids_of}
 use Rattle.ipc_format_grammar.specs.SchemaGrammar.{schema_in}

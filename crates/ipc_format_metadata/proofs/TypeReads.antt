@@ -2,10 +2,10 @@
 use Rattle.std.proofs.Common.{◌≡◌, ◌∙◌, ℕ, zero, suc, ◌<◌, List, [], ◌∷◌, true, refl, sym, ap, arith}
 use Rattle.std.proofs.lemmas.Bool.{lt-ltb, le-leb}
 use Rattle.std.specs.Prelude.{Option, Some, None, IsSomeAnd, nat_lt, nat_le}
-use Rattle.columnar_memory.specs.declared.DataType.{DataType}
-use Rattle.columnar_memory.specs.declared.Field.{Field}
-use Rattle.ipc_format_flatbuffers.specs.Reading.{◌>>=◌, guard}
-use Rattle.ipc_format_flatbuffers.specs.FlatBuffers.{Table, Vector, table_field, vector_field, element_at}
+use Rattle.ipc_format_grammar.specs.columnar_memory.declared.DataType.{DataType}
+use Rattle.ipc_format_grammar.specs.columnar_memory.declared.Field.{Field}
+use Rattle.ipc_format_grammar.specs.flatbuffers.Reading.{◌>>=◌, guard}
+use Rattle.ipc_format_grammar.specs.flatbuffers.FlatBuffers.{Table, Vector, table_field, vector_field, element_at}
 use Rattle.ipc_format_grammar.specs.Schemas.{FieldIn, Visits, no_ids}
 use Rattle.ipc_format_grammar.specs.Refusals.{field_at_path, IsFloat}
 use Rattle.ipc_format_metadata.specs.Parts.{Layer, flat, over, over_all}

@@ -2,11 +2,11 @@
 use Rattle.std.proofs.Common.{◌≡◌, ◌∙◌, ℕ, List, Bool, refl, sym}
 use Rattle.std.specs.Prelude.{Option, Some, None, pos, nat_le}
 use Rattle.std.specs.Int.{w8, w16, w32}
-use Rattle.columnar_memory.specs.declared.DataType.{DataType}
-use Rattle.columnar_memory.specs.declared.DataType.TheVariants as types
-use Rattle.columnar_memory.specs.declared.Field.{Field}
-use Rattle.ipc_format_flatbuffers.specs.Reading.{◌>>=◌, guard}
-use Rattle.ipc_format_flatbuffers.specs.FlatBuffers.{Table, Vector, number_field, signed_field, truth_field, table_field, vector_field, element_at}
+use Rattle.ipc_format_grammar.specs.columnar_memory.declared.DataType.{DataType}
+use Rattle.ipc_format_grammar.specs.columnar_memory.declared.DataType.TheVariants as types
+use Rattle.ipc_format_grammar.specs.columnar_memory.declared.Field.{Field}
+use Rattle.ipc_format_grammar.specs.flatbuffers.Reading.{◌>>=◌, guard}
+use Rattle.ipc_format_grammar.specs.flatbuffers.FlatBuffers.{Table, Vector, number_field, signed_field, truth_field, table_field, vector_field, element_at}
 use Rattle.ipc_format_grammar.specs.Types as kind
 use Rattle.ipc_format_grammar.specs.Types.{
   Tag,

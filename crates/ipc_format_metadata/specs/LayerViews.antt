@@ -1,5 +1,5 @@
 -- The layers of types as the definitions have them.
-use Rattle.columnar_memory.specs.declared.DataType.TheVariants as types
+use Rattle.ipc_format_grammar.specs.columnar_memory.declared.DataType.TheVariants as types
 use Rattle.ipc_format_grammar.specs.Types as format
 use Rattle.ipc_format_metadata.specs.declared.layers.Layer.{Layer}
 use Rattle.ipc_format_metadata.specs.declared.layers.Layer.TheVariants as layers
@@ -8,8 +8,8 @@ use Rattle.ipc_format_metadata.specs.declared.layers.OverField.TheVariants as on
 use Rattle.ipc_format_metadata.specs.declared.layers.OverFields.{OverFields}
 use Rattle.ipc_format_metadata.specs.declared.layers.OverFields.TheVariants as some
 use Rattle.ipc_format_metadata.specs.declared.layers.UnionTable.{UnionTable}
-use Rattle.columnar_memory.specs.declared.DataType.{DataType}
-use Rattle.columnar_memory.specs.declared.Field.{Field}
+use Rattle.ipc_format_grammar.specs.columnar_memory.declared.DataType.{DataType}
+use Rattle.ipc_format_grammar.specs.columnar_memory.declared.Field.{Field}
 use Rattle.std.specs.Prelude.{List}
 use Rattle.ipc_format_metadata.specs.Parts as parts
 

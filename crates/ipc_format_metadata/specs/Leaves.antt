@@ -1,10 +1,10 @@
 -- The types without fields below them, each by its own table.
 use Rattle.std.specs.Prelude.{ℕ, pos, List, Option}
 use Rattle.std.specs.Int.{w16, w32}
-use Rattle.columnar_memory.specs.declared.DataType.{DataType}
-use Rattle.columnar_memory.specs.declared.TimeUnit.{TimeUnit}
-use Rattle.ipc_format_flatbuffers.specs.Reading.{◌>>=◌}
-use Rattle.ipc_format_flatbuffers.specs.FlatBuffers.{Table, signed_field}
+use Rattle.ipc_format_grammar.specs.columnar_memory.declared.DataType.{DataType}
+use Rattle.ipc_format_grammar.specs.columnar_memory.declared.TimeUnit.{TimeUnit}
+use Rattle.ipc_format_grammar.specs.flatbuffers.Reading.{◌>>=◌}
+use Rattle.ipc_format_grammar.specs.flatbuffers.FlatBuffers.{Table, signed_field}
 use Rattle.ipc_format_grammar.specs.Types.{date_of, interval_of, time_unit_of, size_of}
 use Rattle.ipc_format_grammar.specs.SlotNumbers as slots
 

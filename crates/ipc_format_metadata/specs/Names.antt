@@ -1,7 +1,7 @@
 -- The names of the kinds of broken rules.
 use Rattle.std.specs.Prelude.{◌≡◌, ℕ, List, codes}
-use Rattle.columnar_memory.specs.declared.Error.{Error}
-use Rattle.columnar_memory.specs.declared.Error.TheVariants.{OutOfSpec}
+use Rattle.ipc_format_grammar.specs.columnar_memory.declared.Error.{Error}
+use Rattle.ipc_format_grammar.specs.columnar_memory.declared.Error.TheVariants.{OutOfSpec}
 use Rattle.ipc_format_metadata.specs.declared.out_of_spec.OutOfSpecKind.{OutOfSpecKind}
 use Rattle.ipc_format_metadata.specs.declared.out_of_spec.OutOfSpecKind.TheVariants as kinds
 

@@ -1,12 +1,12 @@
 -- The parts of a schema's metadata in the order in which they are read.
 use Rattle.std.specs.Prelude.{ℕ, ℤ, pos, Bool, true, false, List, Option, Some, None}
 use Rattle.std.specs.Int.{w64}
-use Rattle.columnar_memory.specs.declared.DataType.{DataType}
-use Rattle.columnar_memory.specs.declared.DataType.TheVariants as types
-use Rattle.columnar_memory.specs.declared.Field.{Field}
-use Rattle.columnar_memory.specs.declared.IntegerType.{IntegerType}
-use Rattle.ipc_format_flatbuffers.specs.Reading.{◌>>=◌}
-use Rattle.ipc_format_flatbuffers.specs.FlatBuffers.{Table, Vector, signed_field, truth_field, table_field, string_field, element_at}
+use Rattle.ipc_format_grammar.specs.columnar_memory.declared.DataType.{DataType}
+use Rattle.ipc_format_grammar.specs.columnar_memory.declared.DataType.TheVariants as types
+use Rattle.ipc_format_grammar.specs.columnar_memory.declared.Field.{Field}
+use Rattle.ipc_format_grammar.specs.columnar_memory.declared.IntegerType.{IntegerType}
+use Rattle.ipc_format_grammar.specs.flatbuffers.Reading.{◌>>=◌}
+use Rattle.ipc_format_grammar.specs.flatbuffers.FlatBuffers.{Table, Vector, signed_field, truth_field, table_field, string_field, element_at}
 use Rattle.ipc_format_grammar.specs.Types as kind
 use Rattle.ipc_format_grammar.specs.Types.{Tag, tag_of, integer_in, type_of_integer, decimal_in, time_in, timestamp_in, union_in}
 use Rattle.ipc_format_metadata.specs.Leaves.{date_in, interval_in, unit_in, size_in}

@@ -1,7 +1,7 @@
 -- What is read, against what the format gives.
 use Rattle.std.specs.Prelude.{◌≡◌, Option, Some, None, Result, Ok, Err}
-use Rattle.columnar_memory.specs.declared.Error.{Error}
-use Rattle.columnar_memory.specs.declared.Error.TheVariants.{NotYetImplemented, OutOfSpec, OutOfMemory}
+use Rattle.ipc_format_grammar.specs.columnar_memory.declared.Error.{Error}
+use Rattle.ipc_format_grammar.specs.columnar_memory.declared.Error.TheVariants.{NotYetImplemented, OutOfSpec, OutOfMemory}
 
 -- Nothing is given: the bytes break a rule of the format, or what isn't read stands in them. Memory may run out anywhere.
 abbrev pub Refuses : {A : Type 0} → Type 0 → Error → Option A → Type 0

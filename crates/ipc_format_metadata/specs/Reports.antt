@@ -1,7 +1,7 @@
 -- The reports of types, whose counts stop at one more than the most.
 use Rattle.std.specs.Prelude.{ℕ, ◌+◌, min, max, Bool, ◌&&◌, ◌==◌, if◌then◌else◌}
-use Rattle.columnar_memory.specs.declared.DataType.TheFolds.{fold-Field}
-use Rattle.columnar_memory.specs.declared.Field.{Field}
+use Rattle.ipc_format_grammar.specs.columnar_memory.declared.DataType.TheFolds.{fold-Field}
+use Rattle.ipc_format_grammar.specs.columnar_memory.declared.Field.{Field}
 use Rattle.ipc_format_grammar.specs.Writable as writable
 use Rattle.ipc_format_grammar.specs.Writable.{Report, report_step, field_step}
 use Rattle.ipc_format_metadata.specs.declared.writable.Shape as shapes

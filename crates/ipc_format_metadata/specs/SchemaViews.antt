@@ -1,6 +1,6 @@
 -- A schema as it is read, as the definitions have it.
 use Rattle.ipc_format_grammar.specs.Schemas as format
-use Rattle.columnar_memory.specs.declared.Schema.{Schema}
+use Rattle.ipc_format_grammar.specs.columnar_memory.declared.Schema.{Schema}
 use Rattle.ipc_format_metadata.specs.declared.ipc_schema.IpcSchema.{IpcSchema}
 use Rattle.ipc_format_metadata.specs.Views.{ids_views}
 

@@ -1,6 +1,6 @@
 ghost use Rattle.std.specs.Prelude.{◌≡◌, IfOk};
 
-use columnar_memory_content::Items;
+use ipc_format_grammar::columnar_memory::Items;
 use std::alloc::AllocError;
 
 /// The dictionary ids beside a field (Schema.fbs, `DictionaryEncoding`).

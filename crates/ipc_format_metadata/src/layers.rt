@@ -3,21 +3,21 @@ ghost use Rattle.std.specs.Prelude.{◌≡◌, IfOk, true, ◌+◌, ◌*◌, ◌
 ghost use Rattle.std.specs.Option.{option_map};
 ghost use Rattle.ipc_format_grammar.specs.Types as kinds;
 ghost use Rattle.ipc_format_grammar.specs.Types.{numbers_from};
-ghost use Rattle.ipc_format_flatbuffers.specs.Views.{table_of, vector_of};
+ghost use Rattle.ipc_format_grammar.specs.flatbuffers.Views.{table_of, vector_of};
 ghost use Rattle.ipc_format_metadata.specs.Views.{tag_view};
 ghost use Rattle.ipc_format_metadata.specs.LayerViews.{layer_view, union_view};
 ghost use Rattle.ipc_format_metadata.specs.Parts as parts;
 
+use crate::sizes::I32_SIZE;
+use crate::slots::{MAP_KEYS_SORTED, TIMESTAMP_TIMEZONE, UNION_MODE, UNION_TYPE_IDS};
 use crate::tags::Tag;
 use crate::types::{
     date_in, decimal_in, integer_in, interval_in, mode_of, size_in, time_in, unit_in,
 };
-use columnar_memory::{DataType, IntegerType, Items, Text, UnionMode};
-use ipc_format_flatbuffers::{
+use ipc_format_grammar::columnar_memory::{DataType, IntegerType, Items, Text, UnionMode};
+use ipc_format_grammar::flatbuffers::{
     Table, Vector, i16_field, i32_at, string_field, truth_field, vector_field,
 };
-use ipc_format_slots::sizes::I32_SIZE;
-use ipc_format_slots::slots::{MAP_KEYS_SORTED, TIMESTAMP_TIMEZONE, UNION_MODE, UNION_TYPE_IDS};
 use std::alloc::{AllocError, Global};
 
 /// A type but for the fields below it.

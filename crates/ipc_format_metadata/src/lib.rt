@@ -7,10 +7,15 @@ mod messages;
 mod out_of_spec;
 mod pairs;
 mod schemas;
+pub mod sizes;
+pub mod slots;
+pub mod tag_numbers;
 mod tags;
 mod types;
 mod writable;
 
+pub use ipc_format_grammar as grammar;
+pub use ipc_format_grammar::{columnar_memory, columns, flatbuffers};
 pub use ipc_schema::{IpcField, IpcSchema};
 pub use messages::{
     MOST_LEVELS, any_schema_in, deserialize_schema, deserialize_schema_counted, schema_in,

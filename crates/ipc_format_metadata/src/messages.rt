@@ -3,7 +3,7 @@ ghost use Rattle.std.specs.Prelude.{◌≡◌, IfOk, IfSome, IsSomeAnd, ◌+◌,
 ghost use Rattle.std.specs.Option.{option_map};
 ghost use Rattle.ipc_format_grammar.specs.Schemas as format;
 ghost use Rattle.ipc_format_grammar.specs.SchemaGrammar as grammar;
-ghost use Rattle.ipc_format_flatbuffers.specs.Views.{table_of, vector_of};
+ghost use Rattle.ipc_format_grammar.specs.flatbuffers.Views.{table_of, vector_of};
 ghost use Rattle.ipc_format_metadata.specs.Reading.{Reads};
 ghost use Rattle.ipc_format_metadata.specs.SchemaViews.{schema_view};
 ghost use Rattle.ipc_format_metadata.specs.Steps as steps;
@@ -12,16 +12,16 @@ use crate::ipc_schema::IpcSchema;
 use crate::out_of_spec::OutOfSpecKind;
 use crate::pairs::metadata_in;
 use crate::schemas::each_in;
-use crate::writable::can_write;
-use columnar_memory::{Error, Result, Schema, Steps};
-use ipc_format_flatbuffers::{
-    Table, Vector, i16_field, root_of, table_field, u8_field, vector_field,
-};
-use ipc_format_slots::sizes::REFERENCE_SIZE;
-use ipc_format_slots::slots::{
+use crate::sizes::REFERENCE_SIZE;
+use crate::slots::{
     MESSAGE_HEADER, MESSAGE_HEADER_TYPE, SCHEMA_CUSTOM_METADATA, SCHEMA_ENDIANNESS, SCHEMA_FIELDS,
 };
-use ipc_format_slots::tags::SCHEMA_HEADER;
+use crate::tag_numbers::SCHEMA_HEADER;
+use crate::writable::can_write;
+use ipc_format_grammar::columnar_memory::{Error, Result, Schema, Steps};
+use ipc_format_grammar::flatbuffers::{
+    Table, Vector, i16_field, root_of, table_field, u8_field, vector_field,
+};
 use std::alloc::Global;
 
 /// So many levels deep may fields nest.

@@ -1,7 +1,7 @@
 ghost use Rattle.std.specs.Prelude.{◌≡◌};
 ghost use Rattle.ipc_format_metadata.specs.Names.{IsOutOfSpecBy, name_of};
 
-use columnar_memory::Error;
+use ipc_format_grammar::columnar_memory::Error;
 
 /// Why bytes break a rule of the Arrow IPC format.
 #[derive(Clone, Copy, Debug, PartialEq, Eq)]

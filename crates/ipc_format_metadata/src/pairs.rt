@@ -2,21 +2,23 @@
 ghost use Rattle.std.specs.Prelude.{◌≡◌, IfOk, OnOk, ◌<◌, ◌+◌, ◌*◌, ◌≤◌, length};
 ghost use Rattle.std.specs.Option.{option_map, option_copied};
 ghost use Rattle.ipc_format_grammar.specs.Schemas as format;
-ghost use Rattle.ipc_format_flatbuffers.specs.Views.{table_of, vector_of};
+ghost use Rattle.ipc_format_grammar.specs.flatbuffers.Views.{table_of, vector_of};
 ghost use Rattle.ipc_format_metadata.specs.Reading.{Reads};
 ghost use Rattle.ipc_format_metadata.specs.FieldViews.{encoding_view, encoded_view};
 ghost use Rattle.ipc_format_metadata.specs.Parts as parts;
 
 use crate::out_of_spec::OutOfSpecKind;
-use crate::types::integer_in;
-use columnar_memory::{Boxed, DataType, Error, IntegerType, Metadata, Result, Text, get_extension};
-use ipc_format_flatbuffers::{
-    Table, Vector, element_at, i64_field, string_field, table_field, truth_field, vector_field,
-};
-use ipc_format_slots::sizes::REFERENCE_SIZE;
-use ipc_format_slots::slots::{
+use crate::sizes::REFERENCE_SIZE;
+use crate::slots::{
     DICTIONARY_ENCODING_ID, DICTIONARY_ENCODING_INDEX_TYPE, DICTIONARY_ENCODING_IS_ORDERED,
     KEY_VALUE_KEY, KEY_VALUE_VALUE,
+};
+use crate::types::integer_in;
+use ipc_format_grammar::columnar_memory::{
+    Boxed, DataType, Error, IntegerType, Metadata, Result, Text, get_extension,
+};
+use ipc_format_grammar::flatbuffers::{
+    Table, Vector, element_at, i64_field, string_field, table_field, truth_field, vector_field,
 };
 use std::alloc::{AllocError, Global};
 use std::result;

@@ -3,7 +3,7 @@ ghost use Rattle.std.specs.Prelude.{◌≡◌, ◌↔◌, IsTrue, IfOk, IfSome, 
 ghost use Rattle.std.specs.Option.{option_map};
 ghost use Rattle.ipc_format_grammar.specs.Schemas as format;
 ghost use Rattle.ipc_format_grammar.specs.Refusals.{IsFloat};
-ghost use Rattle.ipc_format_flatbuffers.specs.Views.{table_of, vector_of};
+ghost use Rattle.ipc_format_grammar.specs.flatbuffers.Views.{table_of, vector_of};
 ghost use Rattle.ipc_format_metadata.specs.Reading.{Reads};
 ghost use Rattle.ipc_format_metadata.specs.LayerViews.{layer_view, over_field, over_fields};
 ghost use Rattle.ipc_format_metadata.specs.ReadViews.{head_view, field_view, type_view, fields_view};
@@ -13,17 +13,19 @@ use crate::ipc_schema::IpcField;
 use crate::layers::{Layer, OverField, OverFields, layer_of};
 use crate::out_of_spec::OutOfSpecKind;
 use crate::pairs::{encoded_by, extended, metadata_in};
-use crate::tags::tag_of;
-use columnar_memory::{Boxed, DataType, Error, Field, Items, Result, Steps, Text};
-use ipc_format_flatbuffers::{
-    Table, Vector, element_at, string_field, table_field, truth_field, u8_field, vector_field,
-};
-use ipc_format_slots::sizes::REFERENCE_SIZE;
-use ipc_format_slots::slots::{
+use crate::sizes::REFERENCE_SIZE;
+use crate::slots::{
     FIELD_CHILDREN, FIELD_CUSTOM_METADATA, FIELD_DICTIONARY, FIELD_NAME, FIELD_NULLABLE,
     FIELD_TYPE, FIELD_TYPE_TYPE,
 };
-use ipc_format_slots::tags::TYPE_FLOATING_POINT;
+use crate::tag_numbers::TYPE_FLOATING_POINT;
+use crate::tags::tag_of;
+use ipc_format_grammar::columnar_memory::{
+    Boxed, DataType, Error, Field, Items, Result, Steps, Text,
+};
+use ipc_format_grammar::flatbuffers::{
+    Table, Vector, element_at, string_field, table_field, truth_field, u8_field, vector_field,
+};
 use std::alloc::{AllocError, Global};
 use std::result;
 

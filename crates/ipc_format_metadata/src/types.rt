@@ -3,12 +3,14 @@ ghost use Rattle.std.specs.Prelude.{◌≡◌, ◌<◌};
 ghost use Rattle.std.specs.Option.{option_map};
 ghost use Rattle.ipc_format_grammar.specs.Types as kinds;
 ghost use Rattle.ipc_format_grammar.specs.Messages as messages;
-ghost use Rattle.ipc_format_flatbuffers.specs.Views.{table_of};
+ghost use Rattle.ipc_format_grammar.specs.flatbuffers.Views.{table_of};
 ghost use Rattle.ipc_format_metadata.specs.Leaves as leaves;
 
-use columnar_memory::{DataType, IntegerType, IntervalUnit, TimeUnit, UnionMode};
-use ipc_format_flatbuffers::{Table, i16_field, i32_field, truth_field};
-use ipc_format_slots::slots;
+use crate::slots;
+use ipc_format_grammar::columnar_memory::{
+    DataType, IntegerType, IntervalUnit, TimeUnit, UnionMode,
+};
+use ipc_format_grammar::flatbuffers::{Table, i16_field, i32_field, truth_field};
 
 /// The whole numbers of an Int table.
 #[tactic(auto, unfolding(ipc_format_grammar::specs::Types::integer_in))]

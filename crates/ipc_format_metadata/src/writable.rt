@@ -5,7 +5,7 @@ ghost use Rattle.ipc_format_metadata.specs.Reports.{capped, field_report, joined
 ghost use Rattle.std.specs.List.{list_all, list_any};
 ghost use Rattle.std.specs.Ordering.{int_eq};
 
-use columnar_memory::{DataType, Field, Items, Schema, TimeUnit};
+use ipc_format_grammar::columnar_memory::{DataType, Field, Items, Schema, TimeUnit};
 
 /// One level more than fields may nest.
 const TOO_MANY_LEVELS: u8 = 65;

@@ -1,1 +1,8 @@
 pub mod Appending
+pub use Rattle.ipc_format_messages.proofs as messages_lemmas
+pub use Rattle.ipc_format_messages.proofs.columnar_memory_lemmas
+pub use Rattle.ipc_format_messages.proofs.flatbuffers_lemmas
+pub use Rattle.ipc_format_messages.proofs.columns_lemmas
+pub use Rattle.ipc_format_messages.proofs.grammar_lemmas
+pub use Rattle.ipc_format_messages.proofs.metadata_lemmas
+pub mod Passed

@@ -2,7 +2,7 @@
 use Rattle.std.specs.Prelude.{ℕ, ◌<◌, ◌≤◌}
 use Rattle.ipc_format_streams.specs.declared.frames.Frame.{Frame}
 use Rattle.ipc_format_streams.specs.declared.frames.Frame.TheVariants.{Truncated, End, Metadata}
-use Rattle.ipc_format_grammar.specs.Framing as format
+use Rattle.ipc_format_messages.specs.grammar.Framing as format
 use Rattle.ipc_format_messages.specs.MessageViews.{kind_view}
 use Rattle.ipc_format_streams.specs.declared.frames.Framed.{Framed}
 use Rattle.ipc_format_streams.specs.declared.frames.NextMessage.{NextMessage}

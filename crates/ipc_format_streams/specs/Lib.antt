@@ -1,3 +1,9 @@
 pub mod Frames
 pub mod Failures
 pub mod Devices
+pub use Rattle.ipc_format_messages.specs as messages
+pub use Rattle.ipc_format_messages.specs.columnar_memory
+pub use Rattle.ipc_format_messages.specs.flatbuffers
+pub use Rattle.ipc_format_messages.specs.columns
+pub use Rattle.ipc_format_messages.specs.grammar
+pub use Rattle.ipc_format_messages.specs.metadata

@@ -3,11 +3,11 @@
 //! The input stands in memory, so metadata and bodies are windows of it: no memory is asked for by a stated length.
 ghost use Rattle.std.specs.Prelude.{◌≡◌, ◌≢◌, ◌+◌, ◌≤◌, ◌<◌, length, IfSome, negsuc};
 ghost use Rattle.std.specs.Option.{option_map};
-ghost use Rattle.ipc_format_grammar.specs.Framing as format;
+ghost use Rattle.ipc_format_messages.specs.grammar.Framing as format;
 ghost use Rattle.ipc_format_streams.specs.Frames.{ReachesFrom, ReachesBehind, frame_view, framed_view, next_view};
 
 use crate::frames::{Frame, Framed, NextMessage};
-use ipc_format_flatbuffers::{i32_at, window};
+use ipc_format_messages::flatbuffers::{i32_at, window};
 use ipc_format_messages::{MessageHeaderRef, message_in};
 
 /// The metadata of a stated length from a place on. A length of 0 ends the stream, and a negative one is refused.
@@ -26,7 +26,7 @@ fn frame_of(bytes: &[u8], stated: i32, place: usize) -> Option<Frame<'_>>
 
 /// What stands at a place: the marker, which may be missing, a length, and as many bytes of metadata. `None` where the length is
 /// negative or passes the end.
-#[tactic(auto, unfolding(ipc_format_grammar::specs::Framing::frame_at))]
+#[tactic(auto, unfolding(crate::proofs::Passed::frame_at))]
 fn frame_at(bytes: &[u8], place: usize) -> Option<Frame<'_>>
     ensures value { option_map frame_view result ≡ format.frame_at bytes.now place }
     ensures reach { IfSome result (ReachesFrom place (length bytes.now)) }

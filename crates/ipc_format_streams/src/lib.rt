@@ -9,4 +9,6 @@ mod output;
 pub use faults::{Counting, Faults};
 pub use frames::{Frame, Framed, NextMessage};
 pub use framing::next_at;
+pub use ipc_format_messages as messages;
+pub use ipc_format_messages::{columnar_memory, columns, flatbuffers, grammar, metadata};
 pub use output::{put, refusal};

@@ -1,6 +1,6 @@
 //! Objects laid as bytes, against bytes laid by hand.
 use crate::samples::NO_FIELDS;
-use ipc_format_flatbuffers::{
+use ipc_format::flatbuffers::{
     Laid, LayError, Slot, lay_elements, lay_references, lay_table, lay_text, message_bytes,
 };
 use std::alloc::Global;

@@ -1,5 +1,5 @@
 //! What is read by address, at the bounds of each rule.
-use ipc_format_flatbuffers::{
+use ipc_format::flatbuffers::{
     Table, Vector, element_at, field_at, i16_at, reference_at, root_of, string_at, table_at,
     truth_field, u8_field, u16_at, vector_at, vector_field,
 };

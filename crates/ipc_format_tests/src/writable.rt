@@ -2,7 +2,7 @@
 use crate::schemas::{extension, schema_of};
 use crate::writing::{dictionary, entry, field, single, union};
 use columnar_memory::{Boxed, DataType, IntervalUnit, Items, Text, TimeUnit};
-use ipc_format_metadata::can_write;
+use ipc_format::metadata::can_write;
 use std::alloc::Global;
 use std::test::*;
 

@@ -5,8 +5,8 @@ use columnar_memory::{
     Boxed, DataType, EXTENSION_METADATA, Error, Field, IntegerType, IntervalUnit, Items, Metadata,
     Schema, Text, TimeUnit, UnionMode,
 };
-use ipc_format_metadata::{IpcField, deserialize_schema};
-use ipc_format_schema_writing::{default_ipc_fields, normalised, schema_to_bytes};
+use ipc_format::metadata::{IpcField, deserialize_schema};
+use ipc_format::writing::{default_ipc_fields, normalised, schema_to_bytes};
 use std::alloc::Global;
 use std::test::*;
 

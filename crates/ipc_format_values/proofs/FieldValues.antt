@@ -3,19 +3,19 @@ use Rattle.std.proofs.Common.{◌≡◌, ◌∙◌, ℕ, ◌+◌, ◌≤◌, ◌
 use Rattle.std.proofs.lemmas.List.{map-append}
 use Rattle.std.specs.Prelude.{ℤ, Bool, Option}
 use Rattle.std.specs.Int.{w8, w16}
-use Rattle.columnar_memory.specs.declared.Field as columns
-use Rattle.columnar_memory.specs.declared.Schema as columns_of
-use Rattle.ipc_format_grammar.specs.Columns.{first_ids, other_ids}
-use Rattle.ipc_format_flatbuffers.specs.Objects.{Object, Objects, table, references, text, no_field, absent_then, number_then, refers_then}
-use Rattle.ipc_format_flatbuffers.specs.Objects.{no_object, object_then}
-use Rattle.ipc_format_flatbuffers.proofs.Rest.{rest_step, rest_end}
-use Rattle.ipc_format_grammar.specs.Schemas.{Ids, IdsList, ids, no_ids, ids_then}
-use Rattle.ipc_format_grammar.specs.SchemaObjects as objects
-use Rattle.ipc_format_grammar.specs.SchemaObjects.{told_of, field_table, field_object, objects_of, schema_object, encoding_object, metadata_object}
-use Rattle.ipc_format_grammar.specs.SchemaObjects.{written_pairs, refers_if, truth}
-use Rattle.ipc_format_messages.specs.declared.Endianness.TheVariants.{Little}
-use Rattle.ipc_format_schema_writing.specs.Pieces.{Pair, field_told}
-use Rattle.ipc_format_schema_writing.proofs.FieldTables.{told_is}
+use Rattle.ipc_format_writing.specs.columnar_memory.declared.Field as columns
+use Rattle.ipc_format_writing.specs.columnar_memory.declared.Schema as columns_of
+use Rattle.ipc_format_writing.specs.grammar.Columns.{first_ids, other_ids}
+use Rattle.ipc_format_writing.specs.flatbuffers.Objects.{Object, Objects, table, references, text, no_field, absent_then, number_then, refers_then}
+use Rattle.ipc_format_writing.specs.flatbuffers.Objects.{no_object, object_then}
+use Rattle.ipc_format_writing.proofs.flatbuffers_lemmas.Rest.{rest_step, rest_end}
+use Rattle.ipc_format_writing.specs.grammar.Schemas.{Ids, IdsList, ids, no_ids, ids_then}
+use Rattle.ipc_format_writing.specs.grammar.SchemaObjects as objects
+use Rattle.ipc_format_writing.specs.grammar.SchemaObjects.{told_of, field_table, field_object, objects_of, schema_object, encoding_object, metadata_object}
+use Rattle.ipc_format_writing.specs.grammar.SchemaObjects.{written_pairs, refers_if, truth}
+use Rattle.ipc_format_writing.specs.messages.declared.Endianness.TheVariants.{Little}
+use Rattle.ipc_format_writing.specs.Pieces.{Pair, field_told}
+use Rattle.ipc_format_writing.proofs.FieldTables.{told_is}
 use Rattle.ipc_format_values.specs.declared.fields.Field.{Field}
 use Rattle.ipc_format_values.specs.declared.fields.Field.TheOpen as layer
 use Rattle.ipc_format_values.specs.declared.fields.Field.TheFolds.{fold-roll-Field}

@@ -6,9 +6,9 @@ use Rattle.std.specs.List.Sorted.{IsStrictlySortedBy}
 use Rattle.std.specs.Ordering.{nat_cmp}
 use Rattle.std.specs.Cmp.Lexicographic.{slice_cmp}
 use Rattle.std.proofs.lemmas.List.{map-append, append-nil}
-use Rattle.ipc_format_grammar.specs.SchemaObjects.{extension_pairs, written_pairs}
-use Rattle.ipc_format_schema_writing.specs.Pieces.{Pair, is_kept}
-use Rattle.ipc_format_schema_writing.proofs.KeptPairs.{kept_pairs}
+use Rattle.ipc_format_writing.specs.grammar.SchemaObjects.{extension_pairs, written_pairs}
+use Rattle.ipc_format_writing.specs.Pieces.{Pair, is_kept}
+use Rattle.ipc_format_writing.proofs.KeptPairs.{kept_pairs}
 use Rattle.ipc_format_values.specs.declared.fields.KeyValue.{KeyValue}
 use Rattle.ipc_format_values.specs.ValueObjects.{pair_view}
 

@@ -1,11 +1,11 @@
 -- What the value of a written schema is, and why there is none.
 use Rattle.std.specs.Prelude.{◌≡◌, true, Result, Ok, Err}
-use Rattle.columnar_memory.specs.declared.Error.{Error}
-use Rattle.columnar_memory.specs.declared.Schema as columns
-use Rattle.ipc_format_grammar.specs.Schemas.{IdsList}
-use Rattle.ipc_format_grammar.specs.SchemaObjects.{schema_object}
-use Rattle.ipc_format_grammar.specs.WrittenMessages.{schema_written, fits_limit}
-use Rattle.ipc_format_schema_writing.specs.Writing.{WritesSchema, may_write}
+use Rattle.ipc_format_writing.specs.columnar_memory.declared.Error.{Error}
+use Rattle.ipc_format_writing.specs.columnar_memory.declared.Schema as columns
+use Rattle.ipc_format_writing.specs.grammar.Schemas.{IdsList}
+use Rattle.ipc_format_writing.specs.grammar.SchemaObjects.{schema_object}
+use Rattle.ipc_format_writing.specs.grammar.WrittenMessages.{schema_written, fits_limit}
+use Rattle.ipc_format_writing.specs.Writing.{WritesSchema, may_write}
 use Rattle.ipc_format_values.specs.declared.fields.Schema.{Schema}
 use Rattle.ipc_format_values.specs.ValueObjects.{schema_value}
 

@@ -1,8 +1,8 @@
 -- How a type is told, as the definitions have it.
 use Rattle.std.specs.Prelude.{ℕ, map, None}
-use Rattle.ipc_format_flatbuffers.specs.Objects.{Object, Objects}
-use Rattle.ipc_format_grammar.specs.SchemaObjects as objects
-use Rattle.ipc_format_schema_writing.specs.Pieces.{extension_view}
+use Rattle.ipc_format_writing.specs.flatbuffers.Objects.{Object, Objects}
+use Rattle.ipc_format_writing.specs.grammar.SchemaObjects as objects
+use Rattle.ipc_format_writing.specs.Pieces.{extension_view}
 use Rattle.ipc_format_values.specs.declared.told.Told.{Told}
 use Rattle.ipc_format_values.specs.declared.types.Type_.{Type_}
 use Rattle.ipc_format_values.specs.ValueObjects.{type_tag, type_value, field_value, objects_list}

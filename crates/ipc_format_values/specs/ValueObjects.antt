@@ -1,21 +1,21 @@
 -- The object that is laid for each value.
 use Rattle.std.specs.Prelude.{ℕ, Bool, List, [], ◌∷◌, map, Option, Some, None}
 use Rattle.std.specs.Int.{w8, w16, w32, w64, cast_unsigned}
-use Rattle.ipc_format_flatbuffers.specs.Objects.{Object, Objects, table, references, text, no_field, absent_then, number_then, refers_then}
-use Rattle.ipc_format_flatbuffers.specs.Objects.{no_object, object_then}
-use Rattle.ipc_format_grammar.specs.SchemaObjects as objects
-use Rattle.ipc_format_grammar.specs.SchemaObjects.{refers_if, metadata_object, text_if, numbers_if, truth, unit_number, interval_number}
-use Rattle.ipc_format_grammar.specs.SchemaObjects.{mode_number, int_object, short_table, long_table, empty_table}
-use Rattle.ipc_format_grammar.specs.WrittenFiles.{blocks_object}
-use Rattle.ipc_format_message_writing.specs.MessageWriting.{batch_object}
-use Rattle.ipc_format_message_writing.specs.FooterWriting.{block_view}
-use Rattle.ipc_format_messages.specs.declared.Block.{Block}
-use Rattle.ipc_format_messages.specs.declared.DateUnit.{DateUnit}
-use Rattle.ipc_format_messages.specs.declared.DateUnit.TheVariants.{Day, Millisecond}
-use Rattle.ipc_format_messages.specs.declared.Endianness.{Endianness}
-use Rattle.ipc_format_messages.specs.declared.Endianness.TheVariants.{Little, Big}
-use Rattle.ipc_format_messages.specs.declared.MetadataVersion.{MetadataVersion}
-use Rattle.ipc_format_messages.specs.declared.MetadataVersion.TheVariants as versions
+use Rattle.ipc_format_writing.specs.flatbuffers.Objects.{Object, Objects, table, references, text, no_field, absent_then, number_then, refers_then}
+use Rattle.ipc_format_writing.specs.flatbuffers.Objects.{no_object, object_then}
+use Rattle.ipc_format_writing.specs.grammar.SchemaObjects as objects
+use Rattle.ipc_format_writing.specs.grammar.SchemaObjects.{refers_if, metadata_object, text_if, numbers_if, truth, unit_number, interval_number}
+use Rattle.ipc_format_writing.specs.grammar.SchemaObjects.{mode_number, int_object, short_table, long_table, empty_table}
+use Rattle.ipc_format_writing.specs.grammar.WrittenFiles.{blocks_object}
+use Rattle.ipc_format_writing.specs.MessageWriting.{batch_object}
+use Rattle.ipc_format_writing.specs.FooterWriting.{block_view}
+use Rattle.ipc_format_writing.specs.messages.declared.Block.{Block}
+use Rattle.ipc_format_writing.specs.messages.declared.DateUnit.{DateUnit}
+use Rattle.ipc_format_writing.specs.messages.declared.DateUnit.TheVariants.{Day, Millisecond}
+use Rattle.ipc_format_writing.specs.messages.declared.Endianness.{Endianness}
+use Rattle.ipc_format_writing.specs.messages.declared.Endianness.TheVariants.{Little, Big}
+use Rattle.ipc_format_writing.specs.messages.declared.MetadataVersion.{MetadataVersion}
+use Rattle.ipc_format_writing.specs.messages.declared.MetadataVersion.TheVariants as versions
 use Rattle.ipc_format_values.specs.declared.fields.KeyValue.{KeyValue}
 use Rattle.ipc_format_values.specs.declared.fields.Int.{Int}
 use Rattle.ipc_format_values.specs.declared.fields.DictionaryEncoding.{DictionaryEncoding}

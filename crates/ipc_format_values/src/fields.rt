@@ -1,7 +1,7 @@
 //! Schemas and what stands in them (Schema.fbs).
 use crate::types::Type_;
-use columnar_memory::{Items, Text};
-use ipc_format_messages::Endianness;
+use ipc_format_writing::columnar_memory::{Items, Text};
+use ipc_format_writing::messages::Endianness;
 
 /// A pair of custom metadata (Schema.fbs, `KeyValue`).
 #[derive(Debug, Drop)]

@@ -1,12 +1,14 @@
 //! Pairs of custom metadata (Schema.fbs, `KeyValue`).
 ghost use Rattle.std.specs.Prelude.{◌≡◌, IfOk, map};
-ghost use Rattle.ipc_format_grammar.specs.SchemaObjects.{extension_pairs, written_pairs};
-ghost use Rattle.ipc_format_schema_writing.specs.Pieces.{extension_view, is_kept};
+ghost use Rattle.ipc_format_writing.specs.grammar.SchemaObjects.{extension_pairs, written_pairs};
+ghost use Rattle.ipc_format_writing.specs.Pieces.{extension_view, is_kept};
 ghost use Rattle.ipc_format_values.specs.ValueObjects.{pair_view};
 
 use crate::fields::KeyValue;
-use columnar_memory::{EXTENSION_METADATA, EXTENSION_NAME, Items, Metadata, Text};
-use ipc_format_schema_writing::Named;
+use ipc_format_writing::Named;
+use ipc_format_writing::columnar_memory::{
+    EXTENSION_METADATA, EXTENSION_NAME, Items, Metadata, Text,
+};
 use std::alloc::{AllocError, Global};
 
 fn pair_of(alloc: Global, key: &str, value: &str) -> Result<KeyValue, AllocError>

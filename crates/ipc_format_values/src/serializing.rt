@@ -1,13 +1,13 @@
 //! The value of the schema that is written.
 ghost use Rattle.std.specs.Prelude.{◌≡◌, ◌∷◌, [], ◌<◌, true, length, get_or, map, IfOk};
 ghost use Rattle.std.specs.List.{list_all};
-ghost use Rattle.columnar_memory.specs.declared.Field.{out-Field};
-ghost use Rattle.ipc_format_grammar.specs.Schemas.{ids};
-ghost use Rattle.ipc_format_grammar.specs.SchemaObjects as objects;
-ghost use Rattle.ipc_format_grammar.specs.Writable.{Report, report_of, is_writable};
-ghost use Rattle.ipc_format_metadata.specs.Reports.{field_report};
-ghost use Rattle.ipc_format_metadata.specs.Views.{ids_views};
-ghost use Rattle.ipc_format_schema_writing.specs.Pieces.{field_told};
+ghost use Rattle.ipc_format_writing.specs.columnar_memory.declared.Field.{out-Field};
+ghost use Rattle.ipc_format_writing.specs.grammar.Schemas.{ids};
+ghost use Rattle.ipc_format_writing.specs.grammar.SchemaObjects as objects;
+ghost use Rattle.ipc_format_writing.specs.grammar.Writable.{Report, report_of, is_writable};
+ghost use Rattle.ipc_format_writing.specs.metadata.Reports.{field_report};
+ghost use Rattle.ipc_format_writing.specs.metadata.Views.{ids_views};
+ghost use Rattle.ipc_format_writing.specs.Pieces.{field_told};
 ghost use Rattle.ipc_format_values.specs.Serializing.{SerializesSchema};
 ghost use Rattle.ipc_format_values.specs.ToldTypes.{told_view};
 ghost use Rattle.ipc_format_values.specs.ValueObjects as values;
@@ -15,12 +15,12 @@ ghost use Rattle.ipc_format_values.specs.ValueObjects as values;
 use crate::fields::{DictionaryEncoding, Field, Schema};
 use crate::pairs::{field_pairs, pairs_of};
 use crate::told::{Told, int_of, leaf, over};
-use columnar_memory::{
+use ipc_format_writing::columnar_memory::{
     DataType, Field as Column, IntegerType, Items, Result as Answer, Schema as Columns,
 };
-use ipc_format_messages::Endianness;
-use ipc_format_metadata::IpcField;
-use ipc_format_schema_writing::{Named, first_beside, schema_to_bytes};
+use ipc_format_writing::messages::Endianness;
+use ipc_format_writing::metadata::IpcField;
+use ipc_format_writing::{Named, first_beside, schema_to_bytes};
 use std::alloc::{AllocError, Global};
 
 /// The encoding of a dictionary, if the type has one. Without an id beside it the id is 0.
@@ -61,7 +61,7 @@ fn field_over(
 }
 
 /// Each of some fields is allowed where all are. A caller has this law by calling it.
-#[tactic(auto, using(ipc_format_schema_writing::proofs::Allowed::field_passes))]
+#[tactic(auto, using(ipc_format_writing::proofs::Allowed::field_passes))]
 fn each_is_allowed(fields: &[Column], k: usize, field: &Column)
     requires within { k < length fields.now }
     requires here { field.now ≡ get_or fields.now k field.now }

@@ -1,19 +1,19 @@
 //! How a type is told at its field (Schema.fbs, `Field`): by itself, the fields below it, its dictionary and its extension.
 ghost use Rattle.std.specs.Prelude.{◌≡◌, IsTrue, IfOk, true, map};
 ghost use Rattle.std.specs.Int.{w32, cast_unsigned};
-ghost use Rattle.ipc_format_flatbuffers.specs.Objects.{no_object};
-ghost use Rattle.ipc_format_grammar.specs.Schemas.{no_ids};
-ghost use Rattle.ipc_format_grammar.specs.SchemaObjects as objects;
-ghost use Rattle.ipc_format_grammar.specs.Writable.{report_of, fits_i32};
-ghost use Rattle.ipc_format_schema_writing.specs.Kinds.{kind_told};
+ghost use Rattle.ipc_format_writing.specs.flatbuffers.Objects.{no_object};
+ghost use Rattle.ipc_format_writing.specs.grammar.Schemas.{no_ids};
+ghost use Rattle.ipc_format_writing.specs.grammar.SchemaObjects as objects;
+ghost use Rattle.ipc_format_writing.specs.grammar.Writable.{report_of, fits_i32};
+ghost use Rattle.ipc_format_writing.specs.Kinds.{kind_told};
 ghost use Rattle.ipc_format_values.specs.ToldTypes.{told_view, told_over, type_kind};
 ghost use Rattle.ipc_format_values.specs.ValueObjects as values;
 
 use crate::fields::{Field, Int};
 use crate::types::{Precision, Type_};
-use columnar_memory::{DataType, IntegerType, Items, TimeUnit};
-use ipc_format_messages::DateUnit;
-use ipc_format_schema_writing::Named;
+use ipc_format_writing::Named;
+use ipc_format_writing::columnar_memory::{DataType, IntegerType, Items, TimeUnit};
+use ipc_format_writing::messages::DateUnit;
 use std::alloc::{AllocError, Global};
 
 /// A type as its field tells it.

@@ -1,7 +1,7 @@
 //! The types of fields (Schema.fbs, union `Type`).
 use crate::fields::Int;
-use columnar_memory::{IntervalUnit, Items, Text, TimeUnit, UnionMode};
-use ipc_format_messages::DateUnit;
+use ipc_format_writing::columnar_memory::{IntervalUnit, Items, Text, TimeUnit, UnionMode};
+use ipc_format_writing::messages::DateUnit;
 
 /// How many bits a floating-point number has: 16, 32 or 64 (Schema.fbs, `Precision`).
 #[derive(Clone, Copy, Debug, PartialEq, Eq)]

@@ -1,12 +1,12 @@
 //! A caller of `ipc_format_values`, as the page CALLING.md of that crate has it.
 ghost use Rattle.std.specs.Prelude.{◌≡◌, IfOk};
-ghost use Rattle.ipc_format_grammar.specs.SchemaObjects.{schema_message};
-ghost use Rattle.ipc_format_metadata.specs.Views.{ids_views};
-ghost use Rattle.ipc_format_values.specs.ValueObjects.{message_value};
+ghost use Rattle.ipc_format.specs.grammar.SchemaObjects.{schema_message};
+ghost use Rattle.ipc_format.specs.metadata.Views.{ids_views};
+ghost use Rattle.ipc_format.specs.values.ValueObjects.{message_value};
 
 use columnar_memory::{Result, Schema};
-use ipc_format_metadata::IpcField;
-use ipc_format_values::{Message, MessageHeader, serialize_schema};
+use ipc_format::metadata::IpcField;
+use ipc_format::values::{Message, MessageHeader, serialize_schema};
 use std::alloc::Global;
 
 /// The message of a schema.

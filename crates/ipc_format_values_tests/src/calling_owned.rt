@@ -1,12 +1,11 @@
-//! A caller of `ipc_format_owned`, as the page CALLING.md of that crate has it.
+//! A caller of `ipc_format_values`, as the page CALLING.md of that crate has it.
 ghost use Rattle.std.specs.Prelude.{◌≡◌, Some, IfOk};
-ghost use Rattle.ipc_format_messages.specs.SchemaRefs.{field_view};
-ghost use Rattle.ipc_format_owned.specs.OwnedFields.{top_field_in};
+ghost use Rattle.ipc_format.specs.messages.SchemaRefs.{field_view};
+ghost use Rattle.ipc_format.specs.values.OwnedFields.{top_field_in};
 
 use columnar_memory::Result;
-use ipc_format_messages::FieldRef;
-use ipc_format_owned::field_of;
-use ipc_format_values::Field;
+use ipc_format::messages::FieldRef;
+use ipc_format::values::{Field, field_of};
 use std::alloc::Global;
 
 /// The field of a view, with the fields below it.

@@ -1,9 +1,9 @@
 //! Values of schemas that are written.
 use crate::calling::message_of;
 use columnar_memory::{Boxed, DataType, Error, Field, IntegerType, Items, Metadata, Schema, Text};
-use ipc_format_messages::MetadataVersion;
-use ipc_format_metadata::IpcField;
-use ipc_format_values::{DictionaryEncoding, Footer, Int, serialize_schema};
+use ipc_format::messages::MetadataVersion;
+use ipc_format::metadata::IpcField;
+use ipc_format::values::{DictionaryEncoding, Footer, Int, serialize_schema};
 use std::alloc::Global;
 use std::test::*;
 

@@ -1,18 +1,17 @@
 //! Values taken of views.
 use crate::schemas::{ids, schema};
 use columnar_memory::{DataType, Error, Field, Items, Schema, Text};
-use ipc_format_message_writing::{
-    dictionary_batch_to_bytes, footer_to_bytes, record_batch_to_bytes,
-};
-use ipc_format_messages::{
+use ipc_format::messages::{
     Block, Buffer, FieldNode, FieldRef, FooterRef, MessageHeaderRef, MessageRef,
 };
-use ipc_format_owned::{
-    dictionary_batch_of, field_of, footer_of, key_value_of, message_header_of, message_of,
+use ipc_format::values::{
+    Type_, dictionary_batch_of, field_of, footer_of, key_value_of, message_header_of, message_of,
     record_batch_of, schema_of, type_of,
 };
-use ipc_format_schema_writing::{default_ipc_fields, schema_to_bytes};
-use ipc_format_values::Type_;
+use ipc_format::writing::{
+    default_ipc_fields, dictionary_batch_to_bytes, footer_to_bytes, record_batch_to_bytes,
+    schema_to_bytes,
+};
 use std::alloc::Global;
 use std::test::*;
 

@@ -4,15 +4,15 @@ use Rattle.std.specs.Prelude.{Bool, pos, not, ◌-◌, Option, Some, None, if◌
 use Rattle.std.specs.List.{count_by, list_all}
 use Rattle.std.proofs.lemmas.List.Sums.{sum_by-cons}
 use Rattle.std.proofs.lemmas.Bool.{eqb-true, false≢true, ltb-true}
-use Rattle.nested_arrays_columns.proofs.Conditions.{holds_at, parts_of_5}
-use Rattle.nested_arrays_columns.specs.Kinds.{is_signed}
-use Rattle.nested_arrays_columns.specs.Slots.{Slot, null, window}
-use Rattle.nested_arrays_columns.specs.SoundColumns.{are_sound, column_lens, has_child_at, has_child_types, has_places, holds_below, mask_fits}
-use Rattle.nested_arrays_columns.specs.StoredColumns.{Columns, nulls, flat, lists, fixed_lists, records, unions, dictionary, no_column}
-use Rattle.nested_arrays_columns.specs.StoredColumns.{column_then, Stored, bits, numbers, pairs, triples, texts, byte_strings, fixed_bytes, stored_at}
-use Rattle.nested_arrays_columns.specs.StoredColumns.{child_number, column_len, is_valid_at, picked_at, type_layer, union_place, unless_null}
-use Rattle.nested_arrays_flat.proofs.ColumnParts.{sound_mask}
-use Rattle.nested_arrays_flat.specs.ColumnMasks.{unset_in}
+use Rattle.nested_arrays_arrays.proofs.columns_lemmas.Conditions.{holds_at, parts_of_5}
+use Rattle.nested_arrays_arrays.specs.columns.Kinds.{is_signed}
+use Rattle.nested_arrays_arrays.specs.columns.Slots.{Slot, null, window}
+use Rattle.nested_arrays_arrays.specs.columns.SoundColumns.{are_sound, column_lens, has_child_at, has_child_types, has_places, holds_below, mask_fits}
+use Rattle.nested_arrays_arrays.specs.columns.StoredColumns.{Columns, nulls, flat, lists, fixed_lists, records, unions, dictionary, no_column}
+use Rattle.nested_arrays_arrays.specs.columns.StoredColumns.{column_then, Stored, bits, numbers, pairs, triples, texts, byte_strings, fixed_bytes, stored_at}
+use Rattle.nested_arrays_arrays.specs.columns.StoredColumns.{child_number, column_len, is_valid_at, picked_at, type_layer, union_place, unless_null}
+use Rattle.nested_arrays_arrays.proofs.flat_lemmas.ColumnParts.{sound_mask}
+use Rattle.nested_arrays_arrays.specs.flat.ColumnMasks.{unset_in}
 use Rattle.nested_arrays_access.specs.NullLaws.{NullsAreNull, NullsCounted, NullsShow}
 use Rattle.nested_arrays_access.specs.Nulls.{is_null_at}
 

@@ -3,22 +3,22 @@ use Rattle.std.proofs.Common.{◌≡◌, ◌∙◌, true, false, refl, ap, subst
 use Rattle.std.specs.Prelude.{ℕ, ℤ, Bool, ◌||◌, not, if◌then◌else◌, ◌-◌, ◌/◌, List, Option, min, length, IsTrue, ◌↔◌}
 use Rattle.std.specs.List.{list_all}
 use Rattle.std.proofs.lemmas.Bool.{false≢true}
-use Rattle.columnar_memory.specs.Layouts.{physical_type}
-use Rattle.columnar_memory.specs.declared.DataType.{DataType}
-use Rattle.columnar_memory.specs.declared.DataType.TheOpen as layer
-use Rattle.columnar_memory.specs.declared.PhysicalType.{PhysicalType}
-use Rattle.columnar_memory.specs.declared.PhysicalType.TheVariants as physical
-use Rattle.nested_arrays_columns.proofs.Conditions.{parts_of_3, parts_of_4, parts_of_5}
-use Rattle.nested_arrays_columns.specs.Kinds.{is_signed, most_offset}
-use Rattle.nested_arrays_columns.specs.SoundColumns.{are_offsets, are_pieces, are_sound, has_child_at, has_child_types, has_field_types}
-use Rattle.nested_arrays_columns.specs.SoundColumns.{has_fixed_item_type, has_item_type, has_places, has_size, has_value_at, has_value_type, have_len}
-use Rattle.nested_arrays_columns.specs.SoundColumns.{holds_below, is_null_type, is_sound, is_stored_as, mask_fits}
-use Rattle.nested_arrays_columns.specs.StoredColumns.{Column, Columns, Stored, nulls, flat, lists, fixed_lists, records, unions, dictionary}
-use Rattle.nested_arrays_columns.specs.StoredColumns.{bits, numbers, pairs, triples, texts, byte_strings, fixed_bytes, column_len, column_type}
-use Rattle.nested_arrays_columns.specs.StoredColumns.{is_valid_at, stored_len, type_layer}
-use Rattle.nested_arrays_flat.proofs.Layers.{Layer}
-use Rattle.nested_arrays_flat.proofs.NullTypes.{null_types}
-use Rattle.nested_arrays_flat.specs.ColumnMasks.{column_mask, unset_in}
+use Rattle.nested_arrays_arrays.specs.columnar_memory.Layouts.{physical_type}
+use Rattle.nested_arrays_arrays.specs.columnar_memory.declared.DataType.{DataType}
+use Rattle.nested_arrays_arrays.specs.columnar_memory.declared.DataType.TheOpen as layer
+use Rattle.nested_arrays_arrays.specs.columnar_memory.declared.PhysicalType.{PhysicalType}
+use Rattle.nested_arrays_arrays.specs.columnar_memory.declared.PhysicalType.TheVariants as physical
+use Rattle.nested_arrays_arrays.proofs.columns_lemmas.Conditions.{parts_of_3, parts_of_4, parts_of_5}
+use Rattle.nested_arrays_arrays.specs.columns.Kinds.{is_signed, most_offset}
+use Rattle.nested_arrays_arrays.specs.columns.SoundColumns.{are_offsets, are_pieces, are_sound, has_child_at, has_child_types, has_field_types}
+use Rattle.nested_arrays_arrays.specs.columns.SoundColumns.{has_fixed_item_type, has_item_type, has_places, has_size, has_value_at, has_value_type, have_len}
+use Rattle.nested_arrays_arrays.specs.columns.SoundColumns.{holds_below, is_null_type, is_sound, is_stored_as, mask_fits}
+use Rattle.nested_arrays_arrays.specs.columns.StoredColumns.{Column, Columns, Stored, nulls, flat, lists, fixed_lists, records, unions, dictionary}
+use Rattle.nested_arrays_arrays.specs.columns.StoredColumns.{bits, numbers, pairs, triples, texts, byte_strings, fixed_bytes, column_len, column_type}
+use Rattle.nested_arrays_arrays.specs.columns.StoredColumns.{is_valid_at, stored_len, type_layer}
+use Rattle.nested_arrays_arrays.proofs.flat_lemmas.Layers.{Layer}
+use Rattle.nested_arrays_arrays.proofs.flat_lemmas.NullTypes.{null_types}
+use Rattle.nested_arrays_arrays.specs.flat.ColumnMasks.{column_mask, unset_in}
 use Rattle.nested_arrays_access.specs.Nulls.{is_nulls, is_null_at, null_count_of}
 
 -- nothing is stored of nulls, and they have no children

@@ -1,5 +1,5 @@
 -- Masks of arrays of numbers.
-use Rattle.nested_arrays_flat.proofs.ColumnParts.{flat_takes}
-use Rattle.nested_arrays_flat.proofs.SoundFlats.{masked_from, primitive_len}
+use Rattle.nested_arrays_arrays.proofs.flat_lemmas.ColumnParts.{flat_takes}
+use Rattle.nested_arrays_arrays.proofs.flat_lemmas.SoundFlats.{masked_from, primitive_len}
 
 pub ruleset masking = (primitive_len, masked_from, flat_takes)

@@ -1,9 +1,9 @@
 -- What taking an array and giving it another mask answers.
 use Rattle.std.specs.Prelude.{◌≡◌, Bool, List, Option, Result, MatchResult}
-use Rattle.columnar_memory.specs.Error.{IsInvalidArgument}
-use Rattle.columnar_memory.specs.declared.Error.{Error}
-use Rattle.nested_arrays_columns.specs.StoredColumns.{Column}
-use Rattle.nested_arrays_flat.specs.ColumnMasks.{with_mask, TakesMask}
+use Rattle.nested_arrays_arrays.specs.columnar_memory.Error.{IsInvalidArgument}
+use Rattle.nested_arrays_arrays.specs.columnar_memory.declared.Error.{Error}
+use Rattle.nested_arrays_arrays.specs.columns.StoredColumns.{Column}
+use Rattle.nested_arrays_arrays.specs.flat.ColumnMasks.{with_mask, TakesMask}
 
 -- the array with the mask, if its column may have it
 abbrev pub IsMasked : {A : Type 0} → (A → Column) → A → Option (List Bool) → Result A Error → Type 0

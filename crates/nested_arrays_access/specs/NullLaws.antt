@@ -1,9 +1,9 @@
 -- What holds of the nulls of every column.
 use Rattle.std.specs.Prelude.{◌≡◌, ◌<◌, ℕ, Bool, true, false}
 use Rattle.std.specs.List.{count_by}
-use Rattle.nested_arrays_columns.specs.Slots.{null, window}
-use Rattle.nested_arrays_columns.specs.SoundColumns.{is_sound}
-use Rattle.nested_arrays_columns.specs.StoredColumns.{Column, dictionary, column_len, slot_at}
+use Rattle.nested_arrays_arrays.specs.columns.Slots.{null, window}
+use Rattle.nested_arrays_arrays.specs.columns.SoundColumns.{is_sound}
+use Rattle.nested_arrays_arrays.specs.columns.StoredColumns.{Column, dictionary, column_len, slot_at}
 use Rattle.nested_arrays_access.specs.Nulls.{is_null_at, null_count_of}
 
 -- there are as many nulls as places of null slots

@@ -1,7 +1,7 @@
 -- Which slots of a column are null by the column itself, whatever stands below it (Arrow columnar format, "Null count", "Validity bitmaps").
 use Rattle.std.specs.Prelude.{ℕ, Bool, true, false, not, ◌||◌, if◌then◌else◌}
-use Rattle.nested_arrays_columns.specs.StoredColumns.{Column, nulls, column_len, is_valid_at}
-use Rattle.nested_arrays_flat.specs.ColumnMasks.{column_mask, unset_in}
+use Rattle.nested_arrays_arrays.specs.columns.StoredColumns.{Column, nulls, column_len, is_valid_at}
+use Rattle.nested_arrays_arrays.specs.flat.ColumnMasks.{column_mask, unset_in}
 
 -- whether a column is of nulls alone
 abbrev pub is_nulls : Column → Bool

@@ -1,15 +1,15 @@
 //! The trait of arrays.
 ghost use Rattle.std.specs.Prelude.{◌≡◌, ◌+◌, ◌<◌, ◌≤◌, ◌↔◌, IsTrue, not, true, option_copied};
-ghost use Rattle.columnar_memory.specs.Layouts.{physical_type};
-ghost use Rattle.columnar_memory.specs.declared.PhysicalType.TheVariants as physical;
-ghost use Rattle.nested_arrays_columns.specs.SoundColumns.{is_sound};
-ghost use Rattle.nested_arrays_columns.specs.StoredColumns.{Column, column_len, column_type, cut};
-ghost use Rattle.nested_arrays_flat.specs.ColumnMasks.{column_mask, ReplacesMask};
+ghost use Rattle.nested_arrays_arrays.specs.columnar_memory.Layouts.{physical_type};
+ghost use Rattle.nested_arrays_arrays.specs.columnar_memory.declared.PhysicalType.TheVariants as physical;
+ghost use Rattle.nested_arrays_arrays.specs.columns.SoundColumns.{is_sound};
+ghost use Rattle.nested_arrays_arrays.specs.columns.StoredColumns.{Column, column_len, column_type, cut};
+ghost use Rattle.nested_arrays_arrays.specs.flat.ColumnMasks.{column_mask, ReplacesMask};
 ghost use Rattle.nested_arrays_access.specs.MaskedArrays.{IsMasked};
 ghost use Rattle.nested_arrays_access.specs.Nulls.{is_null_at, null_count_of};
 
-use columnar_memory::{Bitmap, DataType, PhysicalType, Result};
-use nested_arrays_flat::{mark_at, unset_marks};
+use nested_arrays_arrays::columnar_memory::{Bitmap, DataType, PhysicalType, Result};
+use nested_arrays_arrays::flat::{mark_at, unset_marks};
 
 /// An array of any type, of which a contract sees the column that it stores, a sound one.
 pub trait Array: Drop + Sized {

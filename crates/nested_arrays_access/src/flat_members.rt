@@ -1,14 +1,15 @@
 //! Arrays without children as arrays.
 ghost use Rattle.std.specs.Prelude.{◌≡◌};
-ghost use Rattle.nested_arrays_flat.specs.ColumnMasks.{ReplacesMask};
-ghost use Rattle.nested_arrays_flat.specs.FlatColumns.{binary_column, boolean_column, primitive_column, text_column};
+ghost use Rattle.nested_arrays_arrays.specs.flat.ColumnMasks.{ReplacesMask};
+ghost use Rattle.nested_arrays_arrays.specs.flat.FlatColumns.{binary_column, boolean_column, primitive_column, text_column};
 
 use crate::array::Array;
-use columnar_memory::{Bitmap, DataType, Error, NativeType, Offset, Result};
-use flat_arrays_bytes::{BinaryArray, Utf8Array};
-use flat_arrays_values::{BooleanArray, PrimitiveArray};
-use nested_arrays_flat::{AnyPrimitive, FixedSizeBinaryArray, NullArray, primitive_is_sound};
-use nested_arrays_parts::{
+use nested_arrays_arrays::columnar_memory::{Bitmap, DataType, Error, NativeType, Offset, Result};
+use nested_arrays_arrays::flat::{
+    AnyPrimitive, FixedSizeBinaryArray, NullArray, primitive_is_sound,
+};
+use nested_arrays_arrays::flat_arrays::{BinaryArray, BooleanArray, PrimitiveArray, Utf8Array};
+use nested_arrays_arrays::parts::{
     binary_is_sound, boolean_is_sound, fits, mask_booleans, mask_strings, mask_texts, text_is_sound,
 };
 
@@ -99,7 +100,7 @@ impl Array for FixedSizeBinaryArray {
 impl<T: NativeType> Array for PrimitiveArray<T> {
     ghost column = { primitive_column T.PRIMITIVE T.numbers };
 
-    #[tactic(auto, using(nested_arrays_flat::proofs::SoundFlats::primitive_len))]
+    #[tactic(auto, using(crate::proofs::Passed::primitive_len))]
     fn len(&self) -> usize {
         PrimitiveArray::len(self)
     }
@@ -116,7 +117,7 @@ impl<T: NativeType> Array for PrimitiveArray<T> {
         primitive_is_sound(self);
     }
 
-    #[tactic(auto, using(nested_arrays_flat::proofs::SoundFlats::primitive_len, nested_arrays_flat::proofs::SoundFlats::primitive_cut))]
+    #[tactic(auto, using(crate::proofs::Passed::primitive_len, crate::proofs::Passed::primitive_cut))]
     fn slice(&mut self, offset: usize, count: usize) {
         PrimitiveArray::slice(self, offset, count);
     }
@@ -145,7 +146,7 @@ impl Array for BooleanArray {
         boolean_is_sound(self);
     }
 
-    #[tactic(auto, using(nested_arrays_parts::proofs::FlatCuts::boolean_cut))]
+    #[tactic(auto, using(crate::proofs::Passed::boolean_cut))]
     fn slice(&mut self, offset: usize, count: usize) {
         BooleanArray::slice(self, offset, count);
     }
@@ -158,7 +159,7 @@ impl Array for BooleanArray {
 impl<O: Offset> Array for BinaryArray<O> {
     ghost column = { binary_column };
 
-    #[tactic(auto, using(nested_arrays_parts::proofs::FlatCuts::strings_len))]
+    #[tactic(auto, using(crate::proofs::Passed::strings_len))]
     fn len(&self) -> usize {
         BinaryArray::len(self)
     }
@@ -175,7 +176,7 @@ impl<O: Offset> Array for BinaryArray<O> {
         binary_is_sound(self);
     }
 
-    #[tactic(auto, using(nested_arrays_parts::proofs::FlatCuts::strings_len, nested_arrays_parts::proofs::FlatCuts::binary_cut))]
+    #[tactic(auto, using(crate::proofs::Passed::strings_len, crate::proofs::Passed::binary_cut))]
     fn slice(&mut self, offset: usize, count: usize) {
         BinaryArray::slice(self, offset, count);
     }
@@ -188,7 +189,7 @@ impl<O: Offset> Array for BinaryArray<O> {
 impl<O: Offset> Array for Utf8Array<O> {
     ghost column = { text_column };
 
-    #[tactic(auto, using(nested_arrays_parts::proofs::FlatCuts::texts_len))]
+    #[tactic(auto, using(crate::proofs::Passed::texts_len))]
     fn len(&self) -> usize {
         Utf8Array::len(self)
     }
@@ -205,7 +206,7 @@ impl<O: Offset> Array for Utf8Array<O> {
         text_is_sound(self);
     }
 
-    #[tactic(auto, using(nested_arrays_parts::proofs::FlatCuts::texts_len, nested_arrays_parts::proofs::FlatCuts::text_cut))]
+    #[tactic(auto, using(crate::proofs::Passed::texts_len, crate::proofs::Passed::text_cut))]
     fn slice(&mut self, offset: usize, count: usize) {
         Utf8Array::slice(self, offset, count);
     }

@@ -7,4 +7,6 @@ mod members;
 mod null_laws;
 
 pub use array::Array;
+pub use nested_arrays_arrays as arrays;
+pub use nested_arrays_arrays::{columnar_memory, columns, flat, flat_arrays, parts};
 pub use null_laws::{a_null_slot_has_no_value, a_slot_without_a_value_is_null, nulls_are_counted};

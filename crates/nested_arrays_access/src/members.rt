@@ -1,8 +1,8 @@
 //! Arrays of any type, and arrays with children, as arrays.
 use crate::array::Array;
-use columnar_memory::{Bitmap, DataType, Result};
+use nested_arrays_arrays::columnar_memory::{Bitmap, DataType, Result};
+use nested_arrays_arrays::parts::FlatArray;
 use nested_arrays_arrays::{AnyArray, FixedSizeListArray, MapArray, StructArray, UnionArray};
-use nested_arrays_parts::FlatArray;
 
 impl Array for AnyArray {
     ghost column = { λ array. array };

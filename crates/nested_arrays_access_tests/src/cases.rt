@@ -1,12 +1,8 @@
 use columnar_memory::{
     Bitmap, Boxed, Buffer, DataType, Error, Field, Items, OffsetsBuffer, Text, UnionMode,
 };
-use flat_arrays_bytes::Utf8Array;
-use flat_arrays_values::PrimitiveArray;
-use nested_arrays_arrays::{AnyArray, UnionArray};
-use nested_arrays_flat::AnyPrimitive;
-use nested_arrays_generic::{DictionaryArray, ListArray};
-use nested_arrays_parts::FlatArray;
+use flat_arrays::{PrimitiveArray, Utf8Array};
+use nested_arrays::{AnyArray, AnyPrimitive, DictionaryArray, FlatArray, ListArray, UnionArray};
 use std::alloc::Global;
 
 pub(crate) fn numbers(alloc: Global, values: &[i32]) -> Result<AnyArray, Error> {

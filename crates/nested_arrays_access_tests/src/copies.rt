@@ -1,10 +1,9 @@
 use crate::cases::{dense, letters, lists, numbers};
 use columnar_memory::{Bitmap, Boxed, DataType, Error, Field, Items, OffsetsBuffer, Text};
-use nested_arrays_access::Array;
-use nested_arrays_arrays::{AnyArray, FixedSizeListArray, MapArray, StructArray, equal};
-use nested_arrays_copies::ToBoxed;
-use nested_arrays_generic::ListArray;
-use nested_arrays_walks::ArrayPart;
+use nested_arrays::{
+    AnyArray, Array, ArrayPart, FixedSizeListArray, ListArray, MapArray, StructArray, ToBoxed,
+    equal,
+};
 use std::alloc::{AllocError, Global};
 use std::test::Fail;
 

@@ -1,6 +1,6 @@
 use crate::cases::{letters, lists};
 use columnar_memory::{Bitmap, Error};
-use nested_arrays_access::Array;
+use nested_arrays::Array;
 use std::test::Fail;
 
 /// Replaces the mask of an array through the trait.

@@ -1,7 +1,6 @@
 use crate::cases::{lists, numbers};
-use flat_arrays_bytes::Utf8Array;
-use flat_arrays_values::PrimitiveArray;
-use nested_arrays_arrays::AnyArray;
+use flat_arrays::{PrimitiveArray, Utf8Array};
+use nested_arrays::AnyArray;
 use std::test::Fail;
 
 #[test]

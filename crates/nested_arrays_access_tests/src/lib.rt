@@ -1,16 +1,23 @@
-//! Tests of arrays of any type: which parts are accepted, masks replaced through the trait, copies, and typed walks.
+//! Tests of what arrays of any type answer, of their copies and of their equality.
 #![tactic(auto)]
 
 #[cfg(test)]
 mod cases;
 #[cfg(test)]
 mod copies;
+mod counts;
+#[cfg(test)]
+mod flat;
 #[cfg(test)]
 mod generic;
 #[cfg(test)]
 mod kinds;
 #[cfg(test)]
 mod masks;
+#[cfg(test)]
+mod nested;
+#[cfg(test)]
+mod records;
 #[cfg(test)]
 mod typed;
 #[cfg(test)]

@@ -1,6 +1,6 @@
 use crate::cases::numbers;
 use columnar_memory::{Bitmap, Error};
-use nested_arrays_access::Array;
+use nested_arrays::Array;
 use std::test::Fail;
 
 /// How many slots of an array are null, and whether one is, through the trait.

@@ -1,18 +1,15 @@
 ghost use Rattle.std.specs.Prelude.{◌≡◌, MatchResult};
-ghost use Rattle.flat_arrays_byte_columns.specs.ByteStrings.{len_of};
-ghost use Rattle.nested_arrays_columns.specs.StoredColumns.{column_len};
-ghost use Rattle.nested_arrays_generic.specs.Dictionaries.{values_of};
-ghost use Rattle.nested_arrays_walks.specs.NamedValues.{AreNamed};
+ghost use Rattle.flat_arrays.specs.ByteStrings.{len_of};
+ghost use Rattle.nested_arrays.specs.StoredColumns.{column_len};
+ghost use Rattle.nested_arrays.specs.Dictionaries.{values_of};
+ghost use Rattle.nested_arrays.specs.ValuesByKeys.{AreNamed};
 
 use crate::cases::numbers;
 use columnar_memory::{Bitmap, Buffer, DataType, Error};
-use flat_arrays_access::ArrayAccessor;
-use flat_arrays_bytes::Utf8Array;
-use flat_arrays_values::PrimitiveArray;
-use nested_arrays_arrays::AnyArray;
-use nested_arrays_generic::DictionaryArray;
-use nested_arrays_parts::FlatArray;
-use nested_arrays_walks::{DictValue, TypedDictionaryValues, keys_name_values};
+use flat_arrays::{ArrayAccessor, PrimitiveArray, Utf8Array};
+use nested_arrays::{
+    AnyArray, DictValue, DictionaryArray, FlatArray, TypedDictionaryValues, keys_name_values,
+};
 use std::alloc::Global;
 use std::test::Fail;
 

@@ -2,18 +2,18 @@
 use Rattle.std.proofs.Common.{◌≡◌, ◌∙◌, ℕ, ◌-◌, List, length, true, Bool, ap, refl}
 use Rattle.std.specs.Prelude.{◌&&◌, ◌==◌, ◌/◌, min, Option}
 use Rattle.std.proofs.lemmas.Bool.{and_from, and_parts, eqb-true, false≢true}
-use Rattle.columnar_memory.specs.Equality.{same_type}
-use Rattle.columnar_memory.specs.Layouts.{physical_type}
-use Rattle.columnar_memory.specs.Spans.{Spans, offsets_of}
-use Rattle.columnar_memory.specs.declared.DataType.{DataType}
-use Rattle.columnar_memory.specs.declared.DataType.TheOpen as layer
-use Rattle.nested_arrays_columns.specs.Kinds.{most_offset}
-use Rattle.nested_arrays_columns.specs.SoundColumns.{are_offsets, are_pieces, are_sound, has_field_types, has_fixed_item_type, has_item_type}
-use Rattle.nested_arrays_columns.specs.SoundColumns.{have_len, is_sound, mask_fits}
-use Rattle.nested_arrays_columns.specs.StoredColumns.{Column, Columns, lists, fixed_lists, records, column_len, column_type, type_layer}
-use Rattle.nested_arrays_columns.proofs.Conditions.{parts_of_4}
-use Rattle.nested_arrays_flat.proofs.Layers.{Layer}
-use Rattle.nested_arrays_flat.specs.ColumnMasks.{TakesMask}
+use Rattle.nested_arrays_parts.specs.columnar_memory.Equality.{same_type}
+use Rattle.nested_arrays_parts.specs.columnar_memory.Layouts.{physical_type}
+use Rattle.nested_arrays_parts.specs.columnar_memory.Spans.{Spans, offsets_of}
+use Rattle.nested_arrays_parts.specs.columnar_memory.declared.DataType.{DataType}
+use Rattle.nested_arrays_parts.specs.columnar_memory.declared.DataType.TheOpen as layer
+use Rattle.nested_arrays_parts.specs.columns.Kinds.{most_offset}
+use Rattle.nested_arrays_parts.specs.columns.SoundColumns.{are_offsets, are_pieces, are_sound, has_field_types, has_fixed_item_type, has_item_type}
+use Rattle.nested_arrays_parts.specs.columns.SoundColumns.{have_len, is_sound, mask_fits}
+use Rattle.nested_arrays_parts.specs.columns.StoredColumns.{Column, Columns, lists, fixed_lists, records, column_len, column_type, type_layer}
+use Rattle.nested_arrays_parts.proofs.columns_lemmas.Conditions.{parts_of_4}
+use Rattle.nested_arrays_parts.proofs.flat_lemmas.Layers.{Layer}
+use Rattle.nested_arrays_parts.specs.flat.ColumnMasks.{TakesMask}
 use Rattle.nested_arrays_parts.proofs.OffsetLists.{spans_count}
 use Rattle.nested_arrays_arrays.specs.Lengths.{layer_size, size_of}
 

@@ -3,21 +3,21 @@ use Rattle.std.proofs.Common.{◌≡◌, ℕ, zero, suc, ◌+◌, ◌-◌, ◌<�
 use Rattle.std.proofs.Common.{refl, sym, ap, subst, ◌∙◌, ◌*◌, arith}
 use Rattle.std.specs.Prelude.{ℤ, Bool, true, Option, Some, None, ◌==◌, ◌/◌}
 use Rattle.std.specs.List.{list_all}
-use Rattle.columnar_memory.specs.Window.{window}
-use Rattle.nested_arrays_columns.specs.Kinds.{is_signed}
-use Rattle.nested_arrays_flat.proofs.CutMasks.{cut_window}
+use Rattle.nested_arrays_parts.specs.columnar_memory.Window.{window}
+use Rattle.nested_arrays_parts.specs.columns.Kinds.{is_signed}
+use Rattle.nested_arrays_parts.proofs.flat_lemmas.CutMasks.{cut_window}
 use Rattle.std.proofs.lemmas.Bool.{and_parts, eqb-true}
 use Rattle.std.proofs.lemmas.List.{length-map}
-use Rattle.columnar_memory.specs.declared.DataType.{DataType}
-use Rattle.columnar_memory.specs.Spans.{Spans, offsets_of, spans_between}
-use Rattle.nested_arrays_columns.specs.SoundColumns.{has_field_types, has_child_types, has_places, has_child_at, is_offset, holds_below, have_len}
-use Rattle.nested_arrays_columns.specs.SoundColumns.{mask_fits, is_sound, are_sound}
-use Rattle.nested_arrays_columns.proofs.Conditions.{parts_of_4, parts_of_5}
-pub use Rattle.nested_arrays_flat.proofs.ColumnParts.{sound_after}
-use Rattle.nested_arrays_columns.proofs.SoundParts.{fixed_lists_have_a_size}
-use Rattle.nested_arrays_columns.specs.StoredColumns.{Column, column_len, cut, cut_each, column_size, columns_size, cut_mask, lists, fixed_lists}
-use Rattle.nested_arrays_columns.specs.StoredColumns.{records, unions, in_columns, column_then, type_layer}
-use Rattle.nested_arrays_columns.proofs.CutStored.{pieces_within}
+use Rattle.nested_arrays_parts.specs.columnar_memory.declared.DataType.{DataType}
+use Rattle.nested_arrays_parts.specs.columnar_memory.Spans.{Spans, offsets_of, spans_between}
+use Rattle.nested_arrays_parts.specs.columns.SoundColumns.{has_field_types, has_child_types, has_places, has_child_at, is_offset, holds_below, have_len}
+use Rattle.nested_arrays_parts.specs.columns.SoundColumns.{mask_fits, is_sound, are_sound}
+use Rattle.nested_arrays_parts.proofs.columns_lemmas.Conditions.{parts_of_4, parts_of_5}
+pub use Rattle.nested_arrays_parts.proofs.flat_lemmas.ColumnParts.{sound_after}
+use Rattle.nested_arrays_parts.proofs.columns_lemmas.SoundParts.{fixed_lists_have_a_size}
+use Rattle.nested_arrays_parts.specs.columns.StoredColumns.{Column, column_len, cut, cut_each, column_size, columns_size, cut_mask, lists, fixed_lists}
+use Rattle.nested_arrays_parts.specs.columns.StoredColumns.{records, unions, in_columns, column_then, type_layer}
+use Rattle.nested_arrays_parts.proofs.columns_lemmas.CutStored.{pieces_within}
 use Rattle.nested_arrays_arrays.specs.AnyColumns.{FitsWidth}
 use Rattle.nested_arrays_arrays.specs.declared.any.Node.{Node}
 use Rattle.nested_arrays_parts.proofs.OffsetLists.{cut_offsets, spans_count}

@@ -4,19 +4,19 @@ use Rattle.std.specs.Prelude.{ℤ, pos, negsuc, ◌<ℤ◌, ◌&&◌, Bool, Opti
 use Rattle.std.proofs.lemmas.Bool.{and_from, le-leb}
 use Rattle.std.proofs.lemmas.List.{length-map}
 use Rattle.std.proofs.lemmas.Option.{get_or_from_slice_get, slice_get-map}
-use Rattle.columnar_memory.specs.Numbers.{Numbers, one, first_number}
-use Rattle.columnar_memory.specs.declared.DataType.{DataType}
-use Rattle.columnar_memory.specs.declared.Error.{Error}
-use Rattle.columnar_memory.specs.declared.IntegerType.{IntegerType}
-use Rattle.columnar_memory.specs.declared.IntegerType.TheVariants as integers
-use Rattle.columnar_memory.specs.declared.PhysicalType.{PhysicalType}
-use Rattle.columnar_memory.specs.declared.PhysicalType.TheVariants as physical
-use Rattle.columnar_memory.specs.declared.PrimitiveType.TheVariants as kinds
-use Rattle.nested_arrays_columns.proofs.Conditions.{parts_of_4}
-use Rattle.nested_arrays_columns.specs.SoundColumns.{has_value_at, has_value_type, holds_below, is_sound, mask_fits}
-use Rattle.nested_arrays_columns.specs.StoredColumns.{Column, numbers, flat, dictionary, column_len, column_type, type_layer}
-use Rattle.nested_arrays_flat.proofs.ColumnParts.{flat_takes}
-use Rattle.nested_arrays_flat.specs.ColumnMasks.{ReplacesMask, TakesMask}
+use Rattle.nested_arrays_parts.specs.columnar_memory.Numbers.{Numbers, one, first_number}
+use Rattle.nested_arrays_parts.specs.columnar_memory.declared.DataType.{DataType}
+use Rattle.nested_arrays_parts.specs.columnar_memory.declared.Error.{Error}
+use Rattle.nested_arrays_parts.specs.columnar_memory.declared.IntegerType.{IntegerType}
+use Rattle.nested_arrays_parts.specs.columnar_memory.declared.IntegerType.TheVariants as integers
+use Rattle.nested_arrays_parts.specs.columnar_memory.declared.PhysicalType.{PhysicalType}
+use Rattle.nested_arrays_parts.specs.columnar_memory.declared.PhysicalType.TheVariants as physical
+use Rattle.nested_arrays_parts.specs.columnar_memory.declared.PrimitiveType.TheVariants as kinds
+use Rattle.nested_arrays_parts.proofs.columns_lemmas.Conditions.{parts_of_4}
+use Rattle.nested_arrays_parts.specs.columns.SoundColumns.{has_value_at, has_value_type, holds_below, is_sound, mask_fits}
+use Rattle.nested_arrays_parts.specs.columns.StoredColumns.{Column, numbers, flat, dictionary, column_len, column_type, type_layer}
+use Rattle.nested_arrays_parts.proofs.flat_lemmas.ColumnParts.{flat_takes}
+use Rattle.nested_arrays_parts.specs.flat.ColumnMasks.{ReplacesMask, TakesMask}
 use Rattle.nested_arrays_parts.specs.Keys.{AreKeysOf, keyed, kind_of_keys, numbers_in}
 use Rattle.nested_arrays_arrays.specs.NamedValues.{firsts, names_value}
 

@@ -3,19 +3,19 @@ use Rattle.std.proofs.Common.{◌≡◌, ◌∙◌, ◌<◌, ◌≤◌, ℕ, ℤ
 use Rattle.std.specs.Prelude.{◌&&◌, ◌||◌, not, pos, Some, Option, option_map, slice_get, slice_index_or, nat_lt, int_le}
 use Rattle.std.proofs.lemmas.Bool.{and_parts, ltb-true}
 use Rattle.std.proofs.lemmas.Option.{get_or_from_slice_get, slice_get-map}
-use Rattle.columnar_memory.specs.Numbers.{Numbers, first_number}
-use Rattle.columnar_memory.specs.declared.DataType.{DataType}
-use Rattle.columnar_memory.specs.declared.IntegerType.{IntegerType}
-use Rattle.columnar_memory.specs.declared.IntegerType.TheVariants as integers
-use Rattle.columnar_memory.specs.declared.PhysicalType.{PhysicalType}
-use Rattle.columnar_memory.specs.declared.PhysicalType.TheVariants as physical
-use Rattle.columnar_memory.specs.declared.PrimitiveType.TheVariants as kinds
-use Rattle.nested_arrays_columns.proofs.Conditions.{parts_of_4, holds_at}
-use Rattle.nested_arrays_columns.specs.SoundColumns.{has_value_at, has_value_type, holds_below, is_sound, mask_fits}
-use Rattle.nested_arrays_columns.specs.StoredColumns.{Column, numbers, flat, dictionary, column_len, column_type, is_valid_at}
-use Rattle.nested_arrays_columns.specs.StoredColumns.{place_of, slot_at, type_layer}
+use Rattle.nested_arrays_parts.specs.columnar_memory.Numbers.{Numbers, first_number}
+use Rattle.nested_arrays_parts.specs.columnar_memory.declared.DataType.{DataType}
+use Rattle.nested_arrays_parts.specs.columnar_memory.declared.IntegerType.{IntegerType}
+use Rattle.nested_arrays_parts.specs.columnar_memory.declared.IntegerType.TheVariants as integers
+use Rattle.nested_arrays_parts.specs.columnar_memory.declared.PhysicalType.{PhysicalType}
+use Rattle.nested_arrays_parts.specs.columnar_memory.declared.PhysicalType.TheVariants as physical
+use Rattle.nested_arrays_parts.specs.columnar_memory.declared.PrimitiveType.TheVariants as kinds
+use Rattle.nested_arrays_parts.proofs.columns_lemmas.Conditions.{parts_of_4, holds_at}
+use Rattle.nested_arrays_parts.specs.columns.SoundColumns.{has_value_at, has_value_type, holds_below, is_sound, mask_fits}
+use Rattle.nested_arrays_parts.specs.columns.StoredColumns.{Column, numbers, flat, dictionary, column_len, column_type, is_valid_at}
+use Rattle.nested_arrays_parts.specs.columns.StoredColumns.{place_of, slot_at, type_layer}
 use Rattle.nested_arrays_parts.proofs.SameForms.{valid_slot}
-use Rattle.nested_arrays_flat.specs.ColumnMasks.{column_mask}
+use Rattle.nested_arrays_parts.specs.flat.ColumnMasks.{column_mask}
 use Rattle.nested_arrays_parts.specs.Keys.{AreKeysOf, keyed, kind_of_keys, numbers_in}
 use Rattle.nested_arrays_arrays.specs.Places.{IsKeyless, IsValue, column_class}
 

@@ -3,17 +3,17 @@ use Rattle.std.proofs.Common.{◌≡◌, ◌∙◌, ℕ, ℤ, List, length, Bool
 use Rattle.std.specs.Prelude.{◌/◌, Option}
 use Rattle.std.specs.List.{list_all}
 use Rattle.std.proofs.lemmas.Bool.{false≢true}
-use Rattle.columnar_memory.specs.Layouts.{physical_type}
-use Rattle.columnar_memory.specs.declared.DataType.{DataType}
-use Rattle.columnar_memory.specs.declared.DataType.TheOpen as layer
-use Rattle.columnar_memory.specs.declared.PhysicalType.{PhysicalType}
-use Rattle.columnar_memory.specs.declared.PhysicalType.TheVariants as physical
-use Rattle.nested_arrays_columns.proofs.Conditions.{parts_of_4, parts_of_5}
-use Rattle.nested_arrays_columns.specs.Kinds.{is_signed}
-use Rattle.nested_arrays_columns.specs.SoundColumns.{are_pieces, are_sound, has_child_at, has_child_types, has_field_types, has_fixed_item_type}
-use Rattle.nested_arrays_columns.specs.SoundColumns.{has_places, have_len, holds_below, is_sound, mask_fits}
-use Rattle.nested_arrays_columns.specs.StoredColumns.{Column, Columns, column_len, column_type, fixed_lists, records, type_layer, unions}
-use Rattle.nested_arrays_flat.proofs.Layers.{Layer, layer_layout, type_lies}
+use Rattle.nested_arrays_parts.specs.columnar_memory.Layouts.{physical_type}
+use Rattle.nested_arrays_parts.specs.columnar_memory.declared.DataType.{DataType}
+use Rattle.nested_arrays_parts.specs.columnar_memory.declared.DataType.TheOpen as layer
+use Rattle.nested_arrays_parts.specs.columnar_memory.declared.PhysicalType.{PhysicalType}
+use Rattle.nested_arrays_parts.specs.columnar_memory.declared.PhysicalType.TheVariants as physical
+use Rattle.nested_arrays_parts.proofs.columns_lemmas.Conditions.{parts_of_4, parts_of_5}
+use Rattle.nested_arrays_parts.specs.columns.Kinds.{is_signed}
+use Rattle.nested_arrays_parts.specs.columns.SoundColumns.{are_pieces, are_sound, has_child_at, has_child_types, has_field_types, has_fixed_item_type}
+use Rattle.nested_arrays_parts.specs.columns.SoundColumns.{has_places, have_len, holds_below, is_sound, mask_fits}
+use Rattle.nested_arrays_parts.specs.columns.StoredColumns.{Column, Columns, column_len, column_type, fixed_lists, records, type_layer, unions}
+use Rattle.nested_arrays_parts.proofs.flat_lemmas.Layers.{Layer, layer_layout, type_lies}
 use Rattle.nested_arrays_parts.specs.Childless.{is_childless}
 use Rattle.nested_arrays_parts.specs.Keys.{AreKeysOf}
 use Rattle.nested_arrays_parts.specs.Widths.{layout_of}

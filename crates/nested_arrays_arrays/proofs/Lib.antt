@@ -11,3 +11,8 @@ pub mod SameSlots
 pub mod SlotPlaces
 pub mod StructParts
 pub mod UnionParts
+pub use Rattle.nested_arrays_parts.proofs as parts_lemmas
+pub use Rattle.nested_arrays_parts.proofs.columns_lemmas
+pub use Rattle.nested_arrays_parts.proofs.flat_arrays_lemmas
+pub use Rattle.nested_arrays_parts.proofs.flat_lemmas
+pub use Rattle.nested_arrays_parts.proofs.columnar_memory_lemmas

@@ -2,18 +2,18 @@
 use Rattle.std.proofs.Common.{◌≡◌, ◌∙◌, sym, ap, ◌≤◌, ◌-◌, ◌^◌, List, true, Bool, arith, refl, length}
 use Rattle.std.specs.Prelude.{◌&&◌, min, Option}
 use Rattle.std.proofs.lemmas.Bool.{and_from, false≢true}
-use Rattle.columnar_memory.specs.Layouts.{physical_type}
-use Rattle.columnar_memory.specs.Spans.{Spans, offsets_of, last_of}
-use Rattle.columnar_memory.specs.declared.DataType.{DataType}
-use Rattle.columnar_memory.specs.declared.DataType.TheOpen as layer
-use Rattle.columnar_memory.specs.declared.PhysicalType.TheVariants as physical
-use Rattle.nested_arrays_columns.specs.Kinds.{most_offset}
-use Rattle.nested_arrays_columns.specs.SoundColumns.{has_item_type, are_offsets, mask_fits, is_sound}
-use Rattle.nested_arrays_columns.specs.StoredColumns.{Column, column_len, column_type, lists, type_layer}
-use Rattle.nested_arrays_columns.proofs.Conditions.{parts_of_4}
+use Rattle.nested_arrays_parts.specs.columnar_memory.Layouts.{physical_type}
+use Rattle.nested_arrays_parts.specs.columnar_memory.Spans.{Spans, offsets_of, last_of}
+use Rattle.nested_arrays_parts.specs.columnar_memory.declared.DataType.{DataType}
+use Rattle.nested_arrays_parts.specs.columnar_memory.declared.DataType.TheOpen as layer
+use Rattle.nested_arrays_parts.specs.columnar_memory.declared.PhysicalType.TheVariants as physical
+use Rattle.nested_arrays_parts.specs.columns.Kinds.{most_offset}
+use Rattle.nested_arrays_parts.specs.columns.SoundColumns.{has_item_type, are_offsets, mask_fits, is_sound}
+use Rattle.nested_arrays_parts.specs.columns.StoredColumns.{Column, column_len, column_type, lists, type_layer}
+use Rattle.nested_arrays_parts.proofs.columns_lemmas.Conditions.{parts_of_4}
 use Rattle.nested_arrays_arrays.specs.Answers.{LiesAs}
 use Rattle.nested_arrays_arrays.specs.Entries.{has_entry_type}
-use Rattle.nested_arrays_flat.proofs.Layers.{Layer, layer_layout, type_lies}
+use Rattle.nested_arrays_parts.proofs.flat_lemmas.Layers.{Layer, layer_layout, type_lies}
 use Rattle.nested_arrays_parts.proofs.OffsetLists.{spans_sound, offsets_end_within, spans_count}
 
 -- types of maps are those that lie in memory as maps and have items

@@ -1,12 +1,12 @@
 -- Lists that stand one after another are the same where their items are.
 use Rattle.std.proofs.Common.{◌≡◌, ◌∙◌, ◌<◌, ◌≤◌, ◌+◌, ◌-◌, ℕ, zero, suc, Bool, List, true, refl, sym, ap, arith, subst, length}
 use Rattle.std.specs.Prelude.{Option}
-use Rattle.columnar_memory.specs.Spans.{Spans, last_of, offset_at, offsets_of}
-use Rattle.columnar_memory.specs.declared.DataType.{DataType}
-use Rattle.nested_arrays_columns.specs.SlotNodes.{nodes_of, slot_nodes}
-use Rattle.nested_arrays_columns.specs.Slots.{Slot, in_slots, window}
-use Rattle.nested_arrays_columns.specs.SoundColumns.{is_sound}
-use Rattle.nested_arrays_columns.specs.StoredColumns.{Column, column_len, column_size, is_valid_at, lists, slot_at}
+use Rattle.nested_arrays_parts.specs.columnar_memory.Spans.{Spans, last_of, offset_at, offsets_of}
+use Rattle.nested_arrays_parts.specs.columnar_memory.declared.DataType.{DataType}
+use Rattle.nested_arrays_parts.specs.columns.SlotNodes.{nodes_of, slot_nodes}
+use Rattle.nested_arrays_parts.specs.columns.Slots.{Slot, in_slots, window}
+use Rattle.nested_arrays_parts.specs.columns.SoundColumns.{is_sound}
+use Rattle.nested_arrays_parts.specs.columns.StoredColumns.{Column, column_len, column_size, is_valid_at, lists, slot_at}
 use Rattle.nested_arrays_parts.proofs.SameForms.{behind_in, joined}
 use Rattle.nested_arrays_parts.specs.Ranges.{range_nodes, SameRanges}
 use Rattle.nested_arrays_arrays.proofs.ListParts.{lists_parts}

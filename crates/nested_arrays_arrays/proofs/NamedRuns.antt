@@ -4,11 +4,11 @@ use Rattle.std.specs.Prelude.{◌↔◌, Option, pos, slice_index, slice_index_o
 use Rattle.std.proofs.lemmas.Bool.Decides.{eqb_tells}
 use Rattle.std.proofs.lemmas.Grind.{get_or-set_at}
 use Rattle.std.proofs.lemmas.List.{get_or-replicate, get_or-set_other, length-replicate, length-set}
-use Rattle.columnar_memory.specs.declared.DataType.{DataType}
-use Rattle.nested_arrays_columns.specs.SlotNodes.{nodes_of, slot_nodes}
-use Rattle.nested_arrays_columns.specs.Slots.{Slot, null, in_slots, window}
-use Rattle.nested_arrays_columns.specs.StoredColumns.{Column, column_len, is_valid_at, place_of, slot_at}
-use Rattle.nested_arrays_flat.specs.ColumnMasks.{column_mask}
+use Rattle.nested_arrays_parts.specs.columnar_memory.declared.DataType.{DataType}
+use Rattle.nested_arrays_parts.specs.columns.SlotNodes.{nodes_of, slot_nodes}
+use Rattle.nested_arrays_parts.specs.columns.Slots.{Slot, null, in_slots, window}
+use Rattle.nested_arrays_parts.specs.columns.StoredColumns.{Column, column_len, is_valid_at, place_of, slot_at}
+use Rattle.nested_arrays_parts.specs.flat.ColumnMasks.{column_mask}
 use Rattle.nested_arrays_parts.proofs.SameForms.{null_slot, valid_slot}
 use Rattle.nested_arrays_parts.proofs.SlotCounts.{flat_nodes}
 use Rattle.nested_arrays_parts.specs.Forms.{column_form}

@@ -8,7 +8,7 @@ use Rattle.std.proofs.lemmas.Bool.{false_from_ne_true, false≢true}
 use Rattle.std.proofs.lemmas.Bool.Decides.{Decides-int_eq}
 use Rattle.std.proofs.lemmas.Int.{to_z-of_z}
 use Rattle.std.proofs.lemmas.List.{at_drop_all, at_drop_more, get_or-replicate, get_or-set_other, get_or-set_same}
-use Rattle.nested_arrays_columns.specs.StoredColumns.{place_of_id}
+use Rattle.nested_arrays_parts.specs.columns.StoredColumns.{place_of_id}
 
 -- a table has at the byte of each id of 8 bits the number that stands where the id stands first, of the ids from a place on
 abbrev pub HoldsFrom : List ℕ → List ℤ → List ℕ → ℕ → Type 0

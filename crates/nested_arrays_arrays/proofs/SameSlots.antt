@@ -2,14 +2,14 @@
 use Rattle.std.proofs.Common.{◌≡◌, ◌∙◌, ◌<◌, ◌≤◌, ◌+◌, ℕ, zero, suc, List, [], ◌∷◌, refl, sym, ap, arith, below_more, ◌-◌}
 use Rattle.std.specs.Prelude.{◌↔◌, sum_by}
 use Rattle.std.proofs.lemmas.List.Sums.{sum_by-cons}
-use Rattle.columnar_memory.specs.declared.DataType.{DataType}
-use Rattle.nested_arrays_columns.proofs.Windows.{window_same}
-use Rattle.nested_arrays_columns.specs.SlotNodes.{nodes_of, slot_nodes}
-use Rattle.nested_arrays_columns.specs.Slots.{Slot, Slots, null, truth, number, pair, triple, text, bytes, items, fields, pick, no_slot, slot_then}
-use Rattle.nested_arrays_columns.specs.Slots.{in_slots, window}
-use Rattle.nested_arrays_columns.specs.StoredColumns.{Column, Columns, no_column, column_then, column_len, in_columns, slot_at, slots, slots_at}
-pub use Rattle.nested_arrays_flat.proofs.SamePlaces.{slots_by_place, slots_count, slots_same}
-use Rattle.nested_arrays_flat.proofs.SamePlaces.{each_same, first_slot, other_slots}
+use Rattle.nested_arrays_parts.specs.columnar_memory.declared.DataType.{DataType}
+use Rattle.nested_arrays_parts.proofs.columns_lemmas.Windows.{window_same}
+use Rattle.nested_arrays_parts.specs.columns.SlotNodes.{nodes_of, slot_nodes}
+use Rattle.nested_arrays_parts.specs.columns.Slots.{Slot, Slots, null, truth, number, pair, triple, text, bytes, items, fields, pick, no_slot, slot_then}
+use Rattle.nested_arrays_parts.specs.columns.Slots.{in_slots, window}
+use Rattle.nested_arrays_parts.specs.columns.StoredColumns.{Column, Columns, no_column, column_then, column_len, in_columns, slot_at, slots, slots_at}
+pub use Rattle.nested_arrays_parts.proofs.flat_lemmas.SamePlaces.{slots_by_place, slots_count, slots_same}
+use Rattle.nested_arrays_parts.proofs.flat_lemmas.SamePlaces.{each_same, first_slot, other_slots}
 use Rattle.nested_arrays_parts.specs.Ranges.{range_nodes, SameRanges}
 use Rattle.nested_arrays_arrays.specs.Places.{AreRecords, SameFields, columns_nodes}
 

@@ -4,20 +4,20 @@ use Rattle.std.proofs.Common.{get_or, length}
 use Rattle.std.specs.Prelude.{◌⊎◌, ◌==◌, ◌/◌, Option, pos, slice_index, slice_index_or, if◌then◌else◌}
 use Rattle.std.proofs.lemmas.Bool.{and_parts, eqb-true, ltb-true}
 use mathlib.Core.Logic.{inl, inr}
-use Rattle.columnar_memory.specs.declared.DataType.{DataType}
-use Rattle.columnar_memory.specs.Spans.{Spans, offsets_of, offset_at, last_of}
-use Rattle.nested_arrays_columns.proofs.Conditions.{parts_of_4}
-use Rattle.nested_arrays_columns.specs.Slots.{Slot, null, truth, number, pair, triple, text, bytes, items, fields, pick, in_slots, window}
-use Rattle.nested_arrays_columns.specs.SoundColumns.{are_sound, column_lens, has_child_at, has_field_types, have_len, is_sound, mask_fits}
-use Rattle.nested_arrays_columns.specs.StoredColumns.{Column, Columns, nulls, flat, lists, fixed_lists, records, unions, dictionary, no_column}
-use Rattle.nested_arrays_columns.specs.StoredColumns.{column_then, column_len, column_size, column_type, columns_size, in_columns, is_valid_at}
-use Rattle.nested_arrays_columns.specs.StoredColumns.{picked_at, slot_at, slots_at, type_layer, union_place, child_number}
-use Rattle.nested_arrays_columns.specs.StoredColumns.{Stored, bits, numbers, pairs, triples, texts, byte_strings, fixed_bytes, stored_at}
+use Rattle.nested_arrays_parts.specs.columnar_memory.declared.DataType.{DataType}
+use Rattle.nested_arrays_parts.specs.columnar_memory.Spans.{Spans, offsets_of, offset_at, last_of}
+use Rattle.nested_arrays_parts.proofs.columns_lemmas.Conditions.{parts_of_4}
+use Rattle.nested_arrays_parts.specs.columns.Slots.{Slot, null, truth, number, pair, triple, text, bytes, items, fields, pick, in_slots, window}
+use Rattle.nested_arrays_parts.specs.columns.SoundColumns.{are_sound, column_lens, has_child_at, has_field_types, have_len, is_sound, mask_fits}
+use Rattle.nested_arrays_parts.specs.columns.StoredColumns.{Column, Columns, nulls, flat, lists, fixed_lists, records, unions, dictionary, no_column}
+use Rattle.nested_arrays_parts.specs.columns.StoredColumns.{column_then, column_len, column_size, column_type, columns_size, in_columns, is_valid_at}
+use Rattle.nested_arrays_parts.specs.columns.StoredColumns.{picked_at, slot_at, slots_at, type_layer, union_place, child_number}
+use Rattle.nested_arrays_parts.specs.columns.StoredColumns.{Stored, bits, numbers, pairs, triples, texts, byte_strings, fixed_bytes, stored_at}
 use Rattle.nested_arrays_parts.proofs.SameForms.{valid_slot, null_slot}
 use Rattle.nested_arrays_parts.specs.Forms.{column_form}
-use Rattle.nested_arrays_flat.proofs.FixedWidths.{string_within}
-use Rattle.nested_arrays_flat.proofs.Offsets.{get_or-offsets_of}
-use Rattle.nested_arrays_flat.specs.ColumnMasks.{column_mask}
+use Rattle.nested_arrays_parts.proofs.flat_lemmas.FixedWidths.{string_within}
+use Rattle.nested_arrays_parts.proofs.flat_lemmas.Offsets.{get_or-offsets_of}
+use Rattle.nested_arrays_parts.specs.flat.ColumnMasks.{column_mask}
 use Rattle.nested_arrays_parts.proofs.OffsetLists.{spans_count}
 use Rattle.nested_arrays_arrays.proofs.CutNodes.{one_size}
 use Rattle.nested_arrays_arrays.proofs.ListParts.{lists_parts}

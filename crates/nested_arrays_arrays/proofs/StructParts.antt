@@ -3,10 +3,10 @@ use Rattle.std.proofs.Common.{◌≡◌, ◌*◌, ◌<◌, ◌≤◌, ℕ, List,
 use Rattle.std.specs.Prelude.{◌&&◌, ◌==◌, nat_le, ◌/◌, ◌%◌, Option}
 use Rattle.std.proofs.Math.Nat.{div-add-mod}
 use Rattle.std.proofs.lemmas.Bool.{and_parts, and_from, eq-eqb, eqb-true, le-leb, leb-true}
-use Rattle.columnar_memory.specs.declared.DataType.{DataType}
-use Rattle.nested_arrays_columns.specs.SoundColumns.{has_field_types, has_fixed_item_type, have_len, are_pieces, mask_fits, is_sound, are_sound}
-use Rattle.nested_arrays_columns.specs.StoredColumns.{Column, column_len, column_type, fixed_lists, records, in_columns, type_layer}
-use Rattle.nested_arrays_columns.proofs.Conditions.{parts_of_4}
+use Rattle.nested_arrays_parts.specs.columnar_memory.declared.DataType.{DataType}
+use Rattle.nested_arrays_parts.specs.columns.SoundColumns.{has_field_types, has_fixed_item_type, have_len, are_pieces, mask_fits, is_sound, are_sound}
+use Rattle.nested_arrays_parts.specs.columns.StoredColumns.{Column, column_len, column_type, fixed_lists, records, in_columns, type_layer}
+use Rattle.nested_arrays_parts.proofs.columns_lemmas.Conditions.{parts_of_4}
 
 -- n items are a whole number of lists of a size
 whole_pieces : (size n : ℕ) → 0 < size → n % size ≡ 0 → are_pieces size n ≡ true

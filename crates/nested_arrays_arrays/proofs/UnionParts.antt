@@ -4,14 +4,14 @@ use Rattle.std.specs.Prelude.{ℤ, pos, ◌+◌, ◌^◌, Bool, ◌&&◌, Option
 use Rattle.std.specs.List.{list_all}
 use Rattle.std.proofs.lemmas.Bool.{and_from, and_parts, false≢true, le-leb, lt-ltb, ltb-true}
 use Rattle.std.proofs.lemmas.List.Folds.{list_all_more}
-use Rattle.columnar_memory.specs.declared.DataType.{DataType}
-use Rattle.nested_arrays_columns.specs.Kinds.{is_signed}
-use Rattle.nested_arrays_columns.specs.SoundColumns.{are_sound, column_lens, has_child_at, has_child_types, has_places, holds_below}
-use Rattle.nested_arrays_columns.specs.SoundColumns.{is_offset, is_sound}
-use Rattle.nested_arrays_columns.specs.StoredColumns.{Column, Columns, child_number, column_len, column_type, in_columns, place_of, type_layer}
-use Rattle.nested_arrays_columns.specs.StoredColumns.{union_place, unions}
-use Rattle.nested_arrays_columns.proofs.Conditions.{holds_at, parts_of_5}
-use Rattle.nested_arrays_flat.proofs.Layers.{Layer}
+use Rattle.nested_arrays_parts.specs.columnar_memory.declared.DataType.{DataType}
+use Rattle.nested_arrays_parts.specs.columns.Kinds.{is_signed}
+use Rattle.nested_arrays_parts.specs.columns.SoundColumns.{are_sound, column_lens, has_child_at, has_child_types, has_places, holds_below}
+use Rattle.nested_arrays_parts.specs.columns.SoundColumns.{is_offset, is_sound}
+use Rattle.nested_arrays_parts.specs.columns.StoredColumns.{Column, Columns, child_number, column_len, column_type, in_columns, place_of, type_layer}
+use Rattle.nested_arrays_parts.specs.columns.StoredColumns.{union_place, unions}
+use Rattle.nested_arrays_parts.proofs.columns_lemmas.Conditions.{holds_at, parts_of_5}
+use Rattle.nested_arrays_parts.proofs.flat_lemmas.Layers.{Layer}
 use Rattle.nested_arrays_arrays.specs.Parts.{column_children, column_ids, column_places}
 
 pub union_whole : (data_type : DataType) (ids : List ℤ) (offsets : Option (List ℤ)) (columns : List Column)

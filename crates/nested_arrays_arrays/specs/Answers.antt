@@ -1,10 +1,10 @@
 -- What calls of arrays answer.
 use Rattle.std.specs.Prelude.{◌≡◌, true, Result, MatchResult}
-use Rattle.columnar_memory.specs.Error.{IsOutOfSpec}
-use Rattle.columnar_memory.specs.declared.Error.{Error}
-use Rattle.columnar_memory.specs.declared.PhysicalType.{PhysicalType}
-use Rattle.nested_arrays_columns.specs.SoundColumns.{is_sound}
-use Rattle.nested_arrays_columns.specs.StoredColumns.{Column}
+use Rattle.nested_arrays_parts.specs.columnar_memory.Error.{IsOutOfSpec}
+use Rattle.nested_arrays_parts.specs.columnar_memory.declared.Error.{Error}
+use Rattle.nested_arrays_parts.specs.columnar_memory.declared.PhysicalType.{PhysicalType}
+use Rattle.nested_arrays_parts.specs.columns.SoundColumns.{is_sound}
+use Rattle.nested_arrays_parts.specs.columns.StoredColumns.{Column}
 use Rattle.nested_arrays_parts.specs.Childless.{is_childless}
 use Rattle.nested_arrays_parts.specs.FlatLayouts.{layout_in, TakesKind}
 

@@ -1,9 +1,9 @@
 -- The column of an array of any type, and which width its offsets or its keys have.
 use Rattle.std.specs.Prelude.{◌≡◌, true}
-use Rattle.columnar_memory.specs.Layouts.{physical_type}
-use Rattle.columnar_memory.specs.Spans.{offsets_of}
-use Rattle.nested_arrays_columns.specs.SoundColumns.{is_sound}
-use Rattle.nested_arrays_columns.specs.StoredColumns.{Column, lists}
+use Rattle.nested_arrays_parts.specs.columnar_memory.Layouts.{physical_type}
+use Rattle.nested_arrays_parts.specs.columnar_memory.Spans.{offsets_of}
+use Rattle.nested_arrays_parts.specs.columns.SoundColumns.{is_sound}
+use Rattle.nested_arrays_parts.specs.columns.StoredColumns.{Column, lists}
 use Rattle.nested_arrays_arrays.specs.declared.any.Node.{Node}
 use Rattle.nested_arrays_arrays.specs.declared.any.Node.TheVariants as variant
 use Rattle.nested_arrays_parts.specs.Keys.{AreKeysOf, keyed}

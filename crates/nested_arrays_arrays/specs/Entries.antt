@@ -1,11 +1,11 @@
 -- What maps have for their entries.
 use Rattle.std.specs.Prelude.{Bool, false, ◌&&◌}
-use Rattle.columnar_memory.specs.Equality.{same_type}
-use Rattle.columnar_memory.specs.declared.DataType.{DataType}
-use Rattle.columnar_memory.specs.declared.DataType.TheOpen as layer
-use Rattle.columnar_memory.specs.declared.DataType.TheViews.{out-DataType}
-use Rattle.columnar_memory.specs.declared.Field.{Field}
-use Rattle.nested_arrays_columns.specs.SoundColumns.{is_entry}
+use Rattle.nested_arrays_parts.specs.columnar_memory.Equality.{same_type}
+use Rattle.nested_arrays_parts.specs.columnar_memory.declared.DataType.{DataType}
+use Rattle.nested_arrays_parts.specs.columnar_memory.declared.DataType.TheOpen as layer
+use Rattle.nested_arrays_parts.specs.columnar_memory.declared.DataType.TheViews.{out-DataType}
+use Rattle.nested_arrays_parts.specs.columnar_memory.declared.Field.{Field}
+use Rattle.nested_arrays_parts.specs.columns.SoundColumns.{is_entry}
 
 -- whether a type is a map whose entries have another
 abbrev pub has_entry_type : layer.DataType-F DataType Field → DataType → Bool

@@ -1,8 +1,8 @@
 -- The field of a list's items (Arrow columnar format, "Variable-size List Layout", "Fixed-Size List Layout").
 use Rattle.std.specs.Prelude.{ℕ, true, [], codes}
-use Rattle.columnar_memory.specs.declared.DataType.{DataType}
-use Rattle.columnar_memory.specs.declared.DataType.TheVariants as types
-use Rattle.columnar_memory.specs.declared.Field.{Field}
+use Rattle.nested_arrays_parts.specs.columnar_memory.declared.DataType.{DataType}
+use Rattle.nested_arrays_parts.specs.columnar_memory.declared.DataType.TheVariants as types
+use Rattle.nested_arrays_parts.specs.columnar_memory.declared.Field.{Field}
 
 -- items of a type, which are named "item" and may be null
 abbrev pub item_field : DataType → Field

@@ -12,3 +12,8 @@ pub mod Rooms
 pub mod Sizes
 pub mod Variants
 pub mod UnionFields
+pub use Rattle.nested_arrays_parts.specs as parts
+pub use Rattle.nested_arrays_parts.specs.columns
+pub use Rattle.nested_arrays_parts.specs.flat_arrays
+pub use Rattle.nested_arrays_parts.specs.flat
+pub use Rattle.nested_arrays_parts.specs.columnar_memory

@@ -1,7 +1,7 @@
 -- Lists of two columns that stand one after another.
 use Rattle.std.specs.Prelude.{◌≡◌, ◌+◌, ◌<◌, ◌≤◌, ◌↔◌, ℕ}
-use Rattle.columnar_memory.specs.Spans.{offset_at}
-use Rattle.nested_arrays_columns.specs.StoredColumns.{Column, column_len, column_size}
+use Rattle.nested_arrays_parts.specs.columnar_memory.Spans.{offset_at}
+use Rattle.nested_arrays_parts.specs.columns.StoredColumns.{Column, column_len, column_size}
 use Rattle.nested_arrays_parts.specs.Ranges.{range_nodes, SameRanges}
 use Rattle.nested_arrays_parts.specs.Widths.{spans_in}
 use Rattle.nested_arrays_arrays.specs.AnyColumns.{column_of}

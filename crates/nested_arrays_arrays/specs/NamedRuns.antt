@@ -1,7 +1,7 @@
 -- Slots of dictionaries by the places that their keys name.
 use Rattle.std.specs.Prelude.{◌≡◌, ◌<◌, ◌↔◌, ℕ, Bool, IsTrue, List, length, Option, Some, None, slice_index}
-use Rattle.nested_arrays_columns.specs.Slots.{Slot, null}
-use Rattle.nested_arrays_columns.specs.StoredColumns.{Column, column_len, slot_at}
+use Rattle.nested_arrays_parts.specs.columns.Slots.{Slot, null}
+use Rattle.nested_arrays_parts.specs.columns.StoredColumns.{Column, column_len, slot_at}
 use Rattle.nested_arrays_parts.specs.Ranges.{range_nodes, SameRanges}
 
 -- the slot of values at a place, or null

@@ -1,7 +1,7 @@
 -- Which keys name values.
 use Rattle.std.specs.Prelude.{ℕ, ℤ, pos, Bool, ◌&&◌, List, map, int_le, nat_lt}
-use Rattle.columnar_memory.specs.Numbers.{Numbers, first_number}
-use Rattle.nested_arrays_columns.specs.StoredColumns.{place_of}
+use Rattle.nested_arrays_parts.specs.columnar_memory.Numbers.{Numbers, first_number}
+use Rattle.nested_arrays_parts.specs.columns.StoredColumns.{place_of}
 
 -- whether a key is the place of one of so many values
 abbrev pub names_value : ℕ → ℤ → Bool

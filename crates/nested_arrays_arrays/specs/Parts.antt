@@ -1,10 +1,10 @@
 -- The parts of columns that arrays show.
 use Rattle.std.specs.Prelude.{ℕ, ℤ, List, [], Option, None}
-use Rattle.columnar_memory.specs.declared.DataType.{DataType}
-use Rattle.columnar_memory.specs.declared.DataType.TheOpen as layer
-use Rattle.columnar_memory.specs.declared.Field.{Field}
-use Rattle.nested_arrays_columns.specs.StoredColumns.{Column, Columns, lists, fixed_lists, records, unions, dictionary}
-use Rattle.nested_arrays_columns.specs.StoredColumns.{no_column, column_then, type_layer}
+use Rattle.nested_arrays_parts.specs.columnar_memory.declared.DataType.{DataType}
+use Rattle.nested_arrays_parts.specs.columnar_memory.declared.DataType.TheOpen as layer
+use Rattle.nested_arrays_parts.specs.columnar_memory.declared.Field.{Field}
+use Rattle.nested_arrays_parts.specs.columns.StoredColumns.{Column, Columns, lists, fixed_lists, records, unions, dictionary}
+use Rattle.nested_arrays_parts.specs.columns.StoredColumns.{no_column, column_then, type_layer}
 
 -- where the lists of a column begin in their child, and where the last one ends
 abbrev pub column_offsets : Column → List ℕ

@@ -1,8 +1,8 @@
 -- Where the slots inside a slot stand.
 use Rattle.std.specs.Prelude.{◌≡◌, ◌+◌, ◌<◌, ◌≤◌, ℕ, false}
-use Rattle.nested_arrays_columns.specs.Slots.{Slot, null, truth, number, pair, triple, text, bytes, items, fields, pick, in_slots, window}
-use Rattle.nested_arrays_columns.specs.StoredColumns.{Column, Columns, nulls, flat, lists, fixed_lists, records, unions, dictionary, no_column}
-use Rattle.nested_arrays_columns.specs.StoredColumns.{column_then, column_len, column_size, columns_size, column_type, is_valid_at, slot_at, slots_at}
+use Rattle.nested_arrays_parts.specs.columns.Slots.{Slot, null, truth, number, pair, triple, text, bytes, items, fields, pick, in_slots, window}
+use Rattle.nested_arrays_parts.specs.columns.StoredColumns.{Column, Columns, nulls, flat, lists, fixed_lists, records, unions, dictionary, no_column}
+use Rattle.nested_arrays_parts.specs.columns.StoredColumns.{column_then, column_len, column_size, columns_size, column_type, is_valid_at, slot_at, slots_at}
 use Rattle.nested_arrays_parts.specs.Ranges.{range_nodes}
 
 -- slots by what stands inside them, each class by its number: null, a value without slots inside, items, fields and a pick

@@ -1,8 +1,8 @@
 -- Each child of an array is made of fewer columns than the array.
 use Rattle.std.specs.Prelude.{◌+◌, ◌*◌, ◌≤◌, max, List}
 use Rattle.std.proofs.Common.{arith}
-use Rattle.nested_arrays_columns.specs.StoredColumns.{Column, column_size, columns_size, in_columns}
-use Rattle.nested_arrays_columns.proofs.SoundParts.{most_of_columns}
+use Rattle.nested_arrays_parts.specs.columns.StoredColumns.{Column, column_size, columns_size, in_columns}
+use Rattle.nested_arrays_parts.proofs.columns_lemmas.SoundParts.{most_of_columns}
 use Rattle.nested_arrays_arrays.specs.AnyColumns.{column_of}
 use Rattle.nested_arrays_arrays.specs.declared.any.Node.{Node}
 use Rattle.nested_arrays_arrays.specs.declared.any.Node.TheVariants as variant

@@ -1,7 +1,7 @@
 -- How the arrays of each variant may lie in memory.
 use Rattle.std.specs.Prelude.{Bool, true, false}
-use Rattle.columnar_memory.specs.declared.PhysicalType.{PhysicalType}
-use Rattle.columnar_memory.specs.declared.PhysicalType.TheVariants as physical
+use Rattle.nested_arrays_parts.specs.columnar_memory.declared.PhysicalType.{PhysicalType}
+use Rattle.nested_arrays_parts.specs.columnar_memory.declared.PhysicalType.TheVariants as physical
 use Rattle.nested_arrays_arrays.specs.AnyColumns.{column_of}
 use Rattle.nested_arrays_arrays.specs.declared.any.Node.{Node}
 use Rattle.nested_arrays_arrays.specs.declared.any.Node.TheVariants as variant

@@ -1,7 +1,7 @@
 //! Arrays of any type.
 ghost use Rattle.std.specs.Prelude.{◌≡◌, ◌+◌, ◌≤◌, true};
-ghost use Rattle.nested_arrays_columns.specs.SoundColumns.{is_sound};
-ghost use Rattle.nested_arrays_columns.specs.StoredColumns.{column_len, column_type, cut};
+ghost use Rattle.nested_arrays_parts.specs.columns.SoundColumns.{is_sound};
+ghost use Rattle.nested_arrays_parts.specs.columns.StoredColumns.{column_len, column_type, cut};
 ghost use Rattle.nested_arrays_arrays.specs.AnyColumns.{FitsWidth};
 ghost use Rattle.nested_arrays_arrays.specs.Variants.{lies_well};
 
@@ -9,8 +9,8 @@ use crate::fixed_lists::FixedSizeListArray;
 use crate::maps::MapArray;
 use crate::records::StructArray;
 use crate::unions::UnionArray;
-use columnar_memory::{Bitmap, DataType};
-use nested_arrays_flat::{AnyPrimitive, slice_mask};
+use nested_arrays_parts::columnar_memory::{Bitmap, DataType};
+use nested_arrays_parts::flat::{AnyPrimitive, slice_mask};
 use nested_arrays_parts::{FlatArray, ListOffsets};
 use std::marker::Model;
 
@@ -55,8 +55,8 @@ pub struct AnyArray {
 
 impl Model for AnyArray {
     ghost use Rattle.std.specs.Prelude.{◌+◌, ◌*◌};
-    ghost use Rattle.nested_arrays_columns.specs.StoredColumns.{Column, column_size};
-    ghost use Rattle.nested_arrays_columns.specs.ColumnCodes.{column_code};
+    ghost use Rattle.nested_arrays_parts.specs.columns.StoredColumns.{Column, column_size};
+    ghost use Rattle.nested_arrays_parts.specs.columns.ColumnCodes.{column_code};
 
     ghost Value = { Column };
 

@@ -1,10 +1,10 @@
 //! What the children of structs and unions have to be.
 ghost use Rattle.std.specs.Prelude.{◌≡◌, true};
-ghost use Rattle.nested_arrays_columns.specs.SoundColumns.{are_sound, has_field_types, have_len, have_types};
-ghost use Rattle.nested_arrays_columns.specs.StoredColumns.{in_columns, type_layer};
+ghost use Rattle.nested_arrays_parts.specs.columns.SoundColumns.{are_sound, has_field_types, have_len, have_types};
+ghost use Rattle.nested_arrays_parts.specs.columns.StoredColumns.{in_columns, type_layer};
 
 use crate::any::AnyArray;
-use columnar_memory::{DataType, Field};
+use nested_arrays_parts::columnar_memory::{DataType, Field};
 
 /// Whether arrays have the types of fields, one each.
 pub(crate) fn have_types(fields: &[Field], arrays: &[AnyArray]) -> bool

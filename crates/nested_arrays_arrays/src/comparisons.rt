@@ -1,9 +1,9 @@
 //! Equality of arrays by their slots. A step is counted for each slot of the left side that is compared with one of the right; a run of slots of
 //! arrays without children, one of records, one of lists and one of dictionaries is counted as a whole.
 ghost use Rattle.std.specs.Prelude.{◌≡◌, ◌+◌, ◌<◌, ◌≤◌, ◌↔◌, IsTrue};
-ghost use Rattle.nested_arrays_columns.specs.SlotNodes.{nodes_of, slot_nodes};
-ghost use Rattle.nested_arrays_columns.specs.Slots.{in_slots, items, null, pick, window};
-ghost use Rattle.nested_arrays_columns.specs.StoredColumns.{column_len, column_type, in_columns, slot_at, slots_at};
+ghost use Rattle.nested_arrays_parts.specs.columns.SlotNodes.{nodes_of, slot_nodes};
+ghost use Rattle.nested_arrays_parts.specs.columns.Slots.{in_slots, items, null, pick, window};
+ghost use Rattle.nested_arrays_parts.specs.columns.StoredColumns.{column_len, column_type, in_columns, slot_at, slots_at};
 ghost use Rattle.nested_arrays_parts.specs.Ranges.{range_nodes, SameRanges};
 ghost use Rattle.nested_arrays_arrays.specs.Places.{columns_nodes, HavePlace, HaveRange, IsKeyless, SameFields};
 
@@ -12,7 +12,7 @@ use crate::keys::value_of;
 use crate::list_runs::list_run;
 use crate::named_runs::same_named_run;
 use crate::places::{fields_at, flat, items_at, pick_at, records_at, values_at};
-use columnar_memory::Steps;
+use nested_arrays_parts::columnar_memory::Steps;
 use nested_arrays_parts::{count_each, same_slots, same_slots_counted};
 
 /// Whether two arrays have one data type.

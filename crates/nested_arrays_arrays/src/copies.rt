@@ -1,10 +1,10 @@
 //! Copies of arrays of any type: they share what is stored, and copy data types and the places of children.
 ghost use Rattle.std.specs.Prelude.{◌≡◌, IfOk};
-ghost use Rattle.nested_arrays_columns.specs.StoredColumns.{column_len, column_type, fixed_lists, in_columns, lists, records, unions};
+ghost use Rattle.nested_arrays_parts.specs.columns.StoredColumns.{column_len, column_type, fixed_lists, in_columns, lists, records, unions};
 ghost use Rattle.nested_arrays_arrays.specs.AnyColumns.{column_of, IsWhole};
 ghost use Rattle.nested_arrays_arrays.specs.Lengths.{size_of};
 ghost use Rattle.nested_arrays_arrays.specs.Parts.{column_ids, column_offsets, column_places};
-ghost use Rattle.nested_arrays_flat.specs.ColumnMasks.{column_mask};
+ghost use Rattle.nested_arrays_parts.specs.flat.ColumnMasks.{column_mask};
 
 use crate::any::{AnyArray, DictionaryNode, ListNode, Node};
 use crate::fixed_lists::FixedSizeListArray;

@@ -1,12 +1,12 @@
 //! `==` of arrays of any type: of their data types and their slots.
 ghost use Rattle.std.specs.Prelude.{◌≡◌, ◌+◌, ◌≤◌, ◌↔◌, IsTrue, sum_by};
-ghost use Rattle.nested_arrays_columns.specs.SlotNodes.{slot_nodes};
-ghost use Rattle.nested_arrays_columns.specs.StoredColumns.{slots};
-ghost use Rattle.nested_arrays_flat.specs.SameArrays.{AreEqual, same_column, same_column-equivalence, same_column-per};
+ghost use Rattle.nested_arrays_parts.specs.columns.SlotNodes.{slot_nodes};
+ghost use Rattle.nested_arrays_parts.specs.columns.StoredColumns.{slots};
+ghost use Rattle.nested_arrays_parts.specs.flat.SameArrays.{AreEqual, same_column, same_column-equivalence, same_column-per};
 
 use crate::any::AnyArray;
 use crate::comparisons::{same_range, same_types};
-use columnar_memory::Steps;
+use nested_arrays_parts::columnar_memory::Steps;
 
 /// Whether two arrays have one data type and the same slots. A value under a null is not seen, and a dictionary's slots are the values that its
 /// keys name. Takes no memory.

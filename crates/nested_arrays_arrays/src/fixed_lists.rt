@@ -1,20 +1,20 @@
 //! Lists of one size.
 ghost use Rattle.std.specs.Prelude.{◌≡◌, ◌+◌, ◌<◌, ◌≤◌, ◌↔◌, IsTrue, true, option_copied, MatchResult};
-ghost use Rattle.columnar_memory.specs.Error.{IsOutOfMemory};
-ghost use Rattle.columnar_memory.specs.Layouts.{physical_type};
-ghost use Rattle.columnar_memory.specs.declared.PhysicalType.TheVariants as physical;
-ghost use Rattle.nested_arrays_columns.specs.SoundColumns.{is_sound, has_fixed_item_type};
-ghost use Rattle.nested_arrays_columns.specs.StoredColumns.{column_len, column_type, cut, fixed_lists, type_layer};
+ghost use Rattle.nested_arrays_parts.specs.columnar_memory.Error.{IsOutOfMemory};
+ghost use Rattle.nested_arrays_parts.specs.columnar_memory.Layouts.{physical_type};
+ghost use Rattle.nested_arrays_parts.specs.columnar_memory.declared.PhysicalType.TheVariants as physical;
+ghost use Rattle.nested_arrays_parts.specs.columns.SoundColumns.{is_sound, has_fixed_item_type};
+ghost use Rattle.nested_arrays_parts.specs.columns.StoredColumns.{column_len, column_type, cut, fixed_lists, type_layer};
 ghost use Rattle.nested_arrays_arrays.specs.Answers.{IsChecked};
 ghost use Rattle.nested_arrays_arrays.specs.ItemTypes.{fixed_list_type};
 ghost use Rattle.nested_arrays_arrays.specs.Lengths.{size_of};
-ghost use Rattle.nested_arrays_flat.specs.ColumnMasks.{column_mask, ReplacesMask};
+ghost use Rattle.nested_arrays_parts.specs.flat.ColumnMasks.{column_mask, ReplacesMask};
 
 use crate::any::AnyArray;
 use crate::item_fields::item_field;
-use columnar_memory::{Bitmap, DataType, Error, Result};
-use nested_arrays_flat::slice_mask;
+use nested_arrays_parts::columnar_memory::{Bitmap, DataType, Error, Result};
 use nested_arrays_parts::fits;
+use nested_arrays_parts::flat::slice_mask;
 use std::alloc::Global;
 use std::marker::Model;
 
@@ -31,9 +31,9 @@ pub struct FixedSizeListArray {
 impl Model for FixedSizeListArray {
     ghost use Rattle.std.specs.Prelude.{◌≡◌, ◌+◌, ◌*◌, true};
     ghost use Rattle.std.proofs.Common.{arith};
-    ghost use Rattle.nested_arrays_columns.specs.StoredColumns.{Column, column_size, fixed_lists};
-    ghost use Rattle.nested_arrays_columns.specs.ColumnCodes.{column_code};
-    ghost use Rattle.nested_arrays_columns.specs.SoundColumns.{is_sound};
+    ghost use Rattle.nested_arrays_parts.specs.columns.StoredColumns.{Column, column_size, fixed_lists};
+    ghost use Rattle.nested_arrays_parts.specs.columns.ColumnCodes.{column_code};
+    ghost use Rattle.nested_arrays_parts.specs.columns.SoundColumns.{is_sound};
 
     ghost Value = { Column };
 

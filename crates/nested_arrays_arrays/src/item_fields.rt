@@ -2,7 +2,7 @@
 ghost use Rattle.std.specs.Prelude.{◌≡◌, IfOk};
 ghost use Rattle.nested_arrays_arrays.specs.ItemTypes.{item_field};
 
-use columnar_memory::{Boxed, DataType, Field, Text};
+use nested_arrays_parts::columnar_memory::{Boxed, DataType, Field, Text};
 use std::alloc::{AllocError, Global};
 
 /// Items of a type, which are named "item" and may be null.

@@ -1,17 +1,17 @@
 //! Masks of dictionaries: each key that a mask says is valid has to be the place of a value.
 ghost use Rattle.std.specs.Prelude.{◌≡◌, ◌<◌, length, option_copied, true};
-ghost use Rattle.nested_arrays_columns.specs.SoundColumns.{has_value_at, holds_below, is_sound, mask_fits};
-ghost use Rattle.nested_arrays_columns.specs.StoredColumns.{column_len};
-ghost use Rattle.nested_arrays_flat.specs.ColumnMasks.{ReplacesMask};
+ghost use Rattle.nested_arrays_parts.specs.columns.SoundColumns.{has_value_at, holds_below, is_sound, mask_fits};
+ghost use Rattle.nested_arrays_parts.specs.columns.StoredColumns.{column_len};
+ghost use Rattle.nested_arrays_parts.specs.flat.ColumnMasks.{ReplacesMask};
 ghost use Rattle.nested_arrays_parts.specs.Keys.{numbers_in};
 ghost use Rattle.nested_arrays_arrays.specs.AnyColumns.{column_of, FitsWidth};
 ghost use Rattle.nested_arrays_arrays.specs.NamedValues.{firsts, names_value};
 
 use crate::any::{DictionaryNode, Node};
-use columnar_memory::{Bitmap, Error, Index, Result};
-use flat_arrays_values::PrimitiveArray;
-use nested_arrays_flat::{PrimitiveNode, mark_at};
+use nested_arrays_parts::columnar_memory::{Bitmap, Error, Index, Result};
 use nested_arrays_parts::fits;
+use nested_arrays_parts::flat::{PrimitiveNode, mark_at};
+use nested_arrays_parts::flat_arrays::PrimitiveArray;
 
 /// Whether a key is the place of one of so many values.
 #[tactic(auto, using(crate::proofs::KeyMasks::named, crate::proofs::KeyMasks::unnamed))]

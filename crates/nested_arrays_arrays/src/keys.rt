@@ -1,16 +1,16 @@
 //! The values that keys name.
 ghost use Rattle.std.specs.Prelude.{◌≡◌, ◌<◌, length, map, pos, slice_index_or};
-ghost use Rattle.columnar_memory.specs.Numbers.{first_number};
-ghost use Rattle.nested_arrays_columns.specs.StoredColumns.{column_len, place_of};
+ghost use Rattle.nested_arrays_parts.specs.columnar_memory.Numbers.{first_number};
+ghost use Rattle.nested_arrays_parts.specs.columns.StoredColumns.{column_len, place_of};
 ghost use Rattle.nested_arrays_parts.specs.Keys.{numbers_in};
 ghost use Rattle.nested_arrays_arrays.specs.AnyColumns.{FitsWidth};
 ghost use Rattle.nested_arrays_arrays.specs.Places.{IsValue};
 
 use crate::any::{AnyArray, DictionaryNode, Node};
 use crate::places::is_set;
-use columnar_memory::Index;
-use flat_arrays_values::PrimitiveArray;
-use nested_arrays_flat::PrimitiveNode;
+use nested_arrays_parts::columnar_memory::Index;
+use nested_arrays_parts::flat::PrimitiveNode;
+use nested_arrays_parts::flat_arrays::PrimitiveArray;
 use nested_arrays_parts::holds_values;
 
 /// The place that a key names, and the first one where it is negative.

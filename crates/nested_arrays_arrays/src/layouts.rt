@@ -1,7 +1,7 @@
 //! `==` of arrays of one layout: of their data types and their slots.
 ghost use Rattle.std.specs.Prelude.{◌≡◌, ◌<◌, ◌↔◌, IsTrue};
-ghost use Rattle.nested_arrays_columns.specs.StoredColumns.{Column, column_len, column_type, slot_at, slots};
-ghost use Rattle.nested_arrays_flat.specs.SameArrays.{AreEqual, same_column, same_column-equivalence, same_column-per};
+ghost use Rattle.nested_arrays_parts.specs.columns.StoredColumns.{Column, column_len, column_type, slot_at, slots};
+ghost use Rattle.nested_arrays_parts.specs.flat.SameArrays.{AreEqual, same_column, same_column-equivalence, same_column-per};
 
 use crate::comparisons::{same_fields, same_items, same_pick};
 use crate::fixed_lists::FixedSizeListArray;
@@ -9,7 +9,7 @@ use crate::maps::MapArray;
 use crate::places::{entries_at, fixed_items_at, record_at, union_pick};
 use crate::records::StructArray;
 use crate::unions::UnionArray;
-use columnar_memory::{DataType, Steps};
+use nested_arrays_parts::columnar_memory::{DataType, Steps};
 
 /// An array of one layout, whose slots are compared with those of another.
 pub trait CompareSlots {

@@ -30,5 +30,7 @@ pub use fixed_lists::FixedSizeListArray;
 pub use item_fields::item_field;
 pub use layouts::{CompareSlots, same_arrays};
 pub use maps::MapArray;
+pub use nested_arrays_parts as parts;
+pub use nested_arrays_parts::{columnar_memory, columns, flat, flat_arrays};
 pub use records::StructArray;
 pub use unions::UnionArray;

@@ -1,14 +1,14 @@
 //! Lists that stand one after another: their items do so too, and are compared at once.
 ghost use Rattle.std.specs.Prelude.{◌≡◌, ◌+◌, ◌<◌, ◌≤◌, IfSome, length, true};
-ghost use Rattle.nested_arrays_columns.specs.SoundColumns.{is_sound};
-ghost use Rattle.nested_arrays_columns.specs.StoredColumns.{column_len, is_valid_at};
+ghost use Rattle.nested_arrays_parts.specs.columns.SoundColumns.{is_sound};
+ghost use Rattle.nested_arrays_parts.specs.columns.StoredColumns.{column_len, is_valid_at};
 ghost use Rattle.nested_arrays_parts.specs.Widths.{spans_in};
 ghost use Rattle.nested_arrays_arrays.specs.AnyColumns.{column_of};
 ghost use Rattle.nested_arrays_arrays.specs.ListRuns.{AreSameLists, IsListRun};
 
 use crate::any::{AnyArray, ListNode, Node};
 use crate::places::bounds;
-use nested_arrays_flat::mark_at;
+use nested_arrays_parts::flat::mark_at;
 
 /// So many lists of an array, none of them null, each as long as one of another array: where the items of each side begin, and how many
 /// there are of them all.

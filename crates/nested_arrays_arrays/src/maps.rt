@@ -1,18 +1,18 @@
 //! Maps.
 ghost use Rattle.std.specs.Prelude.{◌≡◌, ◌+◌, ◌≤◌, ◌↔◌, IsTrue, true, option_copied};
-ghost use Rattle.columnar_memory.specs.Spans.{offsets_of};
-ghost use Rattle.columnar_memory.specs.declared.DataType.TheViews.{out-DataType};
-ghost use Rattle.columnar_memory.specs.declared.PhysicalType.TheVariants as physical;
-ghost use Rattle.nested_arrays_columns.specs.SoundColumns.{is_entry};
-ghost use Rattle.nested_arrays_columns.specs.StoredColumns.{column_len, column_type, cut, lists, type_layer};
+ghost use Rattle.nested_arrays_parts.specs.columnar_memory.Spans.{offsets_of};
+ghost use Rattle.nested_arrays_parts.specs.columnar_memory.declared.DataType.TheViews.{out-DataType};
+ghost use Rattle.nested_arrays_parts.specs.columnar_memory.declared.PhysicalType.TheVariants as physical;
+ghost use Rattle.nested_arrays_parts.specs.columns.SoundColumns.{is_entry};
+ghost use Rattle.nested_arrays_parts.specs.columns.StoredColumns.{column_len, column_type, cut, lists, type_layer};
 ghost use Rattle.nested_arrays_arrays.specs.Answers.{IsCheckedAs, LiesAs};
 ghost use Rattle.nested_arrays_arrays.specs.Entries.{has_entry_type};
 ghost use Rattle.nested_arrays_arrays.specs.Parts.{column_offsets};
-ghost use Rattle.nested_arrays_flat.specs.ColumnMasks.{column_mask, ReplacesMask};
+ghost use Rattle.nested_arrays_parts.specs.flat.ColumnMasks.{column_mask, ReplacesMask};
 
 use crate::any::AnyArray;
-use columnar_memory::{Bitmap, DataType, Error, OffsetsBuffer, Result};
-use nested_arrays_flat::slice_mask;
+use nested_arrays_parts::columnar_memory::{Bitmap, DataType, Error, OffsetsBuffer, Result};
+use nested_arrays_parts::flat::slice_mask;
 use nested_arrays_parts::{fits, last_of, slice_offsets};
 use std::marker::Model;
 
@@ -30,12 +30,12 @@ pub struct MapArray {
 impl Model for MapArray {
     ghost use Rattle.std.specs.Prelude.{◌≡◌, ◌+◌, ◌*◌, true};
     ghost use Rattle.std.proofs.Common.{arith};
-    ghost use Rattle.columnar_memory.specs.Spans.{offsets_of};
-    ghost use Rattle.columnar_memory.specs.Layouts.{physical_type};
-    ghost use Rattle.columnar_memory.specs.declared.PhysicalType.TheVariants as physical;
-    ghost use Rattle.nested_arrays_columns.specs.StoredColumns.{Column, column_size, lists};
-    ghost use Rattle.nested_arrays_columns.specs.ColumnCodes.{column_code};
-    ghost use Rattle.nested_arrays_columns.specs.SoundColumns.{is_sound};
+    ghost use Rattle.nested_arrays_parts.specs.columnar_memory.Spans.{offsets_of};
+    ghost use Rattle.nested_arrays_parts.specs.columnar_memory.Layouts.{physical_type};
+    ghost use Rattle.nested_arrays_parts.specs.columnar_memory.declared.PhysicalType.TheVariants as physical;
+    ghost use Rattle.nested_arrays_parts.specs.columns.StoredColumns.{Column, column_size, lists};
+    ghost use Rattle.nested_arrays_parts.specs.columns.ColumnCodes.{column_code};
+    ghost use Rattle.nested_arrays_parts.specs.columns.SoundColumns.{is_sound};
 
     ghost Value = { Column };
 

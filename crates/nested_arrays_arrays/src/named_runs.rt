@@ -1,7 +1,7 @@
 //! Runs of slots of dictionaries whose values are arrays without children: keys are read, and values that they name are compared once for each
 //! pair of places that is remembered.
 ghost use Rattle.std.specs.Prelude.{◌≡◌, ◌+◌, ◌<◌, ◌≤◌, ◌↔◌, IfSome, IsTrue};
-ghost use Rattle.nested_arrays_columns.specs.StoredColumns.{column_len, slot_at};
+ghost use Rattle.nested_arrays_parts.specs.columns.StoredColumns.{column_len, slot_at};
 ghost use Rattle.nested_arrays_parts.specs.Ranges.{SameRanges};
 ghost use Rattle.nested_arrays_arrays.specs.AnyColumns.{column_of, IsWhole};
 ghost use Rattle.nested_arrays_arrays.specs.NamedRuns.{named_slot, AreSamePairs, TellsRun};

@@ -2,15 +2,15 @@
 ghost use Rattle.std.specs.Prelude.{◌≡◌, ◌<◌, ◌&&◌, ℤ, length, slice_index, true, FitsSigned, IfSome, Some, None};
 ghost use Rattle.std.specs.Int.{cast_unsigned, w8};
 ghost use Rattle.std.specs.List.{list_all};
-ghost use Rattle.nested_arrays_columns.specs.Kinds.{is_signed};
-ghost use Rattle.nested_arrays_columns.specs.SoundColumns.{column_lens, has_an_id_each, has_child_at, has_child_types};
-ghost use Rattle.nested_arrays_columns.specs.SoundColumns.{has_places, holds_below, is_offset};
-ghost use Rattle.nested_arrays_columns.specs.StoredColumns.{child_number, in_columns, place_below, place_of_id, type_layer};
+ghost use Rattle.nested_arrays_parts.specs.columns.Kinds.{is_signed};
+ghost use Rattle.nested_arrays_parts.specs.columns.SoundColumns.{column_lens, has_an_id_each, has_child_at, has_child_types};
+ghost use Rattle.nested_arrays_parts.specs.columns.SoundColumns.{has_places, holds_below, is_offset};
+ghost use Rattle.nested_arrays_parts.specs.columns.StoredColumns.{child_number, in_columns, place_below, place_of_id, type_layer};
 ghost use Rattle.nested_arrays_arrays.specs.Rooms.{AreRooms};
 
 use crate::any::AnyArray;
 use crate::children::{have_len, have_types};
-use columnar_memory::{Buffer, DataType, Index, Items};
+use nested_arrays_parts::columnar_memory::{Buffer, DataType, Index, Items};
 
 /// How many ids of 8 bits there are.
 const IDS: usize = 256;

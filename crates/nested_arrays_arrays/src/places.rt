@@ -1,10 +1,10 @@
 //! Where the slots inside a slot stand.
 ghost use Rattle.std.specs.Prelude.{◌≡◌, ◌≢◌, ◌+◌, ◌<◌, ◌≤◌, length, IfSome, MatchOption, true};
-ghost use Rattle.columnar_memory.specs.Spans.{last_of, offset_at};
-ghost use Rattle.nested_arrays_columns.specs.Slots.{null};
-ghost use Rattle.nested_arrays_columns.specs.SoundColumns.{is_sound};
-ghost use Rattle.nested_arrays_columns.specs.StoredColumns.{column_len, in_columns, is_valid_at, slot_at};
-ghost use Rattle.nested_arrays_flat.specs.ColumnMasks.{column_mask};
+ghost use Rattle.nested_arrays_parts.specs.columnar_memory.Spans.{last_of, offset_at};
+ghost use Rattle.nested_arrays_parts.specs.columns.Slots.{null};
+ghost use Rattle.nested_arrays_parts.specs.columns.SoundColumns.{is_sound};
+ghost use Rattle.nested_arrays_parts.specs.columns.StoredColumns.{column_len, in_columns, is_valid_at, slot_at};
+ghost use Rattle.nested_arrays_parts.specs.flat.ColumnMasks.{column_mask};
 ghost use Rattle.nested_arrays_parts.specs.Widths.{spans_in};
 ghost use Rattle.nested_arrays_arrays.specs.AnyColumns.{column_of};
 ghost use Rattle.nested_arrays_arrays.specs.Places.{AreFields, AreItems, AreRecords, IsKeyless, IsPick, slot_class};
@@ -14,7 +14,7 @@ use crate::fixed_lists::FixedSizeListArray;
 use crate::maps::MapArray;
 use crate::records::StructArray;
 use crate::unions::UnionArray;
-use nested_arrays_flat::mark_at;
+use nested_arrays_parts::flat::mark_at;
 use nested_arrays_parts::{FlatArray, ListOffsets, has_no_nulls, holds_values, is_null};
 
 /// Whether the mask, if there is one, says that a slot has a value.

@@ -1,19 +1,19 @@
 //! Structs.
 ghost use Rattle.std.specs.Prelude.{◌≡◌, ◌+◌, ◌≤◌, ◌↔◌, IsTrue, true, map, All, option_copied};
-ghost use Rattle.columnar_memory.specs.Layouts.{physical_type};
-ghost use Rattle.columnar_memory.specs.declared.PhysicalType.TheVariants as physical;
-ghost use Rattle.nested_arrays_columns.specs.SoundColumns.{is_sound};
-ghost use Rattle.nested_arrays_columns.specs.StoredColumns.{column_len, column_type, cut, records, in_columns};
+ghost use Rattle.nested_arrays_parts.specs.columnar_memory.Layouts.{physical_type};
+ghost use Rattle.nested_arrays_parts.specs.columnar_memory.declared.PhysicalType.TheVariants as physical;
+ghost use Rattle.nested_arrays_parts.specs.columns.SoundColumns.{is_sound};
+ghost use Rattle.nested_arrays_parts.specs.columns.StoredColumns.{column_len, column_type, cut, records, in_columns};
 ghost use Rattle.nested_arrays_arrays.specs.Answers.{IsChecked};
 ghost use Rattle.nested_arrays_arrays.specs.Lengths.{struct_len};
 ghost use Rattle.nested_arrays_arrays.specs.Parts.{fields_of};
-ghost use Rattle.nested_arrays_flat.specs.ColumnMasks.{column_mask, ReplacesMask};
+ghost use Rattle.nested_arrays_parts.specs.flat.ColumnMasks.{column_mask, ReplacesMask};
 
 use crate::any::AnyArray;
 use crate::children::{are_fields_of, are_whole, have_len};
-use columnar_memory::{Bitmap, DataType, Error, Field, Result};
-use nested_arrays_flat::slice_mask;
+use nested_arrays_parts::columnar_memory::{Bitmap, DataType, Error, Field, Result};
 use nested_arrays_parts::fits;
+use nested_arrays_parts::flat::slice_mask;
 use std::marker::Model;
 
 /// Structs (Arrow columnar format, "Struct Layout").
@@ -28,9 +28,9 @@ pub struct StructArray {
 
 impl Model for StructArray {
     ghost use Rattle.std.specs.Prelude.{◌≡◌, ◌+◌, ◌*◌, true};
-    ghost use Rattle.nested_arrays_columns.specs.StoredColumns.{Column, column_size, records, in_columns};
-    ghost use Rattle.nested_arrays_columns.specs.ColumnCodes.{column_code};
-    ghost use Rattle.nested_arrays_columns.specs.SoundColumns.{is_sound};
+    ghost use Rattle.nested_arrays_parts.specs.columns.StoredColumns.{Column, column_size, records, in_columns};
+    ghost use Rattle.nested_arrays_parts.specs.columns.ColumnCodes.{column_code};
+    ghost use Rattle.nested_arrays_parts.specs.columns.SoundColumns.{is_sound};
 
     ghost Value = { Column };
 

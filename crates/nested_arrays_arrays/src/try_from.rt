@@ -1,7 +1,7 @@
 //! Arrays of one kind taken out of arrays of any type, without memory: an array of another kind is given back.
 ghost use Rattle.std.specs.Prelude.{◌≡◌, false, MatchResult};
-ghost use Rattle.columnar_memory.specs.declared.IntegerType.{IntegerType};
-ghost use Rattle.columnar_memory.specs.declared.PhysicalType.TheVariants as physical;
+ghost use Rattle.nested_arrays_parts.specs.columnar_memory.declared.IntegerType.{IntegerType};
+ghost use Rattle.nested_arrays_parts.specs.columnar_memory.declared.PhysicalType.TheVariants as physical;
 ghost use Rattle.nested_arrays_arrays.specs.Answers.{TakesAs, TakesChildless};
 ghost use Rattle.nested_arrays_arrays.specs.Variants.{is_flat_node, may_lie};
 

@@ -1,15 +1,14 @@
 //! Arrays of one kind without children taken out of arrays of any type, without memory: an array of another kind is given back.
 ghost use Rattle.std.specs.Prelude.{◌≡◌};
-ghost use Rattle.columnar_memory.specs.declared.PhysicalType.TheVariants as physical;
-ghost use Rattle.nested_arrays_flat.specs.FlatColumns.{binary_column, boolean_column, text_column};
-ghost use Rattle.nested_arrays_flat.specs.Taken.{Takes};
+ghost use Rattle.nested_arrays_parts.specs.columnar_memory.declared.PhysicalType.TheVariants as physical;
+ghost use Rattle.nested_arrays_parts.specs.flat.FlatColumns.{binary_column, boolean_column, text_column};
+ghost use Rattle.nested_arrays_parts.specs.flat.Taken.{Takes};
 ghost use Rattle.nested_arrays_parts.specs.FlatLayouts.{TakesKind, TakesNumbers};
 
 use crate::any::AnyArray;
-use flat_arrays_bytes::{BinaryArray, Utf8Array};
-use flat_arrays_values::{BooleanArray, PrimitiveArray};
-use nested_arrays_flat::{AnyPrimitive, FixedSizeBinaryArray, NullArray, PrimitiveKind};
 use nested_arrays_parts::FlatArray;
+use nested_arrays_parts::flat::{AnyPrimitive, FixedSizeBinaryArray, NullArray, PrimitiveKind};
+use nested_arrays_parts::flat_arrays::{BinaryArray, BooleanArray, PrimitiveArray, Utf8Array};
 
 impl<T: PrimitiveKind> TryFrom<AnyArray> for PrimitiveArray<T> {
     type Error = AnyArray;

@@ -1,20 +1,20 @@
 //! Unions.
 ghost use Rattle.std.specs.Prelude.{◌≡◌, true, ◌+◌, ◌<◌, ◌≤◌, ◌↔◌, IsTrue, length, None, option_copied, pos, slice_index_or};
-ghost use Rattle.nested_arrays_columns.specs.SoundColumns.{has_child_at, is_sound};
-ghost use Rattle.nested_arrays_columns.specs.StoredColumns.{child_number, column_len, column_type, cut, in_columns, slot_at, type_layer};
-ghost use Rattle.nested_arrays_columns.specs.StoredColumns.{picked_at, union_place, unions};
+ghost use Rattle.nested_arrays_parts.specs.columns.SoundColumns.{has_child_at, is_sound};
+ghost use Rattle.nested_arrays_parts.specs.columns.StoredColumns.{child_number, column_len, column_type, cut, in_columns, slot_at, type_layer};
+ghost use Rattle.nested_arrays_parts.specs.columns.StoredColumns.{picked_at, union_place, unions};
 ghost use Rattle.nested_arrays_arrays.specs.Answers.{IsChecked};
 ghost use Rattle.nested_arrays_arrays.specs.UnionFields.{layer_choices};
 ghost use Rattle.nested_arrays_arrays.specs.Parts.{column_children, column_ids, column_places};
-ghost use Rattle.nested_arrays_flat.specs.ColumnMasks.{column_mask, ReplacesMask};
-ghost use Rattle.columnar_memory.specs.Layouts.{physical_type};
-ghost use Rattle.columnar_memory.specs.declared.PhysicalType.TheVariants as physical;
+ghost use Rattle.nested_arrays_parts.specs.flat.ColumnMasks.{column_mask, ReplacesMask};
+ghost use Rattle.nested_arrays_parts.specs.columnar_memory.Layouts.{physical_type};
+ghost use Rattle.nested_arrays_parts.specs.columnar_memory.declared.PhysicalType.TheVariants as physical;
 
 use crate::any::AnyArray;
 use crate::children::are_whole;
 use crate::picks::{are_children_of, child_number, have_slots, read_ids};
 use crate::records::slice_each;
-use columnar_memory::{Bitmap, Buffer, DataType, Error, Field, Result};
+use nested_arrays_parts::columnar_memory::{Bitmap, Buffer, DataType, Error, Field, Result};
 use std::marker::Model;
 
 /// Slots each of one of several types, by its id: in a sparse union each child is as long as the union, in a dense one each slot has its
@@ -30,9 +30,9 @@ pub struct UnionArray {
 
 impl Model for UnionArray {
     ghost use Rattle.std.specs.Prelude.{◌≡◌, ◌+◌, ◌*◌, true};
-    ghost use Rattle.nested_arrays_columns.specs.StoredColumns.{Column, column_size, unions, in_columns};
-    ghost use Rattle.nested_arrays_columns.specs.ColumnCodes.{column_code};
-    ghost use Rattle.nested_arrays_columns.specs.SoundColumns.{is_sound};
+    ghost use Rattle.nested_arrays_parts.specs.columns.StoredColumns.{Column, column_size, unions, in_columns};
+    ghost use Rattle.nested_arrays_parts.specs.columns.ColumnCodes.{column_code};
+    ghost use Rattle.nested_arrays_parts.specs.columns.SoundColumns.{is_sound};
 
     ghost Value = { Column };
 

@@ -1,12 +1,12 @@
 //! Masks of arrays of any type, read and replaced.
 ghost use Rattle.std.specs.Prelude.{◌≡◌, true, option_copied};
-ghost use Rattle.nested_arrays_columns.specs.SoundColumns.{is_sound};
-ghost use Rattle.nested_arrays_flat.specs.ColumnMasks.{column_mask, ReplacesMask};
+ghost use Rattle.nested_arrays_parts.specs.columns.SoundColumns.{is_sound};
+ghost use Rattle.nested_arrays_parts.specs.flat.ColumnMasks.{column_mask, ReplacesMask};
 ghost use Rattle.nested_arrays_arrays.specs.AnyColumns.{column_of, FitsWidth};
 
 use crate::any::{AnyArray, ListNode, Node};
 use crate::key_masks::mask_keys;
-use columnar_memory::{Bitmap, Error, Result};
+use nested_arrays_parts::columnar_memory::{Bitmap, Error, Result};
 use nested_arrays_parts::fits;
 
 impl AnyArray {

@@ -7,32 +7,32 @@ use mathlib.Core.Logic.{inl}
 use lib.Signed.{le_z_yes}
 use Rattle.std.proofs.lemmas.Bool.{and_from, and_parts, le-leb, lt-ltb, false≢true}
 use Rattle.std.proofs.lemmas.List.{length-map}
-use Rattle.columnar_memory.specs.Equality.{same_type}
-use Rattle.columnar_memory.specs.Error.{IsOutOfSpec}
-use Rattle.columnar_memory.specs.Layouts.{physical_type}
-use Rattle.columnar_memory.specs.Numbers.{Numbers, one, first_number}
-use Rattle.columnar_memory.specs.declared.DataType.{DataType}
-use Rattle.columnar_memory.specs.declared.DataType.TheOpen as layer
-use Rattle.columnar_memory.specs.declared.Error.{Error}
-use Rattle.columnar_memory.specs.declared.IntegerType.{IntegerType}
-use Rattle.columnar_memory.specs.declared.IntegerType.TheVariants as integers
-use Rattle.columnar_memory.specs.declared.PhysicalType.{PhysicalType}
-use Rattle.columnar_memory.specs.declared.PhysicalType.TheVariants as physical
-use Rattle.columnar_memory.specs.declared.PrimitiveType.{PrimitiveType}
-use Rattle.flat_arrays_values.specs.Flat as arrays
-use Rattle.flat_arrays_values.specs.Flat.{Flat, IsFlat, IsMaskOf}
-use Rattle.flat_arrays_values.specs.Results.{AreChecked, IsPlaceBelow}
-use Rattle.nested_arrays_columns.specs.Kinds.{is_key}
-use Rattle.nested_arrays_columns.specs.SoundColumns.{has_size, has_value_at, has_value_type, holds_below, is_sound, is_stored_as, mask_fits}
-use Rattle.nested_arrays_columns.specs.StoredColumns.{Column, flat, dictionary, column_len, column_type, cut, is_valid_at, place_of, stored_len, type_layer}
-use Rattle.nested_arrays_columns.proofs.Conditions.{holds_at, holds_from, parts_of_3, parts_of_4}
-use Rattle.nested_arrays_flat.specs.ColumnMasks.{column_mask}
-use Rattle.nested_arrays_flat.specs.FlatColumns.{primitive_column, stored_numbers}
-use Rattle.nested_arrays_flat.proofs.ColumnParts.{sound_mask}
-use Rattle.nested_arrays_flat.proofs.Layers.{Layer, layer_layout, type_lies}
-use Rattle.nested_arrays_flat.proofs.SoundFlats.{cut_masks, primitive_len, window-cut_list, window-map}
-use Rattle.nested_arrays_arrays.specs.Answers.{IsCheckedAs, LiesAs}
-use Rattle.nested_arrays_parts.specs.Keys.{AreKeysOf, keyed, kind_of_keys, numbers_in}
+use Rattle.nested_arrays_access.specs.columnar_memory.Equality.{same_type}
+use Rattle.nested_arrays_access.specs.columnar_memory.Error.{IsOutOfSpec}
+use Rattle.nested_arrays_access.specs.columnar_memory.Layouts.{physical_type}
+use Rattle.nested_arrays_access.specs.columnar_memory.Numbers.{Numbers, one, first_number}
+use Rattle.nested_arrays_access.specs.columnar_memory.declared.DataType.{DataType}
+use Rattle.nested_arrays_access.specs.columnar_memory.declared.DataType.TheOpen as layer
+use Rattle.nested_arrays_access.specs.columnar_memory.declared.Error.{Error}
+use Rattle.nested_arrays_access.specs.columnar_memory.declared.IntegerType.{IntegerType}
+use Rattle.nested_arrays_access.specs.columnar_memory.declared.IntegerType.TheVariants as integers
+use Rattle.nested_arrays_access.specs.columnar_memory.declared.PhysicalType.{PhysicalType}
+use Rattle.nested_arrays_access.specs.columnar_memory.declared.PhysicalType.TheVariants as physical
+use Rattle.nested_arrays_access.specs.columnar_memory.declared.PrimitiveType.{PrimitiveType}
+use Rattle.nested_arrays_access.specs.flat_arrays.Flat as arrays
+use Rattle.nested_arrays_access.specs.flat_arrays.Flat.{Flat, IsFlat, IsMaskOf}
+use Rattle.nested_arrays_access.specs.flat_arrays.Results.{AreChecked, IsPlaceBelow}
+use Rattle.nested_arrays_access.specs.columns.Kinds.{is_key}
+use Rattle.nested_arrays_access.specs.columns.SoundColumns.{has_size, has_value_at, has_value_type, holds_below, is_sound, is_stored_as, mask_fits}
+use Rattle.nested_arrays_access.specs.columns.StoredColumns.{Column, flat, dictionary, column_len, column_type, cut, is_valid_at, place_of, stored_len, type_layer}
+use Rattle.nested_arrays_access.proofs.columns_lemmas.Conditions.{holds_at, holds_from, parts_of_3, parts_of_4}
+use Rattle.nested_arrays_access.specs.flat.ColumnMasks.{column_mask}
+use Rattle.nested_arrays_access.specs.flat.FlatColumns.{primitive_column, stored_numbers}
+use Rattle.nested_arrays_access.proofs.flat_lemmas.ColumnParts.{sound_mask}
+use Rattle.nested_arrays_access.proofs.flat_lemmas.Layers.{Layer, layer_layout, type_lies}
+use Rattle.nested_arrays_access.proofs.flat_lemmas.SoundFlats.{cut_masks, primitive_len, window-cut_list, window-map}
+use Rattle.nested_arrays_access.specs.arrays.Answers.{IsCheckedAs, LiesAs}
+use Rattle.nested_arrays_access.specs.parts.Keys.{AreKeysOf, keyed, kind_of_keys, numbers_in}
 use Rattle.nested_arrays_generic.specs.Dictionaries.{IsDictionaryOf, dictionary_type, is_value_type, keyed_by, raw_key}
 
 -- ---- places of values

@@ -2,13 +2,13 @@
 use Rattle.std.proofs.Common.{◌≡◌, ◌∙◌, List, length, map, true, sym, ap, subst}
 use Rattle.std.specs.Prelude.{ℤ, Bool, Option}
 use Rattle.std.proofs.lemmas.List.{length-map}
-use Rattle.columnar_memory.specs.declared.DataType.{DataType}
-use Rattle.flat_arrays_values.specs.Flat as arrays
-use Rattle.flat_arrays_values.specs.Flat.{Flat}
-use Rattle.nested_arrays_columns.specs.SoundColumns.{has_value_at, holds_below, is_sound, mask_fits}
-use Rattle.nested_arrays_columns.specs.StoredColumns.{Column, column_len}
-use Rattle.nested_arrays_flat.specs.ColumnMasks.{TakesMask, with_mask}
-use Rattle.nested_arrays_arrays.proofs.KeyMasks.{dictionary_named, dictionary_takes}
+use Rattle.nested_arrays_access.specs.columnar_memory.declared.DataType.{DataType}
+use Rattle.nested_arrays_access.specs.flat_arrays.Flat as arrays
+use Rattle.nested_arrays_access.specs.flat_arrays.Flat.{Flat}
+use Rattle.nested_arrays_access.specs.columns.SoundColumns.{has_value_at, holds_below, is_sound, mask_fits}
+use Rattle.nested_arrays_access.specs.columns.StoredColumns.{Column, column_len}
+use Rattle.nested_arrays_access.specs.flat.ColumnMasks.{TakesMask, with_mask}
+use Rattle.nested_arrays_access.proofs.arrays_lemmas.KeyMasks.{dictionary_named, dictionary_takes}
 use Rattle.nested_arrays_generic.specs.Dictionaries.{keyed_by}
 
 -- a mask of the dictionary's length is one of the keys

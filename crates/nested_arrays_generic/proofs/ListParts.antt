@@ -2,16 +2,16 @@
 use Rattle.std.proofs.Common.{◌≡◌, ◌∙◌, sym, ap, ◌≤◌, ℕ, List, true, false, Bool, arith, refl, length}
 use Rattle.std.specs.Prelude.{Option, if◌then◌else◌}
 use Rattle.std.proofs.lemmas.Bool.{false≢true}
-use Rattle.columnar_memory.specs.Layouts.{physical_type}
-use Rattle.columnar_memory.specs.Spans.{Spans, offsets_of, last_of}
-use Rattle.columnar_memory.specs.declared.DataType.{DataType}
-use Rattle.columnar_memory.specs.declared.DataType.TheOpen as layer
-use Rattle.nested_arrays_columns.specs.Kinds.{most_offset}
-use Rattle.nested_arrays_columns.specs.SoundColumns.{has_item_type, mask_fits, is_sound}
-use Rattle.nested_arrays_columns.specs.StoredColumns.{Column, column_len, column_type, lists, type_layer}
-use Rattle.nested_arrays_arrays.specs.Answers.{LiesAs}
-use Rattle.nested_arrays_arrays.proofs.ListParts.{lists_whole, lists_parts}
-use Rattle.nested_arrays_flat.proofs.Layers.{Layer, layer_layout, type_lies}
+use Rattle.nested_arrays_access.specs.columnar_memory.Layouts.{physical_type}
+use Rattle.nested_arrays_access.specs.columnar_memory.Spans.{Spans, offsets_of, last_of}
+use Rattle.nested_arrays_access.specs.columnar_memory.declared.DataType.{DataType}
+use Rattle.nested_arrays_access.specs.columnar_memory.declared.DataType.TheOpen as layer
+use Rattle.nested_arrays_access.specs.columns.Kinds.{most_offset}
+use Rattle.nested_arrays_access.specs.columns.SoundColumns.{has_item_type, mask_fits, is_sound}
+use Rattle.nested_arrays_access.specs.columns.StoredColumns.{Column, column_len, column_type, lists, type_layer}
+use Rattle.nested_arrays_access.specs.arrays.Answers.{LiesAs}
+use Rattle.nested_arrays_access.proofs.arrays_lemmas.ListParts.{lists_whole, lists_parts}
+use Rattle.nested_arrays_access.proofs.flat_lemmas.Layers.{Layer, layer_layout, type_lies}
 use Rattle.nested_arrays_generic.specs.ListTypes.{has_list_item_type, list_layout}
 
 -- types of lists with such offsets are those that lie in memory so and have items

@@ -2,13 +2,13 @@
 use Rattle.std.proofs.Common.{◌≡◌, ◌∙◌, ◌<◌, ℕ, ℤ, List, Bool, true, false, refl, sym, ap, arith, length, subst}
 use Rattle.std.specs.Prelude.{◌&&◌, ◌||◌, not, pos, Option, None, Some, slice_index_or, nat_lt, int_le, if◌then◌else◌, unwrap_or}
 use Rattle.std.proofs.lemmas.Bool.{and_parts, false≢true, ltb-true}
-use Rattle.columnar_memory.specs.declared.DataType.{DataType}
-use Rattle.nested_arrays_columns.proofs.Conditions.{parts_of_4, holds_at}
-use Rattle.nested_arrays_columns.specs.Slots.{null}
-use Rattle.nested_arrays_columns.specs.SoundColumns.{has_value_at, has_value_type, holds_below, is_sound, mask_fits}
-use Rattle.nested_arrays_columns.specs.StoredColumns.{Column, dictionary, column_len, column_type, is_valid_at, place_of, slot_at, type_layer}
-use Rattle.nested_arrays_parts.proofs.SameForms.{null_slot, valid_slot}
-use Rattle.nested_arrays_flat.specs.ColumnMasks.{column_mask}
+use Rattle.nested_arrays_access.specs.columnar_memory.declared.DataType.{DataType}
+use Rattle.nested_arrays_access.proofs.columns_lemmas.Conditions.{parts_of_4, holds_at}
+use Rattle.nested_arrays_access.specs.columns.Slots.{null}
+use Rattle.nested_arrays_access.specs.columns.SoundColumns.{has_value_at, has_value_type, holds_below, is_sound, mask_fits}
+use Rattle.nested_arrays_access.specs.columns.StoredColumns.{Column, dictionary, column_len, column_type, is_valid_at, place_of, slot_at, type_layer}
+use Rattle.nested_arrays_access.proofs.parts_lemmas.SameForms.{null_slot, valid_slot}
+use Rattle.nested_arrays_access.specs.flat.ColumnMasks.{column_mask}
 use Rattle.nested_arrays_generic.specs.Dictionaries.{key_at, raw_key, values_of}
 
 -- a mark that is not unset

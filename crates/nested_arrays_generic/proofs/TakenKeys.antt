@@ -3,24 +3,24 @@ use Rattle.std.proofs.Common.{◌≡◌, ◌∙◌, List, map, Bool, true, refl,
 use Rattle.std.specs.Prelude.{ℤ, Option, ◌&&◌, ◌==◌}
 use Rattle.std.specs.List.{list_all}
 use Rattle.std.proofs.lemmas.Bool.{and_parts, false≢true}
-use Rattle.columnar_memory.specs.Layouts.{physical_type}
-use Rattle.columnar_memory.specs.Numbers.{Numbers, one}
-use Rattle.columnar_memory.specs.declared.DataType.{DataType}
-use Rattle.columnar_memory.specs.declared.IntegerType.{IntegerType}
-use Rattle.columnar_memory.specs.declared.IntegerType.TheVariants as integers
-use Rattle.columnar_memory.specs.declared.PhysicalType.{PhysicalType}
-use Rattle.columnar_memory.specs.declared.PhysicalType.TheVariants as physical
-use Rattle.columnar_memory.specs.declared.PrimitiveType.{PrimitiveType}
-use Rattle.columnar_memory.specs.declared.PrimitiveType.TheVariants as kinds
-use Rattle.flat_arrays_values.specs.Flat.{Flat}
-use Rattle.nested_arrays_columns.proofs.Conditions.{parts_of_3}
-use Rattle.nested_arrays_columns.specs.Kinds.{in_kind, numbers_of_kind, same_kind}
-use Rattle.nested_arrays_columns.specs.SoundColumns.{has_size, is_sound, is_stored_as, mask_fits}
-use Rattle.nested_arrays_columns.specs.StoredColumns.{Column, column_type, flat, numbers, stored_len, type_layer}
-use Rattle.nested_arrays_flat.specs.FlatColumns.{primitive_column, stored_numbers}
-use Rattle.nested_arrays_flat.specs.Taken.{IsOfKind}
-use Rattle.nested_arrays_parts.specs.Keys.{AreKeysOf, keyed, kind_of_keys}
-use Rattle.nested_arrays_arrays.specs.Answers.{LiesAs}
+use Rattle.nested_arrays_access.specs.columnar_memory.Layouts.{physical_type}
+use Rattle.nested_arrays_access.specs.columnar_memory.Numbers.{Numbers, one}
+use Rattle.nested_arrays_access.specs.columnar_memory.declared.DataType.{DataType}
+use Rattle.nested_arrays_access.specs.columnar_memory.declared.IntegerType.{IntegerType}
+use Rattle.nested_arrays_access.specs.columnar_memory.declared.IntegerType.TheVariants as integers
+use Rattle.nested_arrays_access.specs.columnar_memory.declared.PhysicalType.{PhysicalType}
+use Rattle.nested_arrays_access.specs.columnar_memory.declared.PhysicalType.TheVariants as physical
+use Rattle.nested_arrays_access.specs.columnar_memory.declared.PrimitiveType.{PrimitiveType}
+use Rattle.nested_arrays_access.specs.columnar_memory.declared.PrimitiveType.TheVariants as kinds
+use Rattle.nested_arrays_access.specs.flat_arrays.Flat.{Flat}
+use Rattle.nested_arrays_access.proofs.columns_lemmas.Conditions.{parts_of_3}
+use Rattle.nested_arrays_access.specs.columns.Kinds.{in_kind, numbers_of_kind, same_kind}
+use Rattle.nested_arrays_access.specs.columns.SoundColumns.{has_size, is_sound, is_stored_as, mask_fits}
+use Rattle.nested_arrays_access.specs.columns.StoredColumns.{Column, column_type, flat, numbers, stored_len, type_layer}
+use Rattle.nested_arrays_access.specs.flat.FlatColumns.{primitive_column, stored_numbers}
+use Rattle.nested_arrays_access.specs.flat.Taken.{IsOfKind}
+use Rattle.nested_arrays_access.specs.parts.Keys.{AreKeysOf, keyed, kind_of_keys}
+use Rattle.nested_arrays_access.specs.arrays.Answers.{LiesAs}
 use Rattle.nested_arrays_generic.specs.Dictionaries.{keyed_by}
 use Rattle.nested_arrays_generic.proofs.DictionaryParts.{keyed_is}
 

@@ -2,20 +2,20 @@
 -- Layout").
 use Rattle.std.specs.Prelude.{◌≡◌, ◌⊎◌, ℕ, ℤ, pos, Bool, true, false, List, [], map, Option, Some, None, if◌then◌else◌, slice_index_or}
 use Rattle.std.specs.Prelude.{Result, MatchResult}
-use Rattle.columnar_memory.specs.Equality.{same_type}
-use Rattle.columnar_memory.specs.Error.{IsOutOfMemory, IsOutOfSpec}
-use Rattle.columnar_memory.specs.declared.DataType.{DataType}
-use Rattle.columnar_memory.specs.declared.DataType.TheOpen as layer
-use Rattle.columnar_memory.specs.declared.DataType.TheVariants as types
-use Rattle.columnar_memory.specs.declared.Error.{Error}
-use Rattle.columnar_memory.specs.declared.Field.{Field}
-use Rattle.columnar_memory.specs.declared.IntegerType.{IntegerType}
-use Rattle.columnar_memory.specs.declared.IntegerType.TheVariants as integers
-use Rattle.columnar_memory.specs.declared.PhysicalType.TheVariants as physical
-use Rattle.flat_arrays_values.specs.Flat.{Flat}
-use Rattle.nested_arrays_arrays.specs.Answers.{LiesAs}
-use Rattle.nested_arrays_columns.specs.StoredColumns.{Column, dictionary, is_valid_at, place_of}
-use Rattle.nested_arrays_flat.specs.ColumnMasks.{column_mask}
+use Rattle.nested_arrays_access.specs.columnar_memory.Equality.{same_type}
+use Rattle.nested_arrays_access.specs.columnar_memory.Error.{IsOutOfMemory, IsOutOfSpec}
+use Rattle.nested_arrays_access.specs.columnar_memory.declared.DataType.{DataType}
+use Rattle.nested_arrays_access.specs.columnar_memory.declared.DataType.TheOpen as layer
+use Rattle.nested_arrays_access.specs.columnar_memory.declared.DataType.TheVariants as types
+use Rattle.nested_arrays_access.specs.columnar_memory.declared.Error.{Error}
+use Rattle.nested_arrays_access.specs.columnar_memory.declared.Field.{Field}
+use Rattle.nested_arrays_access.specs.columnar_memory.declared.IntegerType.{IntegerType}
+use Rattle.nested_arrays_access.specs.columnar_memory.declared.IntegerType.TheVariants as integers
+use Rattle.nested_arrays_access.specs.columnar_memory.declared.PhysicalType.TheVariants as physical
+use Rattle.nested_arrays_access.specs.flat_arrays.Flat.{Flat}
+use Rattle.nested_arrays_access.specs.arrays.Answers.{LiesAs}
+use Rattle.nested_arrays_access.specs.columns.StoredColumns.{Column, dictionary, is_valid_at, place_of}
+use Rattle.nested_arrays_access.specs.flat.ColumnMasks.{column_mask}
 
 -- the column of a dictionary by its type, its array of keys, whose mask it has, and its values
 abbrev pub keyed_by : {K : Type 0} → (K → ℤ) → DataType → Flat K → Column → Column

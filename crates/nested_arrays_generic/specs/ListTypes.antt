@@ -1,17 +1,17 @@
 -- What lists of a width have for their items.
 use Rattle.std.specs.Prelude.{◌≡◌, Bool, true, false, Option, Some, None, Result, MatchResult}
 use Rattle.std.specs.Borrow.{Bor}
-use Rattle.columnar_memory.specs.Equality.{same_type}
-use Rattle.columnar_memory.specs.Error.{IsOutOfSpec}
-use Rattle.columnar_memory.specs.declared.DataType.{DataType}
-use Rattle.columnar_memory.specs.declared.DataType.TheOpen as layer
-use Rattle.columnar_memory.specs.declared.DataType.TheVariants as types
-use Rattle.columnar_memory.specs.declared.Error.{Error}
-use Rattle.columnar_memory.specs.declared.Field.{Field}
-use Rattle.columnar_memory.specs.declared.PhysicalType.{PhysicalType}
-use Rattle.columnar_memory.specs.declared.PhysicalType.TheVariants as physical
-use Rattle.nested_arrays_arrays.specs.ItemTypes.{item_field}
-use Rattle.nested_arrays_columns.specs.StoredColumns.{Column, lists}
+use Rattle.nested_arrays_access.specs.columnar_memory.Equality.{same_type}
+use Rattle.nested_arrays_access.specs.columnar_memory.Error.{IsOutOfSpec}
+use Rattle.nested_arrays_access.specs.columnar_memory.declared.DataType.{DataType}
+use Rattle.nested_arrays_access.specs.columnar_memory.declared.DataType.TheOpen as layer
+use Rattle.nested_arrays_access.specs.columnar_memory.declared.DataType.TheVariants as types
+use Rattle.nested_arrays_access.specs.columnar_memory.declared.Error.{Error}
+use Rattle.nested_arrays_access.specs.columnar_memory.declared.Field.{Field}
+use Rattle.nested_arrays_access.specs.columnar_memory.declared.PhysicalType.{PhysicalType}
+use Rattle.nested_arrays_access.specs.columnar_memory.declared.PhysicalType.TheVariants as physical
+use Rattle.nested_arrays_access.specs.arrays.ItemTypes.{item_field}
+use Rattle.nested_arrays_access.specs.columns.StoredColumns.{Column, lists}
 
 -- the items of lists
 abbrev pub items_in : Column → Column

@@ -4,7 +4,7 @@ ghost use Rattle.std.specs.Prelude.{◌≡◌};
 use crate::dictionaries::DictionaryArray;
 use crate::keys::DictionaryKey;
 use crate::lists::ListArray;
-use columnar_memory::Offset;
+use nested_arrays_access::columnar_memory::Offset;
 use std::alloc::AllocError;
 
 impl<O: Offset> Clone for ListArray<O> {

@@ -1,19 +1,19 @@
 //! Dictionaries.
 ghost use Rattle.std.specs.Prelude.{◌≡◌, ◌+◌, ◌<◌, ◌≤◌, ◌≤ℤ◌, ◌↔◌, IsTrue, false, not, option_copied, pos, true};
-ghost use Rattle.columnar_memory.specs.Layouts.{physical_type};
-ghost use Rattle.columnar_memory.specs.declared.PhysicalType.TheVariants as physical;
-ghost use Rattle.nested_arrays_columns.specs.StoredColumns.{column_len, column_type, cut, is_valid_at, type_layer};
-ghost use Rattle.nested_arrays_flat.specs.ColumnMasks.{column_mask, unset_in, ReplacesMask};
-ghost use Rattle.nested_arrays_arrays.specs.Answers.{IsCheckedAs, LiesAs};
+ghost use Rattle.nested_arrays_access.specs.columnar_memory.Layouts.{physical_type};
+ghost use Rattle.nested_arrays_access.specs.columnar_memory.declared.PhysicalType.TheVariants as physical;
+ghost use Rattle.nested_arrays_access.specs.columns.StoredColumns.{column_len, column_type, cut, is_valid_at, type_layer};
+ghost use Rattle.nested_arrays_access.specs.flat.ColumnMasks.{column_mask, unset_in, ReplacesMask};
+ghost use Rattle.nested_arrays_access.specs.arrays.Answers.{IsCheckedAs, LiesAs};
 ghost use Rattle.nested_arrays_generic.specs.Dictionaries.{has_order, is_value_type, key_at, keyed_by, raw_key, values_of};
 ghost use Rattle.nested_arrays_generic.specs.Dictionaries.{IsDictionaryOf};
 
 use crate::keys::{DictionaryKey, name_values};
-use columnar_memory::{Bitmap, Boxed, DataType, Error, PhysicalType, Result};
-use flat_arrays_values::PrimitiveArray;
-use nested_arrays_arrays::AnyArray;
-use nested_arrays_flat::{mark_at, primitive_is_sound, unset_marks};
-use nested_arrays_parts::fits;
+use nested_arrays_access::arrays::AnyArray;
+use nested_arrays_access::columnar_memory::{Bitmap, Boxed, DataType, Error, PhysicalType, Result};
+use nested_arrays_access::flat::{mark_at, primitive_is_sound, unset_marks};
+use nested_arrays_access::flat_arrays::PrimitiveArray;
+use nested_arrays_access::parts::fits;
 use std::alloc::Global;
 use std::marker::Model;
 
@@ -27,10 +27,10 @@ pub struct DictionaryArray<K: DictionaryKey> {
 }
 
 impl<K: DictionaryKey> Model for DictionaryArray<K> {
-    ghost use Rattle.columnar_memory.specs.declared.PhysicalType.TheVariants as physical;
-    ghost use Rattle.nested_arrays_columns.specs.ColumnCodes.{column_code};
-    ghost use Rattle.nested_arrays_columns.specs.StoredColumns.{Column};
-    ghost use Rattle.nested_arrays_arrays.specs.Answers.{LiesAs};
+    ghost use Rattle.nested_arrays_access.specs.columnar_memory.declared.PhysicalType.TheVariants as physical;
+    ghost use Rattle.nested_arrays_access.specs.columns.ColumnCodes.{column_code};
+    ghost use Rattle.nested_arrays_access.specs.columns.StoredColumns.{Column};
+    ghost use Rattle.nested_arrays_access.specs.arrays.Answers.{LiesAs};
     ghost use Rattle.nested_arrays_generic.specs.Dictionaries.{keyed_by};
 
     ghost Value = { Column };

@@ -1,17 +1,17 @@
 //! `==` of lists and of dictionaries: of their data types and their slots.
 ghost use Rattle.std.specs.Prelude.{◌≡◌, ◌<◌, ◌↔◌, IsTrue, MatchOption};
-ghost use Rattle.nested_arrays_columns.specs.Slots.{null};
-ghost use Rattle.nested_arrays_columns.specs.StoredColumns.{column_len, slot_at};
-ghost use Rattle.nested_arrays_flat.specs.SameArrays.{AreEqual, same_column, same_column-equivalence, same_column-per};
-ghost use Rattle.nested_arrays_arrays.specs.Places.{AreItems};
+ghost use Rattle.nested_arrays_access.specs.columns.Slots.{null};
+ghost use Rattle.nested_arrays_access.specs.columns.StoredColumns.{column_len, slot_at};
+ghost use Rattle.nested_arrays_access.specs.flat.SameArrays.{AreEqual, same_column, same_column-equivalence, same_column-per};
+ghost use Rattle.nested_arrays_access.specs.arrays.Places.{AreItems};
 
 use crate::dictionaries::DictionaryArray;
 use crate::keys::DictionaryKey;
 use crate::lists::ListArray;
-use columnar_memory::{DataType, Offset, Steps};
-use nested_arrays_arrays::{
+use nested_arrays_access::arrays::{
     AnyArray, CompareSlots, is_null_slot, same_arrays, same_items, same_slot,
 };
+use nested_arrays_access::columnar_memory::{DataType, Offset, Steps};
 
 /// The items of a list: the child, the place of the first, and how many there are; none where the list is null.
 fn items_at<O: Offset>(array: &ListArray<O>, i: usize) -> Option<(&AnyArray, usize, usize)>

@@ -4,9 +4,9 @@ ghost use Rattle.std.specs.Prelude.{◌≡◌};
 use crate::dictionaries::DictionaryArray;
 use crate::keys::DictionaryKey;
 use crate::lists::ListArray;
-use nested_arrays_arrays::{AnyArray, DictionaryNode, ListNode, Node};
-use nested_arrays_flat::AnyPrimitive;
-use nested_arrays_parts::ListOffsets;
+use nested_arrays_access::arrays::{AnyArray, DictionaryNode, ListNode, Node};
+use nested_arrays_access::flat::AnyPrimitive;
+use nested_arrays_access::parts::ListOffsets;
 
 impl From<ListArray<i32>> for AnyArray {
     ghost from_gives = { λ array any. any ≡ array };

@@ -1,14 +1,14 @@
 //! Keys of dictionaries.
 ghost use Rattle.std.specs.Prelude.{◌≡◌, ◌<◌, ◌≤ℤ◌, length, map, option_copied, pos, refl, true};
-ghost use Rattle.columnar_memory.specs.declared.IntegerType.{IntegerType};
-ghost use Rattle.columnar_memory.specs.declared.IntegerType.TheVariants as integers;
-ghost use Rattle.nested_arrays_columns.specs.SoundColumns.{has_value_at, holds_below, mask_fits};
-ghost use Rattle.nested_arrays_parts.specs.Keys.{kind_of_keys};
+ghost use Rattle.nested_arrays_access.specs.columnar_memory.declared.IntegerType.{IntegerType};
+ghost use Rattle.nested_arrays_access.specs.columnar_memory.declared.IntegerType.TheVariants as integers;
+ghost use Rattle.nested_arrays_access.specs.columns.SoundColumns.{has_value_at, holds_below, mask_fits};
+ghost use Rattle.nested_arrays_access.specs.parts.Keys.{kind_of_keys};
 ghost use Rattle.nested_arrays_generic.specs.Dictionaries.{has_no_sign};
 
-use columnar_memory::{Bitmap, Index, IntegerType};
-use flat_arrays_values::{PrimitiveArray, check_indexes};
-use nested_arrays_flat::{PrimitiveKind, mark_at};
+use nested_arrays_access::columnar_memory::{Bitmap, Index, IntegerType};
+use nested_arrays_access::flat::{PrimitiveKind, mark_at};
+use nested_arrays_access::flat_arrays::{PrimitiveArray, check_indexes};
 
 /// An integer that names a value of a dictionary by its place.
 pub trait DictionaryKey: Index + PrimitiveKind {

@@ -1,16 +1,18 @@
 //! Lists of any length.
 ghost use Rattle.std.specs.Prelude.{◌≡◌, ◌+◌, ◌<◌, ◌≤◌, ◌↔◌, IsTrue, not, Some, is_some, option_copied, option_map, MatchResult};
-ghost use Rattle.columnar_memory.specs.Error.{IsOutOfMemory};
-ghost use Rattle.columnar_memory.specs.Spans.{offsets_of};
-ghost use Rattle.nested_arrays_columns.specs.StoredColumns.{column_len, column_type, cut, is_valid_at, lists, type_layer};
-ghost use Rattle.nested_arrays_flat.specs.ColumnMasks.{column_mask, unset_in, ReplacesMask};
-ghost use Rattle.nested_arrays_arrays.specs.Answers.{IsCheckedAs, LiesAs};
+ghost use Rattle.nested_arrays_access.specs.columnar_memory.Error.{IsOutOfMemory};
+ghost use Rattle.nested_arrays_access.specs.columnar_memory.Spans.{offsets_of};
+ghost use Rattle.nested_arrays_access.specs.columns.StoredColumns.{column_len, column_type, cut, is_valid_at, lists, type_layer};
+ghost use Rattle.nested_arrays_access.specs.flat.ColumnMasks.{column_mask, unset_in, ReplacesMask};
+ghost use Rattle.nested_arrays_access.specs.arrays.Answers.{IsCheckedAs, LiesAs};
 ghost use Rattle.nested_arrays_generic.specs.ListTypes.{has_list_item_type, items_field, items_in, list_layout, list_type, IsItemsField};
 
-use columnar_memory::{Bitmap, DataType, Error, Field, Offset, OffsetsBuffer, Result};
-use nested_arrays_arrays::{AnyArray, item_field};
-use nested_arrays_flat::{mark_at, slice_mask, unset_marks};
-use nested_arrays_parts::{fits, last_of, slice_offsets};
+use nested_arrays_access::arrays::{AnyArray, item_field};
+use nested_arrays_access::columnar_memory::{
+    Bitmap, DataType, Error, Field, Offset, OffsetsBuffer, Result,
+};
+use nested_arrays_access::flat::{mark_at, slice_mask, unset_marks};
+use nested_arrays_access::parts::{fits, last_of, slice_offsets};
 use std::alloc::Global;
 use std::marker::Model;
 
@@ -25,10 +27,10 @@ pub struct ListArray<O: Offset> {
 }
 
 impl<O: Offset> Model for ListArray<O> {
-    ghost use Rattle.columnar_memory.specs.Spans.{offsets_of};
-    ghost use Rattle.nested_arrays_columns.specs.ColumnCodes.{column_code};
-    ghost use Rattle.nested_arrays_columns.specs.StoredColumns.{Column, lists};
-    ghost use Rattle.nested_arrays_arrays.specs.Answers.{LiesAs};
+    ghost use Rattle.nested_arrays_access.specs.columnar_memory.Spans.{offsets_of};
+    ghost use Rattle.nested_arrays_access.specs.columns.ColumnCodes.{column_code};
+    ghost use Rattle.nested_arrays_access.specs.columns.StoredColumns.{Column, lists};
+    ghost use Rattle.nested_arrays_access.specs.arrays.Answers.{LiesAs};
     ghost use Rattle.nested_arrays_generic.specs.ListTypes.{list_layout};
 
     ghost Value = { Column };
@@ -170,7 +172,7 @@ impl<O: Offset> ListArray<O> {
     }
 
     /// How many slots there are.
-    #[tactic(auto, using(nested_arrays_parts::proofs::OffsetLists::spans_count))]
+    #[tactic(auto, using(crate::proofs::Passed::spans_count))]
     pub fn len(&self) -> usize
         ensures { result ≡ column_len self.now }
     {
@@ -214,7 +216,7 @@ impl<O: Offset> ListArray<O> {
     ///
     /// # Errors
     /// `InvalidArgumentError`: the mask has another length than the array, which is as it was.
-    #[tactic(auto, using(nested_arrays_arrays::proofs::ArrayParts::lists_masked))]
+    #[tactic(auto, using(crate::proofs::Passed::lists_masked))]
     pub fn set_validity(&mut self, validity: Option<Bitmap>) -> Result<()>
         ensures { ReplacesMask self.old validity self.new result }
     {

@@ -2,8 +2,8 @@
 use crate::dictionaries::DictionaryArray;
 use crate::keys::DictionaryKey;
 use crate::lists::ListArray;
-use columnar_memory::{Bitmap, DataType, Offset, Result};
 use nested_arrays_access::Array;
+use nested_arrays_access::columnar_memory::{Bitmap, DataType, Offset, Result};
 
 impl<O: Offset> Array for ListArray<O> {
     ghost column = { λ array. array };

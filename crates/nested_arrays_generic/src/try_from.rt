@@ -1,18 +1,18 @@
 //! Lists and dictionaries taken out of arrays of any type, without memory: an array of another kind is given back.
 ghost use Rattle.std.specs.Prelude.{◌≡◌, true};
-ghost use Rattle.columnar_memory.specs.Layouts.{physical_type};
-ghost use Rattle.columnar_memory.specs.declared.PhysicalType.TheVariants as physical;
-ghost use Rattle.nested_arrays_columns.specs.SoundColumns.{is_sound};
-ghost use Rattle.nested_arrays_parts.specs.Keys.{AreKeysOf};
-ghost use Rattle.nested_arrays_parts.specs.Widths.{layout_of};
-ghost use Rattle.nested_arrays_arrays.specs.AnyColumns.{column_of};
-ghost use Rattle.nested_arrays_arrays.specs.Answers.{TakesAs};
+ghost use Rattle.nested_arrays_access.specs.columnar_memory.Layouts.{physical_type};
+ghost use Rattle.nested_arrays_access.specs.columnar_memory.declared.PhysicalType.TheVariants as physical;
+ghost use Rattle.nested_arrays_access.specs.columns.SoundColumns.{is_sound};
+ghost use Rattle.nested_arrays_access.specs.parts.Keys.{AreKeysOf};
+ghost use Rattle.nested_arrays_access.specs.parts.Widths.{layout_of};
+ghost use Rattle.nested_arrays_access.specs.arrays.AnyColumns.{column_of};
+ghost use Rattle.nested_arrays_access.specs.arrays.Answers.{TakesAs};
 
 use crate::dictionaries::DictionaryArray;
 use crate::keys::DictionaryKey;
 use crate::lists::ListArray;
-use nested_arrays_arrays::{AnyArray, DictionaryNode, ListNode, Node};
-use nested_arrays_parts::ListOffsets;
+use nested_arrays_access::arrays::{AnyArray, DictionaryNode, ListNode, Node};
+use nested_arrays_access::parts::ListOffsets;
 
 impl TryFrom<AnyArray> for ListArray<i32> {
     type Error = AnyArray;

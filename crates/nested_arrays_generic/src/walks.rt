@@ -1,11 +1,11 @@
 //! Walks over the keys of dictionaries.
 ghost use Rattle.std.specs.Prelude.{◌≡◌};
-ghost use Rattle.nested_arrays_columns.specs.StoredColumns.{column_len};
+ghost use Rattle.nested_arrays_access.specs.columns.StoredColumns.{column_len};
 ghost use Rattle.nested_arrays_generic.specs.Dictionaries.{key_at};
 
 use crate::dictionaries::DictionaryArray;
 use crate::keys::DictionaryKey;
-use flat_arrays_access::{ArrayAccessor, ArrayValuesIter};
+use nested_arrays_access::flat_arrays::{ArrayAccessor, ArrayValuesIter};
 
 /// The slots of a dictionary as places of its values, none where a slot is null.
 #[derive(Drop)]

@@ -3,14 +3,14 @@ use Rattle.std.proofs.Common.{◌≡◌, ◌∙◌, sym, ap, subst, ℕ, ◌+◌
 use Rattle.std.proofs.lemmas.List.{take_more}
 use Rattle.std.proofs.Math.Nat.{lt_of_not-le}
 use Rattle.std.specs.Prelude.{ℤ, pos, min, replicate, Option, Result}
-use Rattle.columnar_memory.specs.declared.DataType.{DataType}
-use Rattle.columnar_memory.specs.declared.DataType.TheVariants as types
-use Rattle.columnar_memory.specs.declared.Error.{Error}
-use Rattle.columnar_memory.specs.declared.Field.{Field}
-use Rattle.columnar_memory.specs.declared.IntegerType.{IntegerType}
-use Rattle.columnar_memory.specs.declared.UnionMode.{UnionMode}
-use Rattle.nested_arrays_columns.specs.SoundColumns.{are_sound, is_sound}
-use Rattle.nested_arrays_columns.specs.StoredColumns.{Column, lists, fixed_lists, records, unions, dictionary, in_columns}
+use Rattle.nested_arrays_iterators.specs.columnar_memory.declared.DataType.{DataType}
+use Rattle.nested_arrays_iterators.specs.columnar_memory.declared.DataType.TheVariants as types
+use Rattle.nested_arrays_iterators.specs.columnar_memory.declared.Error.{Error}
+use Rattle.nested_arrays_iterators.specs.columnar_memory.declared.Field.{Field}
+use Rattle.nested_arrays_iterators.specs.columnar_memory.declared.IntegerType.{IntegerType}
+use Rattle.nested_arrays_iterators.specs.columnar_memory.declared.UnionMode.{UnionMode}
+use Rattle.nested_arrays_iterators.specs.columns.SoundColumns.{are_sound, is_sound}
+use Rattle.nested_arrays_iterators.specs.columns.StoredColumns.{Column, lists, fixed_lists, records, unions, dictionary, in_columns}
 use Rattle.nested_arrays_nulls.proofs.Made.{dictionary_refused, fixed_lists_refused, lists_refused, one_more_null, one_more_sound}
 use Rattle.nested_arrays_nulls.proofs.Made.{records_refused, unions_refused}
 use Rattle.nested_arrays_nulls.proofs.NullLayers.{extension_nulls}

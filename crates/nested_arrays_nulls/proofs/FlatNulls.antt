@@ -1,18 +1,18 @@
 -- What arrays of nulls without children store.
 use Rattle.std.proofs.Common.{◌≡◌, ◌∙◌, refl, ap, ℕ, zero, suc, List, [], ◌∷◌, map}
 use Rattle.std.specs.Prelude.{replicate}
-use Rattle.columnar_memory.specs.Numbers.{Numbers}
-use Rattle.columnar_memory.specs.Spans.{Spans, ends_from, offsets_of}
-use Rattle.columnar_memory.specs.declared.DataType.{DataType}
-use Rattle.columnar_memory.specs.declared.PhysicalType.TheVariants as physical
-use Rattle.columnar_memory.specs.declared.PrimitiveType.{PrimitiveType}
-use Rattle.flat_arrays_byte_columns.specs.ByteStrings as strings
-use Rattle.flat_arrays_byte_columns.specs.ByteStrings.{ByteStrings}
-use Rattle.flat_arrays_values.specs.Flat as arrays
-use Rattle.flat_arrays_values.specs.Flat.{Flat}
-use Rattle.flat_arrays_values.specs.Results.{ForZero}
-use Rattle.nested_arrays_columns.specs.StoredColumns.{flat, texts, byte_strings}
-use Rattle.nested_arrays_flat.specs.FlatColumns.{binary_column, text_column, primitive_column, stored_numbers}
+use Rattle.nested_arrays_iterators.specs.columnar_memory.Numbers.{Numbers}
+use Rattle.nested_arrays_iterators.specs.columnar_memory.Spans.{Spans, ends_from, offsets_of}
+use Rattle.nested_arrays_iterators.specs.columnar_memory.declared.DataType.{DataType}
+use Rattle.nested_arrays_iterators.specs.columnar_memory.declared.PhysicalType.TheVariants as physical
+use Rattle.nested_arrays_iterators.specs.columnar_memory.declared.PrimitiveType.{PrimitiveType}
+use Rattle.nested_arrays_iterators.specs.flat_arrays.ByteStrings as strings
+use Rattle.nested_arrays_iterators.specs.flat_arrays.ByteStrings.{ByteStrings}
+use Rattle.nested_arrays_iterators.specs.flat_arrays.Flat as arrays
+use Rattle.nested_arrays_iterators.specs.flat_arrays.Flat.{Flat}
+use Rattle.nested_arrays_iterators.specs.flat_arrays.Results.{ForZero}
+use Rattle.nested_arrays_iterators.specs.columns.StoredColumns.{flat, texts, byte_strings}
+use Rattle.nested_arrays_iterators.specs.flat.FlatColumns.{binary_column, text_column, primitive_column, stored_numbers}
 use Rattle.nested_arrays_nulls.specs.NullColumns.{flat_nulls, no_items, no_marks}
 
 -- ---- numbers

@@ -1,17 +1,17 @@
 -- Dictionaries of nulls, by their arrays of keys.
 use Rattle.std.proofs.Common.{◌≡◌, ◌∙◌, refl, sym, ap, ℕ, List}
 use Rattle.std.specs.Prelude.{ℤ, pos, replicate}
-use Rattle.columnar_memory.specs.Numbers.{Numbers, one, first_number, zeros}
-use Rattle.columnar_memory.specs.declared.DataType.{DataType}
-use Rattle.columnar_memory.specs.declared.IntegerType.{IntegerType}
-use Rattle.columnar_memory.specs.declared.IntegerType.TheVariants as integers
-use Rattle.columnar_memory.specs.declared.PrimitiveType.{PrimitiveType}
-use Rattle.flat_arrays_values.specs.Flat as arrays
-use Rattle.flat_arrays_values.specs.Flat.{Flat}
-use Rattle.flat_arrays_values.specs.Results.{ForZero}
-use Rattle.nested_arrays_columns.specs.StoredColumns.{Column, dictionary}
-use Rattle.nested_arrays_generic.specs.Dictionaries.{keyed_by}
-use Rattle.nested_arrays_parts.specs.Keys.{kind_of_keys}
+use Rattle.nested_arrays_iterators.specs.columnar_memory.Numbers.{Numbers, one, first_number, zeros}
+use Rattle.nested_arrays_iterators.specs.columnar_memory.declared.DataType.{DataType}
+use Rattle.nested_arrays_iterators.specs.columnar_memory.declared.IntegerType.{IntegerType}
+use Rattle.nested_arrays_iterators.specs.columnar_memory.declared.IntegerType.TheVariants as integers
+use Rattle.nested_arrays_iterators.specs.columnar_memory.declared.PrimitiveType.{PrimitiveType}
+use Rattle.nested_arrays_iterators.specs.flat_arrays.Flat as arrays
+use Rattle.nested_arrays_iterators.specs.flat_arrays.Flat.{Flat}
+use Rattle.nested_arrays_iterators.specs.flat_arrays.Results.{ForZero}
+use Rattle.nested_arrays_iterators.specs.columns.StoredColumns.{Column, dictionary}
+use Rattle.nested_arrays_iterators.specs.generic.Dictionaries.{keyed_by}
+use Rattle.nested_arrays_iterators.specs.parts.Keys.{kind_of_keys}
 use Rattle.nested_arrays_nulls.proofs.FlatNulls.{map_replicate}
 use Rattle.nested_arrays_nulls.specs.NullColumns.{no_marks}
 

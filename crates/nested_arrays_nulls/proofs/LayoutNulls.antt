@@ -1,22 +1,22 @@
 -- Nulls with children, by what makes arrays of their parts.
 use Rattle.std.proofs.Common.{◌≡◌, ap, subst, ℕ, List, [], ◌∷◌, Bool, true}
 use Rattle.std.specs.Prelude.{All, Option, Some, Result, Ok, Err, replicate, false}
-use Rattle.columnar_memory.specs.Spans.{Spans, offsets_of}
-use Rattle.nested_arrays_parts.specs.FlatLayouts.{layout_in}
+use Rattle.nested_arrays_iterators.specs.columnar_memory.Spans.{Spans, offsets_of}
+use Rattle.nested_arrays_iterators.specs.parts.FlatLayouts.{layout_in}
 use Rattle.nested_arrays_nulls.proofs.FlatNulls.{no_spans_between}
 use Rattle.std.proofs.lemmas.Bool.{false≢true}
 use Rattle.std.proofs.lemmas.List.Elements.{All-head}
-use Rattle.columnar_memory.specs.declared.DataType.{DataType}
-use Rattle.columnar_memory.specs.declared.DataType.TheOpen as layer
-use Rattle.columnar_memory.specs.declared.Error.{Error}
-use Rattle.columnar_memory.specs.declared.Error.TheVariants as errors
-use Rattle.columnar_memory.specs.declared.Field.{Field}
-use Rattle.columnar_memory.specs.declared.PhysicalType.{PhysicalType}
-use Rattle.nested_arrays_columns.proofs.Conditions.{parts_of_4}
-use Rattle.nested_arrays_columns.specs.SoundColumns.{are_sound, has_field_types, have_len, is_sound, mask_fits}
-use Rattle.nested_arrays_columns.specs.StoredColumns.{Column, lists, records, no_column, column_len, in_columns, type_layer}
-use Rattle.nested_arrays_arrays.specs.Answers.{IsChecked, IsCheckedAs}
-use Rattle.nested_arrays_arrays.specs.Lengths.{struct_len}
+use Rattle.nested_arrays_iterators.specs.columnar_memory.declared.DataType.{DataType}
+use Rattle.nested_arrays_iterators.specs.columnar_memory.declared.DataType.TheOpen as layer
+use Rattle.nested_arrays_iterators.specs.columnar_memory.declared.Error.{Error}
+use Rattle.nested_arrays_iterators.specs.columnar_memory.declared.Error.TheVariants as errors
+use Rattle.nested_arrays_iterators.specs.columnar_memory.declared.Field.{Field}
+use Rattle.nested_arrays_iterators.specs.columnar_memory.declared.PhysicalType.{PhysicalType}
+use Rattle.nested_arrays_iterators.proofs.columns_lemmas.Conditions.{parts_of_4}
+use Rattle.nested_arrays_iterators.specs.columns.SoundColumns.{are_sound, has_field_types, have_len, is_sound, mask_fits}
+use Rattle.nested_arrays_iterators.specs.columns.StoredColumns.{Column, lists, records, no_column, column_len, in_columns, type_layer}
+use Rattle.nested_arrays_iterators.specs.arrays.Answers.{IsChecked, IsCheckedAs}
+use Rattle.nested_arrays_iterators.specs.arrays.Lengths.{struct_len}
 use Rattle.nested_arrays_nulls.specs.NullAnswers.{IsMade}
 use Rattle.nested_arrays_nulls.specs.NullColumns.{no_items, no_marks}
 

@@ -8,3 +8,13 @@ pub mod NullSlots
 pub mod LayoutNulls
 pub mod Arms
 pub mod KeyedNulls
+pub use Rattle.nested_arrays_iterators.proofs as iterators_lemmas
+pub use Rattle.nested_arrays_iterators.proofs.columns_lemmas
+pub use Rattle.nested_arrays_iterators.proofs.flat_arrays_lemmas
+pub use Rattle.nested_arrays_iterators.proofs.flat_lemmas
+pub use Rattle.nested_arrays_iterators.proofs.parts_lemmas
+pub use Rattle.nested_arrays_iterators.proofs.arrays_lemmas
+pub use Rattle.nested_arrays_iterators.proofs.access_lemmas
+pub use Rattle.nested_arrays_iterators.proofs.generic_lemmas
+pub use Rattle.nested_arrays_iterators.proofs.columnar_memory_lemmas
+pub mod Passed

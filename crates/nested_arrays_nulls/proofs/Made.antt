@@ -3,20 +3,20 @@ use Rattle.std.proofs.Common.{◌≡◌, ◌∙◌, refl, sym, ap, subst, ℕ, z
 use Rattle.std.specs.Prelude.{ℤ, Option, ◌/◌}
 use Rattle.std.specs.List.{list_all}
 use Rattle.std.proofs.lemmas.Bool.{and_from, and_parts}
-use Rattle.columnar_memory.specs.declared.DataType.{DataType}
-use Rattle.columnar_memory.specs.declared.Error.{Error}
-use Rattle.columnar_memory.specs.declared.Error.TheVariants as errors
-use Rattle.columnar_memory.specs.declared.Field.{Field}
-use Rattle.nested_arrays_columns.proofs.Conditions.{parts_of_4, parts_of_5}
-use Rattle.nested_arrays_columns.proofs.SoundParts.{sound_items}
-use Rattle.nested_arrays_columns.specs.Kinds.{is_signed}
-use Rattle.nested_arrays_columns.specs.SoundColumns.{are_pieces, are_sound, has_child_at, has_child_types, has_field_types, has_fixed_item_type}
-use Rattle.nested_arrays_columns.specs.SoundColumns.{has_places, has_value_at, has_value_type, have_len, holds_below, is_sound, mask_fits}
-use Rattle.nested_arrays_columns.specs.StoredColumns.{Column, Columns, lists, fixed_lists, records, unions, dictionary, column_then}
-use Rattle.nested_arrays_columns.specs.StoredColumns.{column_len, column_type, in_columns, type_layer}
-use Rattle.columnar_memory.specs.declared.PhysicalType.{PhysicalType}
-use Rattle.nested_arrays_arrays.specs.Answers.{LiesAs}
-use Rattle.nested_arrays_parts.specs.FlatLayouts.{layout_in}
+use Rattle.nested_arrays_iterators.specs.columnar_memory.declared.DataType.{DataType}
+use Rattle.nested_arrays_iterators.specs.columnar_memory.declared.Error.{Error}
+use Rattle.nested_arrays_iterators.specs.columnar_memory.declared.Error.TheVariants as errors
+use Rattle.nested_arrays_iterators.specs.columnar_memory.declared.Field.{Field}
+use Rattle.nested_arrays_iterators.proofs.columns_lemmas.Conditions.{parts_of_4, parts_of_5}
+use Rattle.nested_arrays_iterators.proofs.columns_lemmas.SoundParts.{sound_items}
+use Rattle.nested_arrays_iterators.specs.columns.Kinds.{is_signed}
+use Rattle.nested_arrays_iterators.specs.columns.SoundColumns.{are_pieces, are_sound, has_child_at, has_child_types, has_field_types, has_fixed_item_type}
+use Rattle.nested_arrays_iterators.specs.columns.SoundColumns.{has_places, has_value_at, has_value_type, have_len, holds_below, is_sound, mask_fits}
+use Rattle.nested_arrays_iterators.specs.columns.StoredColumns.{Column, Columns, lists, fixed_lists, records, unions, dictionary, column_then}
+use Rattle.nested_arrays_iterators.specs.columns.StoredColumns.{column_len, column_type, in_columns, type_layer}
+use Rattle.nested_arrays_iterators.specs.columnar_memory.declared.PhysicalType.{PhysicalType}
+use Rattle.nested_arrays_iterators.specs.arrays.Answers.{LiesAs}
+use Rattle.nested_arrays_iterators.specs.parts.FlatLayouts.{layout_in}
 use Rattle.nested_arrays_nulls.specs.Lengths.{most_length, most_lengths}
 use Rattle.nested_arrays_nulls.specs.NullAnswers.{IsRefused}
 use Rattle.nested_arrays_nulls.specs.NullColumns.{null_column, null_columns}

@@ -1,16 +1,16 @@
 -- The column of so many nulls of a type, layer by layer.
 use Rattle.std.proofs.Common.{◌≡◌, ◌∙◌, refl, ap, subst, ℕ, ◌*◌, List, [], ◌∷◌, map}
 use Rattle.std.specs.Prelude.{ℤ, pos, min, replicate, Bool, Option}
-use Rattle.columnar_memory.specs.Layouts.{physical_type}
-use Rattle.columnar_memory.specs.declared.DataType.{DataType, map-DataType}
-use Rattle.columnar_memory.specs.declared.DataType.TheFolds.{para-Field, para-roll-DataType, para-roll-Field}
-use Rattle.columnar_memory.specs.declared.DataType.TheOpen as layer
-use Rattle.columnar_memory.specs.declared.DataType.TheVariants as types
-use Rattle.columnar_memory.specs.declared.DataType.TheViews.{roll-DataType, out-DataType, out-Field, roll-out-DataType, roll-out-Field}
-use Rattle.columnar_memory.specs.declared.Field.{Field}
-use Rattle.columnar_memory.specs.declared.IntegerType.{IntegerType}
-use Rattle.columnar_memory.specs.declared.UnionMode.{UnionMode}
-use Rattle.nested_arrays_columns.specs.StoredColumns.{lists, fixed_lists, records, unions, dictionary, in_columns}
+use Rattle.nested_arrays_iterators.specs.columnar_memory.Layouts.{physical_type}
+use Rattle.nested_arrays_iterators.specs.columnar_memory.declared.DataType.{DataType, map-DataType}
+use Rattle.nested_arrays_iterators.specs.columnar_memory.declared.DataType.TheFolds.{para-Field, para-roll-DataType, para-roll-Field}
+use Rattle.nested_arrays_iterators.specs.columnar_memory.declared.DataType.TheOpen as layer
+use Rattle.nested_arrays_iterators.specs.columnar_memory.declared.DataType.TheVariants as types
+use Rattle.nested_arrays_iterators.specs.columnar_memory.declared.DataType.TheViews.{roll-DataType, out-DataType, out-Field, roll-out-DataType, roll-out-Field}
+use Rattle.nested_arrays_iterators.specs.columnar_memory.declared.Field.{Field}
+use Rattle.nested_arrays_iterators.specs.columnar_memory.declared.IntegerType.{IntegerType}
+use Rattle.nested_arrays_iterators.specs.columnar_memory.declared.UnionMode.{UnionMode}
+use Rattle.nested_arrays_iterators.specs.columns.StoredColumns.{lists, fixed_lists, records, unions, dictionary, in_columns}
 use Rattle.nested_arrays_nulls.specs.NullColumns.{Maker, first_id, no_marks, no_items, null_places, null_step, null_field_step, field_nulls, flat_nulls}
 use Rattle.nested_arrays_nulls.specs.NullColumns.{nulls_as, null_column, null_columns}
 use denote.Hole.Carrier

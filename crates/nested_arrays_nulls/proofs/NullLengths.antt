@@ -4,18 +4,18 @@ use Rattle.std.specs.Prelude.{ℤ, pos, replicate, All, Option, ◌/◌}
 use Rattle.std.proofs.lemmas.Bool.{and_parts, eqb-true}
 use Rattle.std.proofs.lemmas.List.{length-replicate}
 use Rattle.std.proofs.lemmas.List.Elements.{All-cons, All-nil}
-use Rattle.columnar_memory.specs.Layouts.{physical_type}
-use Rattle.columnar_memory.specs.declared.DataType.{DataType, map-DataType}
-use Rattle.columnar_memory.specs.declared.DataType.TheFolds.{ind-DataType}
-use Rattle.columnar_memory.specs.declared.DataType.TheOpen as layer
-use Rattle.columnar_memory.specs.declared.DataType.TheViews.{roll-DataType}
-use Rattle.columnar_memory.specs.declared.Field.{Field}
-use Rattle.columnar_memory.specs.declared.PhysicalType.{PhysicalType}
-use Rattle.columnar_memory.specs.declared.PhysicalType.TheVariants as physical
-use Rattle.nested_arrays_columns.specs.SoundColumns.{is_sound, are_sound, mask_fits}
-use Rattle.nested_arrays_columns.specs.StoredColumns.{Column, nulls, flat, lists, fixed_lists, records, unions, dictionary, column_len, in_columns}
-use Rattle.nested_arrays_columns.specs.StoredColumns.{stored_len}
-use Rattle.nested_arrays_flat.proofs.ColumnParts.{sound_mask}
+use Rattle.nested_arrays_iterators.specs.columnar_memory.Layouts.{physical_type}
+use Rattle.nested_arrays_iterators.specs.columnar_memory.declared.DataType.{DataType, map-DataType}
+use Rattle.nested_arrays_iterators.specs.columnar_memory.declared.DataType.TheFolds.{ind-DataType}
+use Rattle.nested_arrays_iterators.specs.columnar_memory.declared.DataType.TheOpen as layer
+use Rattle.nested_arrays_iterators.specs.columnar_memory.declared.DataType.TheViews.{roll-DataType}
+use Rattle.nested_arrays_iterators.specs.columnar_memory.declared.Field.{Field}
+use Rattle.nested_arrays_iterators.specs.columnar_memory.declared.PhysicalType.{PhysicalType}
+use Rattle.nested_arrays_iterators.specs.columnar_memory.declared.PhysicalType.TheVariants as physical
+use Rattle.nested_arrays_iterators.specs.columns.SoundColumns.{is_sound, are_sound, mask_fits}
+use Rattle.nested_arrays_iterators.specs.columns.StoredColumns.{Column, nulls, flat, lists, fixed_lists, records, unions, dictionary, column_len, in_columns}
+use Rattle.nested_arrays_iterators.specs.columns.StoredColumns.{stored_len}
+use Rattle.nested_arrays_iterators.proofs.flat_lemmas.ColumnParts.{sound_mask}
 use Rattle.nested_arrays_nulls.proofs.NullLayers.{Layer, with_makers, roll_makes}
 use Rattle.nested_arrays_nulls.specs.Lengths.{marks_length, most_length}
 use Rattle.nested_arrays_nulls.specs.NullColumns.{Maker, no_marks, no_items, first_id, flat_nulls, null_step, nulls_as, null_column, null_columns}

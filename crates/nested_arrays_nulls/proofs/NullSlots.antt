@@ -2,19 +2,19 @@
 use Rattle.std.proofs.Common.{◌≡◌, ◌∙◌, refl, sym, ap, subst, ℕ, zero, suc, ◌+◌, List, ◌∷◌, map, Bool, true, false}
 use Rattle.std.specs.Prelude.{replicate, Option, slice_index_or, if◌then◌else◌, Result, Ok, Err, IfOk}
 use Rattle.std.proofs.lemmas.Bool.{false≢true}
-use Rattle.columnar_memory.specs.Layouts.{physical_step, physical_type}
-use Rattle.columnar_memory.specs.declared.DataType.{DataType, map-DataType}
-use Rattle.columnar_memory.specs.declared.DataType.TheFolds.{fold-roll-DataType, ind-DataType}
-use Rattle.columnar_memory.specs.declared.DataType.TheOpen as layer
-use Rattle.columnar_memory.specs.declared.DataType.TheViews.{roll-DataType}
-use Rattle.columnar_memory.specs.declared.Error.{Error}
-use Rattle.columnar_memory.specs.declared.Field.{Field}
-use Rattle.columnar_memory.specs.declared.PhysicalType.{PhysicalType}
-use Rattle.columnar_memory.specs.declared.PhysicalType.TheVariants as physical
-use Rattle.nested_arrays_columns.specs.Slots.{Slot, null, window}
-use Rattle.nested_arrays_columns.specs.SoundColumns.{is_sound}
-use Rattle.nested_arrays_columns.specs.StoredColumns.{Column, nulls, flat, lists, fixed_lists, records, unions, dictionary, column_len}
-use Rattle.nested_arrays_columns.specs.StoredColumns.{slot_at, slots, unless_null}
+use Rattle.nested_arrays_iterators.specs.columnar_memory.Layouts.{physical_step, physical_type}
+use Rattle.nested_arrays_iterators.specs.columnar_memory.declared.DataType.{DataType, map-DataType}
+use Rattle.nested_arrays_iterators.specs.columnar_memory.declared.DataType.TheFolds.{fold-roll-DataType, ind-DataType}
+use Rattle.nested_arrays_iterators.specs.columnar_memory.declared.DataType.TheOpen as layer
+use Rattle.nested_arrays_iterators.specs.columnar_memory.declared.DataType.TheViews.{roll-DataType}
+use Rattle.nested_arrays_iterators.specs.columnar_memory.declared.Error.{Error}
+use Rattle.nested_arrays_iterators.specs.columnar_memory.declared.Field.{Field}
+use Rattle.nested_arrays_iterators.specs.columnar_memory.declared.PhysicalType.{PhysicalType}
+use Rattle.nested_arrays_iterators.specs.columnar_memory.declared.PhysicalType.TheVariants as physical
+use Rattle.nested_arrays_iterators.specs.columns.Slots.{Slot, null, window}
+use Rattle.nested_arrays_iterators.specs.columns.SoundColumns.{is_sound}
+use Rattle.nested_arrays_iterators.specs.columns.StoredColumns.{Column, nulls, flat, lists, fixed_lists, records, unions, dictionary, column_len}
+use Rattle.nested_arrays_iterators.specs.columns.StoredColumns.{slot_at, slots, unless_null}
 use Rattle.nested_arrays_nulls.proofs.NullLayers.{Layer, roll_makes, with_makers}
 use Rattle.nested_arrays_nulls.proofs.NullLengths.{HasSlots, have_slots, len_of_nulls}
 use Rattle.nested_arrays_nulls.specs.NullAnswers.{IsNullArray}

@@ -1,19 +1,19 @@
 -- Types that are stored in the same way, as an extension and the type in it.
 use Rattle.std.proofs.Common.{◌≡◌, ◌∙◌, sym, ap, ℕ, List, Bool}
 use Rattle.std.specs.Prelude.{Option}
-use Rattle.columnar_memory.specs.Layouts.{logical_type, physical_step, physical_type}
-use Rattle.columnar_memory.specs.declared.DataType.{DataType}
-use Rattle.columnar_memory.specs.declared.DataType.TheFolds.{fold-roll-DataType}
-use Rattle.columnar_memory.specs.declared.DataType.TheOpen as layer
-use Rattle.columnar_memory.specs.declared.DataType.TheVariants as types
-use Rattle.columnar_memory.specs.declared.DataType.TheViews.{out-DataType, roll-DataType, out-roll-DataType}
-use Rattle.columnar_memory.specs.declared.Field.{Field}
-use Rattle.columnar_memory.specs.declared.IntegerType.{IntegerType}
-use Rattle.columnar_memory.specs.declared.PhysicalType.{PhysicalType}
-use Rattle.columnar_memory.specs.declared.PhysicalType.TheVariants as physical
-use Rattle.columnar_memory_schema.proofs.LogicalTypes.{logical_type-Extension, logical_type-other}
-use Rattle.nested_arrays_arrays.specs.Lengths.{layer_size, size_of}
-use Rattle.nested_arrays_flat.proofs.Layers.{layer_layout, type_lies}
+use Rattle.nested_arrays_iterators.specs.columnar_memory.Layouts.{logical_type, physical_step, physical_type}
+use Rattle.nested_arrays_iterators.specs.columnar_memory.declared.DataType.{DataType}
+use Rattle.nested_arrays_iterators.specs.columnar_memory.declared.DataType.TheFolds.{fold-roll-DataType}
+use Rattle.nested_arrays_iterators.specs.columnar_memory.declared.DataType.TheOpen as layer
+use Rattle.nested_arrays_iterators.specs.columnar_memory.declared.DataType.TheVariants as types
+use Rattle.nested_arrays_iterators.specs.columnar_memory.declared.DataType.TheViews.{out-DataType, roll-DataType, out-roll-DataType}
+use Rattle.nested_arrays_iterators.specs.columnar_memory.declared.Field.{Field}
+use Rattle.nested_arrays_iterators.specs.columnar_memory.declared.IntegerType.{IntegerType}
+use Rattle.nested_arrays_iterators.specs.columnar_memory.declared.PhysicalType.{PhysicalType}
+use Rattle.nested_arrays_iterators.specs.columnar_memory.declared.PhysicalType.TheVariants as physical
+use Rattle.nested_arrays_iterators.proofs.columnar_memory_lemmas.types_lemmas.LogicalTypes.{logical_type-Extension, logical_type-other}
+use Rattle.nested_arrays_iterators.specs.arrays.Lengths.{layer_size, size_of}
+use Rattle.nested_arrays_iterators.proofs.flat_lemmas.Layers.{layer_layout, type_lies}
 use denote.Hole.Carrier
 
 -- they lie in memory in the same way

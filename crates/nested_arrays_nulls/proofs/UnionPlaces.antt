@@ -3,12 +3,12 @@ use Rattle.std.proofs.Common.{◌≡◌, ℕ, zero, suc, ◌+◌, ◌^◌, ◌<�
 use Rattle.std.specs.Prelude.{ℤ, pos, int_le, ◌==◌, Some}
 use Rattle.std.specs.List.{list_all}
 use Rattle.std.proofs.lemmas.Bool.{and_parts, ltb-true}
-use Rattle.columnar_memory.specs.declared.DataType.{DataType}
-use Rattle.nested_arrays_columns.proofs.Conditions.{parts_of_5}
-use Rattle.nested_arrays_columns.specs.Kinds.{is_signed}
-use Rattle.nested_arrays_columns.specs.Slots.{window}
-use Rattle.nested_arrays_columns.specs.SoundColumns.{are_sound, has_child_at, has_child_types, has_places, holds_below, is_offset, is_sound}
-use Rattle.nested_arrays_columns.specs.StoredColumns.{Columns, unions, type_layer}
+use Rattle.nested_arrays_iterators.specs.columnar_memory.declared.DataType.{DataType}
+use Rattle.nested_arrays_iterators.proofs.columns_lemmas.Conditions.{parts_of_5}
+use Rattle.nested_arrays_iterators.specs.columns.Kinds.{is_signed}
+use Rattle.nested_arrays_iterators.specs.columns.Slots.{window}
+use Rattle.nested_arrays_iterators.specs.columns.SoundColumns.{are_sound, has_child_at, has_child_types, has_places, holds_below, is_offset, is_sound}
+use Rattle.nested_arrays_iterators.specs.columns.StoredColumns.{Columns, unions, type_layer}
 
 is_below : (n : ℕ) → is_offset (pos n) ≡ true → n < 2 ^ 31
 is_below n h = ltb-true n (2 ^ 31) (and_parts (int_le (pos 0) (pos n)) (is_signed 32 (pos n)) h).1

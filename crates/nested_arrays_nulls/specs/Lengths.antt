@@ -1,7 +1,7 @@
 -- How long the parts of columns are.
 use Rattle.std.specs.Prelude.{ℕ, max, Bool, List, length, Option, Some, None}
-use Rattle.nested_arrays_columns.specs.StoredColumns.{Column, Columns, Stored, nulls, flat, lists, fixed_lists, records, unions, dictionary}
-use Rattle.nested_arrays_columns.specs.StoredColumns.{bits, numbers, pairs, triples, texts, byte_strings, fixed_bytes, no_column, column_then}
+use Rattle.nested_arrays_iterators.specs.columns.StoredColumns.{Column, Columns, Stored, nulls, flat, lists, fixed_lists, records, unions, dictionary}
+use Rattle.nested_arrays_iterators.specs.columns.StoredColumns.{bits, numbers, pairs, triples, texts, byte_strings, fixed_bytes, no_column, column_then}
 
 -- how many marks a mask has
 abbrev pub marks_length : Option (List Bool) → ℕ

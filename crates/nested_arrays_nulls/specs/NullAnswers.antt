@@ -1,12 +1,12 @@
 -- What calls that make arrays of nulls answer.
 use Rattle.std.specs.Prelude.{◌≡◌, ◌≤◌, ◌^◌, ℕ, true, List, Result, MatchResult}
-use Rattle.columnar_memory.specs.declared.DataType.{DataType}
-use Rattle.columnar_memory.specs.declared.Error.{Error}
-use Rattle.columnar_memory.specs.declared.Error.TheVariants as errors
-use Rattle.columnar_memory.specs.declared.PhysicalType.{PhysicalType}
-use Rattle.nested_arrays_arrays.specs.Answers.{LiesAs}
-use Rattle.nested_arrays_columns.specs.SoundColumns.{is_sound, are_sound}
-use Rattle.nested_arrays_columns.specs.StoredColumns.{Column, in_columns}
+use Rattle.nested_arrays_iterators.specs.columnar_memory.declared.DataType.{DataType}
+use Rattle.nested_arrays_iterators.specs.columnar_memory.declared.Error.{Error}
+use Rattle.nested_arrays_iterators.specs.columnar_memory.declared.Error.TheVariants as errors
+use Rattle.nested_arrays_iterators.specs.columnar_memory.declared.PhysicalType.{PhysicalType}
+use Rattle.nested_arrays_iterators.specs.arrays.Answers.{LiesAs}
+use Rattle.nested_arrays_iterators.specs.columns.SoundColumns.{is_sound, are_sound}
+use Rattle.nested_arrays_iterators.specs.columns.StoredColumns.{Column, in_columns}
 use Rattle.nested_arrays_nulls.specs.Lengths.{most_length, most_lengths}
 use Rattle.nested_arrays_nulls.specs.NullColumns.{null_column}
 

@@ -1,20 +1,20 @@
 -- The column of so many nulls of each type (Arrow columnar format, "Physical Memory Layout"): a null still has its place in each part, where
 -- zeros stand.
 use Rattle.std.specs.Prelude.{ℕ, ◌*◌, min, ℤ, pos, Bool, false, List, [], ◌∷◌, map, replicate, slice_index_or, Option, Some, None}
-use Rattle.columnar_memory.specs.Numbers.{zeros}
-use Rattle.columnar_memory.specs.Layouts.{physical_type}
-use Rattle.columnar_memory.specs.declared.DataType.{DataType}
-use Rattle.columnar_memory.specs.declared.DataType.TheFolds.{para-DataType}
-use Rattle.columnar_memory.specs.declared.DataType.TheOpen as layer
-use Rattle.columnar_memory.specs.declared.Field.{Field}
-use Rattle.columnar_memory.specs.declared.PhysicalType.{PhysicalType}
-use Rattle.columnar_memory.specs.declared.PhysicalType.TheVariants as physical
-use Rattle.columnar_memory.specs.declared.UnionMode.{UnionMode}
-use Rattle.columnar_memory.specs.declared.UnionMode.TheVariants as modes
-use Rattle.nested_arrays_columns.specs.Slots.{window}
-use Rattle.nested_arrays_columns.specs.StoredColumns.{Column, Stored, nulls, flat, lists, fixed_lists, records, unions, dictionary}
-use Rattle.nested_arrays_columns.specs.StoredColumns.{bits, texts, byte_strings, fixed_bytes, in_columns}
-use Rattle.nested_arrays_flat.specs.FlatColumns.{byte_width, stored_numbers}
+use Rattle.nested_arrays_iterators.specs.columnar_memory.Numbers.{zeros}
+use Rattle.nested_arrays_iterators.specs.columnar_memory.Layouts.{physical_type}
+use Rattle.nested_arrays_iterators.specs.columnar_memory.declared.DataType.{DataType}
+use Rattle.nested_arrays_iterators.specs.columnar_memory.declared.DataType.TheFolds.{para-DataType}
+use Rattle.nested_arrays_iterators.specs.columnar_memory.declared.DataType.TheOpen as layer
+use Rattle.nested_arrays_iterators.specs.columnar_memory.declared.Field.{Field}
+use Rattle.nested_arrays_iterators.specs.columnar_memory.declared.PhysicalType.{PhysicalType}
+use Rattle.nested_arrays_iterators.specs.columnar_memory.declared.PhysicalType.TheVariants as physical
+use Rattle.nested_arrays_iterators.specs.columnar_memory.declared.UnionMode.{UnionMode}
+use Rattle.nested_arrays_iterators.specs.columnar_memory.declared.UnionMode.TheVariants as modes
+use Rattle.nested_arrays_iterators.specs.columns.Slots.{window}
+use Rattle.nested_arrays_iterators.specs.columns.StoredColumns.{Column, Stored, nulls, flat, lists, fixed_lists, records, unions, dictionary}
+use Rattle.nested_arrays_iterators.specs.columns.StoredColumns.{bits, texts, byte_strings, fixed_bytes, in_columns}
+use Rattle.nested_arrays_iterators.specs.flat.FlatColumns.{byte_width, stored_numbers}
 
 -- the mask of so many nulls
 abbrev pub no_marks : ℕ → Option (List Bool)

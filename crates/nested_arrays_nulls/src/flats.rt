@@ -1,17 +1,16 @@
 //! Nulls without children.
 ghost use Rattle.std.specs.Prelude.{◌≡◌};
-ghost use Rattle.columnar_memory.specs.Layouts.{physical_type};
-ghost use Rattle.columnar_memory.specs.declared.PhysicalType.TheVariants as physical;
+ghost use Rattle.nested_arrays_iterators.specs.columnar_memory.Layouts.{physical_type};
+ghost use Rattle.nested_arrays_iterators.specs.columnar_memory.declared.PhysicalType.TheVariants as physical;
 ghost use Rattle.nested_arrays_nulls.specs.NullAnswers.{IsMade};
 ghost use Rattle.nested_arrays_nulls.specs.NullColumns.{flat_nulls};
 
-use columnar_memory::{
+use nested_arrays_iterators::columnar_memory::{
     DataType, Error, PhysicalType, PrimitiveType, Result, days_ms, i256, months_days_ns,
 };
-use flat_arrays_bytes::{BinaryArray, Utf8Array};
-use flat_arrays_values::{BooleanArray, PrimitiveArray};
-use nested_arrays_flat::{AnyPrimitive, FixedSizeBinaryArray, NullArray, PrimitiveKind};
-use nested_arrays_parts::FlatArray;
+use nested_arrays_iterators::flat::{AnyPrimitive, FixedSizeBinaryArray, NullArray, PrimitiveKind};
+use nested_arrays_iterators::flat_arrays::{BinaryArray, BooleanArray, PrimitiveArray, Utf8Array};
+use nested_arrays_iterators::parts::FlatArray;
 use std::alloc::Global;
 
 /// So many nulls that store zeros of a kind.

@@ -1,16 +1,16 @@
 //! Nulls in place of lists and of keys, whose children are given.
 ghost use Rattle.std.specs.Prelude.{◌≡◌, pos, replicate};
-ghost use Rattle.columnar_memory.specs.Layouts.{physical_type};
-ghost use Rattle.columnar_memory.specs.declared.PhysicalType.TheVariants as physical;
-ghost use Rattle.nested_arrays_columns.specs.StoredColumns.{dictionary, lists};
-ghost use Rattle.nested_arrays_generic.specs.ListTypes.{list_layout};
+ghost use Rattle.nested_arrays_iterators.specs.columnar_memory.Layouts.{physical_type};
+ghost use Rattle.nested_arrays_iterators.specs.columnar_memory.declared.PhysicalType.TheVariants as physical;
+ghost use Rattle.nested_arrays_iterators.specs.columns.StoredColumns.{dictionary, lists};
+ghost use Rattle.nested_arrays_iterators.specs.generic.ListTypes.{list_layout};
 ghost use Rattle.nested_arrays_nulls.specs.NullAnswers.{IsMade};
 ghost use Rattle.nested_arrays_nulls.specs.NullColumns.{no_items, no_marks};
 
-use columnar_memory::{Bitmap, DataType, Offset, Offsets, Result};
-use flat_arrays_values::PrimitiveArray;
-use nested_arrays_arrays::AnyArray;
-use nested_arrays_generic::{DictionaryArray, DictionaryKey, ListArray};
+use nested_arrays_iterators::arrays::AnyArray;
+use nested_arrays_iterators::columnar_memory::{Bitmap, DataType, Offset, Offsets, Result};
+use nested_arrays_iterators::flat_arrays::PrimitiveArray;
+use nested_arrays_iterators::generic::{DictionaryArray, DictionaryKey, ListArray};
 use std::alloc::Global;
 
 /// So many nulls in place of lists of these items.
@@ -29,7 +29,7 @@ pub(crate) fn lists<O: Offset>(
 }
 
 /// So many nulls in place of keys of these values.
-#[tactic(auto, using(flat_arrays_values::proofs::Layouts::plainest))]
+#[tactic(auto, using(crate::proofs::Passed::plainest))]
 pub(crate) fn dictionary<K: DictionaryKey>(
     alloc: Global,
     data_type: DataType,

@@ -1,14 +1,16 @@
 //! Arrays of nulls, and without slots, of each kind that has children.
-ghost use Rattle.columnar_memory.specs.declared.PhysicalType.{PhysicalType};
-ghost use Rattle.columnar_memory.specs.declared.PhysicalType.TheVariants as physical;
-ghost use Rattle.nested_arrays_parts.specs.FlatLayouts.{TakesKind};
+ghost use Rattle.nested_arrays_iterators.specs.columnar_memory.declared.PhysicalType.{PhysicalType};
+ghost use Rattle.nested_arrays_iterators.specs.columnar_memory.declared.PhysicalType.TheVariants as physical;
+ghost use Rattle.nested_arrays_iterators.specs.parts.FlatLayouts.{TakesKind};
 ghost use Rattle.nested_arrays_nulls.specs.NullAnswers.{IsNullArrayAs};
 
 use crate::nulls::new_null_array;
-use columnar_memory::{DataType, Error};
-use nested_arrays_access::Array;
-use nested_arrays_arrays::{AnyArray, FixedSizeListArray, MapArray, StructArray, UnionArray};
-use nested_arrays_generic::{DictionaryArray, DictionaryKey, ListArray};
+use nested_arrays_iterators::access::Array;
+use nested_arrays_iterators::arrays::{
+    AnyArray, FixedSizeListArray, MapArray, StructArray, UnionArray,
+};
+use nested_arrays_iterators::columnar_memory::{DataType, Error};
+use nested_arrays_iterators::generic::{DictionaryArray, DictionaryKey, ListArray};
 use std::alloc::Global;
 
 /// Arrays of one kind, with children, that are made of nulls.

@@ -1,16 +1,20 @@
 //! Nulls with children, which are given.
 ghost use Rattle.std.specs.Prelude.{◌≡◌, ◌≤◌, ◌^◌, All, pos, replicate};
-ghost use Rattle.columnar_memory.specs.Layouts.{physical_type};
-ghost use Rattle.columnar_memory.specs.Results.{OrOutOfMemory};
-ghost use Rattle.columnar_memory.specs.declared.PhysicalType.TheVariants as physical;
-ghost use Rattle.nested_arrays_columns.specs.Slots.{window};
-ghost use Rattle.nested_arrays_columns.specs.StoredColumns.{column_len, fixed_lists, in_columns, lists, records, unions};
-ghost use Rattle.nested_arrays_arrays.specs.Lengths.{size_of};
+ghost use Rattle.nested_arrays_iterators.specs.columnar_memory.Layouts.{physical_type};
+ghost use Rattle.nested_arrays_iterators.specs.columnar_memory.Results.{OrOutOfMemory};
+ghost use Rattle.nested_arrays_iterators.specs.columnar_memory.declared.PhysicalType.TheVariants as physical;
+ghost use Rattle.nested_arrays_iterators.specs.columns.Slots.{window};
+ghost use Rattle.nested_arrays_iterators.specs.columns.StoredColumns.{column_len, fixed_lists, in_columns, lists, records, unions};
+ghost use Rattle.nested_arrays_iterators.specs.arrays.Lengths.{size_of};
 ghost use Rattle.nested_arrays_nulls.specs.NullAnswers.{IsMade};
 ghost use Rattle.nested_arrays_nulls.specs.NullColumns.{no_items, no_marks, null_places};
 
-use columnar_memory::{Bitmap, Buffer, DataType, Error, Offsets, Result, UnionMode};
-use nested_arrays_arrays::{AnyArray, FixedSizeListArray, MapArray, StructArray, UnionArray};
+use nested_arrays_iterators::arrays::{
+    AnyArray, FixedSizeListArray, MapArray, StructArray, UnionArray,
+};
+use nested_arrays_iterators::columnar_memory::{
+    Bitmap, Buffer, DataType, Error, Offsets, Result, UnionMode,
+};
 use std::alloc::Global;
 
 /// How many slots a dense union may have, whose offsets have 31 bits.
@@ -68,7 +72,7 @@ fn ids(alloc: Global, id: i8, length: usize) -> Result<Buffer<i8>>
 }
 
 /// For each of so many slots of a dense union its own place.
-#[tactic(auto, using(columnar_memory_bits::proofs::Windows::window_next))]
+#[tactic(auto, using(crate::proofs::Passed::window_next))]
 fn places(alloc: Global, length: usize) -> Result<Buffer<i32>>
     requires { length ≤ 2 ^ 31 }
     ensures { OrOutOfMemory result (λ places. places ≡ window pos 0 length) }

@@ -1,13 +1,13 @@
 //! Arrays of nulls of any type.
 ghost use Rattle.std.specs.Prelude.{◌≡◌, IfOk};
-ghost use Rattle.columnar_memory.specs.Layouts.{logical_type, physical_type};
+ghost use Rattle.nested_arrays_iterators.specs.columnar_memory.Layouts.{logical_type, physical_type};
 ghost use Rattle.nested_arrays_nulls.specs.NullAnswers.{AreMade, IsMade, IsNullArray};
 ghost use Rattle.nested_arrays_nulls.specs.NullLaws.{AreNullSlots};
 ghost use Rattle.nested_arrays_nulls.specs.NullColumns.{null_columns, nulls_as};
 
 use crate::{flats, wholes};
-use columnar_memory::{DataType, Error, Field, Result, Text};
-use nested_arrays_arrays::AnyArray;
+use nested_arrays_iterators::arrays::AnyArray;
+use nested_arrays_iterators::columnar_memory::{DataType, Error, Field, Result, Text};
 use std::alloc::Global;
 
 /// An array of so many nulls of a type, of any depth: each slot is null. Only a union has no nulls of its own: its slots pick the nulls of

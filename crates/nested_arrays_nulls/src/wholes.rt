@@ -1,16 +1,16 @@
 //! Nulls of each layout as arrays of any type, of a data type that is given.
 ghost use Rattle.std.specs.Prelude.{◌≡◌, All, pos, replicate};
-ghost use Rattle.columnar_memory.specs.Layouts.{physical_type};
-ghost use Rattle.columnar_memory.specs.declared.PhysicalType.TheVariants as physical;
-ghost use Rattle.nested_arrays_columns.specs.StoredColumns.{column_len, dictionary, fixed_lists, in_columns, lists, records, unions};
-ghost use Rattle.nested_arrays_arrays.specs.Lengths.{size_of};
+ghost use Rattle.nested_arrays_iterators.specs.columnar_memory.Layouts.{physical_type};
+ghost use Rattle.nested_arrays_iterators.specs.columnar_memory.declared.PhysicalType.TheVariants as physical;
+ghost use Rattle.nested_arrays_iterators.specs.columns.StoredColumns.{column_len, dictionary, fixed_lists, in_columns, lists, records, unions};
+ghost use Rattle.nested_arrays_iterators.specs.arrays.Lengths.{size_of};
 ghost use Rattle.nested_arrays_nulls.specs.NullAnswers.{IsMade};
 ghost use Rattle.nested_arrays_nulls.specs.NullColumns.{first_id, flat_nulls, no_items, no_marks, null_places};
 
 use crate::{flats, generic_layouts, layouts};
-use columnar_memory::{DataType, IntegerType, Items, Result, UnionMode};
-use nested_arrays_arrays::AnyArray;
-use nested_arrays_generic::DictionaryKey;
+use nested_arrays_iterators::arrays::AnyArray;
+use nested_arrays_iterators::columnar_memory::{DataType, IntegerType, Items, Result, UnionMode};
+use nested_arrays_iterators::generic::DictionaryKey;
 use std::alloc::Global;
 
 /// Nulls of a type whose arrays have no children.

@@ -2,7 +2,7 @@
 use Rattle.std.proofs.Common.{◌≡◌, ◌∙◌, ℕ, ◌+◌, ◌-◌, ◌<◌, ◌≤◌, Bool, false, List, length, take, drop, get_or, ap, sym, arith}
 use Rattle.std.proofs.lemmas.List.{get_or-take, get_or-drop, get_or_default, length-take, length-drop, same_lists}
 use Rattle.std.specs.Prelude.{slice_range}
-use Rattle.nested_arrays_columns.specs.Slots.{Slot, truth}
+use Rattle.nested_arrays_flat.specs.columns.Slots.{Slot, truth}
 
 -- a bit of a range
 range_bit : (bits : List Bool) (i n k : ℕ) → k < n → get_or (slice_range bits i (i + n)) k false ≡ get_or bits (i + k) false

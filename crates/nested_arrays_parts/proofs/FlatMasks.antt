@@ -1,9 +1,9 @@
 -- Masks of arrays without children.
 use Rattle.std.proofs.Common.{◌≡◌, ◌∙◌, List, true, ap, subst}
 use Rattle.std.specs.Prelude.{Bool, Option, Result, Ok, Err}
-use Rattle.columnar_memory.specs.declared.Error.{Error}
-use Rattle.nested_arrays_columns.specs.SoundColumns.{is_sound}
-use Rattle.nested_arrays_columns.specs.StoredColumns.{Column}
+use Rattle.nested_arrays_flat.specs.columnar_memory.declared.Error.{Error}
+use Rattle.nested_arrays_flat.specs.columns.SoundColumns.{is_sound}
+use Rattle.nested_arrays_flat.specs.columns.StoredColumns.{Column}
 use Rattle.nested_arrays_flat.specs.ColumnMasks.{ReplacesMask}
 pub use Rattle.nested_arrays_flat.proofs.ColumnParts.{flat_takes}
 pub use Rattle.nested_arrays_flat.proofs.SoundFlats.{masked_from}

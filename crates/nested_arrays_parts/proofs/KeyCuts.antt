@@ -1,11 +1,11 @@
 -- Keys and what is cut out of them.
 use Rattle.std.proofs.Common.{◌≡◌, ◌∙◌, ℕ, zero, suc, ◌+◌, ◌-◌, ◌≤◌, List, [], ◌∷◌, length, take, refl, ap, subst, sym, arith}
 use Rattle.std.specs.Prelude.{ℤ, Some, None}
-use Rattle.columnar_memory.specs.declared.DataType.{DataType}
-use Rattle.columnar_memory.specs.declared.PhysicalType.{PhysicalType}
-use Rattle.columnar_memory.specs.declared.PhysicalType.TheVariants as physical
-use Rattle.nested_arrays_columns.specs.StoredColumns.{Column, nulls, flat, lists, fixed_lists, records, unions, dictionary, bits, numbers, pairs, triples}
-use Rattle.nested_arrays_columns.specs.StoredColumns.{texts, byte_strings, fixed_bytes, column_len, cut, cut_list, cut_mask}
+use Rattle.nested_arrays_flat.specs.columnar_memory.declared.DataType.{DataType}
+use Rattle.nested_arrays_flat.specs.columnar_memory.declared.PhysicalType.{PhysicalType}
+use Rattle.nested_arrays_flat.specs.columnar_memory.declared.PhysicalType.TheVariants as physical
+use Rattle.nested_arrays_flat.specs.columns.StoredColumns.{Column, nulls, flat, lists, fixed_lists, records, unions, dictionary, bits, numbers, pairs, triples}
+use Rattle.nested_arrays_flat.specs.columns.StoredColumns.{texts, byte_strings, fixed_bytes, column_len, cut, cut_list, cut_mask}
 use Rattle.nested_arrays_flat.specs.ColumnMasks.{column_mask}
 use Rattle.nested_arrays_parts.specs.Keys.{AreKeysOf, numbers_in, keyed}
 

@@ -1,11 +1,11 @@
 -- How arrays without children lie in memory.
 use Rattle.std.proofs.Common.{◌≡◌, ◌∙◌, true, refl, sym, ap}
 use Rattle.std.proofs.lemmas.Bool.{false≢true}
-use Rattle.columnar_memory.specs.Layouts.{physical_type}
-use Rattle.columnar_memory.specs.declared.DataType.{DataType}
-use Rattle.columnar_memory.specs.declared.PhysicalType.{PhysicalType}
-use Rattle.columnar_memory.specs.declared.PhysicalType.TheVariants as physical
-use Rattle.nested_arrays_columns.specs.StoredColumns.{Column, column_type}
+use Rattle.nested_arrays_flat.specs.columnar_memory.Layouts.{physical_type}
+use Rattle.nested_arrays_flat.specs.columnar_memory.declared.DataType.{DataType}
+use Rattle.nested_arrays_flat.specs.columnar_memory.declared.PhysicalType.{PhysicalType}
+use Rattle.nested_arrays_flat.specs.columnar_memory.declared.PhysicalType.TheVariants as physical
+use Rattle.nested_arrays_flat.specs.columns.StoredColumns.{Column, column_type}
 use Rattle.nested_arrays_flat.specs.Primitives.{is_primitive}
 use Rattle.nested_arrays_parts.specs.Childless.{is_childless}
 

@@ -10,3 +10,7 @@ pub mod SameForms
 pub mod SameNumbers
 pub mod SlotCounts
 pub mod StoredForms
+pub use Rattle.nested_arrays_flat.proofs as flat_lemmas
+pub use Rattle.nested_arrays_flat.proofs.columns_lemmas
+pub use Rattle.nested_arrays_flat.proofs.flat_arrays_lemmas
+pub use Rattle.nested_arrays_flat.proofs.columnar_memory_lemmas

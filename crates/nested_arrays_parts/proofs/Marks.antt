@@ -4,10 +4,10 @@ use Rattle.std.specs.Prelude.{◌↔◌, not, cond, Option, Some, slice_range}
 use Rattle.std.specs.Option.{ForSome}
 use Rattle.std.proofs.lemmas.Bool.{false≢true}
 use Rattle.std.proofs.lemmas.List.Sums.{sum_by-cons}
-use Rattle.columnar_memory.specs.Bits.{unset_count}
-use Rattle.nested_arrays_columns.proofs.Windows.{get_or-cut_list, length-cut_list}
-use Rattle.nested_arrays_columns.specs.SoundColumns.{is_sound, mask_fits}
-use Rattle.nested_arrays_columns.specs.StoredColumns.{Column, column_len, cut_list, is_valid_at}
+use Rattle.nested_arrays_flat.specs.columnar_memory.Bits.{unset_count}
+use Rattle.nested_arrays_flat.proofs.columns_lemmas.Windows.{get_or-cut_list, length-cut_list}
+use Rattle.nested_arrays_flat.specs.columns.SoundColumns.{is_sound, mask_fits}
+use Rattle.nested_arrays_flat.specs.columns.StoredColumns.{Column, column_len, cut_list, is_valid_at}
 use Rattle.nested_arrays_flat.proofs.ColumnParts.{sound_mask}
 use Rattle.nested_arrays_flat.proofs.CutMasks.{marks_within}
 use Rattle.nested_arrays_flat.specs.ColumnMasks.{column_mask}

@@ -4,8 +4,8 @@ use Rattle.std.specs.Prelude.{◌&&◌, nat_le}
 use Rattle.std.specs.List.{list_all}
 use Rattle.std.proofs.lemmas.Bool.{and_parts, leb-true}
 use Rattle.std.proofs.lemmas.List.Sums.{sum_by-cons}
-use Rattle.columnar_memory.specs.Spans.{Spans, ends_from, offsets_of, last_of}
-use Rattle.nested_arrays_columns.specs.SoundColumns.{holds_below, rises_at, are_offsets}
+use Rattle.nested_arrays_flat.specs.columnar_memory.Spans.{Spans, ends_from, offsets_of, last_of}
+use Rattle.nested_arrays_flat.specs.columns.SoundColumns.{holds_below, rises_at, are_offsets}
 pub use Rattle.nested_arrays_flat.proofs.Offsets.{cut_offsets, spans_count}
 pub use Rattle.nested_arrays_flat.proofs.SoundStrings.{spans_sound}
 

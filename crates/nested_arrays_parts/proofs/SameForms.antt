@@ -1,10 +1,10 @@
 -- Slots that are the same, by their forms.
 use Rattle.std.proofs.Common.{◌≡◌, ◌∙◌, ◌<◌, ◌≤◌, ◌+◌, ℕ, zero, suc, Bool, true, false, refl, sym, ap, arith, below_more, ◌-◌}
 use Rattle.std.specs.Prelude.{◌↔◌, IsTrue, None, if◌then◌else◌}
-use Rattle.nested_arrays_columns.specs.Slots.{null}
-use Rattle.nested_arrays_columns.specs.StoredColumns.{Column, nulls, flat, lists, fixed_lists, records, unions, dictionary}
-use Rattle.nested_arrays_columns.specs.StoredColumns.{Stored, bits, numbers, pairs, triples, texts, byte_strings, fixed_bytes}
-use Rattle.nested_arrays_columns.specs.StoredColumns.{is_valid_at, slot_at, stored_at}
+use Rattle.nested_arrays_flat.specs.columns.Slots.{null}
+use Rattle.nested_arrays_flat.specs.columns.StoredColumns.{Column, nulls, flat, lists, fixed_lists, records, unions, dictionary}
+use Rattle.nested_arrays_flat.specs.columns.StoredColumns.{Stored, bits, numbers, pairs, triples, texts, byte_strings, fixed_bytes}
+use Rattle.nested_arrays_flat.specs.columns.StoredColumns.{is_valid_at, slot_at, stored_at}
 use Rattle.nested_arrays_parts.specs.Forms.{bare, column_form, slot_form, stored_form}
 use Rattle.nested_arrays_parts.specs.Ranges.{SameMarks, SameRanges}
 use Rattle.nested_arrays_flat.specs.ColumnMasks.{column_mask}

@@ -4,20 +4,20 @@ use Rattle.std.specs.Prelude.{◌==◌, ◌↔◌, pos, Some, option_map, slice_
 use Rattle.std.specs.List.{list_all}
 use Rattle.std.proofs.lemmas.Bool.{false≢true}
 use Rattle.std.proofs.lemmas.Option.{get_or_from_slice_get, slice_get-map, slice_get-get_or}
-use Rattle.columnar_memory.specs.declared.PhysicalType.{PhysicalType}
-use Rattle.columnar_memory.specs.declared.PhysicalType.TheVariants as physical
-use Rattle.columnar_memory.specs.declared.PrimitiveType.{PrimitiveType}
-use Rattle.columnar_memory.specs.declared.PrimitiveType.TheVariants as kinds
-use Rattle.columnar_memory.specs.Layouts.{physical_type}
-use Rattle.columnar_memory.specs.Numbers.{Numbers, one, two, three, first_number, IsNative}
-use Rattle.flat_arrays_values.specs.Flat.{Flat}
-use Rattle.nested_arrays_columns.proofs.Conditions.{parts_of_3}
-use Rattle.nested_arrays_columns.proofs.SameSlotsDecide.{same_kind-implies}
-use Rattle.nested_arrays_columns.specs.Kinds.{same_kind, numbers_of_kind, in_kind}
-use Rattle.nested_arrays_columns.specs.Slots.{Slot, number, pair, triple}
-use Rattle.nested_arrays_columns.specs.SoundColumns.{are_pairs, are_triples, has_size, is_sound, is_stored_as, mask_fits}
-use Rattle.nested_arrays_columns.specs.StoredColumns.{Column, Stored, flat, bits, numbers, pairs, triples, texts, byte_strings, fixed_bytes}
-use Rattle.nested_arrays_columns.specs.StoredColumns.{column_type, slot_at, stored_at, stored_len, type_layer}
+use Rattle.nested_arrays_flat.specs.columnar_memory.declared.PhysicalType.{PhysicalType}
+use Rattle.nested_arrays_flat.specs.columnar_memory.declared.PhysicalType.TheVariants as physical
+use Rattle.nested_arrays_flat.specs.columnar_memory.declared.PrimitiveType.{PrimitiveType}
+use Rattle.nested_arrays_flat.specs.columnar_memory.declared.PrimitiveType.TheVariants as kinds
+use Rattle.nested_arrays_flat.specs.columnar_memory.Layouts.{physical_type}
+use Rattle.nested_arrays_flat.specs.columnar_memory.Numbers.{Numbers, one, two, three, first_number, IsNative}
+use Rattle.nested_arrays_flat.specs.flat_arrays.Flat.{Flat}
+use Rattle.nested_arrays_flat.proofs.columns_lemmas.Conditions.{parts_of_3}
+use Rattle.nested_arrays_flat.proofs.columns_lemmas.SameSlotsDecide.{same_kind-implies}
+use Rattle.nested_arrays_flat.specs.columns.Kinds.{same_kind, numbers_of_kind, in_kind}
+use Rattle.nested_arrays_flat.specs.columns.Slots.{Slot, number, pair, triple}
+use Rattle.nested_arrays_flat.specs.columns.SoundColumns.{are_pairs, are_triples, has_size, is_sound, is_stored_as, mask_fits}
+use Rattle.nested_arrays_flat.specs.columns.StoredColumns.{Column, Stored, flat, bits, numbers, pairs, triples, texts, byte_strings, fixed_bytes}
+use Rattle.nested_arrays_flat.specs.columns.StoredColumns.{column_type, slot_at, stored_at, stored_len, type_layer}
 use Rattle.nested_arrays_parts.specs.Forms.{bare, column_form, stored_form}
 use Rattle.nested_arrays_parts.specs.Ranges.{number_slot, SameRanges, SameStored}
 use Rattle.nested_arrays_flat.specs.FlatColumns.{pair_of, triple_of, stored_numbers, primitive_column}

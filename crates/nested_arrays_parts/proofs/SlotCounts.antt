@@ -1,10 +1,10 @@
 -- How many slots stand in columns without children.
 use Rattle.std.proofs.Common.{◌≡◌, ◌≤◌, ◌+◌, ℕ, zero, suc, Bool, true, false, refl, arith}
 use Rattle.std.specs.Prelude.{if◌then◌else◌}
-use Rattle.nested_arrays_columns.specs.SlotNodes.{nodes_of, slot_nodes}
-use Rattle.nested_arrays_columns.specs.Slots.{Slot, null, in_slots, window}
-use Rattle.nested_arrays_columns.specs.StoredColumns.{Column, nulls, flat, is_valid_at, slot_at, stored_at}
-use Rattle.nested_arrays_columns.specs.StoredColumns.{Stored, bits, numbers, pairs, triples, texts, byte_strings, fixed_bytes}
+use Rattle.nested_arrays_flat.specs.columns.SlotNodes.{nodes_of, slot_nodes}
+use Rattle.nested_arrays_flat.specs.columns.Slots.{Slot, null, in_slots, window}
+use Rattle.nested_arrays_flat.specs.columns.StoredColumns.{Column, nulls, flat, is_valid_at, slot_at, stored_at}
+use Rattle.nested_arrays_flat.specs.columns.StoredColumns.{Stored, bits, numbers, pairs, triples, texts, byte_strings, fixed_bytes}
 use Rattle.nested_arrays_parts.specs.Forms.{column_form}
 use Rattle.nested_arrays_parts.specs.Ranges.{range_nodes}
 

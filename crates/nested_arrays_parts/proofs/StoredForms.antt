@@ -1,11 +1,11 @@
 -- What columns without children store, by its form.
 use Rattle.std.proofs.Common.{◌≡◌, ◌∙◌, ◌<◌, ◌+◌, ℕ, List, refl, sym, ap, arith}
 use Rattle.std.specs.Prelude.{Some, slice_get, slice_range}
-use Rattle.columnar_memory.specs.Spans.{offsets_of, offset_at}
-use Rattle.flat_arrays_byte_columns.proofs.Places.{value_between}
-use Rattle.flat_arrays_byte_columns.specs.ByteStrings.{ByteStrings, len_of, values_of}
-use Rattle.nested_arrays_columns.specs.Slots.{bytes, text}
-use Rattle.nested_arrays_columns.specs.StoredColumns.{column_len, slot_at, string_at}
+use Rattle.nested_arrays_flat.specs.columnar_memory.Spans.{offsets_of, offset_at}
+use Rattle.nested_arrays_flat.proofs.flat_arrays_lemmas.bytes_lemmas.Places.{value_between}
+use Rattle.nested_arrays_flat.specs.flat_arrays.ByteStrings.{ByteStrings, len_of, values_of}
+use Rattle.nested_arrays_flat.specs.columns.Slots.{bytes, text}
+use Rattle.nested_arrays_flat.specs.columns.StoredColumns.{column_len, slot_at, string_at}
 use Rattle.nested_arrays_parts.specs.Forms.{bare, column_form}
 use Rattle.nested_arrays_flat.proofs.Offsets.{get_or-offsets_of}
 use Rattle.nested_arrays_flat.proofs.SoundStrings.{strings_len, texts_len}

@@ -1,7 +1,7 @@
 -- Arrays without children, by how they lie in memory.
 use Rattle.std.specs.Prelude.{Bool, true, false}
-use Rattle.columnar_memory.specs.declared.PhysicalType.{PhysicalType}
-use Rattle.columnar_memory.specs.declared.PhysicalType.TheVariants as physical
+use Rattle.nested_arrays_flat.specs.columnar_memory.declared.PhysicalType.{PhysicalType}
+use Rattle.nested_arrays_flat.specs.columnar_memory.declared.PhysicalType.TheVariants as physical
 
 -- whether arrays that lie in memory so have no children
 abbrev pub is_childless : PhysicalType → Bool

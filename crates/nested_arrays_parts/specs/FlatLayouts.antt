@@ -1,9 +1,9 @@
 -- How the arrays of each variant lie in memory, and what taking an array of one kind out of one without children answers.
 use Rattle.std.specs.Prelude.{◌≡◌, Bool, true, false, Result, MatchResult}
-use Rattle.columnar_memory.specs.Layouts.{physical_type}
-use Rattle.columnar_memory.specs.declared.PhysicalType.{PhysicalType}
-use Rattle.columnar_memory.specs.declared.PhysicalType.TheVariants as physical
-use Rattle.nested_arrays_columns.specs.StoredColumns.{Column, column_type}
+use Rattle.nested_arrays_flat.specs.columnar_memory.Layouts.{physical_type}
+use Rattle.nested_arrays_flat.specs.columnar_memory.declared.PhysicalType.{PhysicalType}
+use Rattle.nested_arrays_flat.specs.columnar_memory.declared.PhysicalType.TheVariants as physical
+use Rattle.nested_arrays_flat.specs.columns.StoredColumns.{Column, column_type}
 use Rattle.nested_arrays_flat.specs.Primitives.{is_primitive}
 use Rattle.nested_arrays_parts.specs.FlatNodes.{flat_column}
 use Rattle.nested_arrays_parts.specs.declared.flats.FlatNode.{FlatNode}

@@ -1,5 +1,5 @@
 -- The column of an array without children.
-use Rattle.nested_arrays_columns.specs.StoredColumns.{Column}
+use Rattle.nested_arrays_flat.specs.columns.StoredColumns.{Column}
 use Rattle.nested_arrays_flat.specs.FlatColumns.{binary_column, boolean_column, text_column}
 use Rattle.nested_arrays_parts.specs.declared.flats.FlatNode.{FlatNode}
 use Rattle.nested_arrays_parts.specs.declared.flats.FlatNode.TheVariants as variant

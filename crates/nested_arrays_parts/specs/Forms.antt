@@ -1,7 +1,7 @@
 -- Which form slots have, and those that columns store, by numbers.
 use Rattle.std.specs.Prelude.{ℕ, None}
-use Rattle.nested_arrays_columns.specs.Slots.{Slot, null, truth, number, pair, triple, text, bytes, items, fields, pick}
-use Rattle.nested_arrays_columns.specs.StoredColumns.{Column, Stored, nulls, flat, bits, numbers, pairs, triples, texts, byte_strings, fixed_bytes}
+use Rattle.nested_arrays_flat.specs.columns.Slots.{Slot, null, truth, number, pair, triple, text, bytes, items, fields, pick}
+use Rattle.nested_arrays_flat.specs.columns.StoredColumns.{Column, Stored, nulls, flat, bits, numbers, pairs, triples, texts, byte_strings, fixed_bytes}
 use Rattle.nested_arrays_flat.specs.ColumnMasks.{with_mask}
 
 -- the forms by numbers, each its own, and one for numbers of every kind

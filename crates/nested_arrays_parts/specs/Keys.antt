@@ -1,13 +1,13 @@
 -- The keys of dictionaries: whole numbers of an integer type, one for each slot (Arrow columnar format, "Dictionary-encoded Layout").
 use Rattle.std.specs.Prelude.{◌≡◌, ℤ, List, []}
-use Rattle.columnar_memory.specs.declared.DataType.{DataType}
-use Rattle.columnar_memory.specs.declared.IntegerType.{IntegerType}
-use Rattle.columnar_memory.specs.declared.IntegerType.TheVariants as integers
-use Rattle.columnar_memory.specs.declared.PhysicalType.{PhysicalType}
-use Rattle.columnar_memory.specs.declared.PhysicalType.TheVariants as physical
-use Rattle.columnar_memory.specs.declared.PrimitiveType.{PrimitiveType}
-use Rattle.columnar_memory.specs.declared.PrimitiveType.TheVariants as kinds
-use Rattle.nested_arrays_columns.specs.StoredColumns.{Column, flat, numbers, dictionary}
+use Rattle.nested_arrays_flat.specs.columnar_memory.declared.DataType.{DataType}
+use Rattle.nested_arrays_flat.specs.columnar_memory.declared.IntegerType.{IntegerType}
+use Rattle.nested_arrays_flat.specs.columnar_memory.declared.IntegerType.TheVariants as integers
+use Rattle.nested_arrays_flat.specs.columnar_memory.declared.PhysicalType.{PhysicalType}
+use Rattle.nested_arrays_flat.specs.columnar_memory.declared.PhysicalType.TheVariants as physical
+use Rattle.nested_arrays_flat.specs.columnar_memory.declared.PrimitiveType.{PrimitiveType}
+use Rattle.nested_arrays_flat.specs.columnar_memory.declared.PrimitiveType.TheVariants as kinds
+use Rattle.nested_arrays_flat.specs.columns.StoredColumns.{Column, flat, numbers, dictionary}
 use Rattle.nested_arrays_flat.specs.ColumnMasks.{column_mask}
 
 -- the whole numbers that a column of numbers stores, those under nulls too

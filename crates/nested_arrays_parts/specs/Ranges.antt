@@ -1,11 +1,11 @@
 -- Ranges of slots of two columns.
 use Rattle.std.specs.Prelude.{◌≡◌, ◌+◌, ◌<◌, ℕ, Bool, List, Option}
-use Rattle.columnar_memory.specs.Numbers.{Numbers, first_number}
-use Rattle.columnar_memory.specs.declared.PrimitiveType.{PrimitiveType}
-use Rattle.columnar_memory.specs.declared.PrimitiveType.TheVariants as kinds
-use Rattle.nested_arrays_columns.specs.SlotNodes.{nodes_of}
-use Rattle.nested_arrays_columns.specs.Slots.{Slot, number, in_slots, window}
-use Rattle.nested_arrays_columns.specs.StoredColumns.{Column, Stored, is_valid_at, slot_at, stored_at, pair_slot, triple_slot}
+use Rattle.nested_arrays_flat.specs.columnar_memory.Numbers.{Numbers, first_number}
+use Rattle.nested_arrays_flat.specs.columnar_memory.declared.PrimitiveType.{PrimitiveType}
+use Rattle.nested_arrays_flat.specs.columnar_memory.declared.PrimitiveType.TheVariants as kinds
+use Rattle.nested_arrays_flat.specs.columns.SlotNodes.{nodes_of}
+use Rattle.nested_arrays_flat.specs.columns.Slots.{Slot, number, in_slots, window}
+use Rattle.nested_arrays_flat.specs.columns.StoredColumns.{Column, Stored, is_valid_at, slot_at, stored_at, pair_slot, triple_slot}
 use Rattle.nested_arrays_flat.specs.FlatColumns.{pair_of, triple_of}
 
 -- n slots of a column from place i on are those of another from place j on

@@ -1,7 +1,7 @@
 -- Offsets of lists, of either width.
-use Rattle.columnar_memory.specs.Spans.{Spans}
-use Rattle.columnar_memory.specs.declared.PhysicalType.{PhysicalType}
-use Rattle.columnar_memory.specs.declared.PhysicalType.TheVariants as physical
+use Rattle.nested_arrays_flat.specs.columnar_memory.Spans.{Spans}
+use Rattle.nested_arrays_flat.specs.columnar_memory.declared.PhysicalType.{PhysicalType}
+use Rattle.nested_arrays_flat.specs.columnar_memory.declared.PhysicalType.TheVariants as physical
 use Rattle.nested_arrays_parts.specs.declared.offsets.ListOffsets.{ListOffsets}
 use Rattle.nested_arrays_parts.specs.declared.offsets.ListOffsets.TheVariants as width
 

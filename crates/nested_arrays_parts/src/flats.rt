@@ -1,14 +1,13 @@
 //! Arrays without children.
 ghost use Rattle.std.specs.Prelude.{◌≡◌, ◌+◌, ◌≤◌, true};
-ghost use Rattle.columnar_memory.specs.Layouts.{physical_type};
-ghost use Rattle.nested_arrays_columns.specs.SoundColumns.{is_sound};
-ghost use Rattle.nested_arrays_columns.specs.StoredColumns.{column_len, column_type, cut};
+ghost use Rattle.nested_arrays_flat.specs.columnar_memory.Layouts.{physical_type};
+ghost use Rattle.nested_arrays_flat.specs.columns.SoundColumns.{is_sound};
+ghost use Rattle.nested_arrays_flat.specs.columns.StoredColumns.{column_len, column_type, cut};
 ghost use Rattle.nested_arrays_flat.specs.FlatColumns.{binary_column, boolean_column, text_column};
 ghost use Rattle.nested_arrays_parts.specs.Childless.{is_childless};
 
-use columnar_memory::{DataType, Offset};
-use flat_arrays_bytes::{BinaryArray, Utf8Array};
-use flat_arrays_values::BooleanArray;
+use nested_arrays_flat::columnar_memory::{DataType, Offset};
+use nested_arrays_flat::flat_arrays::{BinaryArray, BooleanArray, Utf8Array};
 use nested_arrays_flat::{AnyPrimitive, FixedSizeBinaryArray, NullArray};
 use std::marker::Model;
 
@@ -33,9 +32,9 @@ pub struct FlatArray {
 
 impl Model for FlatArray {
     ghost use Rattle.std.specs.Prelude.{◌≡◌, true};
-    ghost use Rattle.nested_arrays_columns.specs.ColumnCodes.{column_code};
-    ghost use Rattle.nested_arrays_columns.specs.SoundColumns.{is_sound};
-    ghost use Rattle.nested_arrays_columns.specs.StoredColumns.{Column};
+    ghost use Rattle.nested_arrays_flat.specs.columns.ColumnCodes.{column_code};
+    ghost use Rattle.nested_arrays_flat.specs.columns.SoundColumns.{is_sound};
+    ghost use Rattle.nested_arrays_flat.specs.columns.StoredColumns.{Column};
 
     ghost Value = { Column };
 

@@ -4,8 +4,7 @@ ghost use Rattle.nested_arrays_flat.specs.FlatColumns.{binary_column, boolean_co
 
 use crate::flats::{FlatArray, FlatNode};
 use crate::sound::{binary_is_sound, boolean_is_sound, text_is_sound};
-use flat_arrays_bytes::{BinaryArray, Utf8Array};
-use flat_arrays_values::BooleanArray;
+use nested_arrays_flat::flat_arrays::{BinaryArray, BooleanArray, Utf8Array};
 use nested_arrays_flat::{AnyPrimitive, FixedSizeBinaryArray, NullArray};
 
 impl From<NullArray> for FlatArray {

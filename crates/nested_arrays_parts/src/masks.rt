@@ -1,9 +1,9 @@
 //! Masks and offsets that have to fit.
 ghost use Rattle.std.specs.Prelude.{◌≡◌, ◌≤◌};
-ghost use Rattle.columnar_memory.specs.Spans.{last_of};
-ghost use Rattle.nested_arrays_columns.specs.SoundColumns.{mask_fits};
+ghost use Rattle.nested_arrays_flat.specs.columnar_memory.Spans.{last_of};
+ghost use Rattle.nested_arrays_flat.specs.columns.SoundColumns.{mask_fits};
 
-use columnar_memory::{Bitmap, Index, Offset, OffsetsBuffer};
+use nested_arrays_flat::columnar_memory::{Bitmap, Index, Offset, OffsetsBuffer};
 
 /// Whether a mask, if there is one, has a mark for each of so many slots.
 pub fn fits(validity: &Option<Bitmap>, length: usize) -> bool

@@ -1,13 +1,13 @@
 //! Comparisons of stored numbers.
 ghost use Rattle.std.specs.Prelude.{◌≡◌, ◌+◌, ◌≤◌, ◌↔◌, IsTrue, length, map};
-ghost use Rattle.nested_arrays_columns.specs.StoredColumns.{column_len};
+ghost use Rattle.nested_arrays_flat.specs.columns.StoredColumns.{column_len};
 ghost use Rattle.nested_arrays_parts.specs.Forms.{bare};
 ghost use Rattle.nested_arrays_parts.specs.Ranges.{number_slot, SameRanges, SameStored};
 ghost use Rattle.nested_arrays_flat.specs.FlatColumns.{primitive_column, stored_numbers};
 
 use crate::stored::holds_numbers;
-use columnar_memory::NativeType;
-use flat_arrays_values::PrimitiveArray;
+use nested_arrays_flat::columnar_memory::NativeType;
+use nested_arrays_flat::flat_arrays::PrimitiveArray;
 use nested_arrays_flat::{AnyPrimitive, PrimitiveKind, PrimitiveNode};
 
 /// Whether two numbers of a kind are the same.

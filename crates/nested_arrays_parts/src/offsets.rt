@@ -1,9 +1,9 @@
 //! Offsets of lists.
 ghost use Rattle.std.specs.Prelude.{◌≡◌, ◌+◌, ◌≤◌, length};
-ghost use Rattle.columnar_memory.specs.Spans.{spans_between};
+ghost use Rattle.nested_arrays_flat.specs.columnar_memory.Spans.{spans_between};
 ghost use Rattle.nested_arrays_parts.specs.Widths.{spans_in, layout_of};
 
-use columnar_memory::{Offset, OffsetsBuffer};
+use nested_arrays_flat::columnar_memory::{Offset, OffsetsBuffer};
 
 /// Narrows offsets to those of the `count` spans from `offset` on.
 pub fn slice_offsets<O: Offset>(offsets: &mut OffsetsBuffer<O>, offset: usize, count: usize)

@@ -1,8 +1,8 @@
 //! Comparisons of slots.
 ghost use Rattle.std.specs.Prelude.{◌≡◌, ◌+◌, ◌<◌, ◌≤◌, ◌↔◌, ℕ, IsTrue, length, option_copied, true, Some};
 ghost use Rattle.std.specs.Option.{ForSome};
-ghost use Rattle.nested_arrays_columns.specs.Slots.{null};
-ghost use Rattle.nested_arrays_columns.specs.StoredColumns.{column_len, is_valid_at, slot_at};
+ghost use Rattle.nested_arrays_flat.specs.columns.Slots.{null};
+ghost use Rattle.nested_arrays_flat.specs.columns.StoredColumns.{column_len, is_valid_at, slot_at};
 ghost use Rattle.nested_arrays_parts.specs.Forms.{column_form};
 ghost use Rattle.nested_arrays_parts.specs.Ranges.{range_nodes, SameMarks, SameRanges};
 ghost use Rattle.nested_arrays_flat.specs.ColumnMasks.{column_mask};
@@ -10,7 +10,7 @@ ghost use Rattle.nested_arrays_flat.specs.ColumnMasks.{column_mask};
 use crate::flats::{FlatArray, FlatNode};
 use crate::stored::{holds_numbers, holds_values};
 use crate::values::same_values;
-use columnar_memory::{Bitmap, Steps};
+use nested_arrays_flat::columnar_memory::{Bitmap, Steps};
 use nested_arrays_flat::mark_at;
 
 /// Whether the mask, if there is one, says that a slot has a value.

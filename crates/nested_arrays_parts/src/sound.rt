@@ -1,12 +1,11 @@
 //! What the columns of flat arrays are: sound ones. Each function here reads an array, and hands that to a caller's proof.
 ghost use Rattle.std.specs.Prelude.{◌≡◌, ◌≤◌, true};
-ghost use Rattle.columnar_memory.specs.Spans.{last_of};
-ghost use Rattle.nested_arrays_columns.specs.SoundColumns.{is_sound};
+ghost use Rattle.nested_arrays_flat.specs.columnar_memory.Spans.{last_of};
+ghost use Rattle.nested_arrays_flat.specs.columns.SoundColumns.{is_sound};
 ghost use Rattle.nested_arrays_flat.specs.FlatColumns.{binary_column, boolean_column, text_column};
 
-use columnar_memory::{Offset, OffsetsBuffer};
-use flat_arrays_bytes::{BinaryArray, Utf8Array};
-use flat_arrays_values::BooleanArray;
+use nested_arrays_flat::columnar_memory::{Offset, OffsetsBuffer};
+use nested_arrays_flat::flat_arrays::{BinaryArray, BooleanArray, Utf8Array};
 use nested_arrays_flat::read_bytes;
 
 /// The column of an array of booleans is sound.

@@ -1,13 +1,13 @@
 //! What an array without children stores, by its form.
 ghost use Rattle.std.specs.Prelude.{◌≡◌, ◌≢◌, ◌<◌, ◌≤◌, MatchOption, option_copied};
-ghost use Rattle.nested_arrays_columns.specs.Slots.{bytes, text};
-ghost use Rattle.nested_arrays_columns.specs.StoredColumns.{column_len, slot_at};
+ghost use Rattle.nested_arrays_flat.specs.columns.Slots.{bytes, text};
+ghost use Rattle.nested_arrays_flat.specs.columns.StoredColumns.{column_len, slot_at};
 ghost use Rattle.nested_arrays_flat.specs.FlatColumns.{boolean_column};
 ghost use Rattle.nested_arrays_parts.specs.Forms.{bare, column_form};
 
 use crate::flats::{FlatArray, FlatNode};
-use flat_arrays_values::BooleanArray;
 use nested_arrays_flat::AnyPrimitive;
+use nested_arrays_flat::flat_arrays::BooleanArray;
 
 /// Hands to a proof that an array of numbers stores numbers.
 #[tactic(auto, using(crate::proofs::StoredForms::numbers_form))]

@@ -1,13 +1,12 @@
 //! Arrays of one kind taken out of arrays without children, without memory: an array of another kind is given back.
 ghost use Rattle.std.specs.Prelude.{◌≡◌, false, true, MatchResult};
-ghost use Rattle.columnar_memory.specs.declared.PhysicalType.TheVariants as physical;
+ghost use Rattle.nested_arrays_flat.specs.columnar_memory.declared.PhysicalType.TheVariants as physical;
 ghost use Rattle.nested_arrays_flat.specs.FlatColumns.{binary_column, boolean_column, text_column};
 ghost use Rattle.nested_arrays_flat.specs.Taken.{Takes};
 ghost use Rattle.nested_arrays_parts.specs.FlatLayouts.{is_of_numbers, lies_as, lies_well, TakesKind, TakesNumbers};
 
 use crate::flats::{FlatArray, FlatNode};
-use flat_arrays_bytes::{BinaryArray, Utf8Array};
-use flat_arrays_values::{BooleanArray, PrimitiveArray};
+use nested_arrays_flat::flat_arrays::{BinaryArray, BooleanArray, PrimitiveArray, Utf8Array};
 use nested_arrays_flat::{AnyPrimitive, FixedSizeBinaryArray, NullArray, PrimitiveKind};
 
 impl FlatNode {

@@ -6,9 +6,8 @@ ghost use Rattle.nested_arrays_flat.specs.FlatColumns.{binary_column, boolean_co
 use crate::flats::{FlatArray, FlatNode};
 use crate::masks::fits;
 use crate::sound::{binary_is_sound, boolean_is_sound, text_is_sound};
-use columnar_memory::{Bitmap, Error, Offset, Result};
-use flat_arrays_bytes::{BinaryArray, Utf8Array};
-use flat_arrays_values::BooleanArray;
+use nested_arrays_flat::columnar_memory::{Bitmap, Error, Offset, Result};
+use nested_arrays_flat::flat_arrays::{BinaryArray, BooleanArray, Utf8Array};
 
 impl FlatArray {
     /// The mask, where there is one: a bit is set where its slot is not null.

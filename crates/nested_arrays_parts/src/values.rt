@@ -1,6 +1,6 @@
 //! Comparisons of stored values.
 ghost use Rattle.std.specs.Prelude.{◌≡◌, ◌≢◌, ◌+◌, ◌<◌, ◌≤◌, ◌↔◌, IsTrue, length};
-ghost use Rattle.nested_arrays_columns.specs.StoredColumns.{column_len, slot_at};
+ghost use Rattle.nested_arrays_flat.specs.columns.StoredColumns.{column_len, slot_at};
 ghost use Rattle.nested_arrays_parts.specs.Forms.{bare, column_form};
 ghost use Rattle.nested_arrays_parts.specs.Ranges.{SameRanges};
 ghost use Rattle.nested_arrays_flat.specs.FlatColumns.{binary_column, boolean_column, text_column};
@@ -8,9 +8,8 @@ ghost use Rattle.nested_arrays_flat.specs.FlatColumns.{binary_column, boolean_co
 use crate::flats::{FlatArray, FlatNode};
 use crate::numbers::same_numbers;
 use crate::stored::{booleans, bytes, holds_values, numbers, text};
-use columnar_memory::Offset;
-use flat_arrays_bytes::{BinaryArray, Utf8Array};
-use flat_arrays_values::BooleanArray;
+use nested_arrays_flat::columnar_memory::Offset;
+use nested_arrays_flat::flat_arrays::{BinaryArray, BooleanArray, Utf8Array};
 
 /// Whether so many stored booleans from a place on are those of another array from a place on.
 fn same_truths(left: &BooleanArray, i: usize, right: &BooleanArray, j: usize, count: usize) -> bool

@@ -20,10 +20,10 @@ use Rattle.ipc_format_grammar.specs.TagNumbers.{record_tag}
 use Rattle.ipc_format_grammar.specs.WrittenMessages.{Written, framed, message_bytes, fits_limit, end_mark, body_bytes, buffer_places, schema_written}
 use Rattle.ipc_format_grammar.specs.WrittenMessages.{prefix_size, most_metadata}
 use Rattle.ipc_format.specs.WrittenStreams.{rows_of_slots, bytes_of_messages}
-use Rattle.ipc_format_message_writing.specs.MessageWriting.{WritesMessage, record_message, node_pair, buffer_pair}
+use Rattle.ipc_format_writing.specs.MessageWriting.{WritesMessage, record_message, node_pair, buffer_pair}
 use Rattle.ipc_format_messages.specs.declared.values.FieldNode.{FieldNode}
 use Rattle.ipc_format_messages.specs.declared.values.Buffer.{Buffer}
-use Rattle.ipc_format_schema_writing.specs.Writing.{WritesSchema, may_write}
+use Rattle.ipc_format_writing.specs.Writing.{WritesSchema, may_write}
 use Rattle.ipc_format_streams.specs.Devices.{AppendsBeginning, Puts}
 use Rattle.ipc_format_streams.proofs.Appending.{appends_nothing, appends_both, begins_nothing, begins_first, begins_behind, begins_same, puts_behind}
 use Rattle.tables_stream.specs.Int32Schemas.{IsInt32Schema}

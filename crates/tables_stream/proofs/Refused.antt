@@ -17,9 +17,9 @@ use Rattle.columnar_memory.specs.declared.Schema.{Schema}
 use Rattle.ipc_format.specs.Objects.{Object, laid}
 use Rattle.ipc_format_grammar.specs.Ids.{default_ids}
 use Rattle.ipc_format_grammar.specs.WrittenMessages.{Written, body_limit, most_metadata, prefix_size, fits_limit}
-use Rattle.ipc_format_message_writing.specs.MessageWriting as metadata
-use Rattle.ipc_format_schema_writing.specs.Floats.{float_step, in_type, in_field}
-use Rattle.ipc_format_schema_writing.specs.Writing.{WritesSchema, may_write}
+use Rattle.ipc_format_writing.specs.MessageWriting as metadata
+use Rattle.ipc_format_writing.specs.Floats.{float_step, in_type, in_field}
+use Rattle.ipc_format_writing.specs.Writing.{WritesSchema, may_write}
 use Rattle.ipc_format_stream_laws.proofs.Int32Schemas.{AreInt32, writable_int32, default_ids_fit_fields}
 use Rattle.ipc_format_streams.specs.Devices.{IsNamed}
 use Rattle.ipc_format_streams.proofs.Appending.{appends_nothing}

@@ -10,7 +10,7 @@ ghost use Rattle.ipc_format_grammar.specs.Buffers as buffers_format;
 ghost use Rattle.tables_stream.specs.Int32Written as int32_written;
 ghost use Rattle.ipc_format_grammar.specs.WrittenMessages as messages_format;
 ghost use Rattle.tables_stream.specs.Cells.{slot_of};
-ghost use Rattle.ipc_format_message_writing.specs.MessageWriting.{node_pair, buffer_pair};
+ghost use Rattle.ipc_format_writing.specs.MessageWriting.{node_pair, buffer_pair};
 ghost use Rattle.tables_stream.specs.Int32Written.{validity_size, buffers_of};
 ghost use Rattle.tables_stream.specs.Tables.{stored_cells, batch_slots};
 

@@ -1,9 +1,9 @@
 use Rattle.std.specs.Prelude.{slice_set}
 use Rattle.std.proofs.Common.{rules, ◌<◌, length, ◌∙◌, ap, sym, subst, ◌+◌, ◌*◌, ◌≤◌, arith}
 use Rattle.std.proofs.lemmas.List.Edits.{map_over_more}
-use Rattle.nested_arrays_columns.specs.SoundColumns.{is_sound}
-use Rattle.nested_arrays_columns.specs.StoredColumns.{Column, column_len, column_size, cut, unions, in_columns}
-use Rattle.columnar_memory.specs.Window.{window}
+use Rattle.nested_arrays_parts.specs.columns.SoundColumns.{is_sound}
+use Rattle.nested_arrays_parts.specs.columns.StoredColumns.{Column, column_len, column_size, cut, unions, in_columns}
+use Rattle.nested_arrays_parts.specs.columnar_memory.Window.{window}
 use Rattle.nested_arrays_arrays.specs.AnyColumns.{column_of}
 use Rattle.nested_arrays_arrays.proofs.CutNodes.{lists_cut, records_cut, fixed_lists_cut, spans_within, items_within, struct_children}
 use Rattle.nested_arrays_arrays.proofs.CutNodes.{sound_after, fits_at, fits_from}

@@ -1,5 +1,5 @@
 use Rattle.std.proofs.Common.{◌≡◌, ◌+◌, take, drop, map, ◌++◌, ◌*◌}
-use Rattle.nested_arrays_columns.specs.StoredColumns.{column_size, columns_size, in_columns, cut}
+use Rattle.nested_arrays_parts.specs.columns.StoredColumns.{column_size, columns_size, in_columns, cut}
 use Rattle.nested_arrays_arrays.proofs.+cutting.Given as goal
 
 abbrev pub invariant-records::slice_each-loop-value : goal.invariant-records::slice_each-loop-value

@@ -1,5 +1,5 @@
-use Rattle.columnar_memory_bits.specs.Bits.{bits_of}
-use Rattle.columnar_memory_bits.specs.Words.{word_at}
+use Rattle.columnar_memory_bitmap.specs.bits.Bits.{bits_of}
+use Rattle.columnar_memory_bitmap.specs.bits.Words.{word_at}
 use Rattle.columnar_memory_kernels.specs.Kernels.{AnswersOne}
 use Rattle.columnar_memory_kernels.proofs.InPlace.{IsWritten}
 use Rattle.columnar_memory_kernels.proofs.assign.assign_one.Given as goal

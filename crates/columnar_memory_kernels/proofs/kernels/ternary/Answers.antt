@@ -1,5 +1,5 @@
 use Rattle.std.proofs.Common.{◌≡◌, ◌∙◌, ◌-◌, ◌*◌, min, length, ap, rules}
-use Rattle.columnar_memory_bits.specs.Words.{word_at}
+use Rattle.columnar_memory_bitmap.specs.bits.Words.{word_at}
 use Rattle.columnar_memory_kernels.specs.Kernels.{part}
 use Rattle.columnar_memory_kernels.proofs.Wordwise.{part_is_word, words_answered}
 use Rattle.columnar_memory_kernels.proofs.kernels.ternary.Goals as goal

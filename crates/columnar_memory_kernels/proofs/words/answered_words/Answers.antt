@@ -1,5 +1,5 @@
 use Rattle.std.proofs.Common.{◌≡◌, ◌∙◌, ◌+◌, ◌-◌, ◌*◌, ◌/◌, ℕ, min, ap, sym, subst, arith}
-use Rattle.columnar_memory_bits.specs.Bits.{bits_of}
+use Rattle.columnar_memory_bitmap.specs.bits.Bits.{bits_of}
 use Rattle.columnar_memory_kernels.proofs.Wordwise.{IsAnswered, packed_none, none_answered, next_answered, all_answered, last_answered}
 use Rattle.columnar_memory_kernels.proofs.words.answered_words.Goals as goal
 use Rattle.columnar_memory_kernels.proofs.words.answered_words.Goals.{then-rest-gt0+in_ok-append_word-2, else-rest-gt0}

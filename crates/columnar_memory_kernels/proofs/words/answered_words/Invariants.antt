@@ -1,5 +1,5 @@
 use Rattle.std.proofs.Common.{◌*◌, ◌-◌, min}
-use Rattle.columnar_memory_bits.specs.Bits.{bits_of, IsPacked}
+use Rattle.columnar_memory_bitmap.specs.bits.Bits.{bits_of, IsPacked}
 use Rattle.columnar_memory_kernels.proofs.Wordwise.{IsAnswered}
 use Rattle.columnar_memory_kernels.proofs.words.answered_words.Given as goal
 

@@ -1,6 +1,6 @@
 use Rattle.std.proofs.Common.{ap, ◌==◌}
 use Rattle.std.proofs.lemmas.Nat.Bits.{shr_and_one}
-use Rattle.columnar_memory_bits.specs.Bits.{bit}
+use Rattle.columnar_memory_bitmap.specs.bits.Bits.{bit}
 use Rattle.columnar_memory_kernels.proofs.write.word_bit.Goals as goal
 
 pub returns : goal.returns

@@ -1,7 +1,7 @@
 use Rattle.std.proofs.Common.{◌≡◌, ◌+◌, ◌*◌, ◌++◌, ◌∷◌, [], sym, arith, rules}
 use Rattle.std.specs.Prelude.{Some, None}
 use Rattle.std.specs.Int.{w32}
-use Rattle.ipc_format_flatbuffers.specs.FlatBuffers.{signed_at}
+use Rattle.ipc_format_grammar.specs.flatbuffers.FlatBuffers.{signed_at}
 use Rattle.ipc_format_metadata.proofs.Numbers.{numbers-init, numbers-next, numbers-none, numbers-done}
 use Rattle.ipc_format_metadata.proofs.layers.numbers_in.Goals as goal
 

@@ -1,7 +1,7 @@
 use Rattle.std.proofs.Common.{◌≡◌, ◌∙◌, length, ap, rules}
 use Rattle.std.specs.Prelude.{Some, None, Err}
-use Rattle.ipc_format_flatbuffers.specs.Reading.{◌>>=◌}
-use Rattle.ipc_format_flatbuffers.specs.Views.{table_of, vector_of}
+use Rattle.ipc_format_grammar.specs.flatbuffers.Reading.{◌>>=◌}
+use Rattle.ipc_format_grammar.specs.flatbuffers.Views.{table_of, vector_of}
 use Rattle.ipc_format_grammar.specs.Schemas.{field_in, metadata_in, any_schema_in}
 use Rattle.ipc_format_metadata.specs.ReadViews.{fields_view}
 use Rattle.ipc_format_metadata.specs.Steps.{fields_in, order_in, tables_in, FloatAmong, FloatInSchema}

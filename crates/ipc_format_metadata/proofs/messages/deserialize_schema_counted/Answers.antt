@@ -1,6 +1,6 @@
 use Rattle.std.proofs.Common.{◌≡◌, rules}
 use Rattle.std.specs.Prelude.{Some}
-use Rattle.ipc_format_flatbuffers.specs.Views.{table_of}
+use Rattle.ipc_format_grammar.specs.flatbuffers.Views.{table_of}
 use Rattle.ipc_format_grammar.specs.SchemaGrammar.{schema_in}
 use Rattle.ipc_format_metadata.specs.SchemaViews.{schema_view}
 use Rattle.ipc_format_metadata.specs.Steps.{schema_table_in, schema_message_in, FloatInSchema, FloatInMessage}

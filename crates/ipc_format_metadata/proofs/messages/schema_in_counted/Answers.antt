@@ -1,6 +1,6 @@
 use Rattle.std.proofs.Common.{◌≡◌, true, false, rules}
 use Rattle.std.specs.Prelude.{Err}
-use Rattle.ipc_format_flatbuffers.specs.Views.{table_of}
+use Rattle.ipc_format_grammar.specs.flatbuffers.Views.{table_of}
 use Rattle.ipc_format_grammar.specs.Writable.{is_writable}
 use Rattle.ipc_format_metadata.specs.SchemaViews.{schema_view}
 use Rattle.ipc_format_metadata.proofs.SchemaSteps.{schema-refused, schema-written, schema-unwritten}

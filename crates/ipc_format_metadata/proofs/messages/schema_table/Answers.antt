@@ -1,8 +1,8 @@
 use Rattle.std.proofs.Common.{◌≡◌, sym, rules}
 use Rattle.std.specs.Prelude.{Some}
 use Rattle.std.specs.Int.{w8}
-use Rattle.ipc_format_flatbuffers.specs.FlatBuffers.{root_of, number_field, table_field}
-use Rattle.ipc_format_flatbuffers.specs.Views.{table_of}
+use Rattle.ipc_format_grammar.specs.flatbuffers.FlatBuffers.{root_of, number_field, table_field}
+use Rattle.ipc_format_grammar.specs.flatbuffers.Views.{table_of}
 use Rattle.ipc_format_metadata.proofs.SchemaSteps.{no-schema-table}
 use Rattle.ipc_format_metadata.proofs.messages.schema_table.Goals as goal
 

@@ -2,7 +2,7 @@ use Rattle.std.proofs.Common.{◌≡◌, arith, rules}
 use Rattle.std.specs.Prelude.{Some, None}
 use Rattle.std.specs.Option.{option_copied}
 use Rattle.ipc_format_grammar.specs.Schemas.{metadata_in, with_found}
-use Rattle.ipc_format_flatbuffers.specs.Views.{table_of, vector_of}
+use Rattle.ipc_format_grammar.specs.flatbuffers.Views.{table_of, vector_of}
 use Rattle.ipc_format_metadata.specs.Parts.{pair_in}
 use Rattle.ipc_format_metadata.proofs.MetadataPairs.{pairs-none, pairs-next, pairs-done}
 use Rattle.ipc_format_metadata.proofs.pairs.metadata_in.Goals as goal

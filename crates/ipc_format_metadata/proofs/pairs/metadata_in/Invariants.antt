@@ -1,5 +1,5 @@
 use Rattle.ipc_format_grammar.specs.Schemas.{metadata_in}
-use Rattle.ipc_format_flatbuffers.specs.Views.{table_of, vector_of}
+use Rattle.ipc_format_grammar.specs.flatbuffers.Views.{table_of, vector_of}
 use Rattle.ipc_format_metadata.proofs.MetadataPairs.{PairsLeft}
 use Rattle.ipc_format_metadata.proofs.pairs.metadata_in.Given as goal
 

@@ -1,9 +1,9 @@
 use Rattle.std.proofs.Common.{◌≡◌, ◌∙◌, ◌++◌, ◌∷◌, ◌-◌, [], map, ap, arith, rules}
 use Rattle.std.proofs.lemmas.List.{map-append}
 use Rattle.std.specs.Prelude.{Some, None, Err}
-use Rattle.ipc_format_flatbuffers.specs.Reading.{◌>>=◌}
-use Rattle.ipc_format_flatbuffers.specs.FlatBuffers.{element_at}
-use Rattle.ipc_format_flatbuffers.specs.Views.{table_of, vector_of}
+use Rattle.ipc_format_grammar.specs.flatbuffers.Reading.{◌>>=◌}
+use Rattle.ipc_format_grammar.specs.flatbuffers.FlatBuffers.{element_at}
+use Rattle.ipc_format_grammar.specs.flatbuffers.Views.{table_of, vector_of}
 use Rattle.ipc_format_grammar.specs.Schemas.{field_in}
 use Rattle.ipc_format_grammar.specs.Refusals.{IsFloat}
 use Rattle.ipc_format_metadata.specs.Views.{ids_view}

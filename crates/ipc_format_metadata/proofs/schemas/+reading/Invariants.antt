@@ -1,7 +1,7 @@
 use Rattle.std.proofs.Common.{◌≡◌, ◌+◌, ◌*◌, map}
 use Rattle.std.specs.Prelude.{None}
 use Rattle.ipc_format_grammar.specs.Schemas.{field_in}
-use Rattle.ipc_format_flatbuffers.specs.Views.{vector_of}
+use Rattle.ipc_format_grammar.specs.flatbuffers.Views.{vector_of}
 use Rattle.ipc_format_metadata.specs.Views.{ids_view}
 use Rattle.ipc_format_metadata.specs.Steps.{fields_in}
 use Rattle.ipc_format_metadata.proofs.FieldLists.{FieldsLeft}

@@ -1,5 +1,5 @@
 use Rattle.std.proofs.Common.{rules}
-use Rattle.ipc_format_schema_writing.specs.Pieces.{extension_view}
+use Rattle.ipc_format_writing.specs.Pieces.{extension_view}
 use Rattle.ipc_format_values.proofs.PairLists.{field_pairs_done}
 use Rattle.ipc_format_values.proofs.pairs.field_pairs.Goals as goal
 

@@ -1,6 +1,6 @@
 use Rattle.std.proofs.Common.{◌≡◌, ◌++◌, map}
 use Rattle.std.specs.Prelude.{filter}
-use Rattle.ipc_format_schema_writing.specs.Pieces.{is_kept, extension_view}
+use Rattle.ipc_format_writing.specs.Pieces.{is_kept, extension_view}
 use Rattle.ipc_format_values.specs.ValueObjects.{pair_view}
 use Rattle.ipc_format_values.proofs.PairLists.{all_pairs}
 use Rattle.ipc_format_values.proofs.pairs.field_pairs.Given as goal

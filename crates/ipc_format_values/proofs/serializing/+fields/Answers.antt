@@ -1,8 +1,8 @@
 use Rattle.std.proofs.Common.{map, rules}
-use Rattle.ipc_format_grammar.specs.Schemas.{ids}
-use Rattle.ipc_format_grammar.specs.SchemaObjects.{objects_of}
-use Rattle.ipc_format_metadata.specs.Views.{ids_views}
-use Rattle.ipc_format_schema_writing.specs.Pieces.{field_told}
+use Rattle.ipc_format_writing.specs.grammar.Schemas.{ids}
+use Rattle.ipc_format_writing.specs.grammar.SchemaObjects.{objects_of}
+use Rattle.ipc_format_writing.specs.metadata.Views.{ids_views}
+use Rattle.ipc_format_writing.specs.Pieces.{field_told}
 use Rattle.ipc_format_values.proofs.FieldValues.{fields_more}
 use Rattle.ipc_format_values.proofs.serializing.+fields.Goals as goal
 

@@ -1,7 +1,7 @@
 use Rattle.std.proofs.Common.{◌≡◌, map, drop}
-use Rattle.ipc_format_grammar.specs.SchemaObjects.{objects_of}
-use Rattle.ipc_format_metadata.specs.Views.{ids_views}
-use Rattle.ipc_format_schema_writing.specs.Pieces.{field_told}
+use Rattle.ipc_format_writing.specs.grammar.SchemaObjects.{objects_of}
+use Rattle.ipc_format_writing.specs.metadata.Views.{ids_views}
+use Rattle.ipc_format_writing.specs.Pieces.{field_told}
 use Rattle.ipc_format_values.specs.ValueObjects.{field_value, objects_before}
 use Rattle.ipc_format_values.proofs.serializing.+fields.Given as goal
 

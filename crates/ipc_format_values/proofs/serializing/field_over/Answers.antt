@@ -1,5 +1,5 @@
 use Rattle.std.proofs.Common.{refl, rules}
-use Rattle.columnar_memory.specs.declared.Field.{out-Field}
+use Rattle.ipc_format_writing.specs.columnar_memory.declared.Field.{out-Field}
 use Rattle.ipc_format_values.specs.ToldTypes.{told_view}
 use Rattle.ipc_format_values.proofs.FieldValues.{field_made}
 use Rattle.ipc_format_values.proofs.serializing.field_over.Goals as goal

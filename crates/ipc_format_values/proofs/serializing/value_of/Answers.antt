@@ -1,7 +1,7 @@
 use Rattle.std.proofs.Common.{refl, rules}
-use Rattle.ipc_format_metadata.specs.Views.{ids_views}
-use Rattle.ipc_format_schema_writing.proofs.SchemaMessages.{all_allowed}
-use Rattle.ipc_format_messages.specs.declared.Endianness.TheVariants.{Little}
+use Rattle.ipc_format_writing.specs.metadata.Views.{ids_views}
+use Rattle.ipc_format_writing.proofs.SchemaMessages.{all_allowed}
+use Rattle.ipc_format_writing.specs.messages.declared.Endianness.TheVariants.{Little}
 use Rattle.ipc_format_values.proofs.FieldValues.{schema_made}
 use Rattle.ipc_format_values.proofs.serializing.value_of.Goals as goal
 

@@ -1,7 +1,7 @@
 use Rattle.std.proofs.Common.{◌≡◌, [], map, subst, rules}
 use Rattle.std.specs.Prelude.{List, IfOk}
-use Rattle.ipc_format_grammar.specs.Schemas.{no_ids}
-use Rattle.ipc_format_grammar.specs.SchemaObjects as objects
+use Rattle.ipc_format_writing.specs.grammar.Schemas.{no_ids}
+use Rattle.ipc_format_writing.specs.grammar.SchemaObjects as objects
 use Rattle.ipc_format_values.specs.declared.fields.Field.{Field}
 use Rattle.ipc_format_values.specs.ToldTypes.{told_view, told_over}
 use Rattle.ipc_format_values.specs.ValueObjects.{field_value, objects_list}

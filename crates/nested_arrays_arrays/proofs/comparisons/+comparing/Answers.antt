@@ -1,8 +1,8 @@
 use Rattle.std.proofs.Common.{rules, ◌≡◌, ◌∙◌, ◌∷◌, ◌+◌, ap, arith, subst, sym, List}
 use Rattle.std.proofs.lemmas.Bool.{eqb-true, false≢true}
-use Rattle.nested_arrays_columns.proofs.ColumnSizes.{sizes_count}
-use Rattle.nested_arrays_columns.specs.Slots.{pick}
-use Rattle.nested_arrays_columns.specs.StoredColumns.{Column, column_size, columns_size, in_columns, slot_at}
+use Rattle.nested_arrays_parts.proofs.columns_lemmas.ColumnSizes.{sizes_count}
+use Rattle.nested_arrays_parts.specs.columns.Slots.{pick}
+use Rattle.nested_arrays_parts.specs.columns.StoredColumns.{Column, column_size, columns_size, in_columns, slot_at}
 use Rattle.nested_arrays_arrays.proofs.SameSlots.{fields_of_lists, items_count, items_same, no_columns_nodes, node_some, nodes_some, nodes_up_to}
 use Rattle.nested_arrays_arrays.proofs.ListRuns.{run_compared, run_part, run_within}
 use Rattle.nested_arrays_arrays.proofs.SameSlots.{one_more, pick_parts, record_nodes, records_same}

@@ -1,5 +1,5 @@
 use Rattle.std.proofs.Common.{◌+◌, ◌*◌, ◌-◌, ◌≤◌}
-use Rattle.nested_arrays_columns.specs.StoredColumns.{column_size, columns_size, in_columns}
+use Rattle.nested_arrays_parts.specs.columns.StoredColumns.{column_size, columns_size, in_columns}
 use Rattle.nested_arrays_arrays.proofs.SameSlots.{Compared}
 use Rattle.nested_arrays_arrays.proofs.comparisons.+comparing.Given as goal
 

@@ -1,5 +1,5 @@
 use Rattle.std.proofs.Common.{rules, ap, arith}
-use Rattle.nested_arrays_columns.specs.StoredColumns.{column_size}
+use Rattle.nested_arrays_parts.specs.columns.StoredColumns.{column_size}
 use Rattle.nested_arrays_arrays.proofs.CutNodes.{one_size}
 use Rattle.nested_arrays_arrays.proofs.copies.+copying.Goals as goal
 

@@ -1,5 +1,5 @@
 use Rattle.std.proofs.Common.{◌≡◌, ◌+◌, ◌*◌, take}
-use Rattle.nested_arrays_columns.specs.StoredColumns.{column_size, columns_size, in_columns}
+use Rattle.nested_arrays_parts.specs.columns.StoredColumns.{column_size, columns_size, in_columns}
 use Rattle.nested_arrays_arrays.proofs.copies.+copying.Given as goal
 
 abbrev pub decreases-copy_of_array : goal.decreases-copy_of_array

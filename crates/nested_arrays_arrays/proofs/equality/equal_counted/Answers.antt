@@ -1,7 +1,7 @@
 use Rattle.std.proofs.Common.{◌≡◌, ◌∙◌, ap, arith, sym}
 use Rattle.std.proofs.lemmas.Bool.{false≢true}
 use Rattle.nested_arrays_arrays.proofs.SameSlots.{all_nodes, slots_count, slots_same}
-use Rattle.nested_arrays_columns.specs.StoredColumns.{column_len}
+use Rattle.nested_arrays_parts.specs.columns.StoredColumns.{column_len}
 use Rattle.nested_arrays_parts.specs.Ranges.{range_nodes}
 use Rattle.nested_arrays_arrays.proofs.equality.equal_counted.Goals as goal
 

@@ -1,5 +1,5 @@
 use Rattle.std.proofs.Common.{◌∙◌, ◌<◌, length, sym, arith}
-use Rattle.nested_arrays_columns.specs.SoundColumns.{has_value_at}
+use Rattle.nested_arrays_parts.specs.columns.SoundColumns.{has_value_at}
 use Rattle.nested_arrays_arrays.specs.NamedValues.{firsts}
 use Rattle.nested_arrays_arrays.proofs.KeyMasks.{firsts_count}
 use Rattle.nested_arrays_arrays.proofs.UnionParts.{fails_below}

@@ -1,5 +1,5 @@
 use Rattle.std.proofs.Common.{◌≡◌, true}
-use Rattle.nested_arrays_columns.specs.SoundColumns.{has_value_at, holds_below}
+use Rattle.nested_arrays_parts.specs.columns.SoundColumns.{has_value_at, holds_below}
 use Rattle.nested_arrays_arrays.specs.NamedValues.{firsts}
 use Rattle.nested_arrays_arrays.proofs.key_masks.are_named.Given as goal
 

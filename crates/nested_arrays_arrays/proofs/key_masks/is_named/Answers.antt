@@ -1,6 +1,6 @@
 use Rattle.std.proofs.Common.{◌≡◌, ◌∙◌, ap, sym, rules, true}
 use Rattle.std.specs.Prelude.{not, ◌||◌, pos, slice_index_or}
-use Rattle.nested_arrays_columns.specs.StoredColumns.{is_valid_at}
+use Rattle.nested_arrays_parts.specs.columns.StoredColumns.{is_valid_at}
 use Rattle.nested_arrays_arrays.specs.NamedValues.{firsts, names_value}
 use Rattle.nested_arrays_arrays.proofs.KeyMasks.{key_there}
 use Rattle.nested_arrays_arrays.proofs.key_masks.is_named.Goals as goal

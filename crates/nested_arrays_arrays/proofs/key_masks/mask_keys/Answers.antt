@@ -1,7 +1,7 @@
 use Rattle.std.proofs.Common.{◌≡◌, ◌∙◌, ap, sym, refl, length}
 use Rattle.std.proofs.lemmas.Bool.{false≢true}
-use Rattle.columnar_memory.specs.Layouts.{physical_type}
-use Rattle.nested_arrays_columns.specs.SoundColumns.{mask_fits}
+use Rattle.nested_arrays_parts.specs.columnar_memory.Layouts.{physical_type}
+use Rattle.nested_arrays_parts.specs.columns.SoundColumns.{mask_fits}
 use Rattle.nested_arrays_parts.proofs.KeyCuts.{keys_count}
 use Rattle.nested_arrays_parts.specs.Keys.{numbers_in}
 use Rattle.nested_arrays_arrays.proofs.KeyMasks.{keyed_replaced}

@@ -1,9 +1,9 @@
 use Rattle.std.proofs.Common.{rules, ◌≡◌, ◌∙◌, ◌+◌, ap, arith, length, sym}
 use Rattle.nested_arrays_arrays.proofs.KeyPlaces.{key_within}
 use Rattle.nested_arrays_arrays.specs.AnyColumns.{column_of}
-use Rattle.nested_arrays_columns.specs.SoundColumns.{is_sound}
-use Rattle.nested_arrays_columns.specs.StoredColumns.{column_len, column_size, is_valid_at}
-use Rattle.nested_arrays_flat.specs.ColumnMasks.{column_mask}
+use Rattle.nested_arrays_parts.specs.columns.SoundColumns.{is_sound}
+use Rattle.nested_arrays_parts.specs.columns.StoredColumns.{column_len, column_size, is_valid_at}
+use Rattle.nested_arrays_parts.specs.flat.ColumnMasks.{column_mask}
 use Rattle.nested_arrays_parts.specs.Keys.{keyed, numbers_in}
 use Rattle.nested_arrays_arrays.proofs.keys.+value_of.Goals as goal
 

@@ -1,4 +1,4 @@
-use Rattle.nested_arrays_columns.specs.StoredColumns.{column_size}
+use Rattle.nested_arrays_parts.specs.columns.StoredColumns.{column_size}
 use Rattle.nested_arrays_arrays.proofs.keys.+value_of.Given as goal
 
 abbrev pub decreases-value_of : goal.decreases-value_of

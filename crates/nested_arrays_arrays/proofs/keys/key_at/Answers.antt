@@ -1,7 +1,7 @@
 use Rattle.std.proofs.Common.{◌∙◌, ap, sym, pos, List}
 use Rattle.std.specs.Prelude.{ℤ, slice_index_or}
-use Rattle.nested_arrays_columns.specs.StoredColumns.{place_of}
-use Rattle.nested_arrays_flat.specs.Primitives.{column_of}
+use Rattle.nested_arrays_parts.specs.columns.StoredColumns.{place_of}
+use Rattle.nested_arrays_parts.specs.flat.Primitives.{column_of}
 use Rattle.nested_arrays_parts.specs.Keys.{numbers_in}
 use Rattle.nested_arrays_arrays.specs.declared.any.DictionaryNode.{DictionaryNode}
 use Rattle.nested_arrays_arrays.proofs.keys.key_at.Goals as goal

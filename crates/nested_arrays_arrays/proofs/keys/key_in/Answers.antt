@@ -1,7 +1,7 @@
 use Rattle.std.proofs.Common.{◌∙◌, ap, refl, sym}
-use Rattle.columnar_memory.specs.Numbers.{first_number}
+use Rattle.nested_arrays_parts.specs.columnar_memory.Numbers.{first_number}
 use Rattle.nested_arrays_arrays.proofs.KeyPlaces.{key_found}
-use Rattle.nested_arrays_columns.specs.StoredColumns.{place_of}
+use Rattle.nested_arrays_parts.specs.columns.StoredColumns.{place_of}
 use Rattle.nested_arrays_arrays.proofs.keys.key_in.Goals as goal
 
 pub returns : goal.returns

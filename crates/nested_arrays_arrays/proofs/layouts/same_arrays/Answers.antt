@@ -1,9 +1,9 @@
 use Rattle.std.proofs.Common.{◌≡◌, ◌∙◌, refl, sym, rules}
 use Rattle.std.proofs.lemmas.Bool.Decides.{same_from_decides}
-use Rattle.columnar_memory.specs.Equality.{same_type, same_type-Decides}
-use Rattle.nested_arrays_columns.specs.StoredColumns.{column_type}
-use Rattle.nested_arrays_flat.proofs.SamePlaces.{equal_then}
-use Rattle.nested_arrays_flat.specs.SameArrays.{same_column, same_column-Decides}
+use Rattle.nested_arrays_parts.specs.columnar_memory.Equality.{same_type, same_type-Decides}
+use Rattle.nested_arrays_parts.specs.columns.StoredColumns.{column_type}
+use Rattle.nested_arrays_parts.proofs.flat_lemmas.SamePlaces.{equal_then}
+use Rattle.nested_arrays_parts.specs.flat.SameArrays.{same_column, same_column-Decides}
 use Rattle.nested_arrays_arrays.proofs.layouts.same_arrays.Goals as goal
 
 pub returns-then-eq-clause-exact : goal.returns-then-eq-clause-exact

@@ -1,6 +1,6 @@
 use Rattle.std.proofs.Common.{◌∙◌, arith, refl, sym}
 use Rattle.std.proofs.lemmas.Bool.{false≢true}
-use Rattle.nested_arrays_flat.proofs.SamePlaces.{slots_by_place, slots_count}
+use Rattle.nested_arrays_parts.proofs.flat_lemmas.SamePlaces.{slots_by_place, slots_count}
 use Rattle.nested_arrays_arrays.proofs.layouts.same_places.Goals as goal
 
 pub returns-then-slots-count : goal.returns-then-slots-count

@@ -1,5 +1,5 @@
 use Rattle.std.proofs.Common.{◌≡◌, ◌<◌, ℕ}
-use Rattle.nested_arrays_columns.specs.StoredColumns.{slot_at}
+use Rattle.nested_arrays_parts.specs.columns.StoredColumns.{slot_at}
 use Rattle.nested_arrays_arrays.proofs.layouts.same_places.Given as goal
 
 -- the slots before are the same

@@ -1,5 +1,5 @@
 use Rattle.std.proofs.Common.{arith, option_copied}
-use Rattle.nested_arrays_flat.proofs.ColumnParts.{mark_of_slot}
+use Rattle.nested_arrays_parts.proofs.flat_lemmas.ColumnParts.{mark_of_slot}
 use Rattle.nested_arrays_parts.proofs.OffsetLists.{spans_count}
 use Rattle.nested_arrays_parts.specs.Widths.{spans_in}
 use Rattle.nested_arrays_arrays.specs.AnyColumns.{column_of}

@@ -1,5 +1,5 @@
 use Rattle.std.proofs.Common.{ap, arith}
-use Rattle.nested_arrays_columns.specs.StoredColumns.{column_len}
+use Rattle.nested_arrays_parts.specs.columns.StoredColumns.{column_len}
 use Rattle.nested_arrays_parts.proofs.OffsetLists.{spans_count}
 use Rattle.nested_arrays_parts.specs.Widths.{spans_in}
 use Rattle.nested_arrays_arrays.proofs.list_runs.list_run.Goals as goal

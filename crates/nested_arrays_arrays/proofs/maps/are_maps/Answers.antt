@@ -1,7 +1,7 @@
 use Rattle.std.proofs.Common.{◌∙◌, ap, sym, arith, ◌≤◌, ◌-◌, ◌^◌}
-use Rattle.columnar_memory.specs.Spans.{last_of}
-use Rattle.nested_arrays_columns.specs.SoundColumns.{mask_fits}
-use Rattle.nested_arrays_columns.specs.StoredColumns.{column_len, type_layer}
+use Rattle.nested_arrays_parts.specs.columnar_memory.Spans.{last_of}
+use Rattle.nested_arrays_parts.specs.columns.SoundColumns.{mask_fits}
+use Rattle.nested_arrays_parts.specs.columns.StoredColumns.{column_len, type_layer}
 use Rattle.nested_arrays_arrays.specs.Entries.{has_entry_type}
 use Rattle.nested_arrays_arrays.proofs.ListParts.{map_whole, map_parts}
 use Rattle.nested_arrays_arrays.proofs.maps.are_maps.Goals as goal

@@ -1,5 +1,5 @@
 use Rattle.std.proofs.Common.{◌∙◌, arith, sym}
-use Rattle.columnar_memory.specs.Layouts.{physical_type}
+use Rattle.nested_arrays_parts.specs.columnar_memory.Layouts.{physical_type}
 use Rattle.nested_arrays_arrays.proofs.KeyPlaces.{key_within, keys_count}
 use Rattle.nested_arrays_arrays.proofs.NamedRuns.{key_slot, no_key}
 use Rattle.nested_arrays_arrays.proofs.named_runs.named.Goals as goal

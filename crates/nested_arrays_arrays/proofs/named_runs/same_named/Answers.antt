@@ -1,6 +1,6 @@
 use Rattle.std.proofs.Common.{◌≡◌, ◌∙◌, ◌+◌, ℕ, arith, replicate, sym}
 use Rattle.std.proofs.lemmas.Bool.{false≢true}
-use Rattle.nested_arrays_columns.specs.StoredColumns.{slot_at}
+use Rattle.nested_arrays_parts.specs.columns.StoredColumns.{slot_at}
 use Rattle.nested_arrays_arrays.proofs.NamedRuns.{named_same, no_pairs}
 use Rattle.nested_arrays_arrays.proofs.SameSlots.{below_next}
 use Rattle.nested_arrays_arrays.specs.AnyColumns.{column_of}

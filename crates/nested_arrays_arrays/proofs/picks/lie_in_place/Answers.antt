@@ -1,7 +1,7 @@
 use Rattle.std.proofs.Common.{◌∙◌, ap, sym}
 use Rattle.std.specs.Prelude.{slice_index}
-use Rattle.nested_arrays_columns.specs.SoundColumns.{column_lens}
-use Rattle.nested_arrays_columns.specs.StoredColumns.{in_columns}
+use Rattle.nested_arrays_parts.specs.columns.SoundColumns.{column_lens}
+use Rattle.nested_arrays_parts.specs.columns.StoredColumns.{in_columns}
 use Rattle.nested_arrays_arrays.proofs.picks.lie_in_place.Goals as goal
 
 pub rooms_hold_places-requires : goal.rooms_hold_places-requires

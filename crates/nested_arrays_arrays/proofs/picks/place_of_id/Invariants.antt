@@ -1,5 +1,5 @@
 use Rattle.std.proofs.Common.{◌≡◌, ◌+◌, drop}
-use Rattle.nested_arrays_columns.specs.StoredColumns.{place_of_id}
+use Rattle.nested_arrays_parts.specs.columns.StoredColumns.{place_of_id}
 use Rattle.nested_arrays_arrays.proofs.picks.place_of_id.Given as goal
 
 abbrev pub invariant-loop-place : goal.invariant-loop-place

@@ -2,8 +2,8 @@ use Rattle.std.proofs.Common.{◌≡◌, ◌∙◌, ◌<◌, ◌+◌, ◌-◌, �
 use Rattle.std.specs.Prelude.{FitsSigned, slice_index_or}
 use Rattle.std.specs.Int.{cast_unsigned, w8}
 use Rattle.std.proofs.lemmas.List.{length-set}
-use Rattle.nested_arrays_columns.specs.SoundColumns.{column_lens}
-use Rattle.nested_arrays_columns.specs.StoredColumns.{in_columns}
+use Rattle.nested_arrays_parts.specs.columns.SoundColumns.{column_lens}
+use Rattle.nested_arrays_parts.specs.columns.StoredColumns.{in_columns}
 use Rattle.nested_arrays_arrays.proofs.RoomTables.{HoldsFrom, all_ids, no_ids, with_id, without_id}
 use Rattle.nested_arrays_arrays.proofs.picks.rooms_by_id.Goals as goal
 

@@ -1,6 +1,6 @@
 use Rattle.std.proofs.Common.{◌≡◌, length}
-use Rattle.nested_arrays_columns.specs.SoundColumns.{column_lens}
-use Rattle.nested_arrays_columns.specs.StoredColumns.{in_columns}
+use Rattle.nested_arrays_parts.specs.columns.SoundColumns.{column_lens}
+use Rattle.nested_arrays_parts.specs.columns.StoredColumns.{in_columns}
 use Rattle.nested_arrays_arrays.proofs.RoomTables.{HoldsFrom}
 use Rattle.nested_arrays_arrays.proofs.picks.rooms_by_id.Given as goal
 

@@ -1,7 +1,7 @@
 use Rattle.std.proofs.Common.{◌≡◌, ◌<◌, length, rules, arith}
 use Rattle.std.specs.Prelude.{pos, slice_index, slice_index_or}
-use Rattle.nested_arrays_columns.specs.SoundColumns.{column_lens}
-use Rattle.nested_arrays_columns.specs.StoredColumns.{child_number, in_columns, type_layer}
+use Rattle.nested_arrays_parts.specs.columns.SoundColumns.{column_lens}
+use Rattle.nested_arrays_parts.specs.columns.StoredColumns.{child_number, in_columns, type_layer}
 use Rattle.nested_arrays_arrays.proofs.UnionParts.{dense_more, dense_past}
 use Rattle.nested_arrays_arrays.proofs.picks.rooms_hold_offsets.Goals as goal
 

@@ -1,7 +1,7 @@
 use Rattle.std.proofs.Common.{◌≡◌, true}
 use Rattle.std.specs.Prelude.{None}
-use Rattle.nested_arrays_columns.specs.SoundColumns.{has_child_at, holds_below}
-use Rattle.nested_arrays_columns.specs.StoredColumns.{in_columns, type_layer}
+use Rattle.nested_arrays_parts.specs.columns.SoundColumns.{has_child_at, holds_below}
+use Rattle.nested_arrays_parts.specs.columns.StoredColumns.{in_columns, type_layer}
 use Rattle.nested_arrays_arrays.proofs.picks.rooms_hold_places.Given as goal
 
 abbrev pub invariant-loop-i : goal.invariant-loop-i

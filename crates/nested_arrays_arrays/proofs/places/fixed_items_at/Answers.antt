@@ -1,7 +1,7 @@
 use Rattle.std.proofs.Common.{◌∙◌, ap, option_copied, sym}
-use Rattle.nested_arrays_columns.specs.StoredColumns.{is_valid_at}
+use Rattle.nested_arrays_parts.specs.columns.StoredColumns.{is_valid_at}
 use Rattle.nested_arrays_parts.proofs.SameForms.{null_slot}
-use Rattle.nested_arrays_flat.proofs.ColumnParts.{mark_of_slot}
+use Rattle.nested_arrays_parts.proofs.flat_lemmas.ColumnParts.{mark_of_slot}
 use Rattle.nested_arrays_arrays.proofs.places.fixed_items_at.Goals as goal
 
 pub mark_at-requires : goal.mark_at-requires

@@ -1,5 +1,5 @@
 use Rattle.std.proofs.Common.{option_copied}
-use Rattle.nested_arrays_flat.proofs.ColumnParts.{mark_of_slot}
+use Rattle.nested_arrays_parts.proofs.flat_lemmas.ColumnParts.{mark_of_slot}
 use Rattle.nested_arrays_arrays.proofs.places.is_set.Goals as goal
 
 pub mark_at-requires : goal.mark_at-requires

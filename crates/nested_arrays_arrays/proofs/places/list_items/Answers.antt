@@ -1,10 +1,10 @@
 use Rattle.std.proofs.Common.{arith, subst, sym, ◌-◌}
 use Rattle.nested_arrays_arrays.proofs.SlotPlaces.{list_there}
 use Rattle.nested_arrays_arrays.specs.Places.{AreItems}
-use Rattle.nested_arrays_columns.specs.StoredColumns.{Column, lists}
+use Rattle.nested_arrays_parts.specs.columns.StoredColumns.{Column, lists}
 use Rattle.nested_arrays_parts.proofs.OffsetLists.{spans_count}
 use Rattle.nested_arrays_parts.specs.Widths.{spans_in}
-use Rattle.columnar_memory.specs.Spans.{offsets_of}
+use Rattle.nested_arrays_parts.specs.columnar_memory.Spans.{offsets_of}
 use Rattle.nested_arrays_arrays.proofs.places.list_items.Goals as goal
 
 pub bounds-start-requires : goal.bounds-start-requires

@@ -1,7 +1,7 @@
 use Rattle.std.proofs.Common.{◌∙◌, ap, arith, sym}
 use Rattle.nested_arrays_arrays.proofs.SlotPlaces.{map_items}
-use Rattle.nested_arrays_columns.specs.StoredColumns.{column_len, column_type, lists}
-use Rattle.nested_arrays_flat.specs.ColumnMasks.{column_mask}
+use Rattle.nested_arrays_parts.specs.columns.StoredColumns.{column_len, column_type, lists}
+use Rattle.nested_arrays_parts.specs.flat.ColumnMasks.{column_mask}
 use Rattle.nested_arrays_parts.proofs.OffsetLists.{spans_count}
 use Rattle.nested_arrays_arrays.proofs.places.map_items.Goals as goal
 

@@ -1,5 +1,5 @@
 use Rattle.std.proofs.Common.{◌∙◌, ◌+◌, ap, option_copied, sym}
-use Rattle.nested_arrays_columns.specs.StoredColumns.{is_valid_at}
+use Rattle.nested_arrays_parts.specs.columns.StoredColumns.{is_valid_at}
 use Rattle.nested_arrays_parts.proofs.Marks.{marks_of_range}
 use Rattle.nested_arrays_arrays.proofs.SlotPlaces.{struct_range}
 use Rattle.nested_arrays_arrays.proofs.places.struct_range.Goals as goal

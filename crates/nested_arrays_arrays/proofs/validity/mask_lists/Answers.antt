@@ -1,5 +1,5 @@
 use Rattle.std.proofs.Common.{◌∙◌, ap, sym, refl}
-use Rattle.nested_arrays_columns.specs.SoundColumns.{mask_fits}
+use Rattle.nested_arrays_parts.specs.columns.SoundColumns.{mask_fits}
 use Rattle.nested_arrays_parts.specs.Widths.{spans_in}
 use Rattle.nested_arrays_arrays.proofs.ArrayParts.{lists_take}
 use Rattle.nested_arrays_arrays.proofs.validity.mask_lists.Goals as goal

@@ -1,7 +1,7 @@
 use Rattle.std.proofs.Common.{◌∙◌, ap, sym, length, map}
 use Rattle.std.proofs.lemmas.Bool.{false≢true}
-use Rattle.nested_arrays_columns.specs.SoundColumns.{has_value_at, holds_below, mask_fits}
-use Rattle.nested_arrays_columns.specs.StoredColumns.{type_layer}
+use Rattle.nested_arrays_access.specs.columns.SoundColumns.{has_value_at, holds_below, mask_fits}
+use Rattle.nested_arrays_access.specs.columns.StoredColumns.{type_layer}
 use Rattle.nested_arrays_generic.specs.Dictionaries.{is_value_type}
 use Rattle.nested_arrays_generic.proofs.DictionaryParts.{dictionary_parts, dictionary_whole, keys_in_range, keys_masked}
 use Rattle.nested_arrays_generic.proofs.dictionaries.are_parts.Goals as goal

@@ -1,9 +1,9 @@
 use Rattle.std.proofs.Common.{◌≡◌, ◌∙◌, ◌-◌, ap, arith, subst, sym, true}
-use Rattle.nested_arrays_arrays.proofs.SlotPlaces.{map_items}
-use Rattle.nested_arrays_arrays.specs.Places.{AreItems}
-use Rattle.nested_arrays_columns.specs.StoredColumns.{Column, column_len, is_valid_at}
-use Rattle.nested_arrays_flat.specs.ColumnMasks.{column_mask}
-use Rattle.nested_arrays_parts.proofs.OffsetLists.{spans_count}
+use Rattle.nested_arrays_access.proofs.arrays_lemmas.SlotPlaces.{map_items}
+use Rattle.nested_arrays_access.specs.arrays.Places.{AreItems}
+use Rattle.nested_arrays_access.specs.columns.StoredColumns.{Column, column_len, is_valid_at}
+use Rattle.nested_arrays_access.specs.flat.ColumnMasks.{column_mask}
+use Rattle.nested_arrays_access.proofs.parts_lemmas.OffsetLists.{spans_count}
 use Rattle.nested_arrays_generic.proofs.NamedSlots.{set_from}
 use Rattle.nested_arrays_generic.proofs.equality.items_at.Goals as goal
 

@@ -1,5 +1,5 @@
 use Rattle.std.proofs.Common.{◌∙◌, ◌<◌, ap, subst, sym}
-use Rattle.nested_arrays_columns.specs.StoredColumns.{Column, column_len, slot_at}
+use Rattle.nested_arrays_access.specs.columns.StoredColumns.{Column, column_len, slot_at}
 use Rattle.nested_arrays_generic.proofs.NamedSlots.{named_by, nothing_named}
 use Rattle.nested_arrays_generic.proofs.equality.named_at.Goals as goal
 

@@ -1,5 +1,5 @@
 use Rattle.std.proofs.Common.{◌∙◌, arith, length, map, option_copied, sym}
-use Rattle.nested_arrays_columns.specs.SoundColumns.{has_value_at}
+use Rattle.nested_arrays_access.specs.columns.SoundColumns.{has_value_at}
 use Rattle.nested_arrays_generic.proofs.DictionaryParts.{checked_hold, fails_below}
 use Rattle.nested_arrays_generic.proofs.keys.name_values.Goals as goal
 

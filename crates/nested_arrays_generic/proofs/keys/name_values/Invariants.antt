@@ -1,5 +1,5 @@
 use Rattle.std.proofs.Common.{◌≡◌, map, option_copied, true}
-use Rattle.nested_arrays_columns.specs.SoundColumns.{has_value_at, holds_below}
+use Rattle.nested_arrays_access.specs.columns.SoundColumns.{has_value_at, holds_below}
 use Rattle.nested_arrays_generic.proofs.keys.name_values.Given as goal
 
 abbrev pub invariant-loop-i : goal.invariant-loop-i

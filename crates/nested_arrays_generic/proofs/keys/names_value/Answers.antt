@@ -1,5 +1,5 @@
 use Rattle.std.proofs.Common.{length, option_copied}
-use Rattle.nested_arrays_flat.proofs.CutMasks.{mark_within}
+use Rattle.nested_arrays_access.proofs.flat_lemmas.CutMasks.{mark_within}
 use Rattle.nested_arrays_generic.proofs.keys.names_value.Goals as goal
 
 pub mark_at-requires : goal.mark_at-requires

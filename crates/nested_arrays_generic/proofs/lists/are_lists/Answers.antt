@@ -1,8 +1,8 @@
 use Rattle.std.proofs.Common.{◌∙◌, ap, sym, arith, ◌≤◌}
 use Rattle.std.proofs.lemmas.Bool.{false≢true}
-use Rattle.columnar_memory.specs.Spans.{last_of}
-use Rattle.nested_arrays_columns.specs.SoundColumns.{mask_fits}
-use Rattle.nested_arrays_columns.specs.StoredColumns.{column_len, type_layer}
+use Rattle.nested_arrays_access.specs.columnar_memory.Spans.{last_of}
+use Rattle.nested_arrays_access.specs.columns.SoundColumns.{mask_fits}
+use Rattle.nested_arrays_access.specs.columns.StoredColumns.{column_len, type_layer}
 use Rattle.nested_arrays_generic.specs.ListTypes.{has_list_item_type}
 use Rattle.nested_arrays_generic.proofs.ListParts.{list_whole, list_parts}
 use Rattle.nested_arrays_generic.proofs.lists.are_lists.Goals as goal

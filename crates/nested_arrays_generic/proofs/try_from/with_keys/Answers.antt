@@ -1,7 +1,7 @@
 use Rattle.std.proofs.Common.{ap, sym}
-use Rattle.columnar_memory.specs.Layouts.{physical_type}
-use Rattle.nested_arrays_columns.specs.StoredColumns.{Column}
-use Rattle.nested_arrays_parts.specs.Keys.{keyed}
+use Rattle.nested_arrays_access.specs.columnar_memory.Layouts.{physical_type}
+use Rattle.nested_arrays_access.specs.columns.StoredColumns.{Column}
+use Rattle.nested_arrays_access.specs.parts.Keys.{keyed}
 use Rattle.nested_arrays_generic.proofs.DictionaryParts.{keyed_is}
 use Rattle.nested_arrays_generic.proofs.TakenKeys.{keys_not, keys_so, taken_whole}
 use Rattle.nested_arrays_generic.proofs.try_from.with_keys.Goals as goal

@@ -1,5 +1,5 @@
 use Rattle.std.proofs.Common.{◌∙◌}
-use Rattle.columnar_memory.specs.declared.PhysicalType.TheVariants as physical
+use Rattle.nested_arrays_iterators.specs.columnar_memory.declared.PhysicalType.TheVariants as physical
 use Rattle.nested_arrays_nulls.specs.NullColumns.{flat_nulls}
 use Rattle.nested_arrays_nulls.proofs.FlatNulls.{no_strings_stored}
 use Rattle.nested_arrays_nulls.proofs.Made.{as_made}

@@ -1,8 +1,8 @@
 use Rattle.std.proofs.Common.{◌≡◌, ◌∙◌, ap, rules, replicate}
 use Rattle.std.specs.Prelude.{pos}
-use Rattle.columnar_memory.specs.declared.PhysicalType.TheVariants as physical
-use Rattle.nested_arrays_columns.specs.StoredColumns.{Column, dictionary}
-use Rattle.nested_arrays_generic.specs.Dictionaries.{keyed_by}
+use Rattle.nested_arrays_iterators.specs.columnar_memory.declared.PhysicalType.TheVariants as physical
+use Rattle.nested_arrays_iterators.specs.columns.StoredColumns.{Column, dictionary}
+use Rattle.nested_arrays_iterators.specs.generic.Dictionaries.{keyed_by}
 use Rattle.nested_arrays_nulls.specs.NullColumns.{no_marks}
 use Rattle.nested_arrays_nulls.proofs.KeyedNulls.{zeros_keyed}
 use Rattle.nested_arrays_nulls.proofs.LayoutNulls.{checked_made_as}

@@ -1,8 +1,8 @@
 use Rattle.std.proofs.Common.{◌≡◌, rules, replicate, Some}
 use Rattle.std.specs.Prelude.{false}
-use Rattle.columnar_memory.specs.Spans.{offsets_of}
-use Rattle.nested_arrays_columns.specs.StoredColumns.{lists}
-use Rattle.nested_arrays_generic.specs.ListTypes.{list_layout}
+use Rattle.nested_arrays_iterators.specs.columnar_memory.Spans.{offsets_of}
+use Rattle.nested_arrays_iterators.specs.columns.StoredColumns.{lists}
+use Rattle.nested_arrays_iterators.specs.generic.ListTypes.{list_layout}
 use Rattle.nested_arrays_nulls.specs.NullColumns.{no_items, no_marks}
 use Rattle.nested_arrays_nulls.proofs.LayoutNulls.{checked_made_as, lists_stored}
 use Rattle.nested_arrays_nulls.proofs.generic_layouts.lists.Goals as goal

@@ -1,7 +1,7 @@
 use Rattle.std.proofs.Common.{◌∙◌, ap, sym, arith, replicate}
 use Rattle.std.specs.Prelude.{pos}
-use Rattle.nested_arrays_columns.specs.SoundColumns.{is_sound}
-use Rattle.nested_arrays_columns.specs.StoredColumns.{in_columns, unions}
+use Rattle.nested_arrays_iterators.specs.columns.SoundColumns.{is_sound}
+use Rattle.nested_arrays_iterators.specs.columns.StoredColumns.{in_columns, unions}
 use Rattle.nested_arrays_nulls.proofs.UnionPlaces.{few_slots}
 use Rattle.nested_arrays_nulls.specs.NullColumns.{null_places}
 use Rattle.nested_arrays_nulls.proofs.layouts.unions.Goals as goal

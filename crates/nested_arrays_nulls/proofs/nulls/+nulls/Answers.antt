@@ -1,6 +1,6 @@
 use Rattle.std.proofs.Common.{◌≡◌, ◌∙◌, sym, refl, rules, subst, get_or, arith, All}
 use Rattle.std.specs.Prelude.{min}
-use Rattle.nested_arrays_columns.specs.StoredColumns.{Column, column_len}
+use Rattle.nested_arrays_iterators.specs.columns.StoredColumns.{Column, column_len}
 use Rattle.nested_arrays_nulls.proofs.Arms as arm
 use Rattle.nested_arrays_nulls.proofs.Arms.{AreUnmade, IsUnmade}
 use Rattle.nested_arrays_nulls.proofs.Made.{field_refused}

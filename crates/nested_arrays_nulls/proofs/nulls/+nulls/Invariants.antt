@@ -1,6 +1,6 @@
 use Rattle.std.proofs.Common.{◌≡◌, take, true}
-use Rattle.nested_arrays_columns.specs.SoundColumns.{are_sound}
-use Rattle.nested_arrays_columns.specs.StoredColumns.{in_columns}
+use Rattle.nested_arrays_iterators.specs.columns.SoundColumns.{are_sound}
+use Rattle.nested_arrays_iterators.specs.columns.StoredColumns.{in_columns}
 use Rattle.nested_arrays_nulls.specs.NullColumns.{null_columns}
 use Rattle.nested_arrays_nulls.proofs.nulls.+nulls.Given as goal
 

@@ -1,6 +1,6 @@
 use Rattle.std.proofs.Common.{◌≡◌, ◌∙◌, ◌+◌, ◌≤◌, Some, ap, length, option_copied, rules, sym}
 use Rattle.std.proofs.lemmas.Bool.{eq-eqb, eqb-true}
-use Rattle.nested_arrays_columns.specs.StoredColumns.{is_valid_at}
+use Rattle.nested_arrays_flat.specs.columns.StoredColumns.{is_valid_at}
 use Rattle.nested_arrays_parts.proofs.Marks.{marks_set}
 use Rattle.nested_arrays_parts.proofs.ranges.has_no_nulls.Goals as goal
 

@@ -1,5 +1,5 @@
 use Rattle.std.proofs.Common.{◌∙◌, ◌+◌, ap, refl, sym, option_copied}
-use Rattle.nested_arrays_columns.specs.StoredColumns.{is_valid_at}
+use Rattle.nested_arrays_flat.specs.columns.StoredColumns.{is_valid_at}
 use Rattle.nested_arrays_parts.proofs.Marks.{marks_of_range}
 use Rattle.nested_arrays_parts.proofs.SameForms.{marked_ranges}
 use Rattle.nested_arrays_parts.proofs.ranges.same_block.Goals as goal

@@ -1,6 +1,6 @@
 use Rattle.std.proofs.Common.{◌∙◌, ◌+◌, ap, arith, sym, option_copied}
 use Rattle.std.proofs.lemmas.Bool.{false≢true}
-use Rattle.nested_arrays_columns.specs.StoredColumns.{is_valid_at}
+use Rattle.nested_arrays_flat.specs.columns.StoredColumns.{is_valid_at}
 use Rattle.nested_arrays_parts.proofs.Marks.{marks_of_range}
 use Rattle.nested_arrays_parts.proofs.SameForms.{bare_ranges, behind_in, joined, rest_of}
 use Rattle.nested_arrays_parts.proofs.ranges.same_slots.Goals as goal

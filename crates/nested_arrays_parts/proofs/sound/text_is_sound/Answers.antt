@@ -1,7 +1,7 @@
 use Rattle.std.proofs.Common.{rules, ◌≡◌, ◌≤◌, true}
 use Rattle.std.specs.List.{list_all}
-use Rattle.columnar_memory.specs.Spans.{last_of}
-use Rattle.nested_arrays_columns.specs.SoundColumns.{is_byte}
+use Rattle.nested_arrays_flat.specs.columnar_memory.Spans.{last_of}
+use Rattle.nested_arrays_flat.specs.columns.SoundColumns.{is_byte}
 use Rattle.nested_arrays_flat.proofs.SoundStrings.{text_sound}
 use Rattle.nested_arrays_parts.proofs.sound.text_is_sound.Goals as goal
 

@@ -1,6 +1,6 @@
 use Rattle.std.proofs.Common.{◌≡◌, ◌∙◌, List, ℕ, ap, sym, rules, IsTrue}
 use Rattle.std.specs.Prelude.{◌↔◌}
-use Rattle.nested_arrays_columns.specs.Slots.{bytes}
+use Rattle.nested_arrays_flat.specs.columns.Slots.{bytes}
 use Rattle.nested_arrays_parts.proofs.StoredForms.{bytes_there}
 use Rattle.nested_arrays_parts.proofs.values.same_byte_string.Goals as goal
 

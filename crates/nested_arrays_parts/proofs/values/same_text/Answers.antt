@@ -1,6 +1,6 @@
 use Rattle.std.proofs.Common.{◌≡◌, ◌∙◌, List, ℕ, ap, sym, rules, IsTrue}
 use Rattle.std.specs.Prelude.{◌↔◌}
-use Rattle.nested_arrays_columns.specs.Slots.{text}
+use Rattle.nested_arrays_flat.specs.columns.Slots.{text}
 use Rattle.nested_arrays_parts.proofs.StoredForms.{text_there}
 use Rattle.nested_arrays_parts.proofs.values.same_text.Goals as goal
 

@@ -1,5 +1,5 @@
 use Rattle.std.proofs.Common.{◌∙◌, ◌+◌, ap, arith, false, get_or, length, sym}
-use Rattle.nested_arrays_columns.specs.Slots.{truth}
+use Rattle.nested_arrays_flat.specs.columns.Slots.{truth}
 use Rattle.nested_arrays_parts.proofs.BitRanges.{bits_of_same_ranges, ranges_of_same_bits, same_truth}
 use Rattle.nested_arrays_parts.proofs.values.same_truths.Goals as goal
 

@@ -1,6 +1,6 @@
 -- The columns before the place are laid out.
 use Rattle.std.proofs.Common.{◌≡◌, ◌%◌, length, map, take}
-use Rattle.ipc_format_message_writing.specs.MessageWriting.{node_pair, buffer_pair}
+use Rattle.ipc_format_writing.specs.MessageWriting.{node_pair, buffer_pair}
 use Rattle.ipc_format_grammar.specs.Buffers as buffers_format
 use Rattle.tables_stream.specs.Int32Written as int32_written
 use Rattle.ipc_format_grammar.specs.WrittenMessages as messages_format

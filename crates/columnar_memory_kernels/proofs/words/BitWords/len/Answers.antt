@@ -1,6 +1,6 @@
 use Rattle.std.proofs.Common.{◌∙◌, ap, sym, length}
-use Rattle.columnar_memory_bits.specs.Bits.{bit_at}
-use Rattle.columnar_memory_bits.proofs.Windows.{length_window}
+use Rattle.columnar_memory_bitmap.specs.bits.Bits.{bit_at}
+use Rattle.columnar_memory_bitmap.proofs.bits_lemmas.Windows.{length_window}
 use Rattle.columnar_memory_kernels.proofs.words.BitWords.len.Goals as goal
 
 pub returns : goal.returns

@@ -1,7 +1,7 @@
 use Rattle.std.proofs.Common.{◌∙◌, ◌+◌, ◌≤◌, ap, sym, length, take, drop, arith, List, Bool}
-use Rattle.columnar_memory_bits.specs.Bits.{bit_at}
-use Rattle.columnar_memory_bits.specs.Words.{word}
-use Rattle.columnar_memory_bits.proofs.Windows.{length_window, part_of_window}
+use Rattle.columnar_memory_bitmap.specs.bits.Bits.{bit_at}
+use Rattle.columnar_memory_bitmap.specs.bits.Words.{word}
+use Rattle.columnar_memory_bitmap.proofs.bits_lemmas.Windows.{length_window, part_of_window}
 use Rattle.columnar_memory_kernels.proofs.words.BitWords.part.Goals as goal
 
 pub overflow_add-self-inside : goal.overflow_add-self-inside

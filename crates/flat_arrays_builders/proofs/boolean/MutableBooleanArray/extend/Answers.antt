@@ -1,8 +1,8 @@
 use Rattle.std.proofs.Common.{◌∙◌, false}
 use Rattle.std.proofs.lemmas.Result.{err_from_is_err_and}
-use Rattle.flat_arrays_masks.specs.Growth.{with_slots}
+use Rattle.flat_arrays_values.specs.Growth.{with_slots}
 use Rattle.flat_arrays_builders.proofs.Along.{ended, stopped}
-use Rattle.flat_arrays_masks.proofs.Marked.{grown_nothing, slot_added}
+use Rattle.flat_arrays_values.proofs.Marked.{grown_nothing, slot_added}
 use Rattle.flat_arrays_builders.proofs.boolean.MutableBooleanArray.extend.Goals as goal
 
 pub loop-slot-init : goal.loop-slot-init

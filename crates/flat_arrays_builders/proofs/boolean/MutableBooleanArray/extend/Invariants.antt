@@ -1,5 +1,5 @@
 use Rattle.std.proofs.Common.{◌≡◌, false}
-use Rattle.flat_arrays_masks.specs.Growth.{with_slots}
+use Rattle.flat_arrays_values.specs.Growth.{with_slots}
 use Rattle.flat_arrays_builders.proofs.boolean.MutableBooleanArray.extend.Given as goal
 
 abbrev pub invariant-loop-slot : goal.invariant-loop-slot

@@ -1,8 +1,8 @@
 use Rattle.std.proofs.Common.{◌∙◌}
 use Rattle.std.proofs.lemmas.Result.{err_from_is_err_and}
-use Rattle.flat_arrays_masks.specs.Growth.{with_values}
+use Rattle.flat_arrays_values.specs.Growth.{with_values}
 use Rattle.flat_arrays_builders.proofs.Along.{ended, stopped}
-use Rattle.flat_arrays_masks.proofs.Marked.{grown_nothing, value_added}
+use Rattle.flat_arrays_values.proofs.Marked.{grown_nothing, value_added}
 use Rattle.flat_arrays_builders.proofs.boolean.MutableBooleanArray.extend_values.Goals as goal
 
 pub loop-value-init : goal.loop-value-init

@@ -1,7 +1,7 @@
-use Rattle.flat_arrays_masks.specs.Growth.{grown, with_slots}
+use Rattle.flat_arrays_values.specs.Growth.{grown, with_slots}
 use Rattle.std.proofs.Common.{replicate}
 use Rattle.flat_arrays_builders.proofs.Along.{changes_to}
-use Rattle.flat_arrays_masks.proofs.Marked.{equal_slots}
+use Rattle.flat_arrays_values.proofs.Marked.{equal_slots}
 use Rattle.flat_arrays_builders.proofs.primitive.MutablePrimitiveArray.extend_constant.Goals as goal
 
 pub returns : goal.returns

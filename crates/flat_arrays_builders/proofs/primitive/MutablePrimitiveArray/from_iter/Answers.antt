@@ -1,5 +1,5 @@
 use Rattle.std.proofs.Common.{◌∙◌, ap}
-use Rattle.flat_arrays_masks.specs.Growth.{with_slots}
+use Rattle.flat_arrays_values.specs.Growth.{with_slots}
 use Rattle.flat_arrays_builders.proofs.primitive.MutablePrimitiveArray.from_iter.Goals as goal
 
 pub returns : goal.returns

@@ -1,8 +1,8 @@
 use Rattle.std.proofs.Common.{◌≡◌, ◌∙◌, ap, inl, map, rules}
 use Rattle.std.specs.Prelude.{Err, None, [], option_map}
-use Rattle.columnar_memory.specs.Spans.{no_spans}
-use Rattle.flat_arrays_byte_columns.specs.ByteStrings.{byte_strings}
-use Rattle.flat_arrays_byte_columns.specs.Fits.{text_type}
+use Rattle.flat_arrays_byte_values_builders.specs.columnar_memory.Spans.{no_spans}
+use Rattle.flat_arrays_byte_values_builders.specs.bytes.ByteStrings.{byte_strings}
+use Rattle.flat_arrays_byte_values_builders.specs.bytes.Fits.{text_type}
 use Rattle.flat_arrays_byte_values_builders.proofs.Gathered.{refused}
 use Rattle.flat_arrays_byte_values_builders.specs.Growing.{with_slots}
 use Rattle.flat_arrays_byte_builders.proofs.utf8.MutableUtf8Array.from_iter.Goals as goal

@@ -2,9 +2,9 @@ use Rattle.std.proofs.Common.{rules}
 use Rattle.std.proofs.lemmas.Iterator.{YieldsList-from_slice}
 use Rattle.std.proofs.lemmas.Iterator.Consumers.{YieldsList-from_copied}
 use Rattle.std.specs.Prelude.{Some, None, []}
-use Rattle.columnar_memory.specs.Spans.{no_spans}
-use Rattle.flat_arrays_byte_columns.specs.ByteStrings.{byte_strings}
-use Rattle.flat_arrays_byte_columns.specs.Fits.{text_type}
+use Rattle.flat_arrays_byte_values_builders.specs.columnar_memory.Spans.{no_spans}
+use Rattle.flat_arrays_byte_values_builders.specs.bytes.ByteStrings.{byte_strings}
+use Rattle.flat_arrays_byte_values_builders.specs.bytes.Fits.{text_type}
 use Rattle.flat_arrays_byte_values_builders.proofs.Gathered.{gathered}
 use Rattle.flat_arrays_byte_builders.proofs.utf8.MutableUtf8Array.from_slice.Goals as goal
 

@@ -1,4 +1,4 @@
-use Rattle.flat_arrays_byte_columns.specs.Fits.{text_layout}
+use Rattle.flat_arrays_byte_values_builders.specs.bytes.Fits.{text_layout}
 use Rattle.flat_arrays_byte_values_builders.proofs.Kept.{TextsOf, kept_by_pop, popped_text, texts-without_last}
 use Rattle.flat_arrays_byte_builders.proofs.utf8.MutableUtf8Array.pop.Goals as goal
 

@@ -1,7 +1,7 @@
 use Rattle.std.proofs.Common.{[]}
 use Rattle.std.proofs.lemmas.Str.{IsUtf8-nil}
 use Rattle.std.specs.Prelude.{false}
-use Rattle.flat_arrays_byte_columns.specs.Fits.{text_layout}
+use Rattle.flat_arrays_byte_values_builders.specs.bytes.Fits.{text_layout}
 use Rattle.flat_arrays_byte_values_builders.proofs.Kept.{TextsOf, kept_by_change, texts-pushed}
 use Rattle.flat_arrays_byte_values_builders.specs.Growing.{pushed}
 use Rattle.flat_arrays_byte_builders.proofs.utf8.MutableUtf8Array.push_null.Goals as goal

@@ -1,4 +1,4 @@
-use Rattle.flat_arrays_byte_columns.specs.Fits.{text_layout}
+use Rattle.flat_arrays_byte_values_builders.specs.bytes.Fits.{text_layout}
 use Rattle.flat_arrays_byte_values_builders.proofs.Kept.{TextsOf, kept_by_growth, texts-joined}
 use Rattle.flat_arrays_byte_values_builders.specs.Growing.{joined}
 use Rattle.flat_arrays_byte_builders.proofs.utf8.MutableUtf8Array.try_extend_from_self.Goals as goal

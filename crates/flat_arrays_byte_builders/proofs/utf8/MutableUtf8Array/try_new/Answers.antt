@@ -1,7 +1,7 @@
 use Rattle.std.proofs.Common.{subst, sym, ◌∙◌}
-use Rattle.flat_arrays_byte_columns.specs.ByteStrings.{byte_strings}
-use Rattle.flat_arrays_byte_columns.specs.Fits.{Fits, text_layout}
-use Rattle.flat_arrays_byte_columns.specs.Texts.{AllTexts}
+use Rattle.flat_arrays_byte_values_builders.specs.bytes.ByteStrings.{byte_strings}
+use Rattle.flat_arrays_byte_values_builders.specs.bytes.Fits.{Fits, text_layout}
+use Rattle.flat_arrays_byte_values_builders.specs.bytes.Texts.{AllTexts}
 use Rattle.flat_arrays_byte_values_builders.proofs.Growth.{values_of-trimmed}
 use Rattle.flat_arrays_byte_builders.proofs.utf8.MutableUtf8Array.try_new.Goals as goal
 use mathlib.Core.Bool.{true≢false}

@@ -1,7 +1,7 @@
 use Rattle.std.proofs.Common.{[]}
 use Rattle.std.proofs.lemmas.Str.{IsUtf8-nil}
 use Rattle.std.specs.Prelude.{false, true}
-use Rattle.flat_arrays_byte_columns.specs.Fits.{text_layout}
+use Rattle.flat_arrays_byte_values_builders.specs.bytes.Fits.{text_layout}
 use Rattle.flat_arrays_byte_values_builders.proofs.Kept.{TextsOf, kept_by_growth, texts-pushed}
 use Rattle.flat_arrays_byte_values_builders.specs.Growing.{pushed}
 use Rattle.flat_arrays_byte_builders.proofs.utf8.MutableUtf8Array.try_push.Goals as goal

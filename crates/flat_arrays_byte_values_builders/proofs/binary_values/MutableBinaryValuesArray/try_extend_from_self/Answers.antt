@@ -1,4 +1,4 @@
-use Rattle.flat_arrays_byte_columns.specs.Fits.{binary_layout}
+use Rattle.flat_arrays_bytes.specs.Fits.{binary_layout}
 use Rattle.flat_arrays_byte_values_builders.proofs.Kept.{UnmaskedOf, kept_by_growth, unmasked-joined}
 use Rattle.flat_arrays_byte_values_builders.specs.Growing.{joined}
 use Rattle.flat_arrays_byte_values_builders.proofs.binary_values.MutableBinaryValuesArray.try_extend_from_self.Goals as goal

@@ -1,5 +1,5 @@
 use Rattle.std.specs.Prelude.{true}
-use Rattle.flat_arrays_byte_columns.specs.Fits.{binary_layout}
+use Rattle.flat_arrays_bytes.specs.Fits.{binary_layout}
 use Rattle.flat_arrays_byte_values_builders.proofs.Kept.{UnmaskedOf, kept_by_growth, unmasked-pushed}
 use Rattle.flat_arrays_byte_values_builders.specs.Growing.{pushed}
 use Rattle.flat_arrays_byte_values_builders.proofs.binary_values.MutableBinaryValuesArray.try_push.Goals as goal

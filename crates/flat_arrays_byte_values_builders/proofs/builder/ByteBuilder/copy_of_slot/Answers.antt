@@ -1,6 +1,6 @@
 use Rattle.std.proofs.Common.{true, List, ℕ, ap, sym, ◌∙◌}
 use Rattle.std.specs.Prelude.{Some}
-use Rattle.flat_arrays_byte_columns.proofs.Slots.{null_at, slot_at}
+use Rattle.flat_arrays_bytes.proofs.Slots.{null_at, slot_at}
 use Rattle.flat_arrays_byte_values_builders.proofs.builder.ByteBuilder.copy_of_slot.Goals as goal
 
 pub returns-then-not-is_valid : goal.returns-then-not-is_valid

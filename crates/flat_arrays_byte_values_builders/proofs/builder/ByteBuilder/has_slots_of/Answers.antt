@@ -1,6 +1,6 @@
 use Rattle.std.proofs.Common.{◌≡◌, ◌<◌, ℕ, length, sym, refl, arith}
-use Rattle.flat_arrays_byte_columns.specs.ByteStrings.{slots_of}
-use Rattle.flat_arrays_byte_columns.proofs.Slots.{length_slots, same_elements, same_len}
+use Rattle.flat_arrays_bytes.specs.ByteStrings.{slots_of}
+use Rattle.flat_arrays_bytes.proofs.Slots.{length_slots, same_elements, same_len}
 use Rattle.flat_arrays_byte_values_builders.proofs.builder.ByteBuilder.has_slots_of.Goals as goal
 use mathlib.Core.Bool.{true≢false}
 

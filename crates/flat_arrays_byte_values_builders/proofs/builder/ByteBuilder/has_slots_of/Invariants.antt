@@ -1,6 +1,6 @@
 use Rattle.std.proofs.Common.{◌≡◌, ℕ, ◌<◌}
 use Rattle.std.specs.Prelude.{slice_get}
-use Rattle.flat_arrays_byte_columns.specs.ByteStrings.{slots_of}
+use Rattle.flat_arrays_bytes.specs.ByteStrings.{slots_of}
 use Rattle.flat_arrays_byte_values_builders.proofs.builder.ByteBuilder.has_slots_of.Given as goal
 
 -- the slots that were compared are the same

@@ -1,7 +1,7 @@
 use Rattle.std.proofs.Common.{◌≤◌, length, refl, sym, ◌∙◌, arith}
-use Rattle.flat_arrays_byte_columns.proofs.Places.{text_among}
-use Rattle.flat_arrays_byte_columns.proofs.Slots.{length_values}
-use Rattle.flat_arrays_byte_columns.specs.ByteStrings.{values_of}
+use Rattle.flat_arrays_bytes.proofs.Places.{text_among}
+use Rattle.flat_arrays_bytes.proofs.Slots.{length_values}
+use Rattle.flat_arrays_bytes.specs.ByteStrings.{values_of}
 use Rattle.flat_arrays_byte_values_builders.proofs.Kept.{texts_all, texts_more}
 use Rattle.flat_arrays_byte_values_builders.proofs.builder.ByteBuilder.holds_texts.Goals as goal
 use mathlib.Core.Bool.{true≢false}

@@ -1,6 +1,6 @@
 use Rattle.std.proofs.Common.{take}
-use Rattle.flat_arrays_byte_columns.specs.ByteStrings.{values_of}
-use Rattle.flat_arrays_byte_columns.specs.Texts.{AllTexts}
+use Rattle.flat_arrays_bytes.specs.ByteStrings.{values_of}
+use Rattle.flat_arrays_bytes.specs.Texts.{AllTexts}
 use Rattle.flat_arrays_byte_values_builders.proofs.builder.ByteBuilder.holds_texts.Given as goal
 
 -- the values before this place are texts

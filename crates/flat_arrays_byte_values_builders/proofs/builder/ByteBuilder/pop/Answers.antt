@@ -1,6 +1,6 @@
 use Rattle.std.proofs.Common.{◌-◌, ◌++◌, ◌∷◌, [], ap, sym, ◌∙◌, arith}
 use Rattle.std.specs.Prelude.{slice_get, option_map}
-use Rattle.flat_arrays_byte_columns.specs.ByteStrings.{slots_of}
+use Rattle.flat_arrays_bytes.specs.ByteStrings.{slots_of}
 use Rattle.flat_arrays_byte_values_builders.proofs.Growth.{slots_of-without_last}
 use Rattle.flat_arrays_byte_values_builders.proofs.builder.ByteBuilder.pop.Goals as goal
 

@@ -2,10 +2,10 @@ use Rattle.std.proofs.Common.{◌≡◌, ◌≤◌, ◌∙◌, length, refl, rul
 use Rattle.std.proofs.lemmas.Result.{err_from_is_err_and}
 use Rattle.std.specs.Prelude.{is_some, true}
 use Rattle.std.specs.Result.{is_err}
-use Rattle.columnar_memory.specs.Spans.{last_of}
-use Rattle.columnar_memory_buffer.proofs.Runs.{last_of-extended}
-use Rattle.flat_arrays_byte_columns.specs.ByteStrings.{byte_strings, marks}
-use Rattle.flat_arrays_byte_columns.specs.Fits.{IsMaskOf}
+use Rattle.flat_arrays_bytes.specs.columnar_memory.Spans.{last_of}
+use Rattle.flat_arrays_bytes.proofs.columnar_memory_lemmas.buffer_lemmas.Runs.{last_of-extended}
+use Rattle.flat_arrays_bytes.specs.ByteStrings.{byte_strings, marks}
+use Rattle.flat_arrays_bytes.specs.Fits.{IsMaskOf}
 use Rattle.flat_arrays_byte_values_builders.proofs.Growth.{length-marks}
 use Rattle.flat_arrays_byte_values_builders.proofs.Masks.{held_marks, kept_front, memory_fault, not_past, restored, undone_marks, unmoved}
 use Rattle.flat_arrays_byte_values_builders.specs.Growing.{IsFilled, joined}

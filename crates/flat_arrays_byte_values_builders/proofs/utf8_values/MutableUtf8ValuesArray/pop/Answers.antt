@@ -1,4 +1,4 @@
-use Rattle.flat_arrays_byte_columns.specs.Fits.{text_layout}
+use Rattle.flat_arrays_bytes.specs.Fits.{text_layout}
 use Rattle.flat_arrays_byte_values_builders.proofs.Kept.{UnmaskedTextsOf, kept_by_pop, popped_text, texts-without_last, unmasked-without_last}
 use Rattle.flat_arrays_byte_values_builders.proofs.utf8_values.MutableUtf8ValuesArray.pop.Goals as goal
 

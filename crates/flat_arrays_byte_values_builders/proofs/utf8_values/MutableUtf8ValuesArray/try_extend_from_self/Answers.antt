@@ -1,4 +1,4 @@
-use Rattle.flat_arrays_byte_columns.specs.Fits.{text_layout}
+use Rattle.flat_arrays_bytes.specs.Fits.{text_layout}
 use Rattle.flat_arrays_byte_values_builders.proofs.Kept.{UnmaskedTextsOf, kept_by_growth, texts-joined, unmasked-joined}
 use Rattle.flat_arrays_byte_values_builders.specs.Growing.{joined}
 use Rattle.flat_arrays_byte_values_builders.proofs.utf8_values.MutableUtf8ValuesArray.try_extend_from_self.Goals as goal

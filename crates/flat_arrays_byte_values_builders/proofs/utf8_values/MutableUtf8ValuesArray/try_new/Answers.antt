@@ -1,8 +1,8 @@
 use Rattle.std.proofs.Common.{subst, sym, ◌∙◌}
 use Rattle.std.specs.Prelude.{None}
-use Rattle.flat_arrays_byte_columns.specs.ByteStrings.{byte_strings}
-use Rattle.flat_arrays_byte_columns.specs.Fits.{Fits, text_layout}
-use Rattle.flat_arrays_byte_columns.specs.Texts.{AllTexts}
+use Rattle.flat_arrays_bytes.specs.ByteStrings.{byte_strings}
+use Rattle.flat_arrays_bytes.specs.Fits.{Fits, text_layout}
+use Rattle.flat_arrays_bytes.specs.Texts.{AllTexts}
 use Rattle.flat_arrays_byte_values_builders.proofs.Growth.{values_of-trimmed}
 use Rattle.flat_arrays_byte_values_builders.proofs.utf8_values.MutableUtf8ValuesArray.try_new.Goals as goal
 use mathlib.Core.Bool.{true≢false}

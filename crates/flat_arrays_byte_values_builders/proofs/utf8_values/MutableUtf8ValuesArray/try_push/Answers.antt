@@ -1,5 +1,5 @@
 use Rattle.std.specs.Prelude.{true}
-use Rattle.flat_arrays_byte_columns.specs.Fits.{text_layout}
+use Rattle.flat_arrays_bytes.specs.Fits.{text_layout}
 use Rattle.flat_arrays_byte_values_builders.proofs.Kept.{UnmaskedTextsOf, kept_by_growth, texts-pushed, unmasked-pushed}
 use Rattle.flat_arrays_byte_values_builders.specs.Growing.{pushed}
 use Rattle.flat_arrays_byte_values_builders.proofs.utf8_values.MutableUtf8ValuesArray.try_push.Goals as goal

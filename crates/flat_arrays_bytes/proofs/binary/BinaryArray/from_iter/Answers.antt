@@ -1,7 +1,7 @@
 use Rattle.std.proofs.Common.{◌∙◌, map}
 use Rattle.std.proofs.lemmas.Result.{err_from_is_err_and}
 use Rattle.flat_arrays_bytes.proofs.Gathered.{gathered_more, marks_more, masked_gathered, slots_collected, slots_refused, stored_by, within_gathered}
-use Rattle.flat_arrays_byte_columns.specs.Fits.{binary_type}
+use Rattle.flat_arrays_bytes.specs.Fits.{binary_type}
 use Rattle.flat_arrays_bytes.proofs.binary.BinaryArray.from_iter.Goals as goal
 
 pub loop-slot-preserved : goal.loop-slot-preserved

@@ -1,8 +1,8 @@
 use Rattle.std.proofs.Common.{◌≤◌, ap, sym, ◌∙◌, arith}
 use Rattle.std.specs.Prelude.{slice_get}
 use Rattle.std.specs.Option.{option_copied}
-use Rattle.flat_arrays_byte_columns.specs.ByteStrings.{len_of, slots_of}
-use Rattle.flat_arrays_byte_columns.proofs.Slots.{slot_past, slot_there}
+use Rattle.flat_arrays_bytes.specs.ByteStrings.{len_of, slots_of}
+use Rattle.flat_arrays_bytes.proofs.Slots.{slot_past, slot_there}
 use Rattle.flat_arrays_bytes.proofs.binary.BinaryArray.get.Goals as goal
 
 pub returns-then-index-len : goal.returns-then-index-len

@@ -1,6 +1,6 @@
 use Rattle.std.proofs.Common.{◌∙◌}
 use Rattle.std.specs.Bool.{one_answer}
-use Rattle.flat_arrays_byte_columns.specs.Equal.{same_array, same_array-Decides}
+use Rattle.flat_arrays_bytes.specs.Equal.{same_array, same_array-Decides}
 use Rattle.flat_arrays_bytes.proofs.binary.BinaryArrayPartialEq.eq.Goals as goal
 
 pub returns-clause-value : goal.returns-clause-value

@@ -1,6 +1,6 @@
 use Rattle.std.specs.Slice.Iter.{iter_rest}
 use Rattle.flat_arrays_bytes.proofs.Gathered.{slots_of_slice}
-use Rattle.flat_arrays_byte_columns.specs.Fits.{text_type}
+use Rattle.flat_arrays_bytes.specs.Fits.{text_type}
 use Rattle.flat_arrays_bytes.proofs.utf8.Utf8Array.from.Goals as goal
 
 pub returns : goal.returns

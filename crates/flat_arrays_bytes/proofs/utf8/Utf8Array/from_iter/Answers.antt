@@ -2,7 +2,7 @@ use Rattle.std.proofs.Common.{◌∙◌, map}
 use Rattle.std.proofs.lemmas.Result.{err_from_is_err_and}
 use Rattle.flat_arrays_bytes.proofs.Gathered.{gathered_more, marks_more, masked_gathered, slots_collected}
 use Rattle.flat_arrays_bytes.proofs.Gathered.{slots_refused, stored_by, texts_gathered, texts_more, within_gathered}
-use Rattle.flat_arrays_byte_columns.specs.Fits.{text_type}
+use Rattle.flat_arrays_bytes.specs.Fits.{text_type}
 use Rattle.flat_arrays_bytes.proofs.utf8.Utf8Array.from_iter.Goals as goal
 
 pub loop-slot-preserved : goal.loop-slot-preserved

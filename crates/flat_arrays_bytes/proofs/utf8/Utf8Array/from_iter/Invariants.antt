@@ -1,6 +1,6 @@
 use Rattle.std.proofs.Common.{◌≡◌, map}
 use Rattle.std.specs.Prelude.{is_some}
-use Rattle.flat_arrays_byte_columns.specs.Texts.{AllTexts}
+use Rattle.flat_arrays_bytes.specs.Texts.{AllTexts}
 use Rattle.flat_arrays_bytes.proofs.Gathered.{AreGathered, stored_by}
 use Rattle.flat_arrays_bytes.proofs.utf8.Utf8Array.from_iter.Given as goal
 

@@ -1,7 +1,7 @@
 use Rattle.std.proofs.Common.{◌∙◌, map}
 use Rattle.std.proofs.lemmas.Result.{err_from_is_err_and}
 use Rattle.flat_arrays_bytes.proofs.Gathered.{gathered_more, texts_gathered, texts_more, values_collected, values_refused, within_gathered}
-use Rattle.flat_arrays_byte_columns.specs.Fits.{text_type}
+use Rattle.flat_arrays_bytes.specs.Fits.{text_type}
 use Rattle.flat_arrays_bytes.proofs.utf8.Utf8Array.from_iter_values.Goals as goal
 
 pub loop-value-preserved : goal.loop-value-preserved

@@ -1,5 +1,5 @@
 use Rattle.std.proofs.Common.{map}
-use Rattle.flat_arrays_byte_columns.specs.Texts.{AllTexts}
+use Rattle.flat_arrays_bytes.specs.Texts.{AllTexts}
 use Rattle.flat_arrays_bytes.proofs.Gathered.{AreGathered}
 use Rattle.flat_arrays_bytes.proofs.utf8.Utf8Array.from_iter_values.Given as goal
 

@@ -1,7 +1,7 @@
 use Rattle.std.proofs.Common.{◌≤◌, arith}
 use Rattle.std.specs.Option.{option_copied}
-use Rattle.flat_arrays_byte_columns.specs.ByteStrings.{len_of, slots_of}
-use Rattle.flat_arrays_byte_columns.proofs.Slots.{slot_past, slot_there}
+use Rattle.flat_arrays_bytes.specs.ByteStrings.{len_of, slots_of}
+use Rattle.flat_arrays_bytes.proofs.Slots.{slot_past, slot_there}
 use Rattle.flat_arrays_bytes.proofs.utf8.Utf8Array.get.Goals as goal
 
 pub returns-then-index-len : goal.returns-then-index-len

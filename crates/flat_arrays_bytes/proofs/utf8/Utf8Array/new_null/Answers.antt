@@ -1,5 +1,5 @@
 use Rattle.std.proofs.Common.{subst, sym}
-use Rattle.flat_arrays_byte_columns.specs.Fits.{IsText}
+use Rattle.flat_arrays_bytes.specs.Fits.{IsText}
 use Rattle.flat_arrays_bytes.proofs.Nulls.{texts_of_nulls}
 use Rattle.flat_arrays_bytes.proofs.utf8.Utf8Array.new_null.Goals as goal
 

@@ -1,7 +1,7 @@
 use Rattle.std.proofs.Common.{◌≤◌, ◌+◌, ap, subst, sym, arith}
-use Rattle.flat_arrays_byte_columns.specs.ByteStrings.{len_of}
-use Rattle.flat_arrays_byte_columns.specs.Fits.{IsText, text_layout}
-use Rattle.flat_arrays_byte_columns.proofs.Cuts.{AllTexts-cut, Fits-cut}
+use Rattle.flat_arrays_bytes.specs.ByteStrings.{len_of}
+use Rattle.flat_arrays_bytes.specs.Fits.{IsText, text_layout}
+use Rattle.flat_arrays_bytes.proofs.Cuts.{AllTexts-cut, Fits-cut}
 use Rattle.flat_arrays_bytes.proofs.utf8.Utf8Array.slice.Goals as goal
 
 pub invariant_of-self : goal.invariant_of-self

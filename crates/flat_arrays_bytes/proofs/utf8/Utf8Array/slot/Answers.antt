@@ -1,6 +1,6 @@
 use Rattle.std.proofs.Common.{true, ap, ◌∙◌}
 use Rattle.std.specs.Prelude.{Some}
-use Rattle.flat_arrays_byte_columns.proofs.Slots.{null_at, slot_at}
+use Rattle.flat_arrays_bytes.proofs.Slots.{null_at, slot_at}
 use Rattle.flat_arrays_bytes.proofs.utf8.Utf8Array.slot.Goals as goal
 
 pub returns-then-is_valid : goal.returns-then-is_valid

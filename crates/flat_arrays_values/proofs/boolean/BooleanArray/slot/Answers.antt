@@ -1,7 +1,7 @@
 use Rattle.std.proofs.Common.{◌∙◌, ap, true}
 use Rattle.std.specs.Prelude.{Some}
 use Rattle.flat_arrays_values.specs.Flat.{marks_of}
-use Rattle.flat_arrays_values.proofs.Marks.{slot-get, null-get}
+use Rattle.flat_arrays_values.proofs.MarkPlaces.{slot-get, null-get}
 use Rattle.flat_arrays_values.proofs.boolean.BooleanArray.slot.Goals as goal
 
 pub returns-then-is_valid : goal.returns-then-is_valid

@@ -1,6 +1,6 @@
 use Rattle.std.proofs.Common.{◌≤◌, length, arith}
 use Rattle.flat_arrays_values.specs.Flat.{slots_of}
-use Rattle.flat_arrays_values.proofs.Marks.{slot_past, slot_there}
+use Rattle.flat_arrays_values.proofs.MarkPlaces.{slot_past, slot_there}
 use Rattle.flat_arrays_values.proofs.primitive.PrimitiveArray.get.Goals as goal
 
 pub returns-then-i-len : goal.returns-then-i-len

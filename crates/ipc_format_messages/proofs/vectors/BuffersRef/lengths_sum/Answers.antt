@@ -1,7 +1,7 @@
 use Rattle.std.proofs.Common.{◌≡◌, ◌≤◌, ◌+◌, ◌^◌, rules, arith}
 use Rattle.std.specs.Prelude.{Some, None}
-use Rattle.ipc_format_flatbuffers.specs.Views.{vector_of}
-use Rattle.ipc_format_grammar.specs.Messages.{lengths_sum}
+use Rattle.ipc_format_metadata.specs.flatbuffers.Views.{vector_of}
+use Rattle.ipc_format_metadata.specs.grammar.Messages.{lengths_sum}
 use Rattle.ipc_format_messages.specs.BufferLengths.{length_at, IsNoneOrLong}
 use Rattle.ipc_format_messages.proofs.Lengths.{sum-init, sum-none, sum-next, sum-long, sum-done, none-or-long}
 use Rattle.ipc_format_messages.proofs.vectors.BuffersRef.lengths_sum.Goals as goal

@@ -1,4 +1,4 @@
-use Rattle.ipc_format_flatbuffers.specs.Views.{vector_of}
+use Rattle.ipc_format_metadata.specs.flatbuffers.Views.{vector_of}
 use Rattle.ipc_format_messages.proofs.Lengths.{IsLeft}
 use Rattle.ipc_format_messages.proofs.vectors.BuffersRef.lengths_sum.Given as goal
 

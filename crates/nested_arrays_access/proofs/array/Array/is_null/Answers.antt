@@ -1,7 +1,7 @@
 use Rattle.std.proofs.Common.{◌∙◌, ap, sym, option_copied}
 use Rattle.std.specs.Prelude.{not}
-use Rattle.nested_arrays_columns.specs.StoredColumns.{is_valid_at}
-use Rattle.nested_arrays_flat.proofs.ColumnParts.{mark_of_slot}
+use Rattle.nested_arrays_arrays.specs.columns.StoredColumns.{is_valid_at}
+use Rattle.nested_arrays_arrays.proofs.flat_lemmas.ColumnParts.{mark_of_slot}
 use Rattle.nested_arrays_access.proofs.NullColumns.{each_null, marked_null}
 use Rattle.nested_arrays_access.proofs.array.Array.is_null.Goals as goal
 

@@ -1,5 +1,5 @@
 use Rattle.std.proofs.Common.{◌∙◌, ap, sym}
-use Rattle.nested_arrays_flat.specs.ColumnMasks.{unset_in}
+use Rattle.nested_arrays_arrays.specs.flat.ColumnMasks.{unset_in}
 use Rattle.nested_arrays_access.proofs.NullColumns.{all_null, masked_null}
 use Rattle.nested_arrays_access.proofs.array.Array.null_count.Goals as goal
 

@@ -1,5 +1,5 @@
 use Rattle.std.proofs.Common.{◌∙◌, ap, sym}
-use Rattle.nested_arrays_columns.specs.SoundColumns.{is_sound}
+use Rattle.nested_arrays_parts.specs.columns.SoundColumns.{is_sound}
 use Rattle.nested_arrays_parts.proofs.FlatMasks.{replaces_along, sound_replaced}
 use Rattle.nested_arrays_arrays.specs.AnyColumns.{column_of}
 use Rattle.nested_arrays_arrays.proofs.CutNodes.{fits_at}

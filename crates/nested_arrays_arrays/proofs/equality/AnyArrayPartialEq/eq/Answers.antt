@@ -1,5 +1,5 @@
 use Rattle.std.proofs.lemmas.Bool.Decides.{same_from_decides}
-use Rattle.nested_arrays_flat.specs.SameArrays.{same_column, same_column-Decides}
+use Rattle.nested_arrays_parts.specs.flat.SameArrays.{same_column, same_column-Decides}
 use Rattle.nested_arrays_arrays.proofs.equality.AnyArrayPartialEq.eq.Goals as goal
 
 pub returns-clause-value : goal.returns-clause-value

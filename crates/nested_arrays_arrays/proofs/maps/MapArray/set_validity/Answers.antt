@@ -1,7 +1,7 @@
 use Rattle.std.proofs.Common.{◌∙◌, ap, sym}
-use Rattle.columnar_memory.specs.Spans.{offsets_of}
-use Rattle.nested_arrays_columns.specs.SoundColumns.{mask_fits}
-use Rattle.nested_arrays_columns.specs.StoredColumns.{column_len}
+use Rattle.nested_arrays_parts.specs.columnar_memory.Spans.{offsets_of}
+use Rattle.nested_arrays_parts.specs.columns.SoundColumns.{mask_fits}
+use Rattle.nested_arrays_parts.specs.columns.StoredColumns.{column_len}
 use Rattle.nested_arrays_arrays.proofs.ArrayParts.{lists_masked}
 use Rattle.nested_arrays_arrays.proofs.maps.MapArray.set_validity.Goals as goal
 

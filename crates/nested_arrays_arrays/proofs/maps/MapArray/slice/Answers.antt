@@ -1,5 +1,5 @@
 use Rattle.std.proofs.Common.{◌∙◌, ap, sym}
-use Rattle.nested_arrays_columns.specs.SoundColumns.{is_sound}
+use Rattle.nested_arrays_parts.specs.columns.SoundColumns.{is_sound}
 use Rattle.nested_arrays_arrays.proofs.CutNodes.{lists_cut, spans_within, sound_after}
 use Rattle.nested_arrays_arrays.proofs.maps.MapArray.slice.Goals as goal
 

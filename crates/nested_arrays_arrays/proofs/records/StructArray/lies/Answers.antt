@@ -1,6 +1,6 @@
 use Rattle.std.proofs.Common.{◌∙◌, ap, sym}
-use Rattle.columnar_memory.specs.Layouts.{physical_type}
-use Rattle.nested_arrays_columns.specs.StoredColumns.{column_type, in_columns}
+use Rattle.nested_arrays_parts.specs.columnar_memory.Layouts.{physical_type}
+use Rattle.nested_arrays_parts.specs.columns.StoredColumns.{column_type, in_columns}
 use Rattle.nested_arrays_arrays.proofs.LaidNodes.{records_laid}
 use Rattle.nested_arrays_arrays.proofs.records.StructArray.lies.Goals as goal
 

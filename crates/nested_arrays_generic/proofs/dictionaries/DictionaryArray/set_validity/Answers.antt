@@ -1,8 +1,8 @@
 use Rattle.std.proofs.Common.{◌∙◌, ap, sym, rules, length, map}
 use Rattle.std.proofs.lemmas.Bool.{false≢true}
-use Rattle.nested_arrays_columns.specs.SoundColumns.{has_value_at, holds_below, is_sound, mask_fits}
-use Rattle.nested_arrays_columns.specs.StoredColumns.{column_len}
-use Rattle.nested_arrays_flat.proofs.SoundFlats.{masked_from}
+use Rattle.nested_arrays_access.specs.columns.SoundColumns.{has_value_at, holds_below, is_sound, mask_fits}
+use Rattle.nested_arrays_access.specs.columns.StoredColumns.{column_len}
+use Rattle.nested_arrays_access.proofs.flat_lemmas.SoundFlats.{masked_from}
 use Rattle.nested_arrays_generic.proofs.KeyedMasks.{keyed_masked, keyed_named, keyed_takes, keys_fit}
 use Rattle.nested_arrays_generic.proofs.dictionaries.DictionaryArray.set_validity.Goals as goal
 

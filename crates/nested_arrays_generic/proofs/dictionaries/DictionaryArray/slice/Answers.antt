@@ -1,6 +1,6 @@
 use Rattle.std.proofs.Common.{◌∙◌, ap, sym}
-use Rattle.nested_arrays_columns.specs.SoundColumns.{is_sound}
-use Rattle.nested_arrays_arrays.proofs.CutNodes.{sound_after}
+use Rattle.nested_arrays_access.specs.columns.SoundColumns.{is_sound}
+use Rattle.nested_arrays_access.proofs.arrays_lemmas.CutNodes.{sound_after}
 use Rattle.nested_arrays_generic.proofs.DictionaryParts.{keyed_by_cut}
 use Rattle.nested_arrays_generic.proofs.dictionaries.DictionaryArray.slice.Goals as goal
 

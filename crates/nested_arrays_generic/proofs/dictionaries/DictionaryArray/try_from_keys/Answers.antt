@@ -1,5 +1,5 @@
 use Rattle.std.proofs.Common.{rules}
-use Rattle.nested_arrays_columns.specs.StoredColumns.{column_type}
+use Rattle.nested_arrays_access.specs.columns.StoredColumns.{column_type}
 use Rattle.nested_arrays_generic.specs.Dictionaries.{keyed_by}
 use Rattle.nested_arrays_generic.proofs.DictionaryParts.{made_of}
 use Rattle.nested_arrays_generic.proofs.dictionaries.DictionaryArray.try_from_keys.Goals as goal

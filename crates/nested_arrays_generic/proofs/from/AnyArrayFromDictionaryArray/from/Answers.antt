@@ -1,6 +1,6 @@
 use Rattle.std.proofs.Common.{◌∙◌, ap}
-use Rattle.columnar_memory.specs.Layouts.{physical_type}
-use Rattle.nested_arrays_columns.specs.SoundColumns.{is_sound}
+use Rattle.nested_arrays_access.specs.columnar_memory.Layouts.{physical_type}
+use Rattle.nested_arrays_access.specs.columns.SoundColumns.{is_sound}
 use Rattle.nested_arrays_generic.proofs.DictionaryParts.{keyed_fits, keyed_is}
 use Rattle.nested_arrays_generic.proofs.from.AnyArrayFromDictionaryArray.from.Goals as goal
 

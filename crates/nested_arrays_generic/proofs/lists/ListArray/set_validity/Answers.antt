@@ -1,8 +1,8 @@
 use Rattle.std.proofs.Common.{◌∙◌, ap, sym}
-use Rattle.columnar_memory.specs.Spans.{offsets_of}
-use Rattle.nested_arrays_columns.specs.SoundColumns.{mask_fits}
-use Rattle.nested_arrays_columns.specs.StoredColumns.{column_len}
-use Rattle.nested_arrays_arrays.proofs.ArrayParts.{lists_masked}
+use Rattle.nested_arrays_access.specs.columnar_memory.Spans.{offsets_of}
+use Rattle.nested_arrays_access.specs.columns.SoundColumns.{mask_fits}
+use Rattle.nested_arrays_access.specs.columns.StoredColumns.{column_len}
+use Rattle.nested_arrays_access.proofs.arrays_lemmas.ArrayParts.{lists_masked}
 use Rattle.nested_arrays_generic.proofs.lists.ListArray.set_validity.Goals as goal
 
 pub invariant_of-self : goal.invariant_of-self

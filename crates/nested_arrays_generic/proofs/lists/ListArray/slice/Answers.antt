@@ -1,6 +1,6 @@
 use Rattle.std.proofs.Common.{◌∙◌, ap, sym}
-use Rattle.nested_arrays_columns.specs.SoundColumns.{is_sound}
-use Rattle.nested_arrays_arrays.proofs.CutNodes.{lists_cut, spans_within, sound_after}
+use Rattle.nested_arrays_access.specs.columns.SoundColumns.{is_sound}
+use Rattle.nested_arrays_access.proofs.arrays_lemmas.CutNodes.{lists_cut, spans_within, sound_after}
 use Rattle.nested_arrays_generic.proofs.lists.ListArray.slice.Goals as goal
 
 pub slice_offsets-requires : goal.slice_offsets-requires

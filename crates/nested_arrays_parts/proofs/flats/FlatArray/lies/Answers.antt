@@ -1,6 +1,6 @@
 use Rattle.std.proofs.Common.{◌∙◌, ap, refl, sym}
-use Rattle.columnar_memory.specs.Layouts.{physical_type}
-use Rattle.nested_arrays_columns.specs.StoredColumns.{column_type}
+use Rattle.nested_arrays_flat.specs.columnar_memory.Layouts.{physical_type}
+use Rattle.nested_arrays_flat.specs.columns.StoredColumns.{column_type}
 use Rattle.nested_arrays_parts.specs.Childless.{is_childless}
 use Rattle.nested_arrays_parts.specs.FlatNodes.{flat_column}
 use Rattle.nested_arrays_parts.proofs.LaidFlats.{childless_by, primitive_childless}

@@ -1,6 +1,6 @@
 use Rattle.std.proofs.Common.{◌∙◌, ap, sym}
-use Rattle.nested_arrays_columns.specs.SoundColumns.{is_sound}
-use Rattle.nested_arrays_columns.specs.StoredColumns.{cut}
+use Rattle.nested_arrays_flat.specs.columns.SoundColumns.{is_sound}
+use Rattle.nested_arrays_flat.specs.columns.StoredColumns.{cut}
 use Rattle.nested_arrays_flat.proofs.ColumnParts.{sound_after}
 use Rattle.nested_arrays_parts.specs.FlatNodes.{flat_column}
 use Rattle.nested_arrays_parts.proofs.flats.FlatArray.slice.Goals as goal

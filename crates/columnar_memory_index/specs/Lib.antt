@@ -1,2 +1,0 @@
-pub mod Natural
-pub mod Ranges

@@ -1,2 +1,0 @@
-pub mod KeptLists
-pub mod LogicalTypes

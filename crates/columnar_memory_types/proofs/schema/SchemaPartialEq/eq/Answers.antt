@@ -1,0 +1,10 @@
+use Rattle.std.proofs.Common.{rules}
+use Rattle.std.proofs.lemmas.Bool.Decides.{same_from_decides}
+use Rattle.columnar_memory_types.specs.SchemaEquality.{same_schema, same_schema-Decides}
+use Rattle.columnar_memory_types.proofs.schema.SchemaPartialEq.eq.Goals as goal
+
+pub returns-clause-value : goal.returns-clause-value
+returns-clause-value c =
+    let x = c.args.self.now in
+    let y = c.args.other.now in
+    same_from_decides c.is_same_schema.result (same_schema x y) (search rules) (same_schema-Decides x y)

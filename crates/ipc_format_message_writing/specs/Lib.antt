@@ -1,2 +1,0 @@
-pub mod MessageWriting
-pub mod FooterWriting

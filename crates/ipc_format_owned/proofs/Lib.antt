@@ -1,3 +1,0 @@
-mod Taking
-mod Gathered
-mod FieldsTaken

@@ -1,7 +1,0 @@
-use Rattle.ipc_format_messages.specs.MessageViews.{blocks_view}
-use Rattle.ipc_format_owned.specs.OwnedMessages.{stated_at}
-use Rattle.ipc_format_owned.proofs.Gathered.{GatheredLeft}
-use Rattle.ipc_format_owned.proofs.batches.blocks_in.Given as goal
-
-abbrev pub invariant-loop-k : goal.invariant-loop-k
-invariant-loop-k l = GatheredLeft (stated_at (blocks_view l.blocks)) l.blocks.vector.count l.made l.k

@@ -1,7 +1,0 @@
-use Rattle.ipc_format_messages.specs.MessageViews.{buffers_view}
-use Rattle.ipc_format_owned.specs.OwnedMessages.{buffer_at}
-use Rattle.ipc_format_owned.proofs.Gathered.{GatheredLeft}
-use Rattle.ipc_format_owned.proofs.batches.buffers_in.Given as goal
-
-abbrev pub invariant-loop-k : goal.invariant-loop-k
-invariant-loop-k l = GatheredLeft (buffer_at (buffers_view l.buffers)) l.buffers.vector.count l.made l.k

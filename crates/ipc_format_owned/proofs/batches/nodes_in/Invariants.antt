@@ -1,7 +1,0 @@
-use Rattle.ipc_format_messages.specs.MessageViews.{nodes_view}
-use Rattle.ipc_format_owned.specs.OwnedMessages.{node_at}
-use Rattle.ipc_format_owned.proofs.Gathered.{GatheredLeft}
-use Rattle.ipc_format_owned.proofs.batches.nodes_in.Given as goal
-
-abbrev pub invariant-loop-k : goal.invariant-loop-k
-invariant-loop-k l = GatheredLeft (node_at (nodes_view l.nodes)) l.nodes.vector.count l.made l.k

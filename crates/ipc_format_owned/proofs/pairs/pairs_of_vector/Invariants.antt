@@ -1,7 +1,0 @@
-use Rattle.ipc_format_messages.specs.SchemaRefs.{pairs_view}
-use Rattle.ipc_format_owned.specs.Owned.{kept_at}
-use Rattle.ipc_format_owned.proofs.Gathered.{GatheredLeft}
-use Rattle.ipc_format_owned.proofs.pairs.pairs_of_vector.Given as goal
-
-abbrev pub invariant-loop-k : goal.invariant-loop-k
-invariant-loop-k l = GatheredLeft (kept_at (pairs_view l.pairs)) l.pairs.tables.vector.count l.made l.k

@@ -1,7 +1,0 @@
-use Rattle.ipc_format_owned.specs.Owned.{number_at}
-use Rattle.ipc_format_owned.specs.TakenViews.{numbers_view}
-use Rattle.ipc_format_owned.proofs.Gathered.{GatheredLeft}
-use Rattle.ipc_format_owned.proofs.types.numbers_of.Given as goal
-
-abbrev pub invariant-loop-k : goal.invariant-loop-k
-invariant-loop-k l = GatheredLeft (number_at (numbers_view l.numbers)) l.numbers.vector.count l.made l.k

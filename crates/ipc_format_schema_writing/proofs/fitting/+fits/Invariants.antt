@@ -1,9 +1,0 @@
-use Rattle.std.proofs.Common.{◌≡◌, map, drop}
-use Rattle.ipc_format_grammar.specs.Ids as format
-use Rattle.ipc_format_metadata.specs.Views.{ids_views}
-use Rattle.ipc_format_schema_writing.specs.Fitting.{field_fitting}
-use Rattle.ipc_format_schema_writing.proofs.fitting.+fits.Given as goal
-
-abbrev pub invariant-fields_fit-loop-field : goal.invariant-fields_fit-loop-field
-invariant-fields_fit-loop-field l = format.fit_each (drop l.field-index (map field_fitting l.fields)) (ids_views l.rest)
-    ≡ format.fit_each (map field_fitting l.fields) (ids_views l.beside)

@@ -1,6 +1,0 @@
-use Rattle.std.proofs.Common.{arith}
-use Rattle.ipc_format_schema_writing.proofs.TypeTables.{numbers_too_long}
-use Rattle.ipc_format_schema_writing.proofs.tables.lay_numbers.Goals as goal
-
-pub returns : goal.returns
-returns c = numbers_too_long c.args.numbers.now (omega arith)

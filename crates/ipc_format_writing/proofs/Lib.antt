@@ -1,0 +1,21 @@
+pub mod NumberedLists
+pub mod FittingLists
+pub mod BesideLists
+pub mod FloatLists
+pub mod Sizes
+pub mod KeptPairs
+pub mod TypeTables
+pub mod PairLists
+pub mod FieldTables
+pub mod Allowed
+pub mod SchemaMessages
+pub mod NormalLists
+pub mod Laid
+pub mod LaidFooter
+pub use Rattle.ipc_format_messages.proofs as messages_lemmas
+pub use Rattle.ipc_format_messages.proofs.columnar_memory_lemmas
+pub use Rattle.ipc_format_messages.proofs.flatbuffers_lemmas
+pub use Rattle.ipc_format_messages.proofs.columns_lemmas
+pub use Rattle.ipc_format_messages.proofs.grammar_lemmas
+pub use Rattle.ipc_format_messages.proofs.metadata_lemmas
+pub mod Passed

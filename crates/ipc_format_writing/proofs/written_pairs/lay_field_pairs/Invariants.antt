@@ -1,0 +1,14 @@
+use Rattle.std.proofs.Common.{◌≡◌, ◌++◌, map}
+use Rattle.std.specs.Prelude.{filter}
+use Rattle.ipc_format_messages.specs.flatbuffers.Views.{piece_view}
+use Rattle.ipc_format_messages.specs.grammar.SchemaObjects as objects
+use Rattle.ipc_format_writing.specs.Pieces.{pair_piece, is_kept, extension_view}
+use Rattle.ipc_format_writing.proofs.PairLists.{all_pairs}
+use Rattle.ipc_format_writing.proofs.written_pairs.lay_field_pairs.Given as goal
+
+abbrev pub invariant-loop-key : goal.invariant-loop-key
+invariant-loop-key l =
+    (goal.iterator-loop-key).can_next l.key-iterator ×
+    (goal.iterator-loop-key).is_finite l.key-iterator ×
+    (map piece_view l.laid.items ++ map pair_piece (filter is_kept l.key-iterator) ≡ map pair_piece (all_pairs (objects.extension_pairs
+    (extension_view l.extension)) l.pairs))

@@ -1,0 +1,16 @@
+//! Tests of arrays without children, of lists and dictionaries, and of arrays of nulls, apart from their packages since a package with tests
+//! is proved twice.
+#![tactic(auto)]
+
+#[cfg(test)]
+mod dictionaries;
+#[cfg(test)]
+mod fixed_sizes;
+#[cfg(test)]
+mod gathered;
+#[cfg(test)]
+mod lists;
+#[cfg(test)]
+mod nulls;
+#[cfg(test)]
+mod numbers;

@@ -1,6 +1,0 @@
-pub mod NamedValues
-pub mod ReadValues
-pub mod StringParts
-pub mod TextItems
-pub mod TypedValues
-pub mod WalkLaws
