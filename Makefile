@@ -43,20 +43,20 @@ program:
 test: STARTED := $(shell date +%s)
 test:
 	$(PYTHON) tools/gate.py --selftest
-	$(PYTHON) tools/worked.py
-	$(PYTHON) tools/compare.py --count 400 --seed 7
-	$(PYTHON) tools/streams.py check crates/tables_files/data crates/tables_files/stdout
+	$(PYTHON) tools/definitions/worked.py
+	$(PYTHON) tools/definitions/compare.py --count 400 --seed 7
+	$(PYTHON) tools/writer/streams.py check crates/tables_files/data crates/tables_files/stdout
 	$(PYTHON) tools/gate.py --started $(STARTED) $(if $(MINUTES),--minutes $(MINUTES)) $(RT)
 
 definitions:
-	$(PYTHON) tools/worked.py
-	$(PYTHON) tools/compare.py --count $(COUNT) --seed $(SEED)
+	$(PYTHON) tools/definitions/worked.py
+	$(PYTHON) tools/definitions/compare.py --count $(COUNT) --seed $(SEED)
 
 bench: program bench-memory bench-flat bench-nested bench-metadata
-	$(PYTHON) tools/bench.py cut bin/tables bin
+	$(PYTHON) tools/benches/bench.py cut bin/tables bin
 
 bench-memory: memory-program
-	$(PYTHON) tools/bench.py memory bin/columnar_memory_bench bin
+	$(PYTHON) tools/benches/bench.py memory bin/columnar_memory_bench bin
 
 memory-program:
 	@mkdir -p bin
@@ -66,7 +66,7 @@ memory-program:
 	cp $(MEMORY)/out/columnar_memory_bench bin/columnar_memory_bench
 
 bench-flat: flat-program
-	$(PYTHON) tools/bench.py flat bin/flat_arrays_bench bin
+	$(PYTHON) tools/benches/bench.py flat bin/flat_arrays_bench bin
 
 flat-program:
 	@mkdir -p bin
@@ -76,7 +76,7 @@ flat-program:
 	cp $(FLAT)/out/flat_arrays_bench bin/flat_arrays_bench
 
 bench-nested: nested-program
-	$(PYTHON) tools/bench.py nested bin/nested_arrays_bench bin
+	$(PYTHON) tools/benches/bench.py nested bin/nested_arrays_bench bin
 
 nested-program:
 	@mkdir -p bin
@@ -86,7 +86,7 @@ nested-program:
 	cp $(NESTED)/out/nested_arrays_bench bin/nested_arrays_bench
 
 bench-metadata: metadata-program
-	$(PYTHON) tools/bench.py metadata bin/ipc_format_bench bin
+	$(PYTHON) tools/benches/bench.py metadata bin/ipc_format_bench bin
 
 metadata-program:
 	@mkdir -p bin

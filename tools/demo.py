@@ -11,6 +11,8 @@ import subprocess
 import sys
 import tempfile
 
+sys.path += [os.path.join(os.path.dirname(os.path.abspath(__file__)), it) for it in ("reader", "writer")]
+
 from reading import run
 from streams import show, write
 

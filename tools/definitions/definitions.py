@@ -25,7 +25,7 @@ from antt_syntax import (
 )
 from rust_types import RustTypes
 
-TOP = os.path.dirname(os.path.dirname(os.path.abspath(__file__)))
+TOP = os.path.dirname(os.path.dirname(os.path.dirname(os.path.abspath(__file__))))
 STANDARD = {"std", "core", "alloc"}
 SIDES = {"infixl": LEFT, "infixr": RIGHT, "infix": NEITHER}
 TRUTHS = {"true": "True", "false": "False", "None": "None", "[]": "[]", "zero": "0"}
