@@ -20,6 +20,9 @@ METADATA = crates/ipc_format_bench
 .PHONY: demo test bench bench-memory bench-flat bench-nested bench-metadata definitions clean
 .PHONY: program memory-program flat-program nested-program metadata-program
 
+# The worked values of the definitions.
+WORKED = $(sort $(wildcard tools/definitions/worked*.py))
+
 # How many inputs `make definitions` compares, and from which seed.
 COUNT ?= 20000
 SEED ?= 1
@@ -43,13 +46,13 @@ program:
 test: STARTED := $(shell date +%s)
 test:
 	$(PYTHON) tools/gate.py --selftest
-	$(PYTHON) tools/definitions/worked.py
+	@for it in $(WORKED); do echo "$(PYTHON) $$it"; $(PYTHON) $$it || exit 1; done
 	$(PYTHON) tools/definitions/compare.py --count 400 --seed 7
 	$(PYTHON) tools/writer/streams.py check crates/tables_files/data crates/tables_files/stdout
 	$(PYTHON) tools/gate.py --started $(STARTED) $(if $(MINUTES),--minutes $(MINUTES)) $(RT)
 
 definitions:
-	$(PYTHON) tools/definitions/worked.py
+	@for it in $(WORKED); do echo "$(PYTHON) $$it"; $(PYTHON) $$it || exit 1; done
 	$(PYTHON) tools/definitions/compare.py --count $(COUNT) --seed $(SEED)
 
 bench: program bench-memory bench-flat bench-nested bench-metadata
