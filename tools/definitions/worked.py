@@ -8,7 +8,10 @@ buffers and of messages, slots, lengths. Inputs are laid from explicit nodes and
 is as expected prints a line; at the first that is not the exit status is 1.
 """
 
+import os
 import sys
+
+sys.path += [os.path.join(os.path.dirname(os.path.dirname(os.path.abspath(__file__))), it) for it in ("reader", "writer")]
 
 from arrow_trees import (
     DICTIONARY_BATCH, RECORD_BATCH, SCHEMA, V5, batch_tree, dictionary_tree, message_tree, numbered, schema_tree,

@@ -19,6 +19,8 @@ import time
 from collections import Counter
 from random import Random
 
+sys.path += [os.path.join(os.path.dirname(os.path.dirname(os.path.abspath(__file__))), it) for it in ("reader", "writer")]
+
 import antt_library
 import arrow_reader
 from arrow_cases import Writer
