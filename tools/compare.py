@@ -27,10 +27,13 @@ from arrow_metadata import NOT_IMPLEMENTED, UNFINISHED
 from arrow_sealed import NotWritten, file_of, groups_of, schema_message, sealed, stream_of, why_not_sealable
 from arrow_special import SMALL, long_cases
 from arrow_stored import StoredColumns
-from arrow_trees import Spec, numbered
+from arrow_trees import (
+    DICTIONARY_BATCH, RECORD_BATCH, SCHEMA, Spec, batch_tree, dictionary_tree, message_tree, numbered, schema_tree,
+)
 from arrow_types import Schema, Table, child_fields
 from defined_values import MOST_TRIED, Defined
 from definitions import TOP, deeply
+from laying import lay
 
 FOLDER = os.path.join(TOP, "bin")
 TOO_LARGE = "too large"
@@ -219,7 +222,10 @@ class Comparison:
     def compare_writing(self, table, random):
         """A stream and a file of the rows in groups, with ids that some dictionaries may share."""
         schema = table.schema
-        if any(holds_union(field.data_type) for field in schema.fields):
+        unions = [holds_union(field.data_type) for field in schema.fields]
+        if unions != [self.defined.has_union(field.data_type) for field in schema.fields]:
+            raise Disagreement("unions stand in %s: %s" % (schema.fields, unions))
+        if any(unions):
             return
         specs = numbered(schema.fields) if random.random() < 0.7 else renumbered(numbered(schema.fields), random)
         groups = groups_of(table.rows, random.randint(1, 6))
@@ -250,11 +256,32 @@ class Comparison:
                 raise Disagreement("a cut of %s has %s (sound: %s)" % (field, found, are_sound))
             columns.append(cut)
         self.counts["stored columns cut alike"] += len(columns)
+        self.compare_big_endian(table, columns)
         content = self.defined.defined_stored_stream(table.schema, numbered(table.schema.fields), columns)
         read = answer_of(arrow_reader.read, "stream", content)
         if read != table:
             raise Disagreement("what stored columns are written as reads as %s instead of %s" % (read, table))
         self.counts["stored columns' streams read alike"] += 1
+
+    def compare_big_endian(self, table, columns):
+        """Stored columns in the other byte order: a stream that says so and has their buffers reads as the rows."""
+        read = answer_of(arrow_reader.read, "stream", self.big_endian_stream(table, columns))
+        if read != table:
+            raise Disagreement("what stored columns are in big-endian bytes reads as %s instead of %s" % (read, table))
+        self.counts["stored columns' big-endian streams read alike"] += 1
+
+    def big_endian_stream(self, table, columns):
+        """A big-endian stream of one batch of stored columns, their dictionaries before it."""
+        specs, encoded = numbered(table.schema.fields), lambda column: self.defined.defined_stored_encoding(column, False)
+        out = head_of(SCHEMA, schema_tree(specs, table.schema.metadata, "big"), 0)
+        for number, values in dictionaries_of(specs, columns):
+            nodes, buffers = encoded(values)
+            places, body = placed(buffers)
+            out += head_of(DICTIONARY_BATCH, dictionary_tree(number, batch_tree(nodes[0][0], nodes, places)), len(body)) + body
+        parts = [encoded(column) for column in columns]
+        nodes, buffers = ([thing for part in parts for thing in part[k]] for k in (0, 1))
+        places, body = placed(buffers)
+        return out + head_of(RECORD_BATCH, batch_tree(len(table.rows), nodes, places), len(body)) + body + END_MARK
 
     def compare_misshaped(self, schema, specs, groups, random):
         """Nothing is written under ids of another shape than the fields."""
@@ -263,6 +290,40 @@ class Comparison:
             if self.defined.defined_writing(form, schema, other, groups) is not None:
                 raise Disagreement("a %s is written under ids of another shape: %s" % (form, other))
             self.counts["%ss refused alike" % form] += 1
+
+
+def head_of(tag, header, body_length):
+    """A message before its body."""
+    metadata = lay(message_tree(tag, header, body_length))
+    return b"\xff\xff\xff\xff" + len(metadata).to_bytes(4, "little") + metadata
+
+
+def placed(buffers):
+    """Where buffers stand that are laid one behind another, and their bytes."""
+    places, body = [], b""
+    for content in buffers:
+        places.append((len(body), len(content)))
+        body += content + bytes(-len(content) % 8)
+    return places, body
+
+
+def dictionaries_of(specs, columns):
+    """The ids and the stored values of the dictionaries of columns, those within values before them."""
+    for spec, column in zip(specs, columns):
+        if column[0] == "dictionary":
+            yield from dictionaries_of((spec._replace(number=None),), (column[4],))
+            yield spec.number, column[4]
+        elif column[0] in ("records", "unions"):
+            yield from dictionaries_of(spec.children, children_of(column[4]))
+        elif column[0] in ("lists", "fixed_lists"):
+            yield from dictionaries_of(spec.children, (column[4],))
+
+
+def children_of(columns):
+    """The columns of a struct or a union."""
+    while columns[0] == "column_then":
+        yield columns[1]
+        columns = columns[2]
 
 
 def misshaped(specs, random):
