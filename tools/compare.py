@@ -258,7 +258,7 @@ class Comparison:
         self.counts["stored columns cut alike"] += len(columns)
         self.compare_big_endian(table, columns)
         content = self.defined.defined_stored_stream(table.schema, numbered(table.schema.fields), columns)
-        read = answer_of(arrow_reader.read, "stream", content)
+        read = None if content is None else answer_of(arrow_reader.read, "stream", content)
         if read != table:
             raise Disagreement("what stored columns are written as reads as %s instead of %s" % (read, table))
         self.counts["stored columns' streams read alike"] += 1
