@@ -24,6 +24,7 @@ import arrow_reader
 from arrow_cases import Writer
 from arrow_damage import Damage
 from arrow_metadata import NOT_IMPLEMENTED, UNFINISHED
+from arrow_rows import OTHER_CELLS, accepts, fits_column, full_dictionaries, other_row, without_maps
 from arrow_sealed import NotWritten, file_of, groups_of, schema_message, sealed, stream_of, why_not_sealable
 from arrow_special import SMALL, long_cases
 from arrow_stored import StoredColumns
@@ -91,6 +92,7 @@ class Comparison:
             self.compare_seal(read, random)
             self.compare_writing(read, random)
             self.compare_stored(read, random)
+            self.compare_fresh(read, random)
 
     def compare_with_case(self, case, is_damaged, read):
         """A sound input reads as what it was made of, or is refused where it passes a limit."""
@@ -256,6 +258,38 @@ class Comparison:
             raise Disagreement("what stored columns are written as reads as %s instead of %s" % (read, table))
         self.counts["stored columns' streams read alike"] += 1
 
+    def compare_fresh(self, table, random):
+        """Columns that store the rows' slots and nothing else, and which rows are accepted."""
+        fields, specs = table.schema.fields, numbered(table.schema.fields)
+        if len(table.rows) > 50 or any(holds_union(field.data_type) for field in fields):
+            return
+        rows = [tuple(without_maps(field.data_type, slot) for field, slot in zip(fields, row)) for row in table.rows]
+        for k, (field, spec) in enumerate(zip(fields, specs)):
+            slots = [row[k] for row in rows]
+            why = self.defined.why_not_fresh(field, spec, slots, random) if fits_column(field.data_type, slots) else None
+            if why is not None:
+                raise Disagreement("the column of %s that stores %s does not keep %s" % (field, slots, why))
+            self.counts["fresh columns that keep all"] += 1
+        if rows:
+            self.compare_rows(fields, rows[:-1], rows[-1], random)
+
+    def compare_rows(self, fields, rows, row, random):
+        """Which rows are accepted where some are open, and the columns of those."""
+        for pushed in (row, other_row(row, random)):
+            is_accepted = accepts(fields, rows, pushed)
+            if self.defined.accepts(fields, rows, pushed) != is_accepted:
+                raise Disagreement("%s is accepted otherwise than %s, under %s, where %s are open" % (pushed, is_accepted, fields, rows))
+            self.counts["rows %s alike" % ("accepted" if is_accepted else "not accepted")] += 1
+            columns = [list(column) for column in zip(*rows, pushed)]
+            if is_accepted and self.defined.defined_batch(fields, rows + [pushed]) != columns:
+                raise Disagreement("the rows %s and %s become other columns" % (rows, pushed))
+
+    def compare_full_dictionaries(self, random):
+        """Rows that bring a dictionary as many values as its keys tell apart, and one more."""
+        for fields, rows, pushed in full_dictionaries():
+            for row in pushed:
+                self.compare_rows(fields, rows, row, random)
+
     def compare_misshaped(self, schema, specs, groups, random):
         """Nothing is written under ids of another shape than the fields."""
         other = misshaped(specs, random)
@@ -278,13 +312,6 @@ def misshaped(specs, random):
     else:
         return specs[:place] + specs[place + 1 :]
     return specs[:place] + (spec,) + specs[place + 1 :]
-
-
-# Values of several types, most of which do not fit a column.
-OTHER_CELLS = (
-    True, ("number", "Int32", 1), ("number", "Int64", 1), ("pair", "DaysMs", 1, 2), ("text", b"a"), ("bytes", b"abc"),
-    ("items", ()), ("items", (None,)), ("items", (None, None)), ("fields", ()), ("fields", (None,)), ("fields", (None, None)), None,
-)
 
 
 def with_other_cell(table, random):
@@ -332,6 +359,8 @@ def run(options):
     comparison, start = Comparison(None if options.alone else Defined()), time.perf_counter()
     numbers = range(options.count) if options.case is None else [options.case]
     long = long_cases() if options.long else []
+    if comparison.defined is not None:
+        comparison.compare_full_dictionaries(Random(options.seed))
     for number in range(len(long)) if long else numbers:
         case, is_damaged = (long[number], False) if long else made_case(options.seed, number, options.form)
         try:
