@@ -1,3 +1,4 @@
+pub mod Claims
 pub mod ColumnSizes
 pub mod Columns
 pub mod Conditions
@@ -8,6 +9,8 @@ pub mod CutsOfCuts
 pub mod Distinct
 pub mod Fitting
 pub mod Folds
+pub mod FreshBelow
+pub mod FreshLengths
 pub mod Parts
 pub mod SameSlotsDecide
 pub mod SoundCuts
