@@ -4,7 +4,8 @@ Written from the public formats and the profile of this project, apart from the 
 """
 
 from arrow_sealed import distinct, fits_cell
-from arrow_types import INTEGERS, Field, child_fields, kind_of, storage_of
+from arrow_trees import numbered
+from arrow_types import INTEGERS, Field, child_fields, holds_union, kind_of, storage_of
 
 # Values of several types, most of which do not fit a column, and values out of their kind's range.
 OTHER_CELLS = (
@@ -99,12 +100,55 @@ def other_row(row, random):
 
 
 def full_dictionaries():
-    """Fields with as many values as the keys tell apart, the rows so far, and rows to be pushed."""
-    number = lambda n: ("number", "Int32", n)
-    for key, most in (("Int8", 128), ("UInt8", 256)):
-        dictionary = ("Dictionary", key, ("Int32",), False)
-        rows = [(number(n),) for n in range(most)]
-        yield [Field(b"", dictionary, True, ())], rows, [(number(0),), (None,), (number(most),)]
-        inside = ("List", Field(b"item", dictionary, True, ()))
-        lists = [(("items", tuple(row[0] for row in rows)),)]
-        yield [Field(b"", inside, True, ())], lists, [(("items", (number(5),)),), (("items", (None, number(-1))),), (None,)]
+    """Fields of a dictionary with as many values as its keys tell apart, the rows so far, and rows to be pushed, of which the last is too much."""
+    number, dictionary = (lambda n: ("number", "Int32", n)), ("Dictionary", "Int8", ("Int32",), False)
+    values = tuple(number(n) for n in range(128))
+    yield [Field(b"", dictionary, True, ())], [(value,) for value in values], [(number(5),), (number(128),)]
+    lists = ("List", Field(b"item", dictionary, True, ()))
+    yield [Field(b"", lists, True, ())], [(("items", values),)], [(("items", (None, number(-1))),)]
+
+
+class RowComparison:
+    """Compares columns of slots and rows of cells; each comparison says what differs, or None."""
+
+    def __init__(self, defined, counts):
+        self.defined, self.counts = defined, counts
+
+    def compare_table(self, table, random):
+        """Columns that store the rows' slots and nothing else, and whether the last row is accepted, or another one."""
+        fields = table.schema.fields
+        if len(table.rows) > 50 or any(holds_union(field.data_type) for field in fields):
+            return None
+        rows = [tuple(without_maps(field.data_type, slot) for field, slot in zip(fields, row)) for row in table.rows]
+        columns = [[row[k] for row in rows] for k in range(len(fields))]
+        found = [self.compare_column(*column, random) for column in zip(fields, numbered(fields), columns)]
+        if rows:
+            found += [self.compare_row(fields, rows[:-1], row) for row in (rows[-1], other_row(rows[-1], random))]
+        return next(filter(None, found), None)
+
+    def compare_column(self, field, spec, slots, random):
+        if not fits_column(field.data_type, slots):
+            return None
+        self.counts["columns of slots that keep all"] += 1
+        why = self.defined.why_not_fresh(field, spec, slots, random)
+        return why and "the column of %s that stores %s does not keep %s" % (field, slots, why)
+
+    def compare_row(self, fields, rows, row):
+        """Whether a row is accepted where some are open, and the columns that they all become."""
+        is_accepted = accepts(fields, rows, row)
+        self.counts["rows accepted alike" if is_accepted else "rows not accepted alike"] += 1
+        if self.defined.accepts(fields, rows, row) != is_accepted:
+            return "%s is accepted otherwise than %s, under %s, where %s are open" % (row, is_accepted, fields, rows)
+        columns = [list(column) for column in zip(*rows, row)]
+        if is_accepted and self.defined.defined_batch(fields, rows + [row]) != columns:
+            return "the rows %s and %s become other columns" % (rows, row)
+        return None
+
+    def compare_full_dictionaries(self):
+        """Rows that bring a dictionary as many values as its keys tell apart, and one more."""
+        found = [
+            self.compare_row(fields, rows, row) or accepts(fields, rows, row) == is_last and "%s is too much or not" % (row,)
+            for fields, rows, pushed in full_dictionaries()
+            for row, is_last in zip(pushed, [False] * (len(pushed) - 1) + [True])
+        ]
+        return next(filter(None, found), None)

@@ -24,14 +24,17 @@ import arrow_reader
 from arrow_cases import Writer
 from arrow_damage import Damage
 from arrow_metadata import NOT_IMPLEMENTED, UNFINISHED
-from arrow_rows import OTHER_CELLS, accepts, fits_column, full_dictionaries, other_row, without_maps
+from arrow_rows import OTHER_CELLS, RowComparison
 from arrow_sealed import NotWritten, file_of, groups_of, schema_message, sealed, stream_of, why_not_sealable
 from arrow_special import SMALL, long_cases
 from arrow_stored import StoredColumns
-from arrow_trees import Spec, numbered
-from arrow_types import Schema, Table, child_fields
+from arrow_trees import (
+    DICTIONARY_BATCH, RECORD_BATCH, SCHEMA, Spec, batch_tree, dictionary_tree, message_tree, numbered, schema_tree,
+)
+from arrow_types import Schema, Table, child_fields, holds_union
 from defined_values import MOST_TRIED, Defined
 from definitions import TOP, deeply
+from laying import lay
 
 FOLDER = os.path.join(TOP, "bin")
 TOO_LARGE = "too large"
@@ -74,6 +77,12 @@ class Comparison:
 
     def __init__(self, defined):
         self.defined, self.counts, self.reasons, self.types = defined, Counter(), Counter(), Counter()
+        self.rows = RowComparison(defined, self.counts)
+
+    def agree(self, why_not):
+        """Stops at what two answers differ in."""
+        if why_not is not None:
+            raise Disagreement(why_not)
 
     def compare(self, case, is_damaged, random):
         read = answer_of(arrow_reader.read, case.form, case.content)
@@ -92,7 +101,7 @@ class Comparison:
             self.compare_seal(read, random)
             self.compare_writing(read, random)
             self.compare_stored(read, random)
-            self.compare_fresh(read, random)
+            self.agree(self.rows.compare_table(read, random))
 
     def compare_with_case(self, case, is_damaged, read):
         """A sound input reads as what it was made of, or is refused where it passes a limit."""
@@ -221,7 +230,10 @@ class Comparison:
     def compare_writing(self, table, random):
         """A stream and a file of the rows in groups, with ids that some dictionaries may share."""
         schema = table.schema
-        if any(holds_union(field.data_type) for field in schema.fields):
+        unions = [holds_union(field.data_type) for field in schema.fields]
+        if unions != [self.defined.has_union(field.data_type) for field in schema.fields]:
+            raise Disagreement("unions stand in %s: %s" % (schema.fields, unions))
+        if any(unions):
             return
         specs = numbered(schema.fields) if random.random() < 0.7 else renumbered(numbered(schema.fields), random)
         groups = groups_of(table.rows, random.randint(1, 6))
@@ -252,43 +264,32 @@ class Comparison:
                 raise Disagreement("a cut of %s has %s (sound: %s)" % (field, found, are_sound))
             columns.append(cut)
         self.counts["stored columns cut alike"] += len(columns)
+        self.compare_big_endian(table, columns)
         content = self.defined.defined_stored_stream(table.schema, numbered(table.schema.fields), columns)
         read = answer_of(arrow_reader.read, "stream", content)
         if read != table:
             raise Disagreement("what stored columns are written as reads as %s instead of %s" % (read, table))
         self.counts["stored columns' streams read alike"] += 1
 
-    def compare_fresh(self, table, random):
-        """Columns that store the rows' slots and nothing else, and which rows are accepted."""
-        fields, specs = table.schema.fields, numbered(table.schema.fields)
-        if len(table.rows) > 50 or any(holds_union(field.data_type) for field in fields):
-            return
-        rows = [tuple(without_maps(field.data_type, slot) for field, slot in zip(fields, row)) for row in table.rows]
-        for k, (field, spec) in enumerate(zip(fields, specs)):
-            slots = [row[k] for row in rows]
-            why = self.defined.why_not_fresh(field, spec, slots, random) if fits_column(field.data_type, slots) else None
-            if why is not None:
-                raise Disagreement("the column of %s that stores %s does not keep %s" % (field, slots, why))
-            self.counts["fresh columns that keep all"] += 1
-        if rows:
-            self.compare_rows(fields, rows[:-1], rows[-1], random)
+    def compare_big_endian(self, table, columns):
+        """Stored columns in the other byte order: a stream that says so and has their buffers reads as the rows."""
+        read = answer_of(arrow_reader.read, "stream", self.big_endian_stream(table, columns))
+        if read != table:
+            raise Disagreement("what stored columns are in big-endian bytes reads as %s instead of %s" % (read, table))
+        self.counts["stored columns' big-endian streams read alike"] += 1
 
-    def compare_rows(self, fields, rows, row, random):
-        """Which rows are accepted where some are open, and the columns of those."""
-        for pushed in (row, other_row(row, random)):
-            is_accepted = accepts(fields, rows, pushed)
-            if self.defined.accepts(fields, rows, pushed) != is_accepted:
-                raise Disagreement("%s is accepted otherwise than %s, under %s, where %s are open" % (pushed, is_accepted, fields, rows))
-            self.counts["rows %s alike" % ("accepted" if is_accepted else "not accepted")] += 1
-            columns = [list(column) for column in zip(*rows, pushed)]
-            if is_accepted and self.defined.defined_batch(fields, rows + [pushed]) != columns:
-                raise Disagreement("the rows %s and %s become other columns" % (rows, pushed))
-
-    def compare_full_dictionaries(self, random):
-        """Rows that bring a dictionary as many values as its keys tell apart, and one more."""
-        for fields, rows, pushed in full_dictionaries():
-            for row in pushed:
-                self.compare_rows(fields, rows, row, random)
+    def big_endian_stream(self, table, columns):
+        """A big-endian stream of one batch of stored columns, their dictionaries before it."""
+        specs, encoded = numbered(table.schema.fields), lambda column: self.defined.defined_stored_encoding(column, False)
+        out = head_of(SCHEMA, schema_tree(specs, table.schema.metadata, "big"), 0)
+        for number, values in dictionaries_of(specs, columns):
+            nodes, buffers = encoded(values)
+            places, body = placed(buffers)
+            out += head_of(DICTIONARY_BATCH, dictionary_tree(number, batch_tree(nodes[0][0], nodes, places)), len(body)) + body
+        parts = [encoded(column) for column in columns]
+        nodes, buffers = ([thing for part in parts for thing in part[k]] for k in (0, 1))
+        places, body = placed(buffers)
+        return out + head_of(RECORD_BATCH, batch_tree(len(table.rows), nodes, places), len(body)) + body + END_MARK
 
     def compare_misshaped(self, schema, specs, groups, random):
         """Nothing is written under ids of another shape than the fields."""
@@ -297,6 +298,40 @@ class Comparison:
             if self.defined.defined_writing(form, schema, other, groups) is not None:
                 raise Disagreement("a %s is written under ids of another shape: %s" % (form, other))
             self.counts["%ss refused alike" % form] += 1
+
+
+def head_of(tag, header, body_length):
+    """A message before its body."""
+    metadata = lay(message_tree(tag, header, body_length))
+    return b"\xff\xff\xff\xff" + len(metadata).to_bytes(4, "little") + metadata
+
+
+def placed(buffers):
+    """Where buffers stand that are laid one behind another, and their bytes."""
+    places, body = [], b""
+    for content in buffers:
+        places.append((len(body), len(content)))
+        body += content + bytes(-len(content) % 8)
+    return places, body
+
+
+def dictionaries_of(specs, columns):
+    """The ids and the stored values of the dictionaries of columns, those within values before them."""
+    for spec, column in zip(specs, columns):
+        if column[0] == "dictionary":
+            yield from dictionaries_of((spec._replace(number=None),), (column[4],))
+            yield spec.number, column[4]
+        elif column[0] in ("records", "unions"):
+            yield from dictionaries_of(spec.children, children_of(column[4]))
+        elif column[0] in ("lists", "fixed_lists"):
+            yield from dictionaries_of(spec.children, (column[4],))
+
+
+def children_of(columns):
+    """The columns of a struct or a union."""
+    while columns[0] == "column_then":
+        yield columns[1]
+        columns = columns[2]
 
 
 def misshaped(specs, random):
@@ -321,13 +356,6 @@ def with_other_cell(table, random):
     row[place] = random.choice(OTHER_CELLS)
     rows[at] = tuple(row)
     return table._replace(rows=rows)
-
-
-def holds_union(data_type):
-    """Whether a union stands anywhere in a type, whose values are not written from slots."""
-    while data_type[0] in ("Dictionary", "Extension"):
-        data_type = data_type[2]
-    return data_type[0] == "Union" or any(holds_union(child.data_type) for child in child_fields(data_type))
 
 
 def renumbered(specs, random):
@@ -360,7 +388,7 @@ def run(options):
     numbers = range(options.count) if options.case is None else [options.case]
     long = long_cases() if options.long else []
     if comparison.defined is not None:
-        comparison.compare_full_dictionaries(Random(options.seed))
+        comparison.agree(comparison.rows.compare_full_dictionaries())
     for number in range(len(long)) if long else numbers:
         case, is_damaged = (long[number], False) if long else made_case(options.seed, number, options.form)
         try:

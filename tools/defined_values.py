@@ -211,6 +211,7 @@ class Defined:
         self.default_ids, self.seal = find(GRAMMAR, "default_ids"), find(GRAMMAR, "sealed")
         self.batch = find(GRAMMAR, "batch_of_slots")
         self.encode, self.encode_stored = find(GRAMMAR, "encode"), find(GRAMMAR, "encode_stored")
+        self.union = find(GRAMMAR, "has_union")
         self.stream, self.file = find(GRAMMAR, "written_stream"), find(GRAMMAR, "written_file")
         self.stored_batch, self.stream_bytes = find(GRAMMAR, "batch_of_stored"), find(GRAMMAR, "stream_bytes")
         self.slots, self.cut, self.is_sound = find(ARRAYS, "slots"), find(ARRAYS, "cut"), find(ARRAYS, "is_sound")
@@ -333,9 +334,13 @@ class Defined:
         are_sound = called(self.is_sound, column) and called(self.is_sound, cut)
         return cut, are_sound, [values.value(slot) for slot in called(self.slots, cut)]
 
-    def defined_stored_encoding(self, column):
-        """The nodes and buffers of a stored column."""
-        return as_encoded(called(self.encode_stored, column))
+    def defined_stored_encoding(self, column, is_little_endian=True):
+        """The nodes and buffers of a stored column in a byte order."""
+        return as_encoded(called(self.encode_stored, is_little_endian, column))
+
+    def has_union(self, data_type):
+        """Whether the definitions find a union in a type."""
+        return called(self.union, self.terms.data_type(data_type))
 
     def defined_stored_stream(self, schema, specs, columns):
         """A stream of one batch of stored columns."""
@@ -359,7 +364,7 @@ class Defined:
             "the length": lambda: called(self.column_len, column) == count,
             "the slots": lambda: list(map(values.value, called(self.slots, column))) == slots,
             "soundness": lambda: called(self.is_sound, column),
-            "the encoding": lambda: same(called(self.encode_stored, column), called(self.encode, data_type, terms)),
+            "the encoding": lambda: same(called(self.encode_stored, True, column), called(self.encode, data_type, terms)),
             "the dictionaries": lambda: same(called(self.given_stored, ids, column), called(self.given_by, data_type, ids, terms)),
             "a cut": lambda: called(self.is_sound, cut) and list(map(values.value, called(self.slots, cut))) == slots[offset:],
         }

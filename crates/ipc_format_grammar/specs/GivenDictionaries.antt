@@ -80,7 +80,7 @@ abbrev mutual
   given_stored here (unions data_type type_ids offsets children) = given_each (ids_below here) children
   given_stored here (dictionary data_type mask keys values) =
       given_stored (ids None (ids_below here)) values
-      ++ record { id = id_or_0 (own_id here); data_type = column_type values; slots = slots values; column = encode_stored values } ∷ []
+      ++ record { id = id_or_0 (own_id here); data_type = column_type values; slots = slots values; column = encode_stored true values } ∷ []
 
   pub given_each : IdsList → Columns → List Given
   given_each below no_column = []

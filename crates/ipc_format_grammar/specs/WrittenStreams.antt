@@ -1,5 +1,5 @@
 -- Written streams (Arrow IPC, "IPC Streaming Format").
-use Rattle.std.specs.Prelude.{ℕ, ◌&&◌, List, [], ◌∷◌, ◌++◌, length, map, Option, Some}
+use Rattle.std.specs.Prelude.{ℕ, true, ◌&&◌, List, [], ◌∷◌, ◌++◌, length, map, Option, Some}
 use Rattle.std.specs.List.{flat_map, list_all}
 use Rattle.ipc_format_flatbuffers.specs.Reading.{◌>>=◌, guard}
 use Rattle.columnar_memory.specs.declared.Field.{Field}
@@ -53,7 +53,7 @@ rows_of_stored (column ∷ columns) = column_len column
 
 unfoldable pub batch_of_stored : IdsList → List Column → Batch
 batch_of_stored below columns =
-    record { rows = rows_of_stored columns; columns = map encode_stored columns; given = given_of_stored below columns }
+    record { rows = rows_of_stored columns; columns = map (encode_stored true) columns; given = given_of_stored below columns }
 
 -- ---- messages
 
