@@ -10,9 +10,11 @@ pub mod Distinct
 pub mod Fitting
 pub mod Folds
 pub mod FreshBelow
+pub mod FreshKeys
 pub mod FreshLengths
 pub mod Parts
 pub mod SameSlotsDecide
 pub mod SoundCuts
 pub mod SoundParts
+pub mod TypeLayers
 pub mod Windows
