@@ -1,3 +1,4 @@
+pub mod BuildableTypes
 pub mod Counts
 pub mod DefaultIds
 pub mod FlatColumns
