@@ -12,6 +12,8 @@ pub mod Folds
 pub mod FreshBelow
 pub mod FreshKeys
 pub mod FreshLengths
+pub mod FreshPlaces
+pub mod FreshSlots
 pub mod Parts
 pub mod SameSlotsDecide
 pub mod SoundCuts
