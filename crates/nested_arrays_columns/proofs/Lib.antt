@@ -14,6 +14,7 @@ pub mod FreshKeys
 pub mod FreshLengths
 pub mod FreshPlaces
 pub mod FreshSlots
+pub mod FreshTypes
 pub mod Parts
 pub mod SameSlotsDecide
 pub mod SoundCuts

@@ -35,7 +35,7 @@ is_buildable = para-DataType Bool Bool buildable_step (λ field. field.data_type
 
 -- it has the type, a slot for each, and these slots
 abbrev pub FreshTypes : Type 0
-FreshTypes = (data_type : DataType) (some : List Slot) → is_buildable data_type ≡ true → column_type (fresh data_type some) ≡ data_type
+FreshTypes = (data_type : DataType) (some : List Slot) → column_type (fresh data_type some) ≡ data_type
 
 abbrev pub FreshLengths : Type 0
 FreshLengths = (data_type : DataType) (some : List Slot) → is_buildable data_type ≡ true → fits data_type some ≡ true
