@@ -48,12 +48,14 @@ program:
 
 test:
 	$(PYTHON) tools/worked.py
+	$(PYTHON) tools/worked_writing.py
 	$(PYTHON) tools/compare.py --count 400 --seed 7
 	$(PYTHON) tools/streams.py check crates/tables_files/data crates/tables_files/stdout
 	$(RT) ci
 
 definitions:
 	$(PYTHON) tools/worked.py
+	$(PYTHON) tools/worked_writing.py
 	$(PYTHON) tools/compare.py --count $(COUNT) --seed $(SEED)
 
 bench: program bench-memory bench-flat bench-nested bench-metadata

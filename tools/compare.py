@@ -24,8 +24,9 @@ import arrow_reader
 from arrow_cases import Writer
 from arrow_damage import Damage
 from arrow_metadata import NOT_IMPLEMENTED, UNFINISHED
+from arrow_append import OldFile
 from arrow_rows import OTHER_CELLS, RowComparison
-from arrow_sealed import NotWritten, file_of, groups_of, schema_message, sealed, stream_of, why_not_sealable
+from arrow_sealed import NotWritten, file_of, groups_of, is_of_type, schema_message, sealed, stream_of, why_not_sealable
 from arrow_special import SMALL, long_cases
 from arrow_stored import StoredColumns
 from arrow_trees import (
@@ -102,6 +103,8 @@ class Comparison:
             self.compare_writing(read, random)
             self.compare_stored(read, random)
             self.agree(self.rows.compare_table(read, random))
+            if case.form == "file":
+                self.compare_append(case, read, random)
 
     def compare_with_case(self, case, is_damaged, read):
         """A sound input reads as what it was made of, or is refused where it passes a limit."""
@@ -193,9 +196,11 @@ class Comparison:
 
     def compare_seal(self, table, random):
         """A seal as both lay it; it reads back, by the reader and by the definitions."""
-        size, ours = random.randint(1, 4), None
+        size, ours = random.choice((1, 2, 3, 4, 1, 2, 3, 4, 0, 65536, 65537)), None
         if table.rows and random.random() < 0.2:
             table = with_other_cell(table, random)
+        elif table.rows and random.random() < 0.2:
+            table = with_other_width(table, random)
         if not why_not_sealable(table.schema.fields):
             try:
                 ours = sealed(table.schema, table.rows, size)
@@ -236,19 +241,38 @@ class Comparison:
         if any(unions):
             return
         specs = numbered(schema.fields) if random.random() < 0.7 else renumbered(numbered(schema.fields), random)
-        groups = groups_of(table.rows, random.randint(1, 6))
+        groups, is_fit = groups_of(table.rows, random.randint(1, 6)), True
         if random.random() < 0.1:
             return self.compare_misshaped(schema, specs, groups, random)
+        if groups and random.random() < 0.2:
+            place = random.randrange(len(groups))
+            groups[place] = with_other_cell(Table(schema, groups[place]), random).rows
+            is_fit = all(is_of_type(field.data_type, row[k]) for row in groups[place] for k, field in enumerate(schema.fields))
         for form, write in (("stream", stream_of), ("file", file_of)):
             try:
-                ours = write(specs, schema.metadata, groups)
-            except NotWritten as why:
-                if "values" in str(why):
-                    return
+                ours = write(specs, schema.metadata, groups) if is_fit else None
+            except NotWritten:
                 ours = None
             if self.defined.defined_writing(form, schema, specs, groups) != ours:
                 raise Disagreement("a %s is laid otherwise: %s %s" % (form, specs, groups))
             self.counts["%ss %s" % (form, "refused alike" if ours is None else "laid alike")] += 1
+            self.compare_run(form, schema, specs, groups, ours, random)
+
+    def compare_run(self, form, schema, specs, groups, ours, random):
+        """A run of a writer's calls stands for what is written of the chunks that are not refused; the others leave nothing."""
+        chunks, width = self.defined.slot_chunks(groups, len(schema.fields)), len(schema.fields)
+        chunks.insert(random.randint(0, len(chunks)), self.defined.terms.plain("slot_columns", [[]] * (width + 1)))
+        found = self.defined.defined_run(form, schema, specs, chunks)
+        if found is None:
+            raise Disagreement("a run of calls is refused at its start: %s" % (specs,))
+        bars, messages = found
+        taken = [chunk for chunk, bar in zip(chunks, bars) if bar is None]
+        if ours is not None and bars.count(None) != len(groups) or "another_schema" not in bars:
+            raise Disagreement("a run of calls of a %s is refused otherwise: %s" % (form, bars))
+        written = self.defined.defined_written(form, schema, specs, taken)
+        if written is None or not written.startswith((b"" if form == "stream" else b"ARROW1\0\0") + messages + END_MARK):
+            raise Disagreement("a run of calls of a %s has other messages than what it writes" % form)
+        self.counts["runs of calls alike"] += 1
 
     def compare_stored(self, table, random):
         """Stored columns of the rows, cut out of longer ones: the cut has the rows, and is written as a stream that reads as them."""
@@ -265,11 +289,80 @@ class Comparison:
             columns.append(cut)
         self.counts["stored columns cut alike"] += len(columns)
         self.compare_big_endian(table, columns)
+        self.compare_misfits(table, columns, random)
         content = self.defined.defined_stored_stream(table.schema, numbered(table.schema.fields), columns)
-        read = answer_of(arrow_reader.read, "stream", content)
+        read = None if content is None else answer_of(arrow_reader.read, "stream", content)
         if read != table:
             raise Disagreement("what stored columns are written as reads as %s instead of %s" % (read, table))
         self.counts["stored columns' streams read alike"] += 1
+
+    def compare_misfits(self, table, columns, random):
+        """Stored columns of another number, of another length, or in other places are not written, save where their types are the same."""
+        schema, specs, made = table.schema, numbered(table.schema.fields), StoredColumns(random, self.defined.terms)
+        place = random.randrange(len(columns))
+        longer = made.column(schema.fields[place].data_type, [row[place] for row in table.rows[:1] + table.rows])
+        others = {
+            "a column less": columns[:place] + columns[place + 1 :],
+            "a column more": columns + [columns[place]],
+            "a longer column": columns[:place] + [longer] + columns[place + 1 :] if len(columns) > 1 else None,
+            "another order": columns[1:] + columns[:1] if schema.fields[0].data_type != schema.fields[-1].data_type else None,
+        }
+        for form in ("stream", "file"):
+            for name, other in others.items():
+                if other is not None:
+                    if self.defined.defined_written(form, schema, specs, [self.defined.stored_chunk(other)]) is not None:
+                        raise Disagreement("a %s is written of %s: %s" % (form, name, schema))
+                    self.counts["misfitting batches refused"] += 1
+
+    def compare_append(self, case, table, random):
+        """Rows that are appended to a file: the bytes as both lay them, and what is read of them."""
+        old, content = OldFile(case.content), case.content
+        if self.defined.defined_append_bar(old.is_little_endian, content) != old.bar():
+            raise Disagreement("a file is barred from being appended to otherwise: %s" % old.bar())
+        if old.bar() is not None and self.defined.defined_appended(content, []) is not None:
+            raise Disagreement("something is appended to a file in spite of %s" % old.bar())
+        if old.bar() is not None:
+            self.counts["files barred alike: %s" % old.bar()] += 1
+            return
+        groups = [[random.choice(table.rows) for _ in range(random.randint(1, 3))] for _ in range(random.randint(0, 2) if table.rows else 0)]
+        whole = answer_of(arrow_reader.read, "file", old.with_other_tail()) == table
+        if not any(holds_union(field.data_type) for field in table.schema.fields):
+            self.compare_appended_slots(old, table, groups, whole)
+        made = StoredColumns(random, self.defined.terms, list(old.dictionaries().values()))
+        chunks = [
+            self.defined.stored_chunk([made.column(field.data_type, [row[k] for row in rows]) for k, field in enumerate(table.schema.fields)])
+            for rows in groups
+        ]
+        found = self.defined.defined_appended(content, chunks)
+        if found is None and not any(spec.number is not None for spec in all_specs(old.specs)):
+            raise Disagreement("stored columns are not appended: %s" % (table.schema,))
+        self.compare_joined(old, table, groups, found, whole)
+        self.counts["stored columns %s to files" % ("not appended" if found is None else "appended")] += 1
+
+    def compare_appended_slots(self, old, table, groups, whole):
+        """Rows from their slots."""
+        try:
+            ours = old.appended(groups)
+        except NotWritten:
+            ours = None
+        found = self.defined.defined_appended(old.content, self.defined.slot_chunks(groups, len(table.schema.fields)))
+        if found != ours:
+            raise Disagreement("rows are appended otherwise: %s" % (groups,))
+        self.compare_joined(old, table, groups, found, whole)
+        self.counts["files %s alike" % ("not appended to" if ours is None else "appended to")] += 1
+
+    def compare_joined(self, old, table, groups, found, whole):
+        """Where nothing of the file is read behind its last block, the new file reads as the old table joined with the rows."""
+        if found is None or not whole:
+            return
+        if len(found) < len(old.content):
+            raise Disagreement("a file to which rows were appended is shorter than before")
+        joined = table._replace(rows=table.rows + [row for rows in groups for row in rows])
+        for read in (arrow_reader.read, self.defined.defined_table):
+            answer = answer_of(read, "file", found)
+            if answer != joined:
+                raise Disagreement("a file to which rows were appended reads as\n%s\ninstead of\n%s" % (answer, joined))
+        self.counts["files appended to read as joined"] += 1
 
     def compare_big_endian(self, table, columns):
         """Stored columns in the other byte order: a stream that says so and has their buffers reads as the rows."""
@@ -349,12 +442,26 @@ def misshaped(specs, random):
     return specs[:place] + (spec,) + specs[place + 1 :]
 
 
+def all_specs(specs):
+    """Specs, and those below them."""
+    for spec in specs:
+        yield spec
+        yield from all_specs(spec.children)
+
+
 def with_other_cell(table, random):
     """A table with another value in one place."""
     rows, at = list(table.rows), random.randrange(len(table.rows))
     row, place = list(rows[at]), random.randrange(len(rows[at]))
     row[place] = random.choice(OTHER_CELLS)
     rows[at] = tuple(row)
+    return table._replace(rows=rows)
+
+
+def with_other_width(table, random):
+    """A table with a row that has a value less or more."""
+    rows, at = list(table.rows), random.randrange(len(table.rows))
+    rows[at] = rows[at][:-1] if random.random() < 0.5 else rows[at] + (None,)
     return table._replace(rows=rows)
 
 

@@ -209,11 +209,13 @@ class Defined:
         self.first_batches, self.behind_messages = find(GRAMMAR, "first_batches"), find(GRAMMAR, "behind_messages")
         self.laid, self.schema_message = find(FLATBUFFERS, "laid"), find(GRAMMAR, "schema_message")
         self.default_ids, self.seal = find(GRAMMAR, "default_ids"), find(GRAMMAR, "sealed")
-        self.batch = find(GRAMMAR, "batch_of_slots")
+        self.belongs, self.base, self.appended = (find(GRAMMAR, name) for name in ("belongs", "base_of", "appended"))
+        self.append_bar, self.write_bar = find(GRAMMAR, "append_bar"), find(GRAMMAR, "write_bar")
+        self.start, self.writes = find(GRAMMAR, "after_start"), find(GRAMMAR, "after_writes")
+        self.ids_fit, self.footer, self.message_bytes = (find(GRAMMAR, name) for name in ("ids_fit_fields", "footer_in", "bytes_of_messages"))
         self.encode, self.encode_stored = find(GRAMMAR, "encode"), find(GRAMMAR, "encode_stored")
         self.union = find(GRAMMAR, "has_union")
         self.stream, self.file = find(GRAMMAR, "written_stream"), find(GRAMMAR, "written_file")
-        self.stored_batch, self.stream_bytes = find(GRAMMAR, "batch_of_stored"), find(GRAMMAR, "stream_bytes")
         self.slots, self.cut, self.is_sound = find(ARRAYS, "slots"), find(ARRAYS, "cut"), find(ARRAYS, "is_sound")
         self.fresh, self.fits, self.is_buildable = find(ARRAYS, "fresh"), find(ARRAYS, "fits"), find(ARRAYS, "is_buildable")
         self.is_accepted, self.batch_of_rows = find(ARRAYS, "is_accepted"), find(ARRAYS, "batch_of_rows")
@@ -316,15 +318,48 @@ class Defined:
         """The seal of rows in groups, or None."""
         return as_text(called(self.seal, self.terms.schema(schema), self.terms.rows(rows), size))
 
+    def slot_chunks(self, groups, width):
+        """Groups of rows as a writer is given them, column by column."""
+        return [
+            self.terms.plain("slot_columns", [[self.terms.slot(row[place]) for row in rows] for place in range(width)])
+            for rows in groups
+        ]
+
+    def stored_chunk(self, columns):
+        """Stored columns as a writer is given them."""
+        return self.terms.plain("stored_columns", columns)
+
+    def defined_written(self, form, schema, specs, chunks):
+        """A stream or a file of chunks, or None."""
+        write = self.stream if form == "stream" else self.file
+        return as_text(called(write, self.terms.schema(schema), self.terms.ids(specs), chunks))
+
     def defined_writing(self, form, schema, specs, groups):
         """A stream or a file of groups of rows, or None."""
-        ids, fields = self.terms.ids(specs), self.terms.fields(schema.fields)
-        batches = []
-        for rows in groups:
-            columns = [[self.terms.slot(row[place]) for row in rows] for place in range(len(fields))]
-            batches.append(called(self.batch, fields, ids, columns))
-        write = self.stream if form == "stream" else self.file
-        return as_text(called(write, self.terms.schema(schema), ids, batches))
+        return self.defined_written(form, schema, specs, self.slot_chunks(groups, len(schema.fields)))
+
+    def defined_run(self, form, schema, specs, chunks):
+        """Of a run of calls of a writer: which chunks are refused, and the bytes of its messages; None where start is refused."""
+        form, schema, ids = self.forms[form], self.terms.schema(schema), self.terms.ids(specs)
+        started, bars = called(self.start, schema, ids), []
+        if started is None:
+            return None
+        run = started[0]
+        for chunk in chunks:
+            bar = called(self.write_bar, form, schema, ids, run.f_told, chunk)
+            bars.append(None if bar is None else str(bar[0][0]))
+            run = called(self.writes, form, schema, ids, run, [chunk])
+        return bars, bytes(called(self.message_bytes, run.f_messages))
+
+    def defined_appended(self, content, chunks):
+        """A file with chunks appended, or None."""
+        return as_text(called(self.appended, content, chunks))
+
+    def defined_append_bar(self, is_little_endian, content):
+        """Why nothing may be appended to a file with a footer, or None."""
+        footer = called(self.footer, content)[0]
+        bar = called(self.append_bar, is_little_endian, len(content), footer.f_dictionaries, footer.f_record_batches)
+        return None if bar is None else str(bar[0][0])
 
     # ---- stored columns
 
@@ -343,10 +378,8 @@ class Defined:
         return called(self.union, self.terms.data_type(data_type))
 
     def defined_stored_stream(self, schema, specs, columns):
-        """A stream of one batch of stored columns."""
-        ids = self.terms.ids(specs)
-        batch = called(self.stored_batch, ids, columns)
-        return bytes(called(self.stream_bytes, self.terms.schema(schema), ids, [batch]))
+        """A stream of one batch of stored columns, or None."""
+        return self.defined_written("stream", schema, specs, [self.stored_chunk(columns)])
 
     # ---- fresh columns and rows
 

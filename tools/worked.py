@@ -529,10 +529,10 @@ def shown(value):
     return repr(value)
 
 
-def run():
+def run(worked=WORKED):
     """Finds the values one after another, up to the first that is not as expected; answers the exit status."""
     defined, count = Defined(), 0
-    for values in WORKED:
+    for values in worked:
         for name, found, expected in values(defined):
             if found != expected:
                 print("%s: gives\n%s\nexpected is\n%s" % (name, shown(found), shown(expected)))

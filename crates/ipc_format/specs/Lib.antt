@@ -25,6 +25,8 @@ pub use Rattle.ipc_format_grammar.specs.GivenDictionaries
 pub use Rattle.ipc_format_grammar.specs.WrittenMessages
 pub use Rattle.ipc_format_grammar.specs.WrittenStreams
 pub use Rattle.ipc_format_grammar.specs.WrittenFiles
+pub use Rattle.ipc_format_grammar.specs.WriterRuns
+pub use Rattle.ipc_format_grammar.specs.AppendedFiles
 pub use Rattle.ipc_format_grammar.specs.Seals
 pub use Rattle.ipc_format_messages.specs.MessageSlots
 pub use Rattle.ipc_format_messages.specs.MessageViews

@@ -23,4 +23,6 @@ pub mod GivenDictionaries
 pub mod WrittenMessages
 pub mod WrittenStreams
 pub mod WrittenFiles
+pub mod WriterRuns
+pub mod AppendedFiles
 pub mod Seals
