@@ -3,7 +3,7 @@
 Written from the public formats and the profile of this project, apart from the definitions of `specs/`.
 """
 
-from arrow_sealed import distinct, fits_cell
+from arrow_sealed import distinct, is_of_type
 from arrow_trees import numbered
 from arrow_types import INTEGERS, Field, child_fields, holds_union, kind_of, storage_of
 
@@ -68,7 +68,12 @@ def keys_reach(data_type, slots):
 
 def fits_column(data_type, slots):
     """Whether slots fit a column of a type together; no column here is long enough to pass a limit of lengths and offsets."""
-    return all(fits_cell(data_type, slot) and is_in_range(data_type, slot) for slot in slots) and keys_reach(data_type, slots)
+    return all(takes(data_type, slot) for slot in slots) and keys_reach(data_type, slots)
+
+
+def takes(data_type, slot):
+    """Whether a type takes a value by itself: no map is taken."""
+    return is_of_type(data_type, slot) and is_in_range(data_type, slot) and without_maps(data_type, slot) == slot
 
 
 def accepts(fields, rows, row):
