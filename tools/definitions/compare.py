@@ -27,13 +27,14 @@ from arrow_cases import Writer
 from arrow_damage import Damage
 from arrow_metadata import NOT_IMPLEMENTED, UNFINISHED
 from arrow_append import OldFile
+from arrow_rows import OTHER_CELLS, RowComparison
 from arrow_sealed import NotWritten, file_of, groups_of, is_of_type, schema_message, sealed, stream_of, why_not_sealable
 from arrow_special import SMALL, long_cases
 from arrow_stored import StoredColumns
 from arrow_trees import (
     DICTIONARY_BATCH, RECORD_BATCH, SCHEMA, Spec, batch_tree, dictionary_tree, message_tree, numbered, schema_tree,
 )
-from arrow_types import Schema, Table, child_fields
+from arrow_types import Schema, Table, child_fields, holds_union
 from defined_values import MOST_TRIED, Defined
 from definitions import TOP, deeply
 from laying import lay
@@ -79,6 +80,12 @@ class Comparison:
 
     def __init__(self, defined):
         self.defined, self.counts, self.reasons, self.types = defined, Counter(), Counter(), Counter()
+        self.rows = RowComparison(defined, self.counts)
+
+    def agree(self, why_not):
+        """Stops at what two answers differ in."""
+        if why_not is not None:
+            raise Disagreement(why_not)
 
     def compare(self, case, is_damaged, random):
         read = answer_of(arrow_reader.read, case.form, case.content)
@@ -97,6 +104,7 @@ class Comparison:
             self.compare_seal(read, random)
             self.compare_writing(read, random)
             self.compare_stored(read, random)
+            self.agree(self.rows.compare_table(read, random))
             if case.form == "file":
                 self.compare_append(case, read, random)
 
@@ -443,13 +451,6 @@ def all_specs(specs):
         yield from all_specs(spec.children)
 
 
-# Values of several types, most of which do not fit a column.
-OTHER_CELLS = (
-    True, ("number", "Int32", 1), ("number", "Int64", 1), ("pair", "DaysMs", 1, 2), ("text", b"a"), ("bytes", b"abc"),
-    ("items", ()), ("items", (None,)), ("items", (None, None)), ("fields", ()), ("fields", (None,)), ("fields", (None, None)), None,
-)
-
-
 def with_other_cell(table, random):
     """A table with another value in one place."""
     rows, at = list(table.rows), random.randrange(len(table.rows))
@@ -464,13 +465,6 @@ def with_other_width(table, random):
     rows, at = list(table.rows), random.randrange(len(table.rows))
     rows[at] = rows[at][:-1] if random.random() < 0.5 else rows[at] + (None,)
     return table._replace(rows=rows)
-
-
-def holds_union(data_type):
-    """Whether a union stands anywhere in a type, whose values are not written from slots."""
-    while data_type[0] in ("Dictionary", "Extension"):
-        data_type = data_type[2]
-    return data_type[0] == "Union" or any(holds_union(child.data_type) for child in child_fields(data_type))
 
 
 def renumbered(specs, random):
@@ -502,6 +496,8 @@ def run(options):
     comparison, start = Comparison(None if options.alone else Defined()), time.perf_counter()
     numbers = range(options.count) if options.case is None else [options.case]
     long = long_cases() if options.long else []
+    if comparison.defined is not None:
+        comparison.agree(comparison.rows.compare_full_dictionaries())
     for number in range(len(long)) if long else numbers:
         case, is_damaged = (long[number], False) if long else made_case(options.seed, number, options.form)
         try:

@@ -158,6 +158,24 @@ class Terms:
             out = self.plain("slot_then", self.slot(value), out)
         return out
 
+    def cell(self, value):
+        """The cell of a value."""
+        if value is None:
+            return self.plain("null_cell")
+        if isinstance(value, bool):
+            return self.plain("boolean_cell", value)
+        name = value[0]
+        if name == "number":
+            return self.plain("whole_cell", self.plain(value[1]), value[2])
+        if name in ("pair", "triple"):
+            return self.plain("days_ms_cell" if name == "pair" else "months_days_ns_cell", *value[2:])
+        if name in ("text", "bytes"):
+            return self.plain(name + "_cell", value[1])
+        cells = self.plain("no_cell")
+        for part in reversed(value[1]):
+            cells = self.plain("cell_then", self.cell(part), cells)
+        return self.plain("list_cell" if name == "items" else "record_cell", cells)
+
     def rows(self, rows):
         return [[self.slot(value) for value in row] for row in rows]
 
@@ -199,6 +217,10 @@ class Defined:
         self.union = find(GRAMMAR, "has_union")
         self.stream, self.file = find(GRAMMAR, "written_stream"), find(GRAMMAR, "written_file")
         self.slots, self.cut, self.is_sound = find(ARRAYS, "slots"), find(ARRAYS, "cut"), find(ARRAYS, "is_sound")
+        self.fresh, self.fits, self.is_buildable = find(ARRAYS, "fresh"), find(ARRAYS, "fits"), find(ARRAYS, "is_buildable")
+        self.is_accepted, self.batch_of_rows = find(ARRAYS, "is_accepted"), find(ARRAYS, "batch_of_rows")
+        self.column_len, self.column_type = find(ARRAYS, "column_len"), find(ARRAYS, "column_type")
+        self.given_by, self.given_stored = find(GRAMMAR, "given_by"), find(GRAMMAR, "given_stored")
 
     # ---- reading
 
@@ -358,3 +380,38 @@ class Defined:
     def defined_stored_stream(self, schema, specs, columns):
         """A stream of one batch of stored columns, or None."""
         return self.defined_written("stream", schema, specs, [self.stored_chunk(columns)])
+
+    # ---- fresh columns and rows
+
+    def why_not_fresh(self, field, spec, slots, random):
+        """What a column that stores some slots, which fit, does not keep of them, or None."""
+        data_type, terms = self.terms.data_type(field.data_type), list(map(self.terms.slot, slots))
+        ids, values = self.terms.ids((spec,))[1], Slots()
+        if not called(self.is_buildable, data_type) or not called(self.fits, data_type, terms):
+            return "the slots do not fit"
+        column, count = called(self.fresh, data_type, terms), len(slots)
+        offset = random.randint(0, count)
+        cut = called(self.cut, column, offset, count - offset)
+        kept = {
+            "the type": lambda: same(called(self.column_type, column), data_type),
+            "the length": lambda: called(self.column_len, column) == count,
+            "the slots": lambda: list(map(values.value, called(self.slots, column))) == slots,
+            "soundness": lambda: called(self.is_sound, column),
+            "the encoding": lambda: same(called(self.encode_stored, True, column), called(self.encode, data_type, terms)),
+            "the dictionaries": lambda: same(called(self.given_stored, ids, column), called(self.given_by, data_type, ids, terms)),
+            "a cut": lambda: called(self.is_sound, cut) and list(map(values.value, called(self.slots, cut))) == slots[offset:],
+        }
+        return next((name for name, is_kept in kept.items() if not is_kept()), None)
+
+    def fits_column(self, data_type, slots):
+        return called(self.fits, self.terms.data_type(data_type), list(map(self.terms.slot, slots)))
+
+    def accepts(self, fields, rows, row):
+        """Whether a row of cells is accepted where some rows are open."""
+        return called(self.is_accepted, self.terms.fields(fields), self.terms.rows(rows), list(map(self.terms.cell, row)))
+
+    def defined_batch(self, fields, rows):
+        """The values of the columns that a batch of open rows becomes."""
+        values = Slots()
+        columns = called(self.batch_of_rows, self.terms.fields(fields), self.terms.rows(rows))
+        return [list(map(values.value, called(self.slots, column))) for column in columns]

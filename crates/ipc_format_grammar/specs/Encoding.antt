@@ -8,9 +8,9 @@ use Rattle.columnar_memory.specs.declared.DataType.TheOpen as layer
 use Rattle.columnar_memory.specs.declared.DataType.TheFolds.{fold-DataType}
 use Rattle.columnar_memory.specs.declared.IntegerType.{IntegerType}
 use Rattle.columnar_memory.specs.declared.PrimitiveType.{PrimitiveType}
-use Rattle.nested_arrays_columns.specs.Slots.{Slot, null}
-use Rattle.nested_arrays_columns.specs.SameSlots.{place_among}
+use Rattle.nested_arrays_columns.specs.Slots.{Slot}
 use Rattle.nested_arrays_columns.specs.Children.{items_of, joined_items, joined_fixed_items, field_slots, dictionary_values}
+pub use Rattle.nested_arrays_columns.specs.FreshColumns.{key_among}
 use Rattle.ipc_format_grammar.specs.Layouts.{kind_of}
 use Rattle.ipc_format_grammar.specs.Buffers.{validity_bytes, bitmap_of, null_count, is_true, kind_bytes, key_width, content_of}
 use Rattle.ipc_format_grammar.specs.Buffers.{fixed_content_of, offset_bytes}
@@ -61,11 +61,6 @@ list_column w item slots =
 abbrev pub field_columns : List Encoder → List Slot → ℕ → List Encoded
 field_columns [] slots k = []
 field_columns (field ∷ fields) slots k = field (field_slots slots k) ∷ field_columns fields slots (suc k)
-
--- a slot's key: its place among the values, and 0 under a null
-abbrev pub key_among : List Slot → Slot → ℕ
-key_among values null = 0
-key_among values slot = place_among slot values
 
 abbrev pub dictionary_column : IntegerType → Encoder
 dictionary_column key slots = values_column (λ slot. to_le_bytes (key_width key) (key_among (dictionary_values slots) slot)) slots
