@@ -7,7 +7,10 @@ files, and stored columns in both byte orders.
 As in `worked.py`, each value has a name and an expectation that is written out by hand.
 """
 
+import os
 import sys
+
+sys.path += [os.path.join(os.path.dirname(os.path.dirname(os.path.abspath(__file__))), it) for it in ("reader", "writer")]
 
 from arrow_trees import Spec, numbered
 from arrow_types import NAME_KEY, Field
