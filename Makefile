@@ -1,4 +1,5 @@
-# make demo    builds the proved program as bin/tables and cuts the samples with it
+# make demo    cuts the samples with the program as it stands, compiled with run-time checks and not proved, within a minute
+# make program proves the program and all below it, builds it as bin/tables and cuts the samples with it
 # make test    the whole gate: every proof from nothing, each test, each program, the must-fail edits;
 #              with MINUTES=n it ends after n minutes, and names what it skipped
 # make bench   measures bin/tables against cp and plain Rust on a stream of about 250 MB, and on a tenth of it, after the four below
@@ -16,51 +17,46 @@ BENCHES = crates/benches
 .PHONY: demo test bench bench-memory bench-flat bench-nested bench-metadata definitions clean
 .PHONY: program benches
 
+# The worked values of the definitions.
+WORKED = $(sort $(wildcard tools/definitions/worked*.py))
+
 # How many inputs `make definitions` compares, and from which seed.
 COUNT ?= 20000
 SEED ?= 1
 
-demo: program
-	@echo
-	$(PYTHON) tools/streams.py show samples/steps.stream
-	bin/tables cut 3 4 samples/steps.stream bin/cut.stream
-	$(PYTHON) tools/streams.py show bin/cut.stream
-	@echo
-	bin/tables cut 0 2 samples/example.stream bin/same.stream
-	cmp samples/example.stream bin/same.stream
-	bin/tables cut 1 1 samples/example.stream bin/null.stream
-	od -A d -t x1 bin/null.stream
-	@echo
-	@echo "A range outside the rows is refused:"
-	bin/tables cut 8 5 samples/usual.stream bin/none.stream; test $$? -eq 2 && test ! -e bin/none.stream
+demo:
+	$(PYTHON) tools/demo.py try $(RT)
 
 # A program is built only once it and all below it are proved. It is then run without words, and
 # its status is 3.
+program: BEGUN := $(shell date +%s)
 program:
 	@mkdir -p bin
-	@rm -f bin/tables $(PROGRAM)/out/tables_program bin/none.stream
+	@rm -f bin/tables $(PROGRAM)/out/tables_program
 	@echo "proving and building $(PROGRAM); bin/build.log says how far it is"
 	@cd $(PROGRAM) && { $(RT) run > ../../bin/build.log 2>&1; test $$? -eq 3; } \
 		|| { tail -n 20 ../../bin/build.log; exit 1; }
 	cp $(PROGRAM)/out/tables_program bin/tables
+	@echo "proved and built in $$(( ($$(date +%s) - $(BEGUN) + 59) / 60 )) minutes"
+	$(PYTHON) tools/demo.py run bin/tables
 
 test: STARTED := $(shell date +%s)
 test:
 	$(PYTHON) tools/gate.py --selftest
-	$(PYTHON) tools/worked.py
-	$(PYTHON) tools/compare.py --count 400 --seed 7
-	$(PYTHON) tools/streams.py check crates/tables_files/data crates/tables_files/stdout
+	@for it in $(WORKED); do echo "$(PYTHON) $$it"; $(PYTHON) $$it || exit 1; done
+	$(PYTHON) tools/definitions/compare.py --count 400 --seed 7
+	$(PYTHON) tools/writer/streams.py check crates/tables_files/data crates/tables_files/stdout
 	$(PYTHON) tools/gate.py --started $(STARTED) $(if $(MINUTES),--minutes $(MINUTES)) $(RT)
 
 definitions:
-	$(PYTHON) tools/worked.py
-	$(PYTHON) tools/compare.py --count $(COUNT) --seed $(SEED)
+	@for it in $(WORKED); do echo "$(PYTHON) $$it"; $(PYTHON) $$it || exit 1; done
+	$(PYTHON) tools/definitions/compare.py --count $(COUNT) --seed $(SEED)
 
 bench: program bench-memory bench-flat bench-nested bench-metadata
-	$(PYTHON) tools/bench.py cut bin/tables bin
+	$(PYTHON) tools/benches/bench.py cut bin/tables bin
 
 bench-memory bench-flat bench-nested bench-metadata: bench-%: benches
-	$(PYTHON) tools/bench.py $* bin/benches bin
+	$(PYTHON) tools/benches/bench.py $* bin/benches bin
 
 benches:
 	@mkdir -p bin

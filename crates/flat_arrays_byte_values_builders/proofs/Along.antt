@@ -8,7 +8,7 @@ use Rattle.std.specs.Iterator.{Yields}
 use Rattle.std.specs.Iterator.Runs.{WholeRun}
 use Rattle.flat_arrays_bytes.specs.columnar_memory.Growth.{IsGrowthFault}
 use Rattle.flat_arrays_bytes.specs.columnar_memory.Spans.{last_of}
-use Rattle.flat_arrays_bytes.specs.columnar_memory.declared.error.Error.{Error}
+use Rattle.flat_arrays_bytes.specs.columnar_memory.declared.Error.{Error}
 use Rattle.flat_arrays_bytes.specs.ByteStrings.{ByteStrings}
 use Rattle.flat_arrays_byte_values_builders.specs.Growing.{with_slot, with_slots}
 

@@ -9,9 +9,9 @@ use Rattle.flat_arrays_bytes.specs.columnar_memory.Error.{IsOutOfMemory, IsOverf
 use Rattle.flat_arrays_bytes.specs.columnar_memory.Growth.{IsGrowthFault}
 use Rattle.flat_arrays_bytes.specs.columnar_memory.Spans.{last_of}
 use Rattle.flat_arrays_bytes.proofs.columnar_memory_lemmas.buffer_lemmas.Runs.{last_of-extended, sum-cons}
-use Rattle.flat_arrays_bytes.specs.columnar_memory.declared.error.Error.{Error}
-use Rattle.flat_arrays_bytes.specs.columnar_memory.declared.error.Error.TheVariants.{NotYetImplemented, InvalidArgumentError, ExternalFormat, OutOfSpec}
-use Rattle.flat_arrays_bytes.specs.columnar_memory.declared.error.Error.TheVariants.{External, Io, Overflow, OutOfMemory}
+use Rattle.flat_arrays_bytes.specs.columnar_memory.declared.Error.{Error}
+use Rattle.flat_arrays_bytes.specs.columnar_memory.declared.Error.TheVariants.{NotYetImplemented, InvalidArgumentError, ExternalFormat, OutOfSpec}
+use Rattle.flat_arrays_bytes.specs.columnar_memory.declared.Error.TheVariants.{External, Io, Overflow, OutOfMemory}
 use Rattle.flat_arrays_bytes.specs.ByteStrings.{ByteStrings}
 use Rattle.flat_arrays_byte_values_builders.proofs.Along.{item_added}
 use Rattle.flat_arrays_byte_values_builders.specs.Growing.{GathersAlong, IsGathered, with_slot, with_slots}

@@ -10,8 +10,8 @@ use Rattle.flat_arrays_bytes.proofs.columnar_memory_lemmas.buffer_lemmas.Runs.{f
 use Rattle.flat_arrays_bytes.specs.columnar_memory.Bits.{unset_count}
 use Rattle.flat_arrays_bytes.specs.columnar_memory.Growth.{IsGrowthFault}
 use Rattle.flat_arrays_bytes.specs.columnar_memory.Spans.{Spans, extended, first_spans, last_of, offset_at, shortened}
-use Rattle.flat_arrays_bytes.specs.columnar_memory.declared.error.Error.{Error}
-use Rattle.flat_arrays_bytes.specs.columnar_memory.declared.kinds.PhysicalType.{PhysicalType}
+use Rattle.flat_arrays_bytes.specs.columnar_memory.declared.Error.{Error}
+use Rattle.flat_arrays_bytes.specs.columnar_memory.declared.PhysicalType.{PhysicalType}
 use Rattle.flat_arrays_bytes.proofs.Cuts.{slots_of-cut, values_of-cut}
 use Rattle.flat_arrays_bytes.proofs.Ranges.{range_all, range_last}
 use Rattle.flat_arrays_bytes.proofs.Slots.{length_slots, length_values}

@@ -5,8 +5,8 @@ use Rattle.std.proofs.lemmas.Option.{get_or_from_slice_get}
 use Rattle.std.specs.Prelude.{Bool, true, false, Option, Some, None, map, Result, Ok, Err, replicate, slice_get, take}
 use Rattle.std.specs.List.{zip}
 use Rattle.std.specs.Str.{IsUtf8}
-use Rattle.flat_arrays_bytes.specs.columnar_memory.declared.error.Error.{Error}
-use Rattle.flat_arrays_bytes.specs.columnar_memory.declared.kinds.PhysicalType.{PhysicalType}
+use Rattle.flat_arrays_bytes.specs.columnar_memory.declared.Error.{Error}
+use Rattle.flat_arrays_bytes.specs.columnar_memory.declared.PhysicalType.{PhysicalType}
 use Rattle.flat_arrays_bytes.specs.columnar_memory.Layouts.{physical_type}
 use Rattle.flat_arrays_bytes.proofs.Cuts.{AllTexts-cut}
 use Rattle.flat_arrays_bytes.proofs.Slots.{none_unset}

@@ -9,9 +9,9 @@ use Rattle.flat_arrays_bytes.specs.columnar_memory.Error.{IsOutOfMemory}
 use Rattle.flat_arrays_bytes.specs.columnar_memory.Growth as offsets
 use Rattle.flat_arrays_bytes.specs.columnar_memory.Growth.{IsGrowthFault}
 use Rattle.flat_arrays_bytes.specs.columnar_memory.Spans.{Spans}
-use Rattle.flat_arrays_bytes.specs.columnar_memory.declared.error.Error.{Error}
-use Rattle.flat_arrays_bytes.specs.columnar_memory.declared.error.Error.TheVariants.{NotYetImplemented, InvalidArgumentError, ExternalFormat, OutOfSpec}
-use Rattle.flat_arrays_bytes.specs.columnar_memory.declared.error.Error.TheVariants.{External, Io, Overflow, OutOfMemory}
+use Rattle.flat_arrays_bytes.specs.columnar_memory.declared.Error.{Error}
+use Rattle.flat_arrays_bytes.specs.columnar_memory.declared.Error.TheVariants.{NotYetImplemented, InvalidArgumentError, ExternalFormat, OutOfSpec}
+use Rattle.flat_arrays_bytes.specs.columnar_memory.declared.Error.TheVariants.{External, Io, Overflow, OutOfMemory}
 use Rattle.flat_arrays_bytes.specs.ByteStrings.{ByteStrings, byte_strings, cut_mask, marks}
 use Rattle.flat_arrays_bytes.specs.Fits.{IsMaskOf}
 use Rattle.flat_arrays_bytes.specs.values.Growth.{with_marks}

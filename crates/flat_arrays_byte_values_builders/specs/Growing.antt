@@ -8,8 +8,8 @@ use Rattle.flat_arrays_bytes.specs.columnar_memory.Error.{IsOutOfMemory, IsOutOf
 use Rattle.flat_arrays_bytes.specs.columnar_memory.Growth.{IsGrowthFault}
 use Rattle.flat_arrays_bytes.specs.columnar_memory.Layouts.{physical_type}
 use Rattle.flat_arrays_bytes.specs.columnar_memory.Spans.{extended, first_spans, last_of, offset_at}
-use Rattle.flat_arrays_bytes.specs.columnar_memory.declared.error.Error.{Error}
-use Rattle.flat_arrays_bytes.specs.columnar_memory.declared.kinds.PhysicalType.{PhysicalType}
+use Rattle.flat_arrays_bytes.specs.columnar_memory.declared.Error.{Error}
+use Rattle.flat_arrays_bytes.specs.columnar_memory.declared.PhysicalType.{PhysicalType}
 use Rattle.flat_arrays_bytes.specs.ByteStrings.{ByteStrings, byte_strings, len_of, marks_of, slots_of}
 use Rattle.flat_arrays_bytes.specs.Fits.{IsMaskOf}
 use Rattle.flat_arrays_bytes.specs.values.Growth.{with_marks}

@@ -8,7 +8,7 @@ use Rattle.flat_arrays_values.specs.columnar_memory.Window.{window}
 use Rattle.flat_arrays_values.proofs.columnar_memory_lemmas.buffer_lemmas.Runs.{sum-cons, offset_at-all, offset_at-le-last_of}
 use Rattle.flat_arrays_values.proofs.columnar_memory_lemmas.buffer_lemmas.Slices.{offset_at-spans_between, slices_join}
 use Rattle.flat_arrays_values.proofs.columnar_memory_lemmas.buffer_lemmas.Windows.{length-window, windows_join}
-use Rattle.flat_arrays_values.specs.columnar_memory.declared.kinds.PhysicalType.{PhysicalType}
+use Rattle.flat_arrays_values.specs.columnar_memory.declared.PhysicalType.{PhysicalType}
 use Rattle.flat_arrays_bytes.specs.ByteStrings.{ByteStrings, byte_strings, cut, cut_by, cut_mask, len_of}
 use Rattle.flat_arrays_bytes.specs.ByteStrings.{marks, marks_of, marked_of, slot_of, slots_of, values_of}
 use Rattle.flat_arrays_bytes.specs.Fits.{Fits, HoldsMarks, IsMaskOf}

@@ -16,8 +16,8 @@ use Rattle.flat_arrays_values.specs.columnar_memory.Bits.{unset_count}
 use Rattle.flat_arrays_values.specs.columnar_memory.Error.{IsOutOfMemory, IsOverflow}
 use Rattle.flat_arrays_values.specs.columnar_memory.Spans.{Spans, extended, last_of}
 use Rattle.flat_arrays_values.proofs.columnar_memory_lemmas.buffer_lemmas.Runs.{last_of-extended, sum-cons}
-use Rattle.flat_arrays_values.specs.columnar_memory.declared.data_type.DataType.{DataType}
-use Rattle.flat_arrays_values.specs.columnar_memory.declared.error.Error.{Error}
+use Rattle.flat_arrays_values.specs.columnar_memory.declared.DataType.{DataType}
+use Rattle.flat_arrays_values.specs.columnar_memory.declared.Error.{Error}
 use Rattle.flat_arrays_bytes.specs.ByteStrings.{ByteStrings, byte_strings, cut_by, mask_of, of_slots, of_values, packed, stored_for}
 use Rattle.flat_arrays_bytes.specs.Collected.{CollectsAlong, IsCollected}
 use Rattle.flat_arrays_bytes.specs.Fits.{IsMaskOf}

@@ -5,7 +5,7 @@ use Rattle.std.proofs.lemmas.Str.{IsUtf8-nil}
 use Rattle.std.specs.Prelude.{Bool, false, replicate}
 use Rattle.flat_arrays_values.proofs.columnar_memory_lemmas.buffer_lemmas.Runs.{sum-cons}
 use Rattle.flat_arrays_values.specs.columnar_memory.Layouts.{physical_type}
-use Rattle.flat_arrays_values.specs.columnar_memory.declared.data_type.DataType.{DataType}
+use Rattle.flat_arrays_values.specs.columnar_memory.declared.DataType.{DataType}
 use Rattle.flat_arrays_bytes.specs.ByteStrings.{cut_by, nulls}
 use Rattle.flat_arrays_bytes.specs.Fits.{IsText, text_layout}
 use Rattle.flat_arrays_bytes.specs.Texts.{AllTexts}

@@ -5,8 +5,8 @@ use Rattle.std.proofs.lemmas.List.{length-replicate}
 use Rattle.std.specs.Prelude.{Option, Some, None, MatchOption, ◌==◌, if◌then◌else◌}
 use Rattle.std.specs.List.{zip}
 use Rattle.flat_arrays_values.specs.columnar_memory.Bits.{unset_count}
-use Rattle.flat_arrays_values.specs.columnar_memory.declared.zip_validity.ZipValidity.{ZipValidity}
-use Rattle.flat_arrays_values.specs.columnar_memory.declared.zip_validity.ZipValidity.TheVariants.{Required, Optional}
+use Rattle.flat_arrays_values.specs.columnar_memory.declared.ZipValidity.{ZipValidity}
+use Rattle.flat_arrays_values.specs.columnar_memory.declared.ZipValidity.TheVariants.{Required, Optional}
 use Rattle.flat_arrays_values.specs.Walks.{slots_left, IsEven}
 use Rattle.flat_arrays_values.proofs.WalkSlots.{all_there}
 use Rattle.flat_arrays_bytes.specs.ByteStrings.{len_of, marks, slot_of, values_of}

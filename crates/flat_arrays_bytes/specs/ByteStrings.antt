@@ -7,7 +7,7 @@ use Rattle.flat_arrays_values.specs.columnar_memory.Bits.{unset_count}
 use Rattle.flat_arrays_values.specs.columnar_memory.Spans.{Spans, spans_between}
 use Rattle.flat_arrays_values.specs.columnar_memory.Window.{window}
 use Rattle.columnar_memory_types.specs.contracts.data_type.DataType as data_type
-use Rattle.flat_arrays_values.specs.columnar_memory.declared.data_type.DataType.{DataType}
+use Rattle.flat_arrays_values.specs.columnar_memory.declared.DataType.{DataType}
 
 -- a data type, where each byte string stands among the bytes, and the bytes
 pub record ByteStrings : Type 0 where

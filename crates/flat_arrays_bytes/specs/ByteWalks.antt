@@ -1,8 +1,8 @@
 -- Walks over the slots of an array of byte strings or texts.
 use Rattle.std.specs.Prelude.{◌≡◌, ℕ, Bool, List, MatchOption, ◌==◌, if◌then◌else◌}
 use Rattle.flat_arrays_values.specs.columnar_memory.Bits.{unset_count}
-use Rattle.flat_arrays_values.specs.columnar_memory.declared.zip_validity.ZipValidity.{ZipValidity}
-use Rattle.flat_arrays_values.specs.columnar_memory.declared.zip_validity.ZipValidity.TheVariants.{Required, Optional}
+use Rattle.flat_arrays_values.specs.columnar_memory.declared.ZipValidity.{ZipValidity}
+use Rattle.flat_arrays_values.specs.columnar_memory.declared.ZipValidity.TheVariants.{Required, Optional}
 use Rattle.flat_arrays_values.specs.Walks.{slots_left, IsEven}
 use Rattle.flat_arrays_bytes.specs.ByteStrings.{ByteStrings, len_of, slots_of, values_of}
 use Rattle.flat_arrays_bytes.specs.Fits.{IsMaskOf}

@@ -3,7 +3,7 @@ use Rattle.std.specs.Prelude.{◌≡◌, ℕ, ◌+◌, ◌<◌, ◌≤◌, ◌�
 use Rattle.std.specs.Iterator.Runs.{SomeRun, WholeRun}
 use Rattle.flat_arrays_values.specs.columnar_memory.Error.{IsOutOfMemory, IsOverflow}
 use Rattle.flat_arrays_values.specs.columnar_memory.Spans.{Spans, extended, last_of}
-use Rattle.flat_arrays_values.specs.columnar_memory.declared.error.Error.{Error}
+use Rattle.flat_arrays_values.specs.columnar_memory.declared.Error.{Error}
 use Rattle.flat_arrays_bytes.specs.ByteStrings.{ByteStrings}
 
 -- the array, whose last value ends within the greatest offset, or a refusal: it would pass the greatest offset, or memory ran out

@@ -5,7 +5,7 @@ use Rattle.std.specs.Bool.{Decides}
 use Rattle.std.specs.Cmp.{IsEquivalence, IsPartialEquivalence, partial_equiv_from_equiv}
 use Rattle.std.specs.Coded.{Coded, coded×, coded_list, coded_option, coded_ℕ}
 use Rattle.flat_arrays_values.specs.columnar_memory.Sameness.{same, same-Decides, same_equivalence}
-use Rattle.flat_arrays_values.specs.columnar_memory.declared.data_type.DataType.{DataType}
+use Rattle.flat_arrays_values.specs.columnar_memory.declared.DataType.{DataType}
 use Rattle.columnar_memory_types.specs.contracts.data_type.DataType as data_type
 use Rattle.flat_arrays_bytes.specs.ByteStrings.{ByteStrings, slots_of}
 

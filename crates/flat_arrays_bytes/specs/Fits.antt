@@ -3,11 +3,11 @@ use Rattle.std.specs.Prelude.{◌≡◌, ℕ, ◌≤◌, Bool, Option, Some, Non
 use Rattle.flat_arrays_values.specs.columnar_memory.Error.{IsOutOfSpec}
 use Rattle.flat_arrays_values.specs.columnar_memory.Spans.{last_of}
 use Rattle.flat_arrays_values.specs.columnar_memory.Layouts.{physical_type}
-use Rattle.flat_arrays_values.specs.columnar_memory.declared.data_type.DataType.{DataType}
-use Rattle.flat_arrays_values.specs.columnar_memory.declared.data_type.DataType.TheVariants as types
-use Rattle.flat_arrays_values.specs.columnar_memory.declared.error.Error.{Error}
-use Rattle.flat_arrays_values.specs.columnar_memory.declared.kinds.PhysicalType.{PhysicalType}
-use Rattle.flat_arrays_values.specs.columnar_memory.declared.kinds.PhysicalType.TheVariants as layouts
+use Rattle.flat_arrays_values.specs.columnar_memory.declared.DataType.{DataType}
+use Rattle.flat_arrays_values.specs.columnar_memory.declared.DataType.TheVariants as types
+use Rattle.flat_arrays_values.specs.columnar_memory.declared.Error.{Error}
+use Rattle.flat_arrays_values.specs.columnar_memory.declared.PhysicalType.{PhysicalType}
+use Rattle.flat_arrays_values.specs.columnar_memory.declared.PhysicalType.TheVariants as layouts
 use Rattle.flat_arrays_bytes.specs.ByteStrings.{ByteStrings, len_of, values_of}
 use Rattle.flat_arrays_bytes.specs.Texts.{AllTexts}
 

@@ -1,17 +1,17 @@
 -- The layout of the plainest types.
 use Rattle.std.proofs.Common.{◌≡◌}
 use denote.Hole.Carrier
-use Rattle.columnar_memory.specs.declared.kinds.PhysicalType.{PhysicalType}
-use Rattle.columnar_memory.specs.declared.kinds.PhysicalType.TheVariants as layouts
-use Rattle.columnar_memory.specs.declared.kinds.PrimitiveType.{PrimitiveType}
-use Rattle.columnar_memory.specs.declared.kinds.PrimitiveType.TheVariants as kinds
-use Rattle.columnar_memory.specs.declared.units.IntervalUnit.TheVariants as intervals
-use Rattle.columnar_memory.specs.declared.data_type.DataType.{DataType, map-DataType}
-use Rattle.columnar_memory.specs.declared.data_type.Field.{Field}
-use Rattle.columnar_memory.specs.declared.data_type.DataType.TheVariants as types
-use Rattle.columnar_memory.specs.declared.data_type.DataType.TheOpen as layer
-use Rattle.columnar_memory.specs.declared.data_type.DataType.TheViews.{roll-DataType}
-use Rattle.columnar_memory.specs.declared.data_type.DataType.TheFolds.{fold-Field, fold-roll-DataType}
+use Rattle.columnar_memory.specs.declared.PhysicalType.{PhysicalType}
+use Rattle.columnar_memory.specs.declared.PhysicalType.TheVariants as layouts
+use Rattle.columnar_memory.specs.declared.PrimitiveType.{PrimitiveType}
+use Rattle.columnar_memory.specs.declared.PrimitiveType.TheVariants as kinds
+use Rattle.columnar_memory.specs.declared.IntervalUnit.TheVariants as intervals
+use Rattle.columnar_memory.specs.declared.DataType.{DataType, map-DataType}
+use Rattle.columnar_memory.specs.declared.Field.{Field}
+use Rattle.columnar_memory.specs.declared.DataType.TheVariants as types
+use Rattle.columnar_memory.specs.declared.DataType.TheOpen as layer
+use Rattle.columnar_memory.specs.declared.DataType.TheViews.{roll-DataType}
+use Rattle.columnar_memory.specs.declared.DataType.TheFolds.{fold-Field, fold-roll-DataType}
 use Rattle.columnar_memory.specs.Conversions.{type_of_primitive}
 use Rattle.columnar_memory.specs.Layouts.{physical_step, physical_type}
 

@@ -8,8 +8,8 @@ use Rattle.std.specs.List.{zip}
 use Rattle.columnar_memory.specs.Bits.{unset_count}
 use Rattle.columnar_memory.specs.ZipValidity.{slot}
 use Rattle.columnar_memory.specs.ZipValidityCases.{StepsEither}
-use Rattle.columnar_memory.specs.declared.zip_validity.ZipValidity.{ZipValidity}
-use Rattle.columnar_memory.specs.declared.zip_validity.ZipValidity.TheVariants.{Required, Optional}
+use Rattle.columnar_memory.specs.declared.ZipValidity.{ZipValidity}
+use Rattle.columnar_memory.specs.declared.ZipValidity.TheVariants.{Required, Optional}
 use Rattle.flat_arrays_values.specs.Walks.{slot_of, slots_left, IsEven, WalksGiveSlots}
 
 -- the slots of values and marks

@@ -3,8 +3,8 @@ use Rattle.std.specs.Prelude.{◌≡◌, Bool, List, length, map, Option, Some, 
 use Rattle.std.specs.Iterator.{YieldsFirst, YieldsFirstBy, YieldsLast, YieldsLastBy}
 use Rattle.std.specs.List.{zip}
 use Rattle.columnar_memory.specs.ZipValidityCases.{StepsEither}
-use Rattle.columnar_memory.specs.declared.zip_validity.ZipValidity.{ZipValidity}
-use Rattle.columnar_memory.specs.declared.zip_validity.ZipValidity.TheVariants.{Required, Optional}
+use Rattle.columnar_memory.specs.declared.ZipValidity.{ZipValidity}
+use Rattle.columnar_memory.specs.declared.ZipValidity.TheVariants.{Required, Optional}
 
 -- a stored value where its mark is true, and null where it is false
 abbrev pub slot_of : {V : Type 0} → V × Bool → Option V

@@ -46,3 +46,5 @@ pub use Rattle.ipc_format_values.specs.messages
 pub use Rattle.ipc_format_values.specs.metadata
 pub use Rattle.ipc_format_values.specs.writing
 pub use Rattle.ipc_format_streams.specs as streams
+pub use Rattle.ipc_format_values.specs.grammar.WriterRuns
+pub use Rattle.ipc_format_values.specs.grammar.AppendedFiles

@@ -8,8 +8,9 @@ use Rattle.columnar_memory.specs.declared.IntegerType.{IntegerType}
 use Rattle.columnar_memory.specs.declared.IntegerType.TheVariants as integers
 use Rattle.columnar_memory.specs.declared.PrimitiveType.{PrimitiveType}
 use Rattle.columnar_memory.specs.declared.PrimitiveType.TheVariants as kinds
-use Rattle.nested_arrays_columns.specs.Slots.{Slot, truth, number, pair, triple, text, bytes}
+use Rattle.nested_arrays_columns.specs.Slots.{Slot, number, pair, triple}
 use Rattle.nested_arrays_columns.specs.Cells.{is_null}
+pub use Rattle.nested_arrays_columns.specs.FreshColumns.{is_valid, is_true, content_of, fixed_content_of, sums_from}
 use Rattle.ipc_format_grammar.specs.Values.{kind_size}
 
 -- ---- bitmaps
@@ -32,19 +33,12 @@ bitmap_of test xs = bitmap_by test (length xs) xs
 abbrev pub bitmap_bytes : List Bool → List ℕ
 bitmap_bytes bits = bitmap_of (λ bit. bit) bits
 
-abbrev pub is_valid : Slot → Bool
-is_valid slot = not (is_null slot)
-
 abbrev pub null_count : List Slot → ℕ
 null_count slots = count_by is_null slots
 
 -- the validity bitmap, where a slot is null; else nothing
 abbrev pub validity_bytes : List Slot → List ℕ
 validity_bytes slots = if nat_lt 0 (null_count slots) then bitmap_of is_valid slots else []
-
-abbrev pub is_true : Slot → Bool
-is_true (truth b) = b
-is_true _ = false
 
 -- ---- numbers
 
@@ -98,23 +92,7 @@ key_width integers.UInt16 = w16
 key_width integers.UInt32 = w32
 key_width integers.UInt64 = w64
 
--- ---- bytes and offsets
-
--- the bytes of a text or of bytes; null has none
-abbrev pub content_of : Slot → List ℕ
-content_of (text content) = content
-content_of (bytes content) = content
-content_of _ = []
-
--- bytes of one size; zeros under a null
-abbrev pub fixed_content_of : ℕ → Slot → List ℕ
-fixed_content_of size (bytes content) = content
-fixed_content_of size _ = replicate size 0
-
--- the sums of the first none, one, two .. of some numbers, from a first sum on
-abbrev pub sums_from : ℕ → List ℕ → List ℕ
-sums_from sum [] = sum ∷ []
-sums_from sum (n ∷ ns) = sum ∷ sums_from (sum + n) ns
+-- ---- offsets
 
 -- offsets of a width by the lengths between them, from 0 on
 abbrev pub offset_bytes : Width → List ℕ → List ℕ

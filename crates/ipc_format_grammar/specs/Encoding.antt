@@ -1,16 +1,16 @@
 -- The nodes and buffers of a column as they are written from its slots: zeros under nulls, offsets from 0, and the values of a dictionary in
 -- the order of first use (Arrow columnar format, "Physical Memory Layout"; Arrow IPC, "RecordBatch message").
-use Rattle.std.specs.Prelude.{ℕ, suc, List, [], ◌∷◌, ◌++◌, length, map, Option, Some, None}
-use Rattle.std.specs.List.{flat_map}
+use Rattle.std.specs.Prelude.{ℕ, suc, Bool, true, false, List, [], ◌∷◌, ◌++◌, length, map, Option, Some, None}
+use Rattle.std.specs.List.{flat_map, list_any}
 use Rattle.std.specs.Int.{Width, w32, w64, to_le_bytes}
 use Rattle.columnar_memory.specs.declared.DataType.{DataType}
 use Rattle.columnar_memory.specs.declared.DataType.TheOpen as layer
 use Rattle.columnar_memory.specs.declared.DataType.TheFolds.{fold-DataType}
 use Rattle.columnar_memory.specs.declared.IntegerType.{IntegerType}
 use Rattle.columnar_memory.specs.declared.PrimitiveType.{PrimitiveType}
-use Rattle.nested_arrays_columns.specs.Slots.{Slot, null}
-use Rattle.nested_arrays_columns.specs.SameSlots.{place_among}
+use Rattle.nested_arrays_columns.specs.Slots.{Slot}
 use Rattle.nested_arrays_columns.specs.Children.{items_of, joined_items, joined_fixed_items, field_slots, dictionary_values}
+pub use Rattle.nested_arrays_columns.specs.FreshColumns.{key_among}
 use Rattle.ipc_format_grammar.specs.Layouts.{kind_of}
 use Rattle.ipc_format_grammar.specs.Buffers.{validity_bytes, bitmap_of, null_count, is_true, kind_bytes, key_width, content_of}
 use Rattle.ipc_format_grammar.specs.Buffers.{fixed_content_of, offset_bytes}
@@ -62,11 +62,6 @@ abbrev pub field_columns : List Encoder → List Slot → ℕ → List Encoded
 field_columns [] slots k = []
 field_columns (field ∷ fields) slots k = field (field_slots slots k) ∷ field_columns fields slots (suc k)
 
--- a slot's key: its place among the values, and 0 under a null
-abbrev pub key_among : List Slot → Slot → ℕ
-key_among values null = 0
-key_among values slot = place_among slot values
-
 abbrev pub dictionary_column : IntegerType → Encoder
 dictionary_column key slots = values_column (λ slot. to_le_bytes (key_width key) (key_among (dictionary_values slots) slot)) slots
 
@@ -75,7 +70,7 @@ number_column None slots = flat_column [] slots
 number_column (Some kind) slots = values_column (kind_bytes kind) slots
 
 -- One layer of a type, where each type below stands as what encodes it. A dictionary's values stand in a message of their own. A union's
--- slots do not say where its children's stand, so from slots none is written.
+-- slots do not say where its children's stand, so that from slots it has no node and no buffer.
 abbrev pub encode_step : layer.DataType-F Encoder Encoder → Encoder
 encode_step layer.Null slots = column_over (node_of slots) [] []
 encode_step layer.Boolean slots = flat_column (bitmap_of is_true slots ∷ []) slots
@@ -90,7 +85,7 @@ encode_step (layer.LargeList item) slots = list_column w64 item slots
 encode_step (layer.FixedSizeList item size) slots =
     column_over (node_of slots) (validity_bytes slots ∷ []) (item (joined_fixed_items size slots) ∷ [])
 encode_step (layer.Struct children) slots = column_over (node_of slots) (validity_bytes slots ∷ []) (field_columns children slots 0)
-encode_step (layer.Union children type_ids mode) slots = column_over (length slots, 0) [] []
+encode_step (layer.Union children type_ids mode) slots = joined []
 encode_step (layer.Dictionary key value is_ordered) slots = dictionary_column key slots
 encode_step (layer.Extension name inner metadata) slots = inner slots
 encode_step type_layer slots = number_column (kind_of type_layer) slots
@@ -98,3 +93,25 @@ encode_step type_layer slots = number_column (kind_of type_layer) slots
 -- a column of a type from its slots
 abbrev pub encode : DataType → Encoder
 encode = fold-DataType Encoder Encoder encode_step (λ field. field.data_type)
+
+-- ---- what is written from slots
+
+-- whether an answer is true
+abbrev pub any_of : List Bool → Bool
+any_of answers = list_any (λ b. b) answers
+
+-- one layer of a type, where each type below stands as whether a union stands in it
+abbrev pub union_step : layer.DataType-F Bool Bool → Bool
+union_step (layer.List item) = item
+union_step (layer.LargeList item) = item
+union_step (layer.FixedSizeList item size) = item
+union_step (layer.Map entry is_sorted) = entry
+union_step (layer.Struct children) = any_of children
+union_step (layer.Union children type_ids mode) = true
+union_step (layer.Dictionary key value is_ordered) = value
+union_step (layer.Extension name inner metadata) = inner
+union_step _ = false
+
+-- whether a union stands in a type, at any depth: its columns are written from what arrays store alone
+abbrev pub has_union : DataType → Bool
+has_union = fold-DataType Bool Bool union_step (λ field. field.data_type)

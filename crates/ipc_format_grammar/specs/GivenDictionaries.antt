@@ -16,6 +16,7 @@ use Rattle.nested_arrays_columns.specs.Children.{joined_items, joined_fixed_item
 use Rattle.nested_arrays_columns.specs.StoredColumns.{Column, Columns, nulls, flat, lists, fixed_lists, records, unions, dictionary, no_column}
 use Rattle.nested_arrays_columns.specs.StoredColumns.{column_then, column_type, slots}
 use Rattle.ipc_format_grammar.specs.Schemas.{Ids, IdsList, ids}
+use Rattle.ipc_format_grammar.specs.Writable.{normalised_type}
 use Rattle.ipc_format_grammar.specs.Columns.{first_ids, other_ids, ids_below, own_id}
 use Rattle.ipc_format_grammar.specs.Encoding.{Encoded, encode}
 use Rattle.ipc_format_grammar.specs.StoredEncoding.{encode_stored}
@@ -80,7 +81,7 @@ abbrev mutual
   given_stored here (unions data_type type_ids offsets children) = given_each (ids_below here) children
   given_stored here (dictionary data_type mask keys values) =
       given_stored (ids None (ids_below here)) values
-      ++ record { id = id_or_0 (own_id here); data_type = column_type values; slots = slots values; column = encode_stored values } ∷ []
+      ++ record { id = id_or_0 (own_id here); data_type = column_type values; slots = slots values; column = encode_stored true values } ∷ []
 
   pub given_each : IdsList → Columns → List Given
   given_each below no_column = []
@@ -88,9 +89,9 @@ abbrev mutual
 
 -- ---- which of them are written
 
--- two dictionaries say the same
+-- two dictionaries say the same: their types have one form, and their slots are the same
 abbrev pub says_same : Given → Given → Bool
-says_same a b = same_type a.data_type b.data_type && pointwise same_slot a.slots b.slots
+says_same a b = same_type (normalised_type a.data_type) (normalised_type b.data_type) && pointwise same_slot a.slots b.slots
 
 -- the dictionary that was written last under an id, among those written, the latest first
 abbrev pub last_under : ℤ → List Given → Option Given

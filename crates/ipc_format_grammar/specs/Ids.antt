@@ -1,9 +1,10 @@
 -- The ids of dictionaries in written schemas (Schema.fbs, DictionaryEncoding).
-use Rattle.std.specs.Prelude.{ℕ, ◌+◌, pos, Bool, true, false, ◌&&◌, List, [], ◌∷◌, Some, None}
+use Rattle.std.specs.Prelude.{ℕ, ◌+◌, pos, Bool, true, false, ◌&&◌, ℤ, List, [], ◌∷◌, Option, Some, None}
 use Rattle.columnar_memory.specs.declared.DataType.{DataType}
 use Rattle.columnar_memory.specs.declared.DataType.TheOpen as layer
 use Rattle.columnar_memory.specs.declared.DataType.TheFolds.{fold-DataType}
 use Rattle.columnar_memory.specs.declared.Field.{Field}
+use Rattle.nested_arrays_columns.specs.Kinds.{is_signed}
 use Rattle.ipc_format_grammar.specs.Schemas.{Ids, IdsList, ids, no_ids, ids_then}
 use Rattle.ipc_format_grammar.specs.Columns.{ids_below}
 use Rattle.ipc_format_grammar.specs.Layouts.{below}
@@ -77,3 +78,18 @@ abbrev pub ids_fit_fields : List Field → IdsList → Bool
 ids_fit_fields [] no_ids = true
 ids_fit_fields (field ∷ fields) (ids_then first others) = ids_fit field.data_type first && ids_fit_fields fields others
 ids_fit_fields _ _ = false
+
+-- ---- whether ids are signed numbers of eight bytes
+
+abbrev pub is_id : Option ℤ → Bool
+is_id None = true
+is_id (Some id) = is_signed 64 id
+
+abbrev mutual
+  -- the ids beside a field, at any depth
+  pub are_ids : Ids → Bool
+  are_ids (ids own below) = is_id own && all_are_ids below
+
+  pub all_are_ids : IdsList → Bool
+  all_are_ids no_ids = true
+  all_are_ids (ids_then first others) = are_ids first && all_are_ids others

@@ -7,11 +7,10 @@ use Rattle.columnar_memory.specs.declared.DataType.TheOpen as layer
 use Rattle.columnar_memory.specs.declared.DataType.TheFolds.{fold-DataType}
 use Rattle.columnar_memory.specs.declared.Field.{Field}
 use Rattle.columnar_memory.specs.declared.IntegerType.{IntegerType}
-use Rattle.columnar_memory.specs.declared.IntervalUnit.TheVariants as intervals
 use Rattle.columnar_memory.specs.declared.PrimitiveType.{PrimitiveType}
-use Rattle.columnar_memory.specs.declared.PrimitiveType.TheVariants as kinds
 use Rattle.columnar_memory.specs.declared.UnionMode.{UnionMode}
 use Rattle.columnar_memory.specs.declared.UnionMode.TheVariants as modes
+pub use Rattle.nested_arrays_columns.specs.Kinds.{kind_of}
 use Rattle.ipc_format_grammar.specs.Messages.{Version, V5}
 
 -- what a buffer holds
@@ -36,32 +35,6 @@ pub data Part : Type 0 where
   ids : Part
   -- a slot's place in its child
   places : Part
-
--- the kind of the numbers of a type that stores one a slot
-abbrev pub kind_of : {A B : Type 0} → layer.DataType-F A B → Option PrimitiveType
-kind_of layer.Int8 = Some kinds.Int8
-kind_of layer.Int16 = Some kinds.Int16
-kind_of layer.Int32 = Some kinds.Int32
-kind_of layer.Int64 = Some kinds.Int64
-kind_of layer.UInt8 = Some kinds.UInt8
-kind_of layer.UInt16 = Some kinds.UInt16
-kind_of layer.UInt32 = Some kinds.UInt32
-kind_of layer.UInt64 = Some kinds.UInt64
-kind_of layer.Float16 = Some kinds.Float16
-kind_of layer.Float32 = Some kinds.Float32
-kind_of layer.Float64 = Some kinds.Float64
-kind_of layer.Date32 = Some kinds.Int32
-kind_of layer.Date64 = Some kinds.Int64
-kind_of (layer.Time32 unit) = Some kinds.Int32
-kind_of (layer.Time64 unit) = Some kinds.Int64
-kind_of (layer.Timestamp unit timezone) = Some kinds.Int64
-kind_of (layer.Duration unit) = Some kinds.Int64
-kind_of (layer.Interval intervals.YearMonth) = Some kinds.Int32
-kind_of (layer.Interval intervals.DayTime) = Some kinds.DaysMs
-kind_of (layer.Interval intervals.MonthDayNano) = Some kinds.MonthDayNano
-kind_of (layer.Decimal precision scale) = Some kinds.Int128
-kind_of (layer.Decimal256 precision scale) = Some kinds.Int256
-kind_of _ = None
 
 -- the buffers of numbers of a kind
 abbrev pub number_parts : Option PrimitiveType → List Part

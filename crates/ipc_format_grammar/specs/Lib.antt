@@ -23,6 +23,8 @@ pub mod GivenDictionaries
 pub mod WrittenMessages
 pub mod WrittenStreams
 pub mod WrittenFiles
+pub mod WriterRuns
+pub mod AppendedFiles
 pub mod Seals
 pub use Rattle.ipc_format_flatbuffers.specs as flatbuffers
 pub use Rattle.nested_arrays_columns.specs as columns

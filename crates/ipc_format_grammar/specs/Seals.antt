@@ -1,6 +1,6 @@
 -- Seals: the one byte text of a schema, a list of rows and a batch size. The rows go in batches of that size, little-endian, each column
 -- from its slots alone, the dictionaries numbered from 0.
-use Rattle.std.specs.Prelude.{◌≡◌, ℕ, zero, suc, Bool, true, ◌&&◌, List, [], ◌∷◌, length, map, take, drop, is_none, Option, Some}
+use Rattle.std.specs.Prelude.{◌≡◌, ℕ, zero, suc, Bool, true, ◌&&◌, List, [], ◌∷◌, length, map, take, drop, is_none, nat_le, nat_lt, ◌==◌, Option, Some}
 use Rattle.std.specs.Prelude.{slice_index_or}
 use Rattle.std.specs.List.{list_all}
 use Rattle.ipc_format_flatbuffers.specs.Reading.{◌>>=◌, guard}
@@ -10,6 +10,7 @@ use Rattle.nested_arrays_columns.specs.Slots.{Slot, null, window}
 use Rattle.nested_arrays_columns.specs.Tables.{Table}
 use Rattle.nested_arrays_columns.specs.OpenBatch.{fits}
 use Rattle.nested_arrays_columns.specs.Sealing.{seal_bar}
+use Rattle.ipc_format_grammar.specs.Limits.{most_batch_rows}
 use Rattle.ipc_format_grammar.specs.Writable.{is_writable, IsTable}
 use Rattle.ipc_format_grammar.specs.Ids.{default_ids}
 use Rattle.ipc_format_grammar.specs.WrittenMessages.{fits_limit}
@@ -46,6 +47,14 @@ columns_fit [] columns = true
 columns_fit (field ∷ fields) [] = true
 columns_fit (field ∷ fields) (column ∷ columns) = fits field.data_type column && columns_fit fields columns
 
+-- each row has a value a field, and without fields there is no row
+abbrev pub are_rows_of : List Field → List (List Slot) → Bool
+are_rows_of fields rows = list_all (λ row. nat_lt 0 (length fields) && (length row == length fields)) rows
+
+-- how many rows a batch of a seal may have
+abbrev pub is_batch_size : ℕ → Bool
+is_batch_size n = nat_le 1 n && nat_le n most_batch_rows
+
 -- whether a schema may be sealed
 abbrev pub is_sealable : Schema → Bool
 is_sealable schema = is_none (seal_bar schema (is_writable schema))
@@ -58,10 +67,12 @@ groups_fit schema rows n = list_all (λ group. columns_fit schema.fields (column
 abbrev pub messages_fit : Schema → List (List Slot) → ℕ → Bool
 messages_fit schema rows n = list_all fits_limit (stream_messages schema (default_ids schema.fields) (seal_batches schema rows n))
 
--- the seal of a schema and rows in batches of n: nothing where the schema may not be sealed, a group doesn't fit, or a message is too long
+-- the seal of a schema and rows in batches of n: nothing where the schema may not be sealed, a row has another width, n is no batch's size, a
+-- group doesn't fit, or a message is too long
 unfoldable pub sealed : Schema → List (List Slot) → ℕ → Option (List ℕ)
 sealed schema rows n = do
   _ ← guard (is_sealable schema)
+  _ ← guard (is_batch_size n && are_rows_of schema.fields rows)
   _ ← guard (groups_fit schema rows n)
   _ ← guard (messages_fit schema rows n)
   Some (seal_bytes schema rows n)
@@ -70,5 +81,6 @@ sealed schema rows n = do
 pub record SealableWith (table : Table) (n : ℕ) : Type 0 where
   pub is_table : IsTable table
   pub sealable : is_sealable table.schema ≡ true
+  pub size : is_batch_size n ≡ true
   pub groups : groups_fit table.schema table.rows n ≡ true
   pub messages : messages_fit table.schema table.rows n ≡ true

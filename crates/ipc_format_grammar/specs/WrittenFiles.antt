@@ -7,13 +7,11 @@ use Rattle.ipc_format_flatbuffers.specs.Objects.{Object, laid, table, elements, 
 use Rattle.columnar_memory.specs.declared.Schema.{Schema}
 use Rattle.ipc_format_grammar.specs.Schemas.{IdsList}
 use Rattle.ipc_format_grammar.specs.SchemaObjects.{schema_object}
-use Rattle.ipc_format_grammar.specs.Writable.{is_writable}
 use Rattle.ipc_format_grammar.specs.Files.{file_mark}
-use Rattle.ipc_format_grammar.specs.Ids.{ids_fit_fields}
 use Rattle.ipc_format_grammar.specs.GivenDictionaries.{Given, stands_for, last_under, to_write, written_after}
 use Rattle.ipc_format_grammar.specs.WrittenMessages.{Written, prefix_size, message_bytes, fits_limit, schema_written}
 use Rattle.ipc_format_grammar.specs.WrittenMessages.{record_message, dictionary_message}
-use Rattle.ipc_format_grammar.specs.WrittenStreams.{Batch, stream_messages, stream_bytes}
+use Rattle.ipc_format_grammar.specs.WrittenStreams.{Batch, Chunk, stream_messages, stream_bytes, batches_written, belongs, is_written_with}
 use Rattle.ipc_format_grammar.specs.TagNumbers as tags
 
 -- where a message stands in a file: its place, how many bytes stand before its body, and how many its body has
@@ -78,11 +76,18 @@ unfoldable pub footer_bytes : Schema → IdsList → List Batch → List ℕ
 footer_bytes schema ids batches =
     laid (footer_object schema ids (batch_blocks (place_after (length file_start) (schema_written schema ids)) [] batches))
 
+-- a footer's length is written as a signed number of four bytes
+abbrev pub is_footer : List ℕ → Bool
+is_footer footer = nat_lt (length footer) (2 ^ 31)
+
+-- what stands behind the end mark: the footer, its length, and the mark
+abbrev pub file_end : List ℕ → List ℕ
+file_end footer = footer ++ to_le_bytes w32 (length footer) ++ file_mark
+
 -- a file's bytes: its messages as a stream has them, the footer, the footer's length, and the mark
 unfoldable pub file_bytes : Schema → IdsList → List Batch → List ℕ
 file_bytes schema ids batches =
-    file_start ++ stream_bytes schema ids batches ++ footer_bytes schema ids batches
-    ++ to_le_bytes w32 (length (footer_bytes schema ids batches)) ++ file_mark
+    file_start ++ stream_bytes schema ids batches ++ file_end (footer_bytes schema ids batches)
 
 -- a dictionary that a file may hold: the first of its id, or the same
 abbrev pub is_first_or_same : List Given → Given → Bool
@@ -96,11 +101,13 @@ none_replaced written (given ∷ others) = is_first_or_same written given && non
 abbrev pub all_given : List Batch → List Given
 all_given batches = flat_map (λ (batch : Batch). batch.given) batches
 
--- A whole file: nothing where the schema isn't written, its ids don't fit, a dictionary is replaced, a message is too long, or the footer.
-unfoldable pub written_file : Schema → IdsList → List Batch → Option (List ℕ)
-written_file schema ids batches = do
-  _ ← guard (is_writable schema && ids_fit_fields schema.fields ids)
-  _ ← guard (none_replaced [] (all_given batches))
-  _ ← guard (list_all fits_limit (stream_messages schema ids batches))
-  _ ← guard (nat_lt (length (footer_bytes schema ids batches)) (2 ^ 31))
-  Some (file_bytes schema ids batches)
+-- A whole file: nothing where the schema isn't written or the ids are none of it, a batch doesn't belong to it, a dictionary is replaced, or
+-- a message or the footer is too long.
+unfoldable pub written_file : Schema → IdsList → List Chunk → Option (List ℕ)
+written_file schema ids chunks = do
+  _ ← guard (is_written_with schema ids)
+  _ ← guard (list_all (belongs schema ids) chunks)
+  _ ← guard (none_replaced [] (all_given (batches_written schema ids chunks)))
+  _ ← guard (list_all fits_limit (stream_messages schema ids (batches_written schema ids chunks)))
+  _ ← guard (is_footer (footer_bytes schema ids (batches_written schema ids chunks)))
+  Some (file_bytes schema ids (batches_written schema ids chunks))

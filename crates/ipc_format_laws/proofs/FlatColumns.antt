@@ -143,7 +143,7 @@ abbrev HasFront : Option (List Bool) → Stored → Type 0
 HasFront mask stored = (null_count (flat_slots mask stored) ≡ mask_nulls (cut_mask mask 0 (stored_len stored)))
     × (validity_bytes (flat_slots mask stored) ≡ mask_bytes (cut_mask mask 0 (stored_len stored)))
 
-front_by : (slots : List Slot) (marks : List Bool) → map is_valid slots ≡ marks
+pub front_by : (slots : List Slot) (marks : List Bool) → map is_valid slots ≡ marks
     → (null_count slots ≡ mask_nulls (Some marks)) × (validity_bytes slots ≡ mask_bytes (Some marks))
 front_by slots marks same =
     let nulls = null_marks slots ∙ ap (count_by not) same in

@@ -198,7 +198,7 @@ Layer = layer.DataType-F DataType Field
 
 abbrev stored_column : Width → Mask → Stored → Encoded
 stored_column w mask stored = column_over (node_over (stored_len stored) (cut_mask mask 0 (stored_len stored)))
-    (mask_bytes (cut_mask mask 0 (stored_len stored)) ∷ stored_buffers w (cut_stored stored 0 (stored_len stored))) []
+    (mask_bytes (cut_mask mask 0 (stored_len stored)) ∷ stored_buffers true w (cut_stored stored 0 (stored_len stored))) []
 
 numbers_agree : (kind : PrimitiveType) (w : Width) (mask : Mask) (stored : Stored) → is_stored_as (physical.Primitive kind) stored ≡ true
     → mask_fits mask (stored_len stored) ≡ true → is_fresh mask stored ≡ true → number_column (Some kind) (flat_slots mask stored)

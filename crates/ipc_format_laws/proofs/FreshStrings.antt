@@ -137,7 +137,7 @@ abbrev SameBuffers : Width → (ℕ → Slot) → List ℕ → List ℕ → Type
 SameBuffers w g offsets content =
     (offset_bytes w (map (λ slot. length (content_of slot)) (window g 0 (length offsets - 1))) ∷ flat_map content_of (window g 0
     (length offsets - 1)) ∷ [])
-    ≡ (moved_bytes w (cut_list offsets 0 (length offsets - 1 + 1)) ∷ between_offsets (cut_list offsets 0 (length offsets - 1 + 1)) content ∷ [])
+    ≡ (moved_bytes true w (cut_list offsets 0 (length offsets - 1 + 1)) ∷ between_offsets (cut_list offsets 0 (length offsets - 1 + 1)) content ∷ [])
 
 string_length : (content : List ℕ) (a b : ℕ) → a ≤ b → b ≤ length content → length (slice_range content a b) ≡ b - a
 string_length content a b up within =
@@ -168,7 +168,7 @@ buffers_by w g content o rest sound each =
     let whole : cut_list offsets 0 (length offsets - 1 + 1) ≡ offsets = whole_cut offsets (length offsets - 1 + 1) (again (length rest)) in
     ap (λ n. offset_bytes w (map (λ slot. length (content_of slot)) (window g 0 n)) ∷ flat_map content_of (window g 0 n) ∷ []) (fewer (length rest))
     ∙ (λ j. flat_map (to_le_bytes w) (sums j) ∷ strings j ∷ [])
-    ∙ ap (λ taken. moved_bytes w taken ∷ between_offsets taken content ∷ []) (sym whole)
+    ∙ ap (λ taken. moved_bytes true w taken ∷ between_offsets taken content ∷ []) (sym whole)
   where
     from_0 : (i : ℕ) → 0 + i ≡ i
     from_0 i = omega arith

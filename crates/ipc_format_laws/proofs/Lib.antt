@@ -1,7 +1,10 @@
+pub mod BuildableTypes
 pub mod Counts
 pub mod DefaultIds
 pub mod FlatColumns
+pub mod FreshBuffers
 pub mod FreshColumns
+pub mod FreshEncodings
 pub mod FreshStrings
 pub mod Layers
 pub mod NormalForms

@@ -35,4 +35,4 @@ is_fresh mask stored = holds_below (stored_len stored) (λ i. is_valid_at mask i
 -- a column is written the same from its slots and as it is stored, where zeros or no bytes stand under its nulls
 abbrev pub FreshAgrees : Type 0
 FreshAgrees = (t : DataType) (mask : Option (List Bool)) (stored : Stored) → is_sound (flat t mask stored) ≡ true → is_fresh mask stored ≡ true
-    → encode t (slots (flat t mask stored)) ≡ encode_stored (flat t mask stored)
+    → encode t (slots (flat t mask stored)) ≡ encode_stored true (flat t mask stored)

@@ -1,8 +1,21 @@
 //! Laws of columns that are written from their slots and as they are stored.
 ghost use Rattle.ipc_format_laws.specs.Fresh.{FreshAgrees};
+ghost use Rattle.ipc_format_laws.specs.FreshEncodings.{FreshEncodes, WritableIsBuildable};
 
 /// A sound column without children is written the same from its slots and as it is stored, where zeros, or no bytes, stand under its
 /// nulls.
 pub fn a_fresh_column_is_written_as_its_slots_are()
     ensures { FreshAgrees }
+{}
+
+/// The column that stores some slots is written, little-endian, as these slots are.
+#[tactic(auto, using(crate::proofs::FreshEncodings::fresh_encodes))]
+pub fn slots_are_written_as_they_are_stored()
+    ensures { FreshEncodes }
+{}
+
+/// Slots of each type that is written and in which no union stands are stored as they come.
+#[tactic(auto, using(crate::proofs::BuildableTypes::writable_is_buildable))]
+pub fn a_writable_type_is_buildable()
+    ensures { WritableIsBuildable }
 {}

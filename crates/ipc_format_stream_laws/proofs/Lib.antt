@@ -2,6 +2,8 @@ pub mod Readers
 pub mod Frames
 pub mod StreamMessages
 pub mod LaterMessages
+pub mod Room
+pub mod GivenIds
 pub mod SentMessages
 pub mod StreamContents
 pub mod NoDictionaries

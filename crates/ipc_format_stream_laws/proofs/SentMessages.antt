@@ -15,8 +15,9 @@ use Rattle.ipc_format_grammar.specs.WrittenStreams.{Batch, messages_after}
 use Rattle.ipc_format_round_trip.specs.Batches.{AreSigned}
 use Rattle.ipc_format_round_trip.proofs.SchemaParts.{both}
 use Rattle.ipc_format_round_trip.proofs.Batches.{record_batches_read_back, dictionary_batches_read_back}
-use Rattle.ipc_format_stream_laws.specs.Contents.{AreThoseOf, Sent, dictionary, batch, IsOfSent, sent_after, HasRoomForValues}
-use Rattle.ipc_format_stream_laws.specs.Contents.{HasRoomForColumns, HasColumns, HasValues, batch_message}
+use Rattle.ipc_format_stream_laws.specs.Contents.{AreThoseOf, Sent, dictionary, batch, IsOfSent, sent_after, HasColumns, HasValues}
+use Rattle.ipc_format_stream_laws.specs.Contents.{batch_message}
+use Rattle.ipc_format_stream_laws.proofs.Room.{HasRoomForValues, HasRoomForColumns}
 use Rattle.ipc_format_stream_laws.proofs.LaterMessages.{has_room, ReadsBack, is_message_of, ReadLater, no_more, batch_more, dictionary_more}
 
 -- ---- what is written of a batch reads back

@@ -1,7 +1,8 @@
 -- What a stream holds that was written of a schema and of batches.
 use Rattle.std.proofs.Common.{◌≡◌, ℕ, ◌<◌, ◌^◌, true, ◌&&◌, List, [], ◌∷◌, ◌++◌, length, map, refl, ap, subst, ◌∙◌, arith}
 use Rattle.std.specs.Prelude.{Some}
-use Rattle.std.specs.List.{list_all}
+use Rattle.std.specs.List.{All, list_all}
+use Rattle.std.proofs.lemmas.List.Elements.{All-head, All-tail, All-nil, All-cons}
 use Rattle.ipc_format_flatbuffers.specs.Objects.{laid}
 use Rattle.columnar_memory.specs.declared.Schema.{Schema}
 use Rattle.ipc_format_grammar.specs.Messages as grammar
@@ -12,40 +13,59 @@ use Rattle.ipc_format_grammar.specs.Writable.{is_writable, normalised}
 use Rattle.ipc_format_grammar.specs.Framing.{Framed, Stream, messages_of}
 use Rattle.ipc_format_grammar.specs.Tables.{stream, stream_entry, contents_of}
 use Rattle.ipc_format_grammar.specs.GivenDictionaries.{agree}
-use Rattle.ipc_format_grammar.specs.Ids.{ids_fit_fields}
+use Rattle.ipc_format_grammar.specs.Ids.{ids_fit_fields, all_are_ids}
 use Rattle.ipc_format_grammar.specs.WrittenMessages.{Written, fits_limit, end_mark, schema_written}
-use Rattle.ipc_format_grammar.specs.WrittenStreams.{Batch, messages_after, stream_messages, bytes_of_messages, stream_bytes, written_stream}
+use Rattle.ipc_format_grammar.specs.WrittenStreams.{Batch, Chunk, messages_after, stream_messages, bytes_of_messages, stream_bytes}
+use Rattle.ipc_format_grammar.specs.WrittenStreams.{written_stream, batch_of, batches_written, belongs, is_written_with, is_in_room}
+use Rattle.ipc_format_grammar.specs.WrittenStreams.{are_columns_of, are_equal, chunk_lengths}
 use Rattle.ipc_format_round_trip.specs.Batches.{IsMessage}
 use Rattle.ipc_format_round_trip.specs.Schemas.{HasTexts, FitIdsList, IsSchema, ids_read}
 use Rattle.ipc_format_round_trip.proofs.SchemaParts.{both}
 use Rattle.ipc_format_round_trip.proofs.SchemaMessages.{schemas_read_back}
 use Rattle.ipc_format_stream_laws.specs.Messages.{as_written, all_written}
-use Rattle.ipc_format_stream_laws.specs.Contents.{schema_read, HoldsStream, AreThoseOf, IsOfSent, sent_after, StreamsReadBack}
+use Rattle.ipc_format_stream_laws.specs.Contents.{schema_read, HoldsStream, AreThoseOf, IsOfSent, sent_after, BringsFew, StreamsReadBack}
 use Rattle.ipc_format_stream_laws.proofs.Readers.{passed}
 use Rattle.ipc_format_stream_laws.proofs.StreamMessages.{messages_read_back}
 use Rattle.ipc_format_stream_laws.proofs.LaterMessages.{has_room, ReadLater}
+use Rattle.ipc_format_stream_laws.proofs.Room.{HasRoomForColumns, has_room_for_columns, fit_ids_list}
+use Rattle.ipc_format_stream_laws.proofs.GivenIds.{batch_ids}
 use Rattle.ipc_format_stream_laws.proofs.SentMessages.{sent_read}
 
--- what is known of a stream that is written
-record IsWritten (schema : Schema) (below : IdsList) (batches : List Batch) (stream : List ℕ) : Type 0 where
-  is_writable : is_writable schema ≡ true
-  first : fits_limit (schema_written schema below) ≡ true
-  later : list_all fits_limit (messages_after [] batches) ≡ true
-  bytes : bytes_of_messages (stream_messages schema below batches) ++ end_mark ≡ stream
+-- what is known of a stream that is written of batches
+pub record IsWritten (schema : Schema) (below : IdsList) (batches : List Batch) (stream : List ℕ) : Type 0 where
+  pub is_writable : is_writable schema ≡ true
+  pub fit : FitIdsList below
+  pub first : fits_limit (schema_written schema below) ≡ true
+  pub later : list_all fits_limit (messages_after [] batches) ≡ true
+  pub bytes : bytes_of_messages (stream_messages schema below batches) ++ end_mark ≡ stream
 
-is_written : (schema : Schema) (below : IdsList) (batches : List Batch) (bytes : List ℕ) → written_stream schema below batches ≡ Some bytes
-    → IsWritten schema below batches bytes
+-- what is known of chunks of which one is written
+pub record WasWritten (schema : Schema) (below : IdsList) (chunks : List Chunk) (stream : List ℕ) : Type 0 where
+  pub is : IsWritten schema below (batches_written schema below chunks) stream
+  pub ids : all_are_ids below ≡ true
+  pub belong : list_all (belongs schema below) chunks ≡ true
+
+pub was_written : (schema : Schema) (below : IdsList) (chunks : List Chunk) (bytes : List ℕ) → written_stream schema below chunks ≡ Some bytes
+    → WasWritten schema below chunks bytes
 unfolding written_stream stream_messages stream_bytes
-is_written schema below batches bytes e =
-    let asked = passed (is_writable schema && ids_fit_fields schema.fields below) _ bytes e in
-    let agreed = passed (list_all (λ (batch : Batch). agree batch.given) batches) _ bytes asked.1 in
+was_written schema below chunks bytes e =
+    let batches = batches_written schema below chunks in
+    let asked = passed (is_written_with schema below) _ bytes e in
+    let belong = passed (list_all (belongs schema below) chunks) _ bytes asked.1 in
+    let agreed = passed (list_all (λ (batch : Batch). agree batch.given) batches) _ bytes belong.1 in
     let fit = passed (list_all fits_limit (stream_messages schema below batches)) _ bytes agreed.1 in
     let tests = both (fits_limit (schema_written schema below)) (list_all fits_limit (messages_after [] batches)) fit.0 in
+    let schema_is = both (is_writable schema && ids_fit_fields schema.fields below) (all_are_ids below) asked.0 in
     record {
-      is_writable = (both (is_writable schema) (ids_fit_fields schema.fields below) asked.0).0;
-      first = tests.0;
-      later = tests.1;
-      bytes = cc;
+      is = record {
+        is_writable = (both (is_writable schema) (ids_fit_fields schema.fields below) schema_is.0).0;
+        fit = fit_ids_list below schema_is.1;
+        first = tests.0;
+        later = tests.1;
+        bytes = cc;
+      };
+      ids = schema_is.1;
+      belong = belong.0;
     }
 
 -- the schema's message, as it is read
@@ -82,12 +102,11 @@ contents_are bytes schema below first later read = rw (read, first.version, firs
 
 -- a stream that is written is read, where the messages behind its schema's are
 pub stream_holds : (schema : Schema) (below : IdsList) (batches : List Batch) (AreLater : List Framed → Type 0) (bytes behind : List ℕ)
-    → written_stream schema below batches ≡ Some bytes → HasTexts schema → FitIdsList below
+    → IsWritten schema below batches bytes → HasTexts schema
     → (list_all fits_limit (messages_after [] batches) ≡ true → ReadLater 0 (messages_after [] batches) AreLater)
     → HoldsStream (bytes ++ behind) schema below batches AreLater
-stream_holds schema below batches AreLater bytes behind e texts fit read_later =
-    let written = is_written schema below batches bytes e in
-    let first = schema_reads schema below written.is_writable texts fit written.first in
+stream_holds schema below batches AreLater bytes behind written texts read_later =
+    let first = schema_reads schema below written.is_writable texts written.fit written.first in
     let later = read_later written.later in
     let messages = messages_with schema below first.1 later.messages in
     let all = all_are_written schema below batches first.1 later.messages later.are_written in
@@ -109,6 +128,25 @@ stream_holds schema below batches AreLater bytes behind e texts fit read_later =
       contents = contents_are (bytes ++ behind) schema below first.1 later.messages read;
     }
 
+-- ---- batches of chunks
+
+-- batches have room that belong to a schema and bring few dictionaries
+rooms : (schema : Schema) (below : IdsList) (chunks : List Chunk) → all_are_ids below ≡ true → list_all (belongs schema below) chunks ≡ true
+    → All BringsFew (batches_written schema below chunks) → All HasRoomForColumns (batches_written schema below chunks)
+unfolding belongs
+rooms schema below [] ids belong few = All-nil HasRoomForColumns
+rooms schema below (chunk ∷ chunks) ids belong few =
+    let batch = batch_of schema.fields below chunk in
+    let batches = batches_written schema below chunks in
+    let tests = both (belongs schema below chunk) (list_all (belongs schema below) chunks) belong in
+    let is_in = both (are_columns_of schema.fields chunk && are_equal (chunk_lengths chunk)) (is_in_room batch) tests.0 in
+    All-cons HasRoomForColumns batch batches
+    (has_room_for_columns batch is_in.1 (batch_ids schema.fields below chunk ids) (All-head BringsFew batch batches few))
+    (rooms schema below chunks ids tests.1 (All-tail BringsFew batch batches few))
+
 pub streams_read_back : StreamsReadBack
-streams_read_back schema below batches bytes behind e texts fit room =
-    stream_holds schema below batches (AreThoseOf IsOfSent (sent_after [] batches)) bytes behind e texts fit (sent_read [] batches room)
+streams_read_back schema below chunks bytes behind e texts few =
+    let batches = batches_written schema below chunks in
+    let was = was_written schema below chunks bytes e in
+    stream_holds schema below batches (AreThoseOf IsOfSent (sent_after [] batches)) bytes behind was.is texts
+    (sent_read [] batches (rooms schema below chunks was.ids was.belong few))

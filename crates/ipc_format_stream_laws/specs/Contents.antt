@@ -14,7 +14,7 @@ use Rattle.ipc_format_grammar.specs.Tables.{stream, stream_entry, contents_of}
 use Rattle.ipc_format_grammar.specs.Encoding.{joined}
 use Rattle.ipc_format_grammar.specs.GivenDictionaries.{Given, to_write, written_after}
 use Rattle.ipc_format_grammar.specs.WrittenMessages.{Written, buffer_places, record_message, dictionary_message}
-use Rattle.ipc_format_grammar.specs.WrittenStreams.{Batch, stream_messages, written_stream}
+use Rattle.ipc_format_grammar.specs.WrittenStreams.{Batch, Chunk, batches_written, stream_messages, written_stream}
 use Rattle.ipc_format_round_trip.specs.Batches.{AreSigned, IsRecordBatch, IsDictionaryBatch}
 use Rattle.ipc_format_round_trip.specs.Schemas.{HasTexts, FitIdsList, ids_read}
 use Rattle.ipc_format_stream_laws.specs.Messages.{as_written, all_written}
@@ -77,23 +77,14 @@ sent_after written [] = []
 sent_after written (next ∷ batches) =
     map dictionary (to_write written next.given) ++ (batch next ∷ sent_after (written_after written next.given) batches)
 
--- a dictionary's id is a signed number of eight bytes, and its counts have room
-pub record HasRoomForValues (given : Given) : Type 0 where
-  pub id : FitsSigned w64 given.id
-  pub rows : length given.slots < 2 ^ 64
-  pub nodes : AreSigned given.column.nodes
+-- a batch brings no more dictionaries than may stand in a row
+abbrev pub BringsFew : Batch → Type 0
+BringsFew its_batch = length its_batch.given ≤ most_dictionaries
 
--- A batch's counts have room: the number of its rows in eight bytes, those of its nodes in signed numbers of eight bytes. The dictionaries
--- that it brings have room too, and are no more than may stand in a row.
-pub record HasRoomForColumns (batch : Batch) : Type 0 where
-  pub rows : batch.rows < 2 ^ 64
-  pub nodes : AreSigned (joined batch.columns).nodes
-  pub given : All HasRoomForValues batch.given
-  pub few : length batch.given ≤ most_dictionaries
-
--- a stream that is written of a schema and of batches holds them, a message for each dictionary that is written and for each batch, whatever
--- stands behind it
+-- a stream that is written of a schema and of chunks holds their batches, a message for each dictionary that is written and for each batch,
+-- whatever stands behind it
 abbrev pub StreamsReadBack : Type 0
-StreamsReadBack = (schema : Schema) (below : IdsList) (batches : List Batch) (bytes behind : List ℕ)
-    → written_stream schema below batches ≡ Some bytes → HasTexts schema → FitIdsList below → All HasRoomForColumns batches
-    → HoldsStream (bytes ++ behind) schema below batches (AreThoseOf IsOfSent (sent_after [] batches))
+StreamsReadBack = (schema : Schema) (below : IdsList) (chunks : List Chunk) (bytes behind : List ℕ)
+    → written_stream schema below chunks ≡ Some bytes → HasTexts schema → All BringsFew (batches_written schema below chunks)
+    → HoldsStream (bytes ++ behind) schema below (batches_written schema below chunks)
+    (AreThoseOf IsOfSent (sent_after [] (batches_written schema below chunks)))

@@ -11,9 +11,9 @@ use Rattle.ipc_format_grammar.specs.Writable.{normalised}
 use Rattle.ipc_format_grammar.specs.Tables.{stream, agree_in_length, batches_in, table_of}
 use Rattle.ipc_format_grammar.specs.Ids.{default_ids}
 use Rattle.ipc_format_grammar.specs.WrittenMessages.{Written, fits_limit}
-use Rattle.ipc_format_grammar.specs.WrittenStreams.{Batch, batch_of_slots, rows_of_slots, stream_messages, stream_bytes, written_stream}
+use Rattle.ipc_format_grammar.specs.WrittenStreams.{Batch, Chunk, slot_columns, batch_of_slots, stream_messages, stream_bytes, written_stream}
 use Rattle.ipc_format_laws.specs.DefaultIds.{dictionary_count}
-use Rattle.ipc_format_round_trip.specs.Schemas.{HasTexts, FitIdsList}
+use Rattle.ipc_format_round_trip.specs.Schemas.{HasTexts}
 use Rattle.ipc_format_column_laws.specs.Columns.{is_flat}
 use Rattle.ipc_format_column_laws.specs.Batches.{fit_fields}
 
@@ -40,12 +40,16 @@ abbrev pub NoDictionariesGiven : Type 0
 NoDictionariesGiven = (schema : Schema) (below : IdsList) (columns : List (List Slot)) → dictionary_count schema ≡ 0
     → (batch_of_slots schema.fields below columns).given ≡ []
 
+-- batches as a writer is given them
+abbrev pub chunks_of : List (List (List Slot)) → List Chunk
+chunks_of batches = map slot_columns batches
+
 -- the stream that is written of batches of columns whose slots take one size each, as numbers and truth values do, reads as these batches,
 -- whatever stands behind it
 abbrev pub FlatTablesReadBack : Type 0
 FlatTablesReadBack = (schema : Schema) (below : IdsList) (batches : List (List (List Slot))) (bytes behind : List ℕ)
-    → written_stream schema below (written_batches schema below batches) ≡ Some bytes → FitIdsList below → AreBatches schema batches
-    → list_all (λ (field : Field). is_flat field.data_type) schema.fields ≡ true → All (λ columns. rows_of_slots columns < 2 ^ 63) batches
+    → written_stream schema below (chunks_of batches) ≡ Some bytes → AreBatches schema batches
+    → list_all (λ (field : Field). is_flat field.data_type) schema.fields ≡ true
     → ReadsAs (bytes ++ behind) schema batches
 
 -- ---- signed 32-bit integers, the ids numbered from 0 on

@@ -14,8 +14,8 @@ pub fn messages_read_back()
 
 /// A stream that is written of a schema and of batches has the messages that were written: the schema's, one for each dictionary that is
 /// written, and one a batch. It holds the schema in its one form, with its dictionaries' ids, and an entry a message. This is so for columns
-/// of any type, where names, keys and values are UTF-8, the keys of metadata ascend, ids are signed numbers of eight bytes, the counts of
-/// batches and dictionaries have room, and no batch brings more than 65,536 dictionaries.
+/// of any type, from slots and from what arrays store, where names, keys and values are UTF-8, the keys of metadata ascend, and no batch
+/// brings more than 65,536 dictionaries.
 pub fn streams_read_back()
     ensures { StreamsReadBack }
 {}

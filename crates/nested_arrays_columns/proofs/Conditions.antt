@@ -32,7 +32,7 @@ list_all-drop test zero xs h = h
 list_all-drop test (suc o) [] h = refl
 list_all-drop test (suc o) (x ∷ xs) h = list_all-drop test o xs (and_parts (test x) (list_all test xs) h).1
 
-list_all-take : {A : Type 0} (test : A → Bool) (n : ℕ) (xs : List A) → list_all test xs ≡ true → list_all test (take n xs) ≡ true
+pub list_all-take : {A : Type 0} (test : A → Bool) (n : ℕ) (xs : List A) → list_all test xs ≡ true → list_all test (take n xs) ≡ true
 list_all-take test zero xs h = refl
 list_all-take test (suc n) [] h = refl
 list_all-take test (suc n) (x ∷ xs) h = let parts = and_parts (test x) (list_all test xs) h in

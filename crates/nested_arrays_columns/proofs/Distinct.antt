@@ -37,7 +37,7 @@ among_others x slot (y ∷ ys) other h =
     ]
 
 -- a slot stands among the distinct ones where it stands among all
-among_distinct : (slot : Slot) (xs : List Slot) → is_among slot xs ≡ true → is_among slot (distinct xs) ≡ true
+pub among_distinct : (slot : Slot) (xs : List Slot) → is_among slot xs ≡ true → is_among slot (distinct xs) ≡ true
 among_distinct slot [] h = h
 among_distinct slot (x ∷ xs) h =
     elim (or_cases (same_slot slot x) (is_among slot xs) h) [
@@ -51,7 +51,7 @@ among_distinct slot (x ∷ xs) h =
     ]
 
 -- what stands at a slot's place is the slot
-at_place_among : (slot : Slot) (xs : List Slot) → is_among slot xs ≡ true → slice_get xs (place_among slot xs) ≡ Some slot
+pub at_place_among : (slot : Slot) (xs : List Slot) → is_among slot xs ≡ true → slice_get xs (place_among slot xs) ≡ Some slot
 at_place_among slot [] h = absurd (false≢true h)
 at_place_among slot (x ∷ xs) h =
     elim (cases_Bool (same_slot slot x)) [

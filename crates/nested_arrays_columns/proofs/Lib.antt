@@ -1,3 +1,4 @@
+pub mod Claims
 pub mod ColumnSizes
 pub mod Columns
 pub mod Conditions
@@ -8,8 +9,15 @@ pub mod CutsOfCuts
 pub mod Distinct
 pub mod Fitting
 pub mod Folds
+pub mod FreshBelow
+pub mod FreshKeys
+pub mod FreshLengths
+pub mod FreshPlaces
+pub mod FreshSlots
+pub mod FreshTypes
 pub mod Parts
 pub mod SameSlotsDecide
 pub mod SoundCuts
 pub mod SoundParts
+pub mod TypeLayers
 pub mod Windows

@@ -1,5 +1,7 @@
 -- The whole numbers of the physical kinds (Arrow columnar format, "Data Types"), and the limits of lengths and keys.
-use Rattle.std.specs.Prelude.{ℕ, ◌-◌, ◌^◌, ℤ, pos, negsuc, Bool, false, ◌==◌, nat_lt}
+use Rattle.std.specs.Prelude.{ℕ, ◌-◌, ◌^◌, ℤ, pos, negsuc, Bool, false, ◌==◌, nat_lt, Option, Some, None}
+use Rattle.columnar_memory.specs.declared.DataType.TheOpen as layer
+use Rattle.columnar_memory.specs.declared.IntervalUnit.TheVariants as intervals
 use Rattle.columnar_memory.specs.declared.PrimitiveType.{PrimitiveType}
 use Rattle.columnar_memory.specs.declared.PrimitiveType.TheVariants as kinds
 use Rattle.columnar_memory.specs.declared.IntegerType.{IntegerType}
@@ -60,6 +62,32 @@ kind_number kinds.MonthDayNano = 14
 
 abbrev pub same_kind : PrimitiveType → PrimitiveType → Bool
 same_kind a b = kind_number a == kind_number b
+
+-- the kind of the numbers of a type that stores one a slot
+abbrev pub kind_of : {A B : Type 0} → layer.DataType-F A B → Option PrimitiveType
+kind_of layer.Int8 = Some kinds.Int8
+kind_of layer.Int16 = Some kinds.Int16
+kind_of layer.Int32 = Some kinds.Int32
+kind_of layer.Int64 = Some kinds.Int64
+kind_of layer.UInt8 = Some kinds.UInt8
+kind_of layer.UInt16 = Some kinds.UInt16
+kind_of layer.UInt32 = Some kinds.UInt32
+kind_of layer.UInt64 = Some kinds.UInt64
+kind_of layer.Float16 = Some kinds.Float16
+kind_of layer.Float32 = Some kinds.Float32
+kind_of layer.Float64 = Some kinds.Float64
+kind_of layer.Date32 = Some kinds.Int32
+kind_of layer.Date64 = Some kinds.Int64
+kind_of (layer.Time32 unit) = Some kinds.Int32
+kind_of (layer.Time64 unit) = Some kinds.Int64
+kind_of (layer.Timestamp unit timezone) = Some kinds.Int64
+kind_of (layer.Duration unit) = Some kinds.Int64
+kind_of (layer.Interval intervals.YearMonth) = Some kinds.Int32
+kind_of (layer.Interval intervals.DayTime) = Some kinds.DaysMs
+kind_of (layer.Interval intervals.MonthDayNano) = Some kinds.MonthDayNano
+kind_of (layer.Decimal precision scale) = Some kinds.Int128
+kind_of (layer.Decimal256 precision scale) = Some kinds.Int256
+kind_of _ = None
 
 -- a key of an integer type
 abbrev pub is_key : IntegerType → ℤ → Bool

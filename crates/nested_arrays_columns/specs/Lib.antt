@@ -2,8 +2,11 @@ pub mod Cells
 pub mod Children
 pub mod ColumnCodes
 pub mod ColumnLaws
+pub mod FreshColumns
+pub mod FreshLaws
 pub mod Kinds
 pub mod OpenBatch
+pub mod Rows
 pub mod SameSlots
 pub mod Sealing
 pub mod SlotCodes

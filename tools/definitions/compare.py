@@ -19,18 +19,25 @@ import time
 from collections import Counter
 from random import Random
 
+sys.path += [os.path.join(os.path.dirname(os.path.dirname(os.path.abspath(__file__))), it) for it in ("reader", "writer")]
+
 import antt_library
 import arrow_reader
 from arrow_cases import Writer
 from arrow_damage import Damage
 from arrow_metadata import NOT_IMPLEMENTED, UNFINISHED
-from arrow_sealed import NotWritten, file_of, groups_of, schema_message, sealed, stream_of, why_not_sealable
+from arrow_append import OldFile
+from arrow_rows import OTHER_CELLS, RowComparison
+from arrow_sealed import NotWritten, file_of, groups_of, is_of_type, schema_message, sealed, stream_of, why_not_sealable
 from arrow_special import SMALL, long_cases
 from arrow_stored import StoredColumns
-from arrow_trees import Spec, numbered
-from arrow_types import Schema, Table, child_fields
+from arrow_trees import (
+    DICTIONARY_BATCH, RECORD_BATCH, SCHEMA, Spec, batch_tree, dictionary_tree, message_tree, numbered, schema_tree,
+)
+from arrow_types import Schema, Table, child_fields, holds_union
 from defined_values import MOST_TRIED, Defined
 from definitions import TOP, deeply
+from laying import lay
 
 FOLDER = os.path.join(TOP, "bin")
 TOO_LARGE = "too large"
@@ -73,6 +80,12 @@ class Comparison:
 
     def __init__(self, defined):
         self.defined, self.counts, self.reasons, self.types = defined, Counter(), Counter(), Counter()
+        self.rows = RowComparison(defined, self.counts)
+
+    def agree(self, why_not):
+        """Stops at what two answers differ in."""
+        if why_not is not None:
+            raise Disagreement(why_not)
 
     def compare(self, case, is_damaged, random):
         read = answer_of(arrow_reader.read, case.form, case.content)
@@ -91,6 +104,9 @@ class Comparison:
             self.compare_seal(read, random)
             self.compare_writing(read, random)
             self.compare_stored(read, random)
+            self.agree(self.rows.compare_table(read, random))
+            if case.form == "file":
+                self.compare_append(case, read, random)
 
     def compare_with_case(self, case, is_damaged, read):
         """A sound input reads as what it was made of, or is refused where it passes a limit."""
@@ -182,9 +198,11 @@ class Comparison:
 
     def compare_seal(self, table, random):
         """A seal as both lay it; it reads back, by the reader and by the definitions."""
-        size, ours = random.randint(1, 4), None
+        size, ours = random.choice((1, 2, 3, 4, 1, 2, 3, 4, 0, 65536, 65537)), None
         if table.rows and random.random() < 0.2:
             table = with_other_cell(table, random)
+        elif table.rows and random.random() < 0.2:
+            table = with_other_width(table, random)
         if not why_not_sealable(table.schema.fields):
             try:
                 ours = sealed(table.schema, table.rows, size)
@@ -219,22 +237,44 @@ class Comparison:
     def compare_writing(self, table, random):
         """A stream and a file of the rows in groups, with ids that some dictionaries may share."""
         schema = table.schema
-        if any(holds_union(field.data_type) for field in schema.fields):
+        unions = [holds_union(field.data_type) for field in schema.fields]
+        if unions != [self.defined.has_union(field.data_type) for field in schema.fields]:
+            raise Disagreement("unions stand in %s: %s" % (schema.fields, unions))
+        if any(unions):
             return
         specs = numbered(schema.fields) if random.random() < 0.7 else renumbered(numbered(schema.fields), random)
-        groups = groups_of(table.rows, random.randint(1, 6))
+        groups, is_fit = groups_of(table.rows, random.randint(1, 6)), True
         if random.random() < 0.1:
             return self.compare_misshaped(schema, specs, groups, random)
+        if groups and random.random() < 0.2:
+            place = random.randrange(len(groups))
+            groups[place] = with_other_cell(Table(schema, groups[place]), random).rows
+            is_fit = all(is_of_type(field.data_type, row[k]) for row in groups[place] for k, field in enumerate(schema.fields))
         for form, write in (("stream", stream_of), ("file", file_of)):
             try:
-                ours = write(specs, schema.metadata, groups)
-            except NotWritten as why:
-                if "values" in str(why):
-                    return
+                ours = write(specs, schema.metadata, groups) if is_fit else None
+            except NotWritten:
                 ours = None
             if self.defined.defined_writing(form, schema, specs, groups) != ours:
                 raise Disagreement("a %s is laid otherwise: %s %s" % (form, specs, groups))
             self.counts["%ss %s" % (form, "refused alike" if ours is None else "laid alike")] += 1
+            self.compare_run(form, schema, specs, groups, ours, random)
+
+    def compare_run(self, form, schema, specs, groups, ours, random):
+        """A run of a writer's calls stands for what is written of the chunks that are not refused; the others leave nothing."""
+        chunks, width = self.defined.slot_chunks(groups, len(schema.fields)), len(schema.fields)
+        chunks.insert(random.randint(0, len(chunks)), self.defined.terms.plain("slot_columns", [[]] * (width + 1)))
+        found = self.defined.defined_run(form, schema, specs, chunks)
+        if found is None:
+            raise Disagreement("a run of calls is refused at its start: %s" % (specs,))
+        bars, messages = found
+        taken = [chunk for chunk, bar in zip(chunks, bars) if bar is None]
+        if ours is not None and bars.count(None) != len(groups) or "another_schema" not in bars:
+            raise Disagreement("a run of calls of a %s is refused otherwise: %s" % (form, bars))
+        written = self.defined.defined_written(form, schema, specs, taken)
+        if written is None or not written.startswith((b"" if form == "stream" else b"ARROW1\0\0") + messages + END_MARK):
+            raise Disagreement("a run of calls of a %s has other messages than what it writes" % form)
+        self.counts["runs of calls alike"] += 1
 
     def compare_stored(self, table, random):
         """Stored columns of the rows, cut out of longer ones: the cut has the rows, and is written as a stream that reads as them."""
@@ -250,11 +290,101 @@ class Comparison:
                 raise Disagreement("a cut of %s has %s (sound: %s)" % (field, found, are_sound))
             columns.append(cut)
         self.counts["stored columns cut alike"] += len(columns)
+        self.compare_big_endian(table, columns)
+        self.compare_misfits(table, columns, random)
         content = self.defined.defined_stored_stream(table.schema, numbered(table.schema.fields), columns)
-        read = answer_of(arrow_reader.read, "stream", content)
+        read = None if content is None else answer_of(arrow_reader.read, "stream", content)
         if read != table:
             raise Disagreement("what stored columns are written as reads as %s instead of %s" % (read, table))
         self.counts["stored columns' streams read alike"] += 1
+
+    def compare_misfits(self, table, columns, random):
+        """Stored columns of another number, of another length, or in other places are not written, save where their types are the same."""
+        schema, specs, made = table.schema, numbered(table.schema.fields), StoredColumns(random, self.defined.terms)
+        place = random.randrange(len(columns))
+        longer = made.column(schema.fields[place].data_type, [row[place] for row in table.rows[:1] + table.rows])
+        others = {
+            "a column less": columns[:place] + columns[place + 1 :],
+            "a column more": columns + [columns[place]],
+            "a longer column": columns[:place] + [longer] + columns[place + 1 :] if len(columns) > 1 else None,
+            "another order": columns[1:] + columns[:1] if schema.fields[0].data_type != schema.fields[-1].data_type else None,
+        }
+        for form in ("stream", "file"):
+            for name, other in others.items():
+                if other is not None:
+                    if self.defined.defined_written(form, schema, specs, [self.defined.stored_chunk(other)]) is not None:
+                        raise Disagreement("a %s is written of %s: %s" % (form, name, schema))
+                    self.counts["misfitting batches refused"] += 1
+
+    def compare_append(self, case, table, random):
+        """Rows that are appended to a file: the bytes as both lay them, and what is read of them."""
+        old, content = OldFile(case.content), case.content
+        if self.defined.defined_append_bar(old.is_little_endian, content) != old.bar():
+            raise Disagreement("a file is barred from being appended to otherwise: %s" % old.bar())
+        if old.bar() is not None and self.defined.defined_appended(content, []) is not None:
+            raise Disagreement("something is appended to a file in spite of %s" % old.bar())
+        if old.bar() is not None:
+            self.counts["files barred alike: %s" % old.bar()] += 1
+            return
+        groups = [[random.choice(table.rows) for _ in range(random.randint(1, 3))] for _ in range(random.randint(0, 2) if table.rows else 0)]
+        whole = answer_of(arrow_reader.read, "file", old.with_other_tail()) == table
+        if not any(holds_union(field.data_type) for field in table.schema.fields):
+            self.compare_appended_slots(old, table, groups, whole)
+        made = StoredColumns(random, self.defined.terms, list(old.dictionaries().values()))
+        chunks = [
+            self.defined.stored_chunk([made.column(field.data_type, [row[k] for row in rows]) for k, field in enumerate(table.schema.fields)])
+            for rows in groups
+        ]
+        found = self.defined.defined_appended(content, chunks)
+        if found is None and not any(spec.number is not None for spec in all_specs(old.specs)):
+            raise Disagreement("stored columns are not appended: %s" % (table.schema,))
+        self.compare_joined(old, table, groups, found, whole)
+        self.counts["stored columns %s to files" % ("not appended" if found is None else "appended")] += 1
+
+    def compare_appended_slots(self, old, table, groups, whole):
+        """Rows from their slots."""
+        try:
+            ours = old.appended(groups)
+        except NotWritten:
+            ours = None
+        found = self.defined.defined_appended(old.content, self.defined.slot_chunks(groups, len(table.schema.fields)))
+        if found != ours:
+            raise Disagreement("rows are appended otherwise: %s" % (groups,))
+        self.compare_joined(old, table, groups, found, whole)
+        self.counts["files %s alike" % ("not appended to" if ours is None else "appended to")] += 1
+
+    def compare_joined(self, old, table, groups, found, whole):
+        """Where nothing of the file is read behind its last block, the new file reads as the old table joined with the rows."""
+        if found is None or not whole:
+            return
+        if len(found) < len(old.content):
+            raise Disagreement("a file to which rows were appended is shorter than before")
+        joined = table._replace(rows=table.rows + [row for rows in groups for row in rows])
+        for read in (arrow_reader.read, self.defined.defined_table):
+            answer = answer_of(read, "file", found)
+            if answer != joined:
+                raise Disagreement("a file to which rows were appended reads as\n%s\ninstead of\n%s" % (answer, joined))
+        self.counts["files appended to read as joined"] += 1
+
+    def compare_big_endian(self, table, columns):
+        """Stored columns in the other byte order: a stream that says so and has their buffers reads as the rows."""
+        read = answer_of(arrow_reader.read, "stream", self.big_endian_stream(table, columns))
+        if read != table:
+            raise Disagreement("what stored columns are in big-endian bytes reads as %s instead of %s" % (read, table))
+        self.counts["stored columns' big-endian streams read alike"] += 1
+
+    def big_endian_stream(self, table, columns):
+        """A big-endian stream of one batch of stored columns, their dictionaries before it."""
+        specs, encoded = numbered(table.schema.fields), lambda column: self.defined.defined_stored_encoding(column, False)
+        out = head_of(SCHEMA, schema_tree(specs, table.schema.metadata, "big"), 0)
+        for number, values in dictionaries_of(specs, columns):
+            nodes, buffers = encoded(values)
+            places, body = placed(buffers)
+            out += head_of(DICTIONARY_BATCH, dictionary_tree(number, batch_tree(nodes[0][0], nodes, places)), len(body)) + body
+        parts = [encoded(column) for column in columns]
+        nodes, buffers = ([thing for part in parts for thing in part[k]] for k in (0, 1))
+        places, body = placed(buffers)
+        return out + head_of(RECORD_BATCH, batch_tree(len(table.rows), nodes, places), len(body)) + body + END_MARK
 
     def compare_misshaped(self, schema, specs, groups, random):
         """Nothing is written under ids of another shape than the fields."""
@@ -263,6 +393,40 @@ class Comparison:
             if self.defined.defined_writing(form, schema, other, groups) is not None:
                 raise Disagreement("a %s is written under ids of another shape: %s" % (form, other))
             self.counts["%ss refused alike" % form] += 1
+
+
+def head_of(tag, header, body_length):
+    """A message before its body."""
+    metadata = lay(message_tree(tag, header, body_length))
+    return b"\xff\xff\xff\xff" + len(metadata).to_bytes(4, "little") + metadata
+
+
+def placed(buffers):
+    """Where buffers stand that are laid one behind another, and their bytes."""
+    places, body = [], b""
+    for content in buffers:
+        places.append((len(body), len(content)))
+        body += content + bytes(-len(content) % 8)
+    return places, body
+
+
+def dictionaries_of(specs, columns):
+    """The ids and the stored values of the dictionaries of columns, those within values before them."""
+    for spec, column in zip(specs, columns):
+        if column[0] == "dictionary":
+            yield from dictionaries_of((spec._replace(number=None),), (column[4],))
+            yield spec.number, column[4]
+        elif column[0] in ("records", "unions"):
+            yield from dictionaries_of(spec.children, children_of(column[4]))
+        elif column[0] in ("lists", "fixed_lists"):
+            yield from dictionaries_of(spec.children, (column[4],))
+
+
+def children_of(columns):
+    """The columns of a struct or a union."""
+    while columns[0] == "column_then":
+        yield columns[1]
+        columns = columns[2]
 
 
 def misshaped(specs, random):
@@ -280,11 +444,11 @@ def misshaped(specs, random):
     return specs[:place] + (spec,) + specs[place + 1 :]
 
 
-# Values of several types, most of which do not fit a column.
-OTHER_CELLS = (
-    True, ("number", "Int32", 1), ("number", "Int64", 1), ("pair", "DaysMs", 1, 2), ("text", b"a"), ("bytes", b"abc"),
-    ("items", ()), ("items", (None,)), ("items", (None, None)), ("fields", ()), ("fields", (None,)), ("fields", (None, None)), None,
-)
+def all_specs(specs):
+    """Specs, and those below them."""
+    for spec in specs:
+        yield spec
+        yield from all_specs(spec.children)
 
 
 def with_other_cell(table, random):
@@ -296,11 +460,11 @@ def with_other_cell(table, random):
     return table._replace(rows=rows)
 
 
-def holds_union(data_type):
-    """Whether a union stands anywhere in a type, whose values are not written from slots."""
-    while data_type[0] in ("Dictionary", "Extension"):
-        data_type = data_type[2]
-    return data_type[0] == "Union" or any(holds_union(child.data_type) for child in child_fields(data_type))
+def with_other_width(table, random):
+    """A table with a row that has a value less or more."""
+    rows, at = list(table.rows), random.randrange(len(table.rows))
+    rows[at] = rows[at][:-1] if random.random() < 0.5 else rows[at] + (None,)
+    return table._replace(rows=rows)
 
 
 def renumbered(specs, random):
@@ -332,6 +496,8 @@ def run(options):
     comparison, start = Comparison(None if options.alone else Defined()), time.perf_counter()
     numbers = range(options.count) if options.case is None else [options.case]
     long = long_cases() if options.long else []
+    if comparison.defined is not None:
+        comparison.agree(comparison.rows.compare_full_dictionaries())
     for number in range(len(long)) if long else numbers:
         case, is_damaged = (long[number], False) if long else made_case(options.seed, number, options.form)
         try:

@@ -110,6 +110,13 @@ def dictionaries_in(data_type):
     return inside + is_dictionary(data_type)
 
 
+def holds_union(data_type):
+    """Whether a union stands anywhere in a type, whose values are not written from slots."""
+    while data_type[0] in ("Dictionary", "Extension"):
+        data_type = data_type[2]
+    return data_type[0] == "Union" or any(holds_union(child.data_type) for child in child_fields(data_type))
+
+
 def is_dictionary(data_type):
     return data_type[0] == "Dictionary"
 

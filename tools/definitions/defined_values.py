@@ -158,6 +158,24 @@ class Terms:
             out = self.plain("slot_then", self.slot(value), out)
         return out
 
+    def cell(self, value):
+        """The cell of a value."""
+        if value is None:
+            return self.plain("null_cell")
+        if isinstance(value, bool):
+            return self.plain("boolean_cell", value)
+        name = value[0]
+        if name == "number":
+            return self.plain("whole_cell", self.plain(value[1]), value[2])
+        if name in ("pair", "triple"):
+            return self.plain("days_ms_cell" if name == "pair" else "months_days_ns_cell", *value[2:])
+        if name in ("text", "bytes"):
+            return self.plain(name + "_cell", value[1])
+        cells = self.plain("no_cell")
+        for part in reversed(value[1]):
+            cells = self.plain("cell_then", self.cell(part), cells)
+        return self.plain("list_cell" if name == "items" else "record_cell", cells)
+
     def rows(self, rows):
         return [[self.slot(value) for value in row] for row in rows]
 
@@ -191,11 +209,18 @@ class Defined:
         self.first_batches, self.behind_messages = find(GRAMMAR, "first_batches"), find(GRAMMAR, "behind_messages")
         self.laid, self.schema_message = find(FLATBUFFERS, "laid"), find(GRAMMAR, "schema_message")
         self.default_ids, self.seal = find(GRAMMAR, "default_ids"), find(GRAMMAR, "sealed")
-        self.batch = find(GRAMMAR, "batch_of_slots")
+        self.belongs, self.base, self.appended = (find(GRAMMAR, name) for name in ("belongs", "base_of", "appended"))
+        self.append_bar, self.write_bar = find(GRAMMAR, "append_bar"), find(GRAMMAR, "write_bar")
+        self.start, self.writes = find(GRAMMAR, "after_start"), find(GRAMMAR, "after_writes")
+        self.ids_fit, self.footer, self.message_bytes = (find(GRAMMAR, name) for name in ("ids_fit_fields", "footer_in", "bytes_of_messages"))
         self.encode, self.encode_stored = find(GRAMMAR, "encode"), find(GRAMMAR, "encode_stored")
+        self.union = find(GRAMMAR, "has_union")
         self.stream, self.file = find(GRAMMAR, "written_stream"), find(GRAMMAR, "written_file")
-        self.stored_batch, self.stream_bytes = find(GRAMMAR, "batch_of_stored"), find(GRAMMAR, "stream_bytes")
         self.slots, self.cut, self.is_sound = find(ARRAYS, "slots"), find(ARRAYS, "cut"), find(ARRAYS, "is_sound")
+        self.fresh, self.fits, self.is_buildable = find(ARRAYS, "fresh"), find(ARRAYS, "fits"), find(ARRAYS, "is_buildable")
+        self.is_accepted, self.batch_of_rows = find(ARRAYS, "is_accepted"), find(ARRAYS, "batch_of_rows")
+        self.column_len, self.column_type = find(ARRAYS, "column_len"), find(ARRAYS, "column_type")
+        self.given_by, self.given_stored = find(GRAMMAR, "given_by"), find(GRAMMAR, "given_stored")
 
     # ---- reading
 
@@ -241,7 +266,7 @@ class Defined:
     # ---- causes of refusals, found by trying every place
 
     def has_feather_mark(self, form, content):
-        return form == "file" and called(self.feather_mark, content)
+        return called(self.feather_mark, self.forms[form], content)
 
     def has_float(self, form, content):
         """Whether a float field stands at some path of the schema."""
@@ -293,15 +318,48 @@ class Defined:
         """The seal of rows in groups, or None."""
         return as_text(called(self.seal, self.terms.schema(schema), self.terms.rows(rows), size))
 
+    def slot_chunks(self, groups, width):
+        """Groups of rows as a writer is given them, column by column."""
+        return [
+            self.terms.plain("slot_columns", [[self.terms.slot(row[place]) for row in rows] for place in range(width)])
+            for rows in groups
+        ]
+
+    def stored_chunk(self, columns):
+        """Stored columns as a writer is given them."""
+        return self.terms.plain("stored_columns", columns)
+
+    def defined_written(self, form, schema, specs, chunks):
+        """A stream or a file of chunks, or None."""
+        write = self.stream if form == "stream" else self.file
+        return as_text(called(write, self.terms.schema(schema), self.terms.ids(specs), chunks))
+
     def defined_writing(self, form, schema, specs, groups):
         """A stream or a file of groups of rows, or None."""
-        ids, fields = self.terms.ids(specs), self.terms.fields(schema.fields)
-        batches = []
-        for rows in groups:
-            columns = [[self.terms.slot(row[place]) for row in rows] for place in range(len(fields))]
-            batches.append(called(self.batch, fields, ids, columns))
-        write = self.stream if form == "stream" else self.file
-        return as_text(called(write, self.terms.schema(schema), ids, batches))
+        return self.defined_written(form, schema, specs, self.slot_chunks(groups, len(schema.fields)))
+
+    def defined_run(self, form, schema, specs, chunks):
+        """Of a run of calls of a writer: which chunks are refused, and the bytes of its messages; None where start is refused."""
+        form, schema, ids = self.forms[form], self.terms.schema(schema), self.terms.ids(specs)
+        started, bars = called(self.start, schema, ids), []
+        if started is None:
+            return None
+        run = started[0]
+        for chunk in chunks:
+            bar = called(self.write_bar, form, schema, ids, run.f_told, chunk)
+            bars.append(None if bar is None else str(bar[0][0]))
+            run = called(self.writes, form, schema, ids, run, [chunk])
+        return bars, bytes(called(self.message_bytes, run.f_messages))
+
+    def defined_appended(self, content, chunks):
+        """A file with chunks appended, or None."""
+        return as_text(called(self.appended, content, chunks))
+
+    def defined_append_bar(self, is_little_endian, content):
+        """Why nothing may be appended to a file with a footer, or None."""
+        footer = called(self.footer, content)[0]
+        bar = called(self.append_bar, is_little_endian, len(content), footer.f_dictionaries, footer.f_record_batches)
+        return None if bar is None else str(bar[0][0])
 
     # ---- stored columns
 
@@ -311,12 +369,49 @@ class Defined:
         are_sound = called(self.is_sound, column) and called(self.is_sound, cut)
         return cut, are_sound, [values.value(slot) for slot in called(self.slots, cut)]
 
-    def defined_stored_encoding(self, column):
-        """The nodes and buffers of a stored column."""
-        return as_encoded(called(self.encode_stored, column))
+    def defined_stored_encoding(self, column, is_little_endian=True):
+        """The nodes and buffers of a stored column in a byte order."""
+        return as_encoded(called(self.encode_stored, is_little_endian, column))
+
+    def has_union(self, data_type):
+        """Whether the definitions find a union in a type."""
+        return called(self.union, self.terms.data_type(data_type))
 
     def defined_stored_stream(self, schema, specs, columns):
-        """A stream of one batch of stored columns."""
-        ids = self.terms.ids(specs)
-        batch = called(self.stored_batch, ids, columns)
-        return bytes(called(self.stream_bytes, self.terms.schema(schema), ids, [batch]))
+        """A stream of one batch of stored columns, or None."""
+        return self.defined_written("stream", schema, specs, [self.stored_chunk(columns)])
+
+    # ---- fresh columns and rows
+
+    def why_not_fresh(self, field, spec, slots, random):
+        """What a column that stores some slots, which fit, does not keep of them, or None."""
+        data_type, terms = self.terms.data_type(field.data_type), list(map(self.terms.slot, slots))
+        ids, values = self.terms.ids((spec,))[1], Slots()
+        if not called(self.is_buildable, data_type) or not called(self.fits, data_type, terms):
+            return "the slots do not fit"
+        column, count = called(self.fresh, data_type, terms), len(slots)
+        offset = random.randint(0, count)
+        cut = called(self.cut, column, offset, count - offset)
+        kept = {
+            "the type": lambda: same(called(self.column_type, column), data_type),
+            "the length": lambda: called(self.column_len, column) == count,
+            "the slots": lambda: list(map(values.value, called(self.slots, column))) == slots,
+            "soundness": lambda: called(self.is_sound, column),
+            "the encoding": lambda: same(called(self.encode_stored, True, column), called(self.encode, data_type, terms)),
+            "the dictionaries": lambda: same(called(self.given_stored, ids, column), called(self.given_by, data_type, ids, terms)),
+            "a cut": lambda: called(self.is_sound, cut) and list(map(values.value, called(self.slots, cut))) == slots[offset:],
+        }
+        return next((name for name, is_kept in kept.items() if not is_kept()), None)
+
+    def fits_column(self, data_type, slots):
+        return called(self.fits, self.terms.data_type(data_type), list(map(self.terms.slot, slots)))
+
+    def accepts(self, fields, rows, row):
+        """Whether a row of cells is accepted where some rows are open."""
+        return called(self.is_accepted, self.terms.fields(fields), self.terms.rows(rows), list(map(self.terms.cell, row)))
+
+    def defined_batch(self, fields, rows):
+        """The values of the columns that a batch of open rows becomes."""
+        values = Slots()
+        columns = called(self.batch_of_rows, self.terms.fields(fields), self.terms.rows(rows))
+        return [list(map(values.value, called(self.slots, column))) for column in columns]

@@ -160,7 +160,7 @@ class Writer:
             metadata, body = self.batch_message((dictionaries + records)[index])
             head = self.framed(metadata)
             gap = self.random.choice((0, 0, 0, 5))
-            places[index] = (len(out), len(head) + gap, self.random.choice((len(body), 0, -1, len(body))))
+            places[index] = (len(out), len(head) + gap, self.random.choice((len(body),) * 12 + (0, -1, 2**40)))
             out += head + bytes(gap) + body
         out += self.random.choice((MARKER + bytes(4), b"", b"rest"))
         blocks = [places[index] for index in range(len(places))]

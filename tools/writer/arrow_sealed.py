@@ -15,6 +15,7 @@ from laying import lay
 MARKER = b"\xff\xff\xff\xff"
 END = MARKER + bytes(4)
 STEP = 64
+MOST_BATCH_ROWS = 65536
 
 
 def why_not_sealable(fields):
@@ -34,8 +35,8 @@ def why_not_sealable(fields):
     return None
 
 
-def fits_cell(data_type, slot):
-    """Whether a value may stand in a column of a type."""
+def is_of_type(data_type, slot):
+    """Whether a value may stand in a column of a type; in a union none but a null."""
     data_type = storage_of(data_type[2] if data_type[0] == "Dictionary" else data_type)
     name, kind = data_type[0], kind_of(data_type)
     if slot is None:
@@ -48,12 +49,12 @@ def fits_cell(data_type, slot):
         return slot[0] == ("text" if name in TEXTS else "bytes")
     if name == "FixedSizeBinary":
         return slot[0] == "bytes" and len(slot[1]) == data_type[1]
-    if name in ("List", "LargeList", "FixedSizeList"):
+    if name in LISTS or name == "FixedSizeList":
         is_long = name != "FixedSizeList" or slot[0] == "items" and len(slot[1]) == data_type[2]
-        return slot[0] == "items" and is_long and all(fits_cell(data_type[1].data_type, item) for item in slot[1])
+        return slot[0] == "items" and is_long and all(is_of_type(data_type[1].data_type, item) for item in slot[1])
     if name != "Struct" or slot[0] != "fields" or len(slot[1]) != len(data_type[1]):
         return False
-    return all(fits_cell(field.data_type, part) for field, part in zip(data_type[1], slot[1]))
+    return all(is_of_type(field.data_type, part) for field, part in zip(data_type[1], slot[1]))
 
 
 def packed(flags):
@@ -171,9 +172,9 @@ def dictionary_message(number, values, batch):
     return framed(message_tree(DICTIONARY_BATCH, header, len(body)), body)
 
 
-def messages_of(specs, groups, may_replace=True):
-    """Kind, head and body of each message behind the schema, for groups of rows."""
-    out, last = [], {}
+def messages_of(specs, groups, may_replace=True, known=()):
+    """Kind, head and body of each message behind the schema, for groups of rows, where some dictionaries stand already."""
+    out, last = [], dict(known)
     for rows in groups:
         batch, own = Batch(), {}
         for place, spec in enumerate(specs):
@@ -204,17 +205,26 @@ def stream_of(specs, metadata, groups):
 def sealed(schema, rows, size):
     """The seal of a table in groups of so many rows."""
     for row in rows:
-        if not all(fits_cell(field.data_type, slot) for field, slot in zip(schema.fields, row)):
+        if len(row) != len(schema.fields) or not row:
+            raise NotWritten("a row of another width")
+        if not all(is_of_type(field.data_type, slot) for field, slot in zip(schema.fields, row)):
             raise NotWritten("a value of another type")
+    if not 1 <= size <= MOST_BATCH_ROWS:
+        raise NotWritten("a batch of another size")
     return stream_of(numbered(schema.fields), schema.metadata, groups_of(rows, size))
 
 
 def file_of(specs, metadata, groups):
     """A file of groups of rows, where no dictionary changes."""
-    out = b"ARROW1\0\0" + schema_message(specs, metadata)[0]
-    blocks = {DICTIONARY_BATCH: [], RECORD_BATCH: []}
-    for kind, head, body in messages_of(specs, groups, False):
+    start = b"ARROW1\0\0" + schema_message(specs, metadata)[0]
+    return file_behind(start, specs, metadata, {DICTIONARY_BATCH: [], RECORD_BATCH: []}, messages_of(specs, groups, False))
+
+
+def file_behind(out, specs, metadata, blocks, messages, least=0):
+    """A file that begins with some bytes, which has these blocks, and messages behind them; it has at least so many bytes."""
+    for kind, head, body in messages:
         blocks[kind].append((len(out), len(head), len(body)))
         out += head + body
     footer = lay(footer_tree(schema_tree(specs, metadata), blocks[DICTIONARY_BATCH], blocks[RECORD_BATCH]))
-    return out + END + footer + struct.pack("<i", len(footer)) + b"ARROW1"
+    end = footer + struct.pack("<i", len(footer)) + b"ARROW1"
+    return out + END + bytes(max(0, least - len(out + END + end))) + end

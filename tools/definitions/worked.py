@@ -8,7 +8,10 @@ buffers and of messages, slots, lengths. Inputs are laid from explicit nodes and
 is as expected prints a line; at the first that is not the exit status is 1.
 """
 
+import os
 import sys
+
+sys.path += [os.path.join(os.path.dirname(os.path.dirname(os.path.abspath(__file__))), it) for it in ("reader", "writer")]
 
 from arrow_trees import (
     DICTIONARY_BATCH, RECORD_BATCH, SCHEMA, V5, batch_tree, dictionary_tree, message_tree, numbered, schema_tree,
@@ -529,10 +532,10 @@ def shown(value):
     return repr(value)
 
 
-def run():
+def run(worked=WORKED):
     """Finds the values one after another, up to the first that is not as expected; answers the exit status."""
     defined, count = Defined(), 0
-    for values in WORKED:
+    for values in worked:
         for name, found, expected in values(defined):
             if found != expected:
                 print("%s: gives\n%s\nexpected is\n%s" % (name, shown(found), shown(expected)))

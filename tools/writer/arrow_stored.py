@@ -18,10 +18,13 @@ def filler(data_type):
 
 
 class StoredColumns:
-    """Makes stored columns; `terms` turns values into those of the definitions."""
+    """Makes stored columns; `terms` turns values into those of the definitions.
 
-    def __init__(self, random, terms):
-        self.random, self.terms = random, terms
+    Where dictionaries of some types and values stand, dictionaries that fit into one of them have its values.
+    """
+
+    def __init__(self, random, terms, standing=()):
+        self.random, self.terms, self.standing = random, terms, standing
 
     def mask(self, slots):
         """A mark for each value, or no mask where all are there."""
@@ -132,8 +135,12 @@ class StoredColumns:
     def dictionary(self, whole, data_type, slots):
         key, value_type = data_type[1:3]
         values = list(dict.fromkeys(slot for slot in slots if slot is not None))
-        values += self.fillers(value_type, 2)
-        self.random.shuffle(values)
+        known = [list(found) for other, found in self.standing if other == value_type and set(values) <= set(found)]
+        if known:
+            values = self.random.choice(known)
+        else:
+            values += self.fillers(value_type, 2)
+            self.random.shuffle(values)
         most = 2 ** (INTEGERS[key][0] - 1) - 1
         keys = [self.random.randint(0, min(most, 9)) if slot is None else values.index(slot) for slot in slots]
         return self.terms.plain("dictionary", whole, self.mask(slots), keys, self.column(value_type, values))

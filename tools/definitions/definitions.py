@@ -25,12 +25,12 @@ from antt_syntax import (
 )
 from rust_types import RustTypes
 
-TOP = os.path.dirname(os.path.dirname(os.path.abspath(__file__)))
+TOP = os.path.dirname(os.path.dirname(os.path.dirname(os.path.abspath(__file__))))
 STANDARD = {"std", "core", "alloc"}
 SIDES = {"infixl": LEFT, "infixr": RIGHT, "infix": NEITHER}
 TRUTHS = {"true": "True", "false": "False", "None": "None", "[]": "[]", "zero": "0"}
 # Definitions over the codes that Rattle generates: the sameness of two coded values.
-REPLACED = {("columnar_memory_content", "Sameness", "same"): (3, lambda code, a, b: library.same(a, b))}
+REPLACED = {("columnar_memory_types", "Sameness", "same"): (3, lambda code, a, b: library.same(a, b))}
 IGNORED = {"mod", "unfolding", "ruleset", "open", "axiom", "deriving"}
 
 
@@ -162,8 +162,8 @@ class Definitions:
         facade = os.path.join(folder, "Lib.antt")
         if names and os.path.exists(facade):
             with open(facade, encoding="utf-8") as source:
-                for line in re.findall(r"^pub use ([\w.]+)\s*$", source.read(), re.M):
-                    if line.split(".")[-1] == names[0]:
+                for line, other_name in re.findall(r"^pub use ([\w.]+)(?: as (\w+))?\s*$", source.read(), re.M):
+                    if (other_name or line.split(".")[-1]) == names[0]:
                         return self.module(line.split(".") + names[1:], owner)
         raise NotUnderstood("no module %s" % ".".join(path))
 

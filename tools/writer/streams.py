@@ -13,6 +13,8 @@ import os
 import sys
 import tempfile
 
+sys.path.append(os.path.join(os.path.dirname(os.path.dirname(os.path.abspath(__file__))), "reader"))
+
 from cases import EXAMPLE, file_cases
 from laying import END, V4, batch_message, field, schema_message, stream, usual
 from reading import Refused, read, run
@@ -66,7 +68,7 @@ def write_samples(folder):
 
 def print_constants():
     """The stream of the tests of `tables`, as the text of a module."""
-    print("// A stream laid by `tools/streams.py constants`.")
+    print("// A stream laid by `streams.py constants`.")
     print("\n// A nullable column x with the rows 7 and null.\npub const EXAMPLE: [u8; %d] = [" % len(EXAMPLE))
     for at in range(0, len(EXAMPLE), 16):
         print("    " + " ".join("%d," % byte for byte in EXAMPLE[at : at + 16]))
@@ -85,13 +87,13 @@ def write_bench(path, batches):
     print(rows * batches)
 
 
-def show(path):
+def show(path, name=None):
     content = open(path, "rb").read()
     try:
         fields, batches = read(content)
     except Refused as refused:
         sys.exit("%s: %s" % (path, refused))
-    print("%s: %d bytes, columns %s" % (path, len(content), " ".join(name.decode() for name, _ in fields)))
+    print("%s: %d bytes, columns %s" % (name or path, len(content), " ".join(name.decode() for name, _ in fields)))
     for index, columns in enumerate(batches):
         for row in zip(*columns):
             cells = ["null" if value is None else str(value) for value in row]

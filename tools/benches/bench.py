@@ -97,7 +97,7 @@ def built(folder, name):
 def measure(program, plain, folder, batches):
     """Seconds of the program, of cp and of plain Rust, and peak over size, on a stream of so many batches."""
     given, output = os.path.join(folder, "bench.stream"), os.path.join(folder, "bench.out")
-    make = [sys.executable, "-B", os.path.join(TOOLS, "streams.py"), "bench", given, str(batches)]
+    make = [sys.executable, "-B", os.path.join(os.path.dirname(TOOLS), "writer", "streams.py"), "bench", given, str(batches)]
     rows = int(subprocess.run(make, check=True, stdout=subprocess.PIPE).stdout)
     size = os.path.getsize(given)
     copying, _ = best(["cp", given, output], output)

@@ -1,0 +1,27 @@
+-- The column that stores some slots is written as the slots are, and so are the dictionaries that it brings.
+use Rattle.std.specs.Prelude.{◌≡◌, true, false, List}
+use Rattle.columnar_memory.specs.declared.DataType.{DataType}
+use Rattle.nested_arrays_columns.specs.FreshColumns.{fresh}
+use Rattle.nested_arrays_columns.specs.FreshLaws.{is_buildable}
+use Rattle.nested_arrays_columns.specs.OpenBatch.{fits}
+use Rattle.nested_arrays_columns.specs.Slots.{Slot}
+use Rattle.ipc_format_grammar.specs.Schemas.{Ids}
+use Rattle.ipc_format_grammar.specs.Encoding.{encode, has_union}
+use Rattle.ipc_format_grammar.specs.StoredEncoding.{encode_stored}
+use Rattle.ipc_format_grammar.specs.GivenDictionaries.{given_by, given_stored}
+use Rattle.ipc_format_grammar.specs.Writable.{report_of}
+
+-- each type that is written and in which no union stands is one of which slots are stored as they come
+abbrev pub WritableIsBuildable : Type 0
+WritableIsBuildable = (data_type : DataType) → (report_of data_type).is_allowed ≡ true → has_union data_type ≡ false
+    → is_buildable data_type ≡ true
+
+-- its nodes and buffers, little-endian
+abbrev pub FreshEncodes : Type 0
+FreshEncodes = (data_type : DataType) (some : List Slot) → is_buildable data_type ≡ true → fits data_type some ≡ true
+    → encode_stored true (fresh data_type some) ≡ encode data_type some
+
+-- its dictionaries
+abbrev pub FreshGives : Type 0
+FreshGives = (data_type : DataType) (here : Ids) (some : List Slot) → is_buildable data_type ≡ true → fits data_type some ≡ true
+    → given_stored here (fresh data_type some) ≡ given_by data_type here some
