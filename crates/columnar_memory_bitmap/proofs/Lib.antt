@@ -1,3 +1,4 @@
+pub mod BitSlices
 pub mod Combining
 pub mod Lists
 pub mod Passing

@@ -312,6 +312,16 @@ impl Bitmap {
         MutableBitmap::from_iter(alloc, iter)?.freeze()
     }
 
+    /// The bits of a slice, in order.
+    ///
+    /// # Errors
+    /// `OutOfMemory`: the bytes or the count of owners found no memory.
+    pub fn from(alloc: Global, bits: &[bool]) -> Result<Bitmap>
+        ensures { OrOutOfMemory result (λ b. b ≡ bits.now) }
+    {
+        MutableBitmap::from(alloc, bits)?.freeze()
+    }
+
     /// A copy of the first `len` bits of some bytes.
     ///
     /// # Errors

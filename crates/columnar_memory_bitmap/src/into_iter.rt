@@ -75,6 +75,13 @@ impl DoubleEndedIterator for IntoIter {
     }
 }
 
+impl ExactSizeIterator for IntoIter {
+    #[tactic(auto, using(crate::proofs::Lists::ranges))]
+    fn len(&self) -> usize {
+        self.end - self.index
+    }
+}
+
 impl IntoIterator for Bitmap {
     type Item = bool;
 

@@ -137,6 +137,21 @@ impl MutableBitmap {
         Ok(bitmap)
     }
 
+    /// The bits of a slice, in order.
+    ///
+    /// # Errors
+    /// `OutOfMemory`: the bits found no memory.
+    pub fn from(alloc: Global, bits: &[bool]) -> Result<MutableBitmap>
+        ensures { OrOutOfMemory result (λ b. b ≡ bits.now) }
+    {
+        let mut packed = BitGatherer::new(alloc);
+        packed.reserve(bits.len())?;
+        for bit in bits {
+            packed.push(*bit)?;
+        }
+        packed.finish()
+    }
+
     /// Adds the first `count` bits of a word behind whole bytes.
     #[tactic(auto, using(crate::proofs::Lists::windows))]
     pub(crate) fn extend_word(&mut self, word: u64, count: usize) -> Result<()>

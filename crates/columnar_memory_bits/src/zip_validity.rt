@@ -124,3 +124,13 @@ impl<
         }
     }
 }
+
+impl<T: Drop, I: ExactSizeIterator<Item = T>, V: ExactSizeIterator<Item = bool>> ExactSizeIterator
+    for ZipValidity<T, I, V> {
+    fn len(&self) -> usize {
+        match self {
+            ZipValidity::Required(values) => values.len(),
+            ZipValidity::Optional(both) => both.len(),
+        }
+    }
+}

@@ -76,3 +76,12 @@ impl<
         }
     }
 }
+
+impl<T: Drop, I: ExactSizeIterator<Item = T>, V: ExactSizeIterator<Item = bool>> ExactSizeIterator
+    for ZipValidityIter<T, I, V> {
+    fn len(&self) -> usize {
+        let values = self.values.len();
+        let bits = self.validity.len();
+        values.min(bits)
+    }
+}

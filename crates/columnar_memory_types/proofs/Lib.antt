@@ -1,3 +1,4 @@
 pub mod Lookups
 pub mod KeptLists
 pub mod LogicalTypes
+pub mod TextLaws

@@ -1,7 +1,6 @@
 ghost use Rattle.columnar_memory_types.specs.Equality.{same_type-Decides, same_field-Decides};
 
-use crate::{Boxed, Items, Metadata, Text};
-use crate::{IntegerType, IntervalUnit, TimeUnit, UnionMode};
+use crate::{Boxed, IntegerType, IntervalUnit, Items, Metadata, Text, TimeUnit, UnionMode};
 use std::hash::Hash;
 
 /// What the values of a column mean, and so how they lie in memory.

@@ -3,8 +3,8 @@ ghost use Rattle.std.specs.Prelude.{◌≡◌, ◌↔◌, IsTrue, Option, Bool};
 ghost use Rattle.columnar_memory_types.specs.Equality.{same_type, same_type-per, same_type-equivalence};
 ghost use Rattle.columnar_memory_types.specs.Equality.{same_field, same_field-per, same_field-equivalence};
 
-use crate::data_type::{DataType, Field};
 use crate::Items;
+use crate::data_type::{DataType, Field};
 
 impl PartialEq for DataType {
     ghost eq = { same_type };

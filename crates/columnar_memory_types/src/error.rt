@@ -1,4 +1,4 @@
-ghost use Rattle.std.specs.Prelude.{[]};
+ghost use Rattle.std.specs.Prelude.{◌≡◌, []};
 ghost use Rattle.std.specs.String.{string_bytes};
 ghost use Rattle.columnar_memory_types.specs.Error.{IsExternalOf, IsIo, IsOutOfMemory, IsOutOfSpec};
 
@@ -74,7 +74,10 @@ impl<T: Drop> From<AllocFailed<T>> for Error {
 impl From<io::Error> for Error {
     ghost from_gives = { λ _ e. IsIo e };
 
-    fn from(error: io::Error) -> Self {
+    fn from(error: io::Error) -> Self
+        ensures kind { IsIo result }
+        ensures same { result ≡ Error.Io error }
+    {
         Error::Io(error)
     }
 }

@@ -2,9 +2,9 @@ ghost use Rattle.std.specs.Prelude.{◌≡◌, [], ◌∷◌, ◌++◌, if◌the
 ghost use Rattle.std.specs.Borrow.{Bor};
 ghost use Rattle.columnar_memory_types.specs.Kept.{KeptFrom};
 
+use crate::Items;
 use crate::data_type::Field;
 use crate::schema::Schema;
-use crate::Items;
 use std::alloc::AllocError;
 
 impl Schema {

@@ -21,6 +21,7 @@ mod physical;
 mod schema;
 mod text;
 mod units;
+mod whole;
 
 pub use boxed::Boxed;
 pub use data_type::{DataType, Field};

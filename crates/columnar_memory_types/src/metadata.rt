@@ -1,4 +1,4 @@
-ghost use Rattle.std.specs.Prelude.{◌≡◌, [], length, ◌↔◌, IsTrue, OnOk, OnErr};
+ghost use Rattle.std.specs.Prelude.{◌≡◌, true, [], length, ◌↔◌, IsTrue, OnOk, OnErr};
 ghost use Rattle.std.specs.Option.{option_copied};
 ghost use Rattle.std.specs.Map.{keys_of};
 ghost use Rattle.std.specs.List.Sorted.{IsStrictlySortedBy};
@@ -8,6 +8,7 @@ ghost use Rattle.std.specs.Cmp.Rules.{comparing};
 ghost use Rattle.std.proofs.Common.{rules};
 ghost use Rattle.columnar_memory_types.specs.Pairs.{value_at, with_pair, pairs_eq};
 ghost use Rattle.columnar_memory_types.specs.TextHashes.{pairs_hash_input, pairs_Alike};
+ghost use Rattle.columnar_memory_types.specs.Texts.{are_texts, is_ascending};
 
 use crate::text::Text;
 use std::alloc::{AllocError, Global};
@@ -104,6 +105,17 @@ impl Metadata {
         ensures ordered { IsStrictlySortedBy (slice_cmp nat_cmp) (keys_of self.now) }
     {
         self.map.iter()
+    }
+
+    /// Hands to a proof that each key and each value is UTF-8, and that the keys ascend. It changes nothing.
+    pub fn whole(&self)
+        ensures texts { are_texts self.now ≡ true }
+        ensures ascending { is_ascending self.now ≡ true }
+    {
+        for (name, value) in self.iter() {
+            name.whole();
+            value.whole();
+        }
     }
 }
 

@@ -1,5 +1,6 @@
-ghost use Rattle.std.specs.Prelude.{◌≡◌, [], length, ◌↔◌, IsTrue, IfOk, nat_eq, refl, Some};
+ghost use Rattle.std.specs.Prelude.{◌≡◌, true, [], length, ◌↔◌, IsTrue, IfOk, nat_eq, refl, Some};
 ghost use Rattle.std.specs.String.{string_bytes};
+ghost use Rattle.std.specs.Str.{IsUtf8, is_utf8};
 ghost use Rattle.std.specs.Ordering.{nat_cmp};
 ghost use Rattle.std.specs.Cmp.{partial_equiv_from_equiv};
 ghost use Rattle.std.specs.Cmp.Lexicographic.{pointwise, slice_cmp, nat_list_eq_equiv, nat_list_cmp_total, texts_ties, texts_po};
@@ -69,6 +70,14 @@ impl Text {
         ensures { IsTrue result ↔ (self.now ≡ []) }
     {
         self.string.is_empty()
+    }
+
+    /// Hands to a proof that the bytes of every text are UTF-8. It does nothing.
+    pub fn whole(&self)
+        ensures text { IsUtf8 self.now }
+        ensures test { is_utf8 self.now ≡ true }
+    {
+        let _string = &self.string;
     }
 }
 
