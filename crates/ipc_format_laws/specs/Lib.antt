@@ -3,3 +3,16 @@ pub mod DefaultIds
 pub mod Fresh
 pub mod FreshEncodings
 pub mod NormalForm
+pub mod Spelling
+pub mod Theorem
+pub mod Answers
+pub mod BatchMessages
+pub mod Schemas
+pub mod Footers
+pub mod Columns
+pub mod WholeColumns
+pub mod Batches
+pub mod Texts
+pub mod Messages
+pub mod Contents
+pub mod Tables

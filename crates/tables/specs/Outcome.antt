@@ -7,7 +7,7 @@ use Rattle.std.specs.declared.alloc.Global.{Global}
 use Rattle.columnar_memory.specs.declared.Error.TheVariants as errors
 use Rattle.ipc_format.specs.WrittenMessages.{fits_limit}
 use Rattle.tables_faults.specs.declared.fault.Fault.TheVariants as faults
-use Rattle.ipc_format_streams.specs.Devices.{AppendsBeginning}
+use Rattle.ipc_format.specs.streams.Devices.{AppendsBeginning}
 use Rattle.tables_stream.specs.Reading.{ReadsTable}
 use Rattle.tables_stream.specs.Tables.{Stored, row_count, table_messages}
 use Rattle.tables.specs.Command.{Asked, Cut, IsDone}

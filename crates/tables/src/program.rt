@@ -6,7 +6,7 @@ ghost use Rattle.tables.specs.Command.{Cut, asked_by, command_of};
 ghost use Rattle.tables.specs.Cutting.{form_in};
 ghost use Rattle.tables.specs.Failure.{failure_text, failure_line};
 ghost use Rattle.tables.specs.Outcome.{Answers, CarriesOut, ReadsInput, CutsBytes, CutsTable};
-ghost use Rattle.ipc_format_streams.specs.Devices.{Puts};
+ghost use Rattle.ipc_format.specs.streams.Devices.{Puts};
 
 use crate::commands::Command;
 use crate::places::Places;

@@ -13,7 +13,7 @@ use Rattle.columnar_memory.specs.declared.Schema.{Schema}
 use Rattle.nested_arrays_columns.proofs.Windows.{length-window}
 use Rattle.nested_arrays_columns.specs.Slots.{Slot}
 use Rattle.nested_arrays_columns.specs.Tables.{row_at, batch_rows, rows_of_columns, rows_of_batches}
-use Rattle.ipc_format_grammar.specs.Framing.{Framed, Next, nothing_whole, at_end, message_then, next_at, by_next, dictionaries_after, truncated_from}
+use Rattle.ipc_format.specs.grammar.Framing.{Framed, Next, nothing_whole, at_end, message_then, next_at, by_next, dictionaries_after, truncated_from}
 use Rattle.ipc_format.specs.Reading.{◌>>=◌}
 use Rattle.tables_stream.specs.Cells.{slot_of}
 use Rattle.tables_stream.specs.Batches.{rows_of_cells}
@@ -21,8 +21,8 @@ use Rattle.tables_stream.specs.declared.batches.Batch.{Batch}
 use Rattle.tables_stream.specs.Tables.{batch_slots, stored_cells}
 use Rattle.tables_stream.specs.Int32.{batch_by, Step, cut_off, ended, batch_then, step_of, step_at, behind, by_step, stream_batches, first_from}
 use Rattle.tables_faults.specs.Faults.{fault_of}
-use Rattle.ipc_format_grammar.specs.Refusals.{next_after}
-use Rattle.ipc_format_metadata.specs.Reading.{Refuses}
+use Rattle.ipc_format.specs.grammar.Refusals.{next_after}
+use Rattle.ipc_format.specs.metadata.Reading.{Refuses}
 use Rattle.tables_stream.specs.Reading.{ReadsBatches, HasTooManyFrom, IsUnfinishedFrom, IsCompressedThere, HasCompressedFrom}
 use Rattle.tables_stream.specs.Int32Schemas.{IsInt32Schema}
 use Rattle.ipc_format.specs.Messages.{Version}

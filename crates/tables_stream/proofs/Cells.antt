@@ -13,12 +13,12 @@ use Rattle.std.proofs.Math.Nat.{pow-suc}
 use Rattle.std.proofs.Math.Seq.{take-add}
 use Rattle.columnar_memory.specs.Bits.{bit, unset_count}
 use Rattle.columnar_memory.specs.Words.{word, word_bits}
-use Rattle.columnar_memory_bits.proofs.Counts.{unset_count_le}
-use Rattle.columnar_memory_bits.proofs.Windows.{length_window, window_next}
-use Rattle.columnar_memory_bits.proofs.Words.{word_bits_of_word}
+use Rattle.columnar_memory.proofs.bits_lemmas.Counts.{unset_count_le}
+use Rattle.columnar_memory.proofs.bits_lemmas.Windows.{length_window, window_next}
+use Rattle.columnar_memory.proofs.bits_lemmas.Words.{word_bits_of_word}
 use Rattle.nested_arrays_columns.specs.Slots.{Slot}
 use Rattle.nested_arrays_columns.specs.Cells.{is_null}
-use Rattle.ipc_format_grammar.specs.Buffers.{null_count, is_valid}
+use Rattle.ipc_format.specs.grammar.Buffers.{null_count, is_valid}
 use Rattle.tables_stream.specs.Int32Written.{bits_of, value_bytes}
 use Rattle.tables_stream.specs.Cells.{slot_of, cell_of, cells_of, int32_bytes}
 use Rattle.tables_stream.proofs.Slices.{part_size, parts_joined}

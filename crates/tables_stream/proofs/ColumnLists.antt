@@ -10,9 +10,9 @@ use Rattle.std.proofs.lemmas.Bool.{eq-eqb, ne_eqb, eqb-false, eqb-true}
 use Rattle.std.proofs.lemmas.List.Elements.{All-nil, All-cons, All-head, All-tail, All-push}
 use Rattle.std.proofs.lemmas.List.{map-append, append-nil, length-map, length-append}
 use Rattle.nested_arrays_columns.specs.Slots.{Slot}
-use Rattle.ipc_format_grammar.specs.Columns.{Source, have_length}
+use Rattle.ipc_format.specs.grammar.Columns.{Source, have_length}
 use Rattle.tables_stream.specs.Int32Values.{int32_slots}
-use Rattle.ipc_format_grammar.specs.Tables.{agree_in_length}
+use Rattle.ipc_format.specs.grammar.Tables.{agree_in_length}
 use Rattle.ipc_format.specs.Reading.{◌>>=◌}
 use Rattle.tables_stream.specs.Cells.{slot_of, Reads}
 use Rattle.tables_stream.specs.Batches.{rows_of_cells, is_as_long}

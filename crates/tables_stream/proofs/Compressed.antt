@@ -1,7 +1,7 @@
 -- A batch that is compressed.
 use Rattle.std.proofs.Common.{◌≡◌, ◌∙◌, ℕ, true, List, refl, ap}
 use Rattle.std.specs.Prelude.{Option, Some, None, is_some}
-use Rattle.ipc_format_grammar.specs.Messages.{RecordBatch, record_batch_in}
+use Rattle.ipc_format.specs.grammar.Messages.{RecordBatch, record_batch_in}
 use Rattle.ipc_format.specs.FlatBuffers.{Table, Vector, table_field, vector_field}
 use Rattle.tables_stream.specs.Int32.{int32_batch}
 use Rattle.tables_stream.specs.Reading.{IsCompressed}

@@ -12,20 +12,20 @@ use Rattle.columnar_memory.specs.declared.DataType.TheVariants as types
 use Rattle.columnar_memory.specs.declared.Field.{Field}
 use Rattle.columnar_memory.specs.declared.Schema.{Schema}
 use Rattle.nested_arrays_columns.specs.Slots.{Slot}
-use Rattle.ipc_format_grammar.specs.Messages.{Version, V5, Header, schema, dictionary_batch, record_batch, RecordBatch, DictionaryBatch}
-use Rattle.ipc_format_grammar.specs.Messages.{record_batch_in, dictionary_batch_in, lengths_sum}
-use Rattle.ipc_format_grammar.specs.Schemas.{Ids, IdsList}
-use Rattle.ipc_format_grammar.specs.Layouts.{node_count, node_number, node_step, buffer_count, buffer_number, buffer_step}
-use Rattle.ipc_format_grammar.specs.Columns.{Source, Dictionary, Reader, fixed_slots, validity_in, buffer_at, read_step, read_field_step}
-use Rattle.ipc_format_grammar.specs.Columns.{slots_in, first_ids, other_ids}
-use Rattle.ipc_format_grammar.specs.Dictionaries.{Entry, Layout, Finder, find_step, find_field_step, values_in, values_of, source_in, dictionary_in}
-use Rattle.ipc_format_grammar.specs.Framing.{Framed, Next, nothing_whole, at_end, message_then, next_at, by_next, dictionaries_after, later_messages}
-use Rattle.ipc_format_grammar.specs.Tables.{columns_from, batch_in, batches_of, batches_behind, stream_entry, ids_at}
+use Rattle.ipc_format.specs.grammar.Messages.{Version, V5, Header, schema, dictionary_batch, record_batch, RecordBatch, DictionaryBatch}
+use Rattle.ipc_format.specs.grammar.Messages.{record_batch_in, dictionary_batch_in, lengths_sum}
+use Rattle.ipc_format.specs.grammar.Schemas.{Ids, IdsList}
+use Rattle.ipc_format.specs.grammar.Layouts.{node_count, node_number, node_step, buffer_count, buffer_number, buffer_step}
+use Rattle.ipc_format.specs.grammar.Columns.{Source, Dictionary, Reader, fixed_slots, validity_in, buffer_at, read_step, read_field_step}
+use Rattle.ipc_format.specs.grammar.Columns.{slots_in, first_ids, other_ids}
+use Rattle.ipc_format.specs.grammar.Dictionaries.{Entry, Layout, Finder, find_step, find_field_step, values_in, values_of, source_in, dictionary_in}
+use Rattle.ipc_format.specs.grammar.Framing.{Framed, Next, nothing_whole, at_end, message_then, next_at, by_next, dictionaries_after, later_messages}
+use Rattle.ipc_format.specs.grammar.Tables.{columns_from, batch_in, batches_of, batches_behind, stream_entry, ids_at}
 use Rattle.ipc_format.specs.Reading.{◌>>=◌, guard}
 use Rattle.ipc_format.specs.FlatBuffers as flat
 use Rattle.tables_stream.specs.Int32Schemas.{IsInt32Schema, IsInt32Field}
 use Rattle.tables_stream.specs.Int32Values.{int32_slots}
-use Rattle.ipc_format_grammar.specs.Refusals.{first_messages, next_after}
+use Rattle.ipc_format.specs.grammar.Refusals.{first_messages, next_after}
 use Rattle.tables_stream.specs.Int32.{int32_columns, int32_batch, agreeing, batch_by, cut_off, batch_then, step_of, step_at, behind, by_step}
 use Rattle.tables_stream.specs.Int32.{int32_layout, stream_batches, first_from}
 

@@ -10,15 +10,15 @@ use Rattle.columnar_memory.specs.declared.DataType.TheVariants as types
 use Rattle.columnar_memory.specs.declared.Field.{Field}
 use Rattle.columnar_memory.specs.declared.Schema.{Schema}
 use Rattle.nested_arrays_columns.specs.Slots.{Slot}
-use Rattle.ipc_format_grammar.specs.Schemas.{Ids, IdsList}
-use Rattle.ipc_format_grammar.specs.Columns.{first_ids, other_ids}
-use Rattle.ipc_format_grammar.specs.Encoding.{Encoded, Encoder, encode, encode_step, joined, node_of}
-use Rattle.ipc_format_grammar.specs.Ids.{default_ids}
-use Rattle.ipc_format_grammar.specs.GivenDictionaries.{Giver, given_by, give_step, give_field_step}
-use Rattle.ipc_format_grammar.specs.TagNumbers.{record_tag}
-use Rattle.ipc_format_grammar.specs.WrittenMessages.{Written, message_of, batch_object, record_message}
-use Rattle.ipc_format_grammar.specs.WrittenStreams.{columns_of_slots, given_of_slots, rows_of_slots, batch_of_slots, messages_after}
-use Rattle.ipc_format_grammar.specs.WrittenStreams.{stream_messages}
+use Rattle.ipc_format.specs.grammar.Schemas.{Ids, IdsList}
+use Rattle.ipc_format.specs.grammar.Columns.{first_ids, other_ids}
+use Rattle.ipc_format.specs.grammar.Encoding.{Encoded, Encoder, encode, encode_step, joined, node_of}
+use Rattle.ipc_format.specs.grammar.Ids.{default_ids}
+use Rattle.ipc_format.specs.grammar.GivenDictionaries.{Giver, given_by, give_step, give_field_step}
+use Rattle.ipc_format.specs.grammar.TagNumbers.{record_tag}
+use Rattle.ipc_format.specs.grammar.WrittenMessages.{Written, message_of, batch_object, record_message}
+use Rattle.ipc_format.specs.grammar.WrittenStreams.{columns_of_slots, given_of_slots, rows_of_slots, batch_of_slots, messages_after}
+use Rattle.ipc_format.specs.grammar.WrittenStreams.{stream_messages}
 use Rattle.tables_stream.specs.Int32Schemas.{IsInt32Schema, IsInt32Field}
 use Rattle.tables_stream.specs.Int32Written.{int32_buffers, int32_together, int32_message, int32_messages}
 

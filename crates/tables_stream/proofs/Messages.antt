@@ -13,19 +13,19 @@ use Rattle.columnar_memory.specs.declared.Error.{Error}
 use Rattle.columnar_memory.specs.declared.Schema.{Schema}
 use Rattle.nested_arrays_columns.specs.Slots.{Slot}
 use Rattle.ipc_format.specs.Objects.{Object, laid}
-use Rattle.ipc_format_grammar.specs.Schemas.{IdsList}
-use Rattle.ipc_format_grammar.specs.SchemaObjects.{message_object, record_batch_object}
-use Rattle.ipc_format_grammar.specs.Ids.{default_ids}
-use Rattle.ipc_format_grammar.specs.TagNumbers.{record_tag}
-use Rattle.ipc_format_grammar.specs.WrittenMessages.{Written, framed, message_bytes, fits_limit, end_mark, body_bytes, buffer_places, schema_written}
-use Rattle.ipc_format_grammar.specs.WrittenMessages.{prefix_size, most_metadata}
+use Rattle.ipc_format.specs.grammar.Schemas.{IdsList}
+use Rattle.ipc_format.specs.grammar.SchemaObjects.{message_object, record_batch_object}
+use Rattle.ipc_format.specs.grammar.Ids.{default_ids}
+use Rattle.ipc_format.specs.grammar.TagNumbers.{record_tag}
+use Rattle.ipc_format.specs.grammar.WrittenMessages.{Written, framed, message_bytes, fits_limit, end_mark, body_bytes, buffer_places, schema_written}
+use Rattle.ipc_format.specs.grammar.WrittenMessages.{prefix_size, most_metadata}
 use Rattle.ipc_format.specs.WrittenStreams.{rows_of_slots, bytes_of_messages}
-use Rattle.ipc_format_writing.specs.MessageWriting.{WritesMessage, record_message, node_pair, buffer_pair}
-use Rattle.ipc_format_messages.specs.declared.values.FieldNode.{FieldNode}
-use Rattle.ipc_format_messages.specs.declared.values.Buffer.{Buffer}
-use Rattle.ipc_format_writing.specs.Writing.{WritesSchema, may_write}
-use Rattle.ipc_format_streams.specs.Devices.{AppendsBeginning, Puts}
-use Rattle.ipc_format_streams.proofs.Appending.{appends_nothing, appends_both, begins_nothing, begins_first, begins_behind, begins_same, puts_behind}
+use Rattle.ipc_format.specs.writing.MessageWriting.{WritesMessage, record_message, node_pair, buffer_pair}
+use Rattle.ipc_format.specs.messages.declared.values.FieldNode.{FieldNode}
+use Rattle.ipc_format.specs.messages.declared.values.Buffer.{Buffer}
+use Rattle.ipc_format.specs.writing.Writing.{WritesSchema, may_write}
+use Rattle.ipc_format.specs.streams.Devices.{AppendsBeginning, Puts}
+use Rattle.ipc_format.proofs.streams_lemmas.Appending.{appends_nothing, appends_both, begins_nothing, begins_first, begins_behind, begins_same, puts_behind}
 use Rattle.tables_stream.specs.Int32Schemas.{IsInt32Schema}
 use Rattle.tables_stream.specs.Int32Written.{nodes_of, buffers_of, schema_message, int32_message, int32_messages}
 use Rattle.tables_stream.specs.Refusals.{IsLayoutRefusal, IsRefusal, IsTooLong, PutsMessage, StopsAtTooLong, PutsStream, bytes_of_stream}

@@ -12,14 +12,14 @@ use Rattle.std.proofs.lemmas.List.{append-nil, length-drop, length-append, lengt
 use Rattle.std.proofs.lemmas.List.{drop-replicate, take-replicate}
 use Rattle.nested_arrays_columns.specs.Slots.{Slot}
 use Rattle.tables_stream.specs.Int32Written.{bits_of, bitmap_bytes, value_bytes, int32_buffers}
-use Rattle.ipc_format_grammar.specs.Buffers.{null_count, validity_bytes}
-use Rattle.ipc_format_grammar.specs.WrittenMessages.{padded_buffer, body_bytes}
+use Rattle.ipc_format.specs.grammar.Buffers.{null_count, validity_bytes}
+use Rattle.ipc_format.specs.grammar.WrittenMessages.{padded_buffer, body_bytes}
 use Rattle.tables_stream.specs.Cells.{slot_of}
 use Rattle.columnar_memory.specs.Error.{IsIo}
 use Rattle.columnar_memory.specs.declared.Error.{Error}
-use Rattle.ipc_format_streams.specs.Devices.{AppendsBeginning, Puts}
-use Rattle.ipc_format_streams.proofs.Appending.{appends_both, begins_first, begins_behind, begins_same}
-use Rattle.ipc_format_streams.proofs.Appending.{puts_behind, puts_same, puts_first, refused_same, append-empty}
+use Rattle.ipc_format.specs.streams.Devices.{AppendsBeginning, Puts}
+use Rattle.ipc_format.proofs.streams_lemmas.Appending.{appends_both, begins_first, begins_behind, begins_same}
+use Rattle.ipc_format.proofs.streams_lemmas.Appending.{puts_behind, puts_same, puts_first, refused_same, append-empty}
 use Rattle.tables_stream.proofs.Slices.{part_size, parts_joined}
 
 -- the slots of some cells of a column

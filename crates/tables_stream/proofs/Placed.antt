@@ -12,17 +12,17 @@ use Rattle.std.proofs.lemmas.List.{append-nil, length-append, length-replicate, 
 use Rattle.columnar_memory.specs.Error.{IsIo}
 use Rattle.columnar_memory.specs.declared.Error.{Error}
 use Rattle.nested_arrays_columns.specs.Slots.{Slot}
-use Rattle.ipc_format_grammar.specs.Buffers.{null_count, validity_bytes}
+use Rattle.ipc_format.specs.grammar.Buffers.{null_count, validity_bytes}
 use Rattle.tables_stream.specs.Int32Written.{bitmap_bytes, value_bytes, int32_buffers, validity_size, buffers_of}
-use Rattle.ipc_format_grammar.specs.WrittenMessages.{padded_buffer}
-use Rattle.ipc_format_grammar.specs.WrittenMessages.{buffer_places, body_bytes}
+use Rattle.ipc_format.specs.grammar.WrittenMessages.{padded_buffer}
+use Rattle.ipc_format.specs.grammar.WrittenMessages.{buffer_places, body_bytes}
 use Rattle.tables_stream.specs.Int32Written.{nodes_of}
-use Rattle.ipc_format_grammar.specs.WrittenStreams.{rows_of_slots}
+use Rattle.ipc_format.specs.grammar.WrittenStreams.{rows_of_slots}
 use Rattle.tables_stream.specs.Cells.{slot_of}
 use Rattle.tables_stream.specs.Batches.{window_cells, rows_of_cells}
 use Rattle.tables_stream.specs.Tables.{batch_slots}
-use Rattle.ipc_format_streams.specs.Devices.{AppendsBeginning}
-use Rattle.ipc_format_streams.proofs.Appending.{appends_both, begins_first, begins_behind, begins_same}
+use Rattle.ipc_format.specs.streams.Devices.{AppendsBeginning}
+use Rattle.ipc_format.proofs.streams_lemmas.Appending.{appends_both, begins_first, begins_behind, begins_same}
 use Rattle.tables_stream.proofs.Padded.{slots_between, slots_size, bitmap_size, values_size}
 use Rattle.tables_stream.proofs.Slices.{part_size}
 

@@ -6,17 +6,17 @@ use Rattle.std.proofs.lemmas.List.Elements.{All-map}
 use Rattle.columnar_memory.specs.declared.Field.{Field}
 use Rattle.columnar_memory.specs.declared.Schema.{Schema}
 use Rattle.nested_arrays_columns.specs.Slots.{Slot}
-use Rattle.ipc_format_grammar.specs.Messages as message
-use Rattle.ipc_format_grammar.specs.Messages.{Version, version_in}
-use Rattle.ipc_format_grammar.specs.Schemas.{SchemaIn}
-use Rattle.ipc_format_grammar.specs.Framing.{Framed, first_of}
-use Rattle.ipc_format_grammar.specs.Tables.{agree_in_length, schema_of}
-use Rattle.ipc_format_grammar.specs.WrittenMessages.{fits_limit}
-use Rattle.ipc_format_round_trip.specs.Schemas.{HasTexts}
-use Rattle.ipc_format_column_laws.specs.Batches.{fit_fields}
-use Rattle.ipc_format_column_laws.proofs.Texts.{schemas_read_have_texts}
-use Rattle.ipc_format_stream_laws.specs.Tables.{AreBatches}
-use Rattle.ipc_format_stream_laws.proofs.StreamTables.{int32_tables_read_back}
+use Rattle.ipc_format.specs.grammar.Messages as message
+use Rattle.ipc_format.specs.grammar.Messages.{Version, version_in}
+use Rattle.ipc_format.specs.grammar.Schemas.{SchemaIn}
+use Rattle.ipc_format.specs.grammar.Framing.{Framed, first_of}
+use Rattle.ipc_format.specs.grammar.Tables.{agree_in_length, schema_of}
+use Rattle.ipc_format.specs.grammar.WrittenMessages.{fits_limit}
+use Rattle.ipc_format_laws.specs.Schemas.{HasTexts}
+use Rattle.ipc_format_laws.specs.Batches.{fit_fields}
+use Rattle.ipc_format_laws.proofs.Texts.{schemas_read_have_texts}
+use Rattle.ipc_format_laws.specs.Tables.{AreBatches}
+use Rattle.ipc_format_laws.proofs.StreamTables.{int32_tables_read_back}
 use Rattle.tables_stream.specs.Int32Schemas.{IsInt32Field}
 use Rattle.tables_stream.specs.Batches.{rows_of_cells}
 use Rattle.tables_stream.specs.Cuts.{cut_of}

@@ -15,14 +15,14 @@ use Rattle.columnar_memory.specs.declared.Error.TheVariants as errors
 use Rattle.columnar_memory.specs.declared.Field.{Field}
 use Rattle.columnar_memory.specs.declared.Schema.{Schema}
 use Rattle.ipc_format.specs.Objects.{Object, laid}
-use Rattle.ipc_format_grammar.specs.Ids.{default_ids}
-use Rattle.ipc_format_grammar.specs.WrittenMessages.{Written, body_limit, most_metadata, prefix_size, fits_limit}
-use Rattle.ipc_format_writing.specs.MessageWriting as metadata
-use Rattle.ipc_format_writing.specs.Floats.{float_step, in_type, in_field}
-use Rattle.ipc_format_writing.specs.Writing.{WritesSchema, may_write}
-use Rattle.ipc_format_stream_laws.proofs.Int32Schemas.{AreInt32, writable_int32, default_ids_fit_fields}
-use Rattle.ipc_format_streams.specs.Devices.{IsNamed}
-use Rattle.ipc_format_streams.proofs.Appending.{appends_nothing}
+use Rattle.ipc_format.specs.grammar.Ids.{default_ids}
+use Rattle.ipc_format.specs.grammar.WrittenMessages.{Written, body_limit, most_metadata, prefix_size, fits_limit}
+use Rattle.ipc_format.specs.writing.MessageWriting as metadata
+use Rattle.ipc_format.specs.writing.Floats.{float_step, in_type, in_field}
+use Rattle.ipc_format.specs.writing.Writing.{WritesSchema, may_write}
+use Rattle.ipc_format_laws.proofs.Int32Schemas.{AreInt32, writable_int32, default_ids_fit_fields}
+use Rattle.ipc_format.specs.streams.Devices.{IsNamed}
+use Rattle.ipc_format.proofs.streams_lemmas.Appending.{appends_nothing}
 use Rattle.tables_stream.specs.Int32Schemas.{IsInt32Schema, IsInt32Field}
 use Rattle.tables_faults.specs.Faults.{fault_of}
 use Rattle.tables_stream.specs.Int32Written.{schema_message}

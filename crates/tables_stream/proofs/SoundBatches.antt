@@ -23,11 +23,11 @@ use Rattle.nested_arrays_columns.specs.Slots.{Slot, null, window}
 use Rattle.nested_arrays_columns.specs.Cells.{is_number_of, fits_step, fits_cell}
 use Rattle.ipc_format.specs.Reading.{◌>>=◌}
 use Rattle.ipc_format.specs.Messages.{Pair, natural}
-use Rattle.ipc_format_grammar.specs.Columns as format
-use Rattle.ipc_format_grammar.specs.Columns.{Source, Validity, slot_by, slots_by, fixed_slots, have_length}
-use Rattle.ipc_format_grammar.specs.Tables.{agree_in_length}
-use Rattle.ipc_format_grammar.specs.Values.{element_bytes, value_at}
-use Rattle.ipc_format_column_laws.specs.Batches.{fit_fields}
+use Rattle.ipc_format.specs.grammar.Columns as format
+use Rattle.ipc_format.specs.grammar.Columns.{Source, Validity, slot_by, slots_by, fixed_slots, have_length}
+use Rattle.ipc_format.specs.grammar.Tables.{agree_in_length}
+use Rattle.ipc_format.specs.grammar.Values.{element_bytes, value_at}
+use Rattle.ipc_format_laws.specs.Batches.{fit_fields}
 use Rattle.tables_stream.specs.Int32Schemas.{IsInt32Field}
 use Rattle.tables_stream.specs.Batches.{window_cells, rows_of_cells}
 use Rattle.tables_stream.specs.Cells.{slot_of}

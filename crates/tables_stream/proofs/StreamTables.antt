@@ -17,12 +17,12 @@ use Rattle.columnar_memory.specs.declared.Schema.{Schema}
 use Rattle.nested_arrays_columns.specs.Slots.{Slot}
 use Rattle.nested_arrays_columns.specs.Tables as tables
 use Rattle.nested_arrays_columns.specs.Tables.{rows_of_batches}
-use Rattle.ipc_format_grammar.specs.Messages.{Version, V5, version_in}
-use Rattle.ipc_format_grammar.specs.Schemas.{SchemaIn}
-use Rattle.ipc_format_grammar.specs.Writable.{normalised, normalised_type, normalised_step, normalised_field, normalised_pairs, with_extension_under}
-use Rattle.ipc_format_grammar.specs.Framing.{Framed, Stream, Next, first_of, messages_of, later_messages, truncated_from, is_truncated}
-use Rattle.ipc_format_grammar.specs.Dictionaries.{Layout}
-use Rattle.ipc_format_grammar.specs.Tables.{stream, Contents, batches_of, batches_in, schema_of, stream_entry, layout_of, contents_of, table_of}
+use Rattle.ipc_format.specs.grammar.Messages.{Version, V5, version_in}
+use Rattle.ipc_format.specs.grammar.Schemas.{SchemaIn}
+use Rattle.ipc_format.specs.grammar.Writable.{normalised, normalised_type, normalised_step, normalised_field, normalised_pairs, with_extension_under}
+use Rattle.ipc_format.specs.grammar.Framing.{Framed, Stream, Next, first_of, messages_of, later_messages, truncated_from, is_truncated}
+use Rattle.ipc_format.specs.grammar.Dictionaries.{Layout}
+use Rattle.ipc_format.specs.grammar.Tables.{stream, Contents, batches_of, batches_in, schema_of, stream_entry, layout_of, contents_of, table_of}
 use Rattle.ipc_format.specs.Reading.{◌>>=◌, guard}
 use Rattle.tables_stream.specs.Int32Schemas.{IsInt32Schema, IsInt32Field}
 use Rattle.tables_stream.specs.Supported.{IsSupported, schema_found}
@@ -33,8 +33,8 @@ use Rattle.tables_stream.specs.Tables.{Stored, as_table, batch_slots, row_count}
 use Rattle.tables_stream.specs.Int32.{first_schema, fitting, int32_layout, stream_batches, first_from}
 use Rattle.tables_stream.specs.Reading.{ReadsSchema, ReadsBatches, ReadsStream, HasOtherSchema}
 use Rattle.tables_stream.specs.Reading.{IsCompressedThere, HasCompressedFrom, HasTooManyFrom, IsUnfinishedFrom}
-use Rattle.ipc_format_grammar.specs.Refusals.{first_messages, first_batches, behind_messages, next_after, message_there, compression_in}
-use Rattle.ipc_format_grammar.specs.Refusals.{HasFloat, HasCompression, HasTooManyRows, IsUnfinished}
+use Rattle.ipc_format.specs.grammar.Refusals.{first_messages, first_batches, behind_messages, next_after, message_there, compression_in}
+use Rattle.ipc_format.specs.grammar.Refusals.{HasFloat, HasCompression, HasTooManyRows, IsUnfinished}
 use Rattle.tables_stream.proofs.Int32Batches.{bind_same, bind_assoc, came_of, later_batches}
 use Rattle.tables_stream.proofs.BatchLists.{rows_counted}
 

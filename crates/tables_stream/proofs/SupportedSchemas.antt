@@ -6,13 +6,13 @@ use Rattle.std.proofs.lemmas.List.Elements.{All-head, All-tail, All-cons}
 use Rattle.columnar_memory.specs.declared.Field.{Field}
 use Rattle.columnar_memory.specs.declared.Schema.{Schema}
 use Rattle.ipc_format.specs.Schemas.{Ids, IdsList, SchemaIn, ids, no_ids, ids_then, ids_of}
-use Rattle.ipc_format_metadata.specs.Views.{ids_view, ids_views, ids_step}
-use Rattle.ipc_format_metadata.specs.declared.ipc_schema.IpcField.{IpcField}
-use Rattle.ipc_format_metadata.specs.declared.ipc_schema.IpcField.TheViews.{out-IpcField, roll-IpcField, roll-out-IpcField}
-use Rattle.ipc_format_metadata.specs.declared.ipc_schema.IpcField.TheFolds.{fold-roll-IpcField}
+use Rattle.ipc_format.specs.metadata.Views.{ids_view, ids_views, ids_step}
+use Rattle.ipc_format.specs.metadata.declared.ipc_schema.IpcField.{IpcField}
+use Rattle.ipc_format.specs.metadata.declared.ipc_schema.IpcField.TheViews.{out-IpcField, roll-IpcField, roll-out-IpcField}
+use Rattle.ipc_format.specs.metadata.declared.ipc_schema.IpcField.TheFolds.{fold-roll-IpcField}
 use denote.Hole.Carrier
-use Rattle.ipc_format_metadata.specs.SchemaViews.{schema_view}
-use Rattle.ipc_format_metadata.specs.declared.ipc_schema.IpcSchema.{IpcSchema}
+use Rattle.ipc_format.specs.metadata.SchemaViews.{schema_view}
+use Rattle.ipc_format.specs.metadata.declared.ipc_schema.IpcSchema.{IpcSchema}
 use Rattle.tables_stream.specs.Int32Schemas.{IsInt32Schema}
 use Rattle.tables_stream.specs.Supported.{field_found, IsSupported, HasNoDictionary}
 

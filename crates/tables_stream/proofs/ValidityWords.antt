@@ -8,9 +8,9 @@ use Rattle.std.proofs.Math.Nat.{mul_assoc, pow-suc, div-div-eq-div-mul, zero-mul
 use Rattle.std.proofs.Math.Seq.{take-append-add}
 use Rattle.columnar_memory.specs.Words.{word, word_at, whole_words, rest_bits}
 use Rattle.columnar_memory.specs.Windows.{window}
-use Rattle.columnar_memory_bits.proofs.Windows.{length_window}
+use Rattle.columnar_memory.proofs.bits_lemmas.Windows.{length_window}
 use Rattle.nested_arrays_columns.specs.Slots.{Slot}
-use Rattle.ipc_format_grammar.specs.Buffers.{is_valid}
+use Rattle.ipc_format.specs.grammar.Buffers.{is_valid}
 use Rattle.tables_stream.specs.Int32Written.{bits_of, bitmap_bytes}
 use Rattle.tables_stream.proofs.Padded.{bitmap_none, bitmap_append, bitmap_size}
 

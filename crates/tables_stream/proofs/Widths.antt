@@ -11,9 +11,9 @@ use Rattle.nested_arrays_columns.specs.Slots.{Slot}
 use Rattle.ipc_format.specs.Reading.{◌>>=◌, guard}
 use Rattle.ipc_format.specs.FlatBuffers as flat
 use Rattle.ipc_format.specs.Messages.{V5, Header, schema, dictionary_batch, record_batch, RecordBatch, record_batch_in, lengths_sum}
-use Rattle.ipc_format_grammar.specs.Columns.{Source}
-use Rattle.ipc_format_grammar.specs.Tables.{agree_in_length}
-use Rattle.ipc_format_grammar.specs.Framing.{Framed, Next, nothing_whole, at_end, message_then, next_at}
+use Rattle.ipc_format.specs.grammar.Columns.{Source}
+use Rattle.ipc_format.specs.grammar.Tables.{agree_in_length}
+use Rattle.ipc_format.specs.grammar.Framing.{Framed, Next, nothing_whole, at_end, message_then, next_at}
 use Rattle.tables_stream.specs.Batches.{window_cells, rows_of_cells}
 use Rattle.tables_stream.specs.Cells.{slot_of}
 use Rattle.tables_stream.specs.Cuts.{cut_of}
@@ -22,7 +22,7 @@ use Rattle.tables_stream.specs.Int32Values.{int32_slots}
 use Rattle.columnar_memory.specs.declared.Error.{Error}
 use Rattle.ipc_format.specs.WrittenMessages.{Written, fits_limit}
 use Rattle.ipc_format.specs.WrittenStreams.{stream_bytes}
-use Rattle.ipc_format_streams.specs.Devices.{AppendsBeginning}
+use Rattle.ipc_format.specs.streams.Devices.{AppendsBeginning}
 use Rattle.tables_faults.specs.Faults.{fault_of}
 use Rattle.tables_stream.specs.Int32Written.{int32_messages}
 use Rattle.tables_stream.specs.Refusals.{bytes_of_stream, StopsAtTooLong, IsWriteError, IsWriteFault}

@@ -4,10 +4,10 @@ use Rattle.std.specs.Prelude.{Some, None, slice_range}
 use Rattle.std.specs.List.{zip}
 use Rattle.columnar_memory.specs.Bits.{bit_at, bits_of}
 use Rattle.columnar_memory.specs.declared.PrimitiveType.TheVariants as kinds
-use Rattle.columnar_memory_bits.proofs.Windows.{length_window}
-use Rattle.columnar_memory_bitmap.proofs.Lists.{slice_range-window}
+use Rattle.columnar_memory.proofs.bits_lemmas.Windows.{length_window}
+use Rattle.columnar_memory.proofs.bitmap_lemmas.Lists.{slice_range-window}
 use Rattle.nested_arrays_columns.specs.Slots.{Slot, null, number, window}
-use Rattle.ipc_format_grammar.specs.Columns.{all_valid, bitmap}
+use Rattle.ipc_format.specs.grammar.Columns.{all_valid, bitmap}
 use Rattle.tables_stream.specs.Int32Values.{int32_at, int32_slot}
 use Rattle.tables_stream.specs.Cells.{slot_of, cell_of, cells_of}
 

@@ -6,9 +6,9 @@ use Rattle.columnar_memory.specs.declared.Error.{Error}
 use Rattle.columnar_memory.specs.declared.Error.TheVariants as errors
 use Rattle.columnar_memory.specs.declared.PrimitiveType.TheVariants as kinds
 use Rattle.nested_arrays_columns.specs.Slots.{Slot, null, number}
-use Rattle.ipc_format_grammar.specs.Columns as format
+use Rattle.ipc_format.specs.grammar.Columns as format
 use Rattle.ipc_format.specs.Messages.{V5}
-use Rattle.ipc_format_messages.specs.WholeMessages.{batch_parts_view}
+use Rattle.ipc_format.specs.messages.WholeMessages.{batch_parts_view}
 use Rattle.std.specs.Borrow.{Bor}
 use Rattle.tables_stream.specs.declared.parts.BatchBytes.{BatchBytes}
 

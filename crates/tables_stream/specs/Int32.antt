@@ -10,9 +10,9 @@ use Rattle.ipc_format.specs.FlatBuffers as flat
 use Rattle.ipc_format.specs.Messages as message
 use Rattle.ipc_format.specs.Messages.{Version, V5, record_batch_in, lengths_sum, version_in}
 use Rattle.ipc_format.specs.Schemas.{SchemaIn}
-use Rattle.ipc_format_grammar.specs.Columns as format
+use Rattle.ipc_format.specs.grammar.Columns as format
 use Rattle.tables_stream.specs.Int32Values as int32
-use Rattle.ipc_format_grammar.specs.Framing as framing
+use Rattle.ipc_format.specs.grammar.Framing as framing
 use Rattle.ipc_format.specs.Dictionaries.{Layout}
 use Rattle.ipc_format.specs.Tables.{agree_in_length, batches_behind, batches_of, schema_of, stream_entry}
 use Rattle.ipc_format.specs.Refusals.{first_messages}

@@ -4,12 +4,12 @@ use Rattle.std.specs.List.{flat_map}
 use Rattle.std.specs.Int.{w32, div_ceil}
 use Rattle.nested_arrays_columns.specs.Slots.{Slot}
 use Rattle.columnar_memory.specs.declared.Schema.{Schema}
-use Rattle.ipc_format_grammar.specs.Ids.{default_ids}
-use Rattle.ipc_format_grammar.specs.Buffers.{bits_by, bitmap_by, is_valid, validity_bytes, number_bytes}
-use Rattle.ipc_format_grammar.specs.Encoding.{Encoded, node_of}
-use Rattle.ipc_format_grammar.specs.TagNumbers.{record_tag}
-use Rattle.ipc_format_grammar.specs.WrittenMessages.{Written, message_of, batch_object, schema_written}
-use Rattle.ipc_format_grammar.specs.WrittenStreams.{rows_of_slots}
+use Rattle.ipc_format.specs.grammar.Ids.{default_ids}
+use Rattle.ipc_format.specs.grammar.Buffers.{bits_by, bitmap_by, is_valid, validity_bytes, number_bytes}
+use Rattle.ipc_format.specs.grammar.Encoding.{Encoded, node_of}
+use Rattle.ipc_format.specs.grammar.TagNumbers.{record_tag}
+use Rattle.ipc_format.specs.grammar.WrittenMessages.{Written, message_of, batch_object, schema_written}
+use Rattle.ipc_format.specs.grammar.WrittenStreams.{rows_of_slots}
 
 -- the four bytes of a number, and zeros under a null
 abbrev pub value_bytes : Slot → List ℕ

@@ -6,7 +6,7 @@ use Rattle.columnar_memory.specs.declared.Error.{Error}
 use Rattle.columnar_memory.specs.declared.Error.TheVariants as errors
 use Rattle.ipc_format.specs.WrittenMessages.{Written, message_bytes, body_limit, fits_limit, end_mark}
 use Rattle.ipc_format.specs.WrittenStreams.{bytes_of_messages}
-use Rattle.ipc_format_streams.specs.Devices.{AppendsBeginning}
+use Rattle.ipc_format.specs.streams.Devices.{AppendsBeginning}
 use Rattle.tables_stream.specs.Tables.{Stored, table_messages, table_bytes}
 use Rattle.tables_faults.specs.declared.fault.Fault.{Fault}
 use Rattle.tables_faults.specs.declared.fault.Fault.TheVariants as faults

@@ -3,8 +3,8 @@ use Rattle.std.specs.Prelude.{◌≡◌, true, [], map, None}
 use Rattle.columnar_memory.specs.declared.Field.{Field}
 use Rattle.columnar_memory.specs.declared.Schema.{Schema}
 use Rattle.ipc_format.specs.Schemas.{FieldIn, SchemaIn, ids, no_ids, ids_of}
-use Rattle.ipc_format_metadata.specs.declared.ipc_schema.IpcField.{IpcField}
-use Rattle.ipc_format_metadata.specs.declared.ipc_schema.IpcField.TheViews.{out-IpcField}
+use Rattle.ipc_format.specs.metadata.declared.ipc_schema.IpcField.{IpcField}
+use Rattle.ipc_format.specs.metadata.declared.ipc_schema.IpcField.TheViews.{out-IpcField}
 use Rattle.tables_stream.specs.Int32Schemas.{IsInt32Schema}
 
 -- a field without a dictionary

@@ -8,9 +8,9 @@ use Rattle.ipc_format.specs.Ids.{default_ids}
 use Rattle.ipc_format.specs.Tables.{agree_in_length}
 use Rattle.ipc_format.specs.WrittenMessages.{Written}
 use Rattle.ipc_format.specs.WrittenStreams.{Batch, batch_of_slots, stream_messages, stream_bytes}
-use Rattle.ipc_format_round_trip.specs.Schemas.{HasTexts}
-use Rattle.ipc_format_column_laws.specs.Batches.{fit_fields}
-use Rattle.ipc_format_stream_laws.specs.Tables.{ReadsAs}
+use Rattle.ipc_format_laws.specs.Schemas.{HasTexts}
+use Rattle.ipc_format_laws.specs.Batches.{fit_fields}
+use Rattle.ipc_format_laws.specs.Tables.{ReadsAs}
 use Rattle.tables_stream.specs.Int32Schemas.{IsInt32Schema}
 use Rattle.tables_stream.specs.Cells.{slot_of}
 use Rattle.tables_stream.specs.Batches.{window_cells, rows_of_cells}

@@ -3,7 +3,7 @@ ghost use Rattle.std.specs.Prelude.{◌≡◌, ◌+◌, ◌*◌, ◌/◌, ◌≤
 ghost use Rattle.std.specs.Option.{ForSome};
 ghost use Rattle.std.specs.List.{flat_map};
 ghost use Rattle.columnar_memory.specs.Words.{word, word_bits};
-ghost use Rattle.ipc_format_grammar.specs.Buffers as buffers_format;
+ghost use Rattle.ipc_format.specs.grammar.Buffers as buffers_format;
 ghost use Rattle.tables_stream.specs.Int32Written as int32_written;
 ghost use Rattle.tables_stream.specs.Cells.{slot_of, cells_of, int32_bytes};
 

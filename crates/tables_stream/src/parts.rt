@@ -3,8 +3,8 @@ ghost use Rattle.std.specs.Prelude.{◌≡◌, MatchOption, Some};
 ghost use Rattle.std.specs.Option.{option_map};
 ghost use Rattle.ipc_format.specs.Messages as format;
 ghost use Rattle.ipc_format.specs.Views.{vector_of};
-ghost use Rattle.ipc_format_messages.specs.BufferLengths.{IsNoneOrLong};
-ghost use Rattle.ipc_format_messages.specs.MessageViews.{node_view, buffer_view};
+ghost use Rattle.ipc_format.specs.messages.BufferLengths.{IsNoneOrLong};
+ghost use Rattle.ipc_format.specs.messages.MessageViews.{node_view, buffer_view};
 
 use ipc_format::messages::{Buffer, FieldNode, RecordBatchParts};
 

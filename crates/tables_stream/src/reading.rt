@@ -6,8 +6,8 @@ ghost use Rattle.tables_stream.specs.Cells.{Reads};
 ghost use Rattle.tables_stream.specs.Batches.{rows_of_cells, is_as_long};
 ghost use Rattle.tables_stream.specs.Tables.{batch_slots, stored_cells};
 ghost use Rattle.tables_stream.specs.Int32.{int32_columns, agreeing, int32_batch, step_at};
-ghost use Rattle.ipc_format_metadata.specs.Reading as schemas;
-ghost use Rattle.ipc_format_grammar.specs.Refusals.{next_after};
+ghost use Rattle.ipc_format.specs.metadata.Reading as schemas;
+ghost use Rattle.ipc_format.specs.grammar.Refusals.{next_after};
 ghost use Rattle.tables_stream.specs.Reading.{ReadsSchema, IsCompressed, IsCompressedThere};
 ghost use Rattle.tables_stream.specs.Steps.{step_view, GoesOnFrom};
 
@@ -34,7 +34,7 @@ pub enum Form {
 /// - `OutOfSpec`: the bytes are truncated, or the first message is no schema.
 /// - `NotYetImplemented`: a float field stands in the schema, a column isn't a 32-bit integer, or the schema is big-endian, or has a
 ///   dictionary or custom metadata.
-#[tactic(auto, unfolding(crate::specs::Int32::first_schema, ipc_format_grammar::specs::Framing::first_of))]
+#[tactic(auto, unfolding(crate::specs::Int32::first_schema, crate::proofs::Passed::first_of))]
 pub fn first_schema(alloc: Global, bytes: &[u8]) -> Result<(Schema, usize)>
     ensures value { ReadsSchema result bytes.now }
     ensures reach { IfOk result (λ found. (0 < found.1) × (found.1 ≤ length bytes.now)) }

@@ -1,6 +1,6 @@
 //! Which schemas are read.
 ghost use Rattle.std.specs.Prelude.{◌≡◌, ◌↔◌, IsTrue, All};
-ghost use Rattle.ipc_format_metadata.specs.SchemaViews.{schema_view};
+ghost use Rattle.ipc_format.specs.metadata.SchemaViews.{schema_view};
 ghost use Rattle.tables_stream.specs.Int32Schemas.{IsInt32Schema, IsInt32Field};
 ghost use Rattle.tables_stream.specs.Supported.{IsSupported, HasNoDictionary};
 

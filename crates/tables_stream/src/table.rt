@@ -6,7 +6,7 @@ ghost use Rattle.tables_stream.specs.Refusals.{WritesStream};
 ghost use Rattle.tables_stream.specs.Tables.{row_count, as_table, table_bytes, ReadAsTable};
 ghost use Rattle.tables_stream.specs.Int32Schemas.{IsInt32Schema};
 ghost use Rattle.ipc_format.specs.Messages.{Version};
-ghost use Rattle.ipc_format_round_trip.specs.Schemas.{HasTexts};
+ghost use Rattle.ipc_format_laws.specs.Schemas.{HasTexts};
 ghost use Rattle.tables_stream.specs.Reading.{ReadsTable, ReadsBatches};
 ghost use Rattle.tables_faults.specs.declared.fault.Fault.TheVariants.{Memory};
 

@@ -2,15 +2,15 @@
 ghost use Rattle.std.specs.Prelude.{◌≡◌, ◌+◌, ◌-◌, ◌*◌, ◌%◌, ◌≤◌, ◌<◌, ◌^◌, ◌++◌, ◌∷◌, [], length, map, replicate, OnOk, IfOk, IfErr, slice_range};
 ghost use Rattle.columnar_memory.specs.declared.Error.TheVariants.{OutOfMemory};
 ghost use Rattle.tables_stream.specs.Int32Schemas.{IsInt32Schema};
-ghost use Rattle.ipc_format_streams.specs.Devices.{Puts};
+ghost use Rattle.ipc_format.specs.streams.Devices.{Puts};
 ghost use Rattle.tables_stream.specs.Refusals.{IsLayoutRefusal, PutsMessage, PutsStream, WritesMessages};
 ghost use Rattle.std.specs.Int.{next_multiple_of};
 ghost use Rattle.std.specs.List.{flat_map};
-ghost use Rattle.ipc_format_grammar.specs.Buffers as buffers_format;
+ghost use Rattle.ipc_format.specs.grammar.Buffers as buffers_format;
 ghost use Rattle.tables_stream.specs.Int32Written as int32_written;
-ghost use Rattle.ipc_format_grammar.specs.WrittenMessages as messages_format;
+ghost use Rattle.ipc_format.specs.grammar.WrittenMessages as messages_format;
 ghost use Rattle.tables_stream.specs.Cells.{slot_of};
-ghost use Rattle.ipc_format_writing.specs.MessageWriting.{node_pair, buffer_pair};
+ghost use Rattle.ipc_format.specs.writing.MessageWriting.{node_pair, buffer_pair};
 ghost use Rattle.tables_stream.specs.Int32Written.{validity_size, buffers_of};
 ghost use Rattle.tables_stream.specs.Tables.{stored_cells, batch_slots};
 
@@ -259,7 +259,7 @@ fn add_buffer(buffers: &mut Vec<Buffer>, begin: u64, size: u64) -> Result<()>
 }
 
 /// Writes zeros after a buffer of `length` bytes.
-#[tactic(auto, using(ipc_format_streams::proofs::Appending::appends_nothing))]
+#[tactic(auto, using(crate::proofs::Passed::appends_nothing))]
 fn put_padding<W: Write>(writer: &mut W, length: usize) -> Result<()>
     ensures { Puts result (W.contents writer.old) (W.contents writer.new) (replicate ((64 - length % 64) % 64) 0) }
 {

@@ -2,7 +2,7 @@
 use Rattle.std.proofs.Common.{◌∙◌, ℕ, ◌+◌, Bool, List, ap, sym, arith}
 use Rattle.columnar_memory.specs.Bits.{bit_at, bits_of}
 use Rattle.columnar_memory.specs.Words.{word}
-use Rattle.columnar_memory_bits.proofs.Windows.{length_window}
+use Rattle.columnar_memory.proofs.bits_lemmas.Windows.{length_window}
 use Rattle.tables_stream.proofs.Windows.{part_of_bits}
 use Rattle.tables_stream.proofs.ValidityWords.{first_word, rest_word}
 use Rattle.tables_stream.proofs.column.word_of.Goals as goal

@@ -2,7 +2,7 @@ use Rattle.std.proofs.Common.{rules, ◌≡◌}
 use Rattle.std.specs.Prelude.{Some}
 use Rattle.ipc_format.specs.Messages.{record_batch_in}
 use Rattle.ipc_format.specs.Views.{table_of}
-use Rattle.ipc_format_messages.specs.WholeMessages.{batch_parts_view}
+use Rattle.ipc_format.specs.messages.WholeMessages.{batch_parts_view}
 use Rattle.tables_stream.proofs.Compressed.{compressed_is, compressed_gives_none}
 use Rattle.tables_stream.proofs.reading.batch_of.Goals as goal
 

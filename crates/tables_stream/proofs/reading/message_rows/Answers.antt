@@ -1,7 +1,7 @@
 -- The header stands in the message's metadata.
 use Rattle.std.proofs.Common.{ℕ, List, subst}
 use Rattle.ipc_format.specs.Views.{table_of}
-use Rattle.ipc_format_metadata.specs.Reading.{Reads}
+use Rattle.ipc_format.specs.metadata.Reading.{Reads}
 use Rattle.tables_stream.specs.Int32.{int32_batch}
 use Rattle.tables_stream.specs.Reading.{IsCompressed}
 use Rattle.tables_stream.specs.Tables.{batch_slots, stored_cells}

@@ -2,8 +2,8 @@ use Rattle.std.proofs.Common.{rules, arith, ◌≡◌, ◌+◌, ◌≤◌, ◌^�
 use Rattle.std.specs.Prelude.{Some, sum_by}
 use Rattle.tables_stream.specs.Batches.{rows_of_cells}
 use Rattle.tables_faults.specs.Faults.{fault_of}
-use Rattle.ipc_format_grammar.specs.Refusals.{next_after}
-use Rattle.ipc_format_metadata.specs.Reading.{Refuses}
+use Rattle.ipc_format.specs.grammar.Refusals.{next_after}
+use Rattle.ipc_format.specs.metadata.Reading.{Refuses}
 use Rattle.tables_stream.specs.Int32.{cut_off, ended, batch_then, step_at}
 use Rattle.tables_stream.specs.Reading.{ReadsBatches, IsCompressedThere}
 use Rattle.tables_stream.specs.Tables.{batch_slots, stored_cells}

@@ -1,4 +1,4 @@
-use Rattle.ipc_format_writing.specs.MessageWriting.{buffer_pair}
+use Rattle.ipc_format.specs.writing.MessageWriting.{buffer_pair}
 use Rattle.tables_stream.proofs.Placed.{pair_more, pair_kept}
 use Rattle.tables_stream.proofs.writing.add_buffer.Goals as goal
 

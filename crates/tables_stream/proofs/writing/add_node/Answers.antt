@@ -1,4 +1,4 @@
-use Rattle.ipc_format_writing.specs.MessageWriting.{node_pair}
+use Rattle.ipc_format.specs.writing.MessageWriting.{node_pair}
 use Rattle.tables_stream.proofs.Placed.{pair_more, pair_kept}
 use Rattle.tables_stream.proofs.writing.add_node.Goals as goal
 

@@ -1,6 +1,6 @@
 -- One more column.
 use Rattle.std.proofs.Common.{◌≡◌, ◌+◌, ◌<◌, ◌≤◌, length, get_or, map, rules}
-use Rattle.ipc_format_writing.specs.MessageWriting.{node_pair, buffer_pair}
+use Rattle.ipc_format.specs.writing.MessageWriting.{node_pair, buffer_pair}
 use Rattle.tables_stream.proofs.Placed.{column_laid, body_over}
 use Rattle.tables_stream.proofs.Refused.{layout_more}
 use Rattle.tables_stream.proofs.writing.layout_of.Goals as goal

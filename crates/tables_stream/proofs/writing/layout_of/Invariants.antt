@@ -1,9 +1,9 @@
 -- The columns before the place are laid out.
 use Rattle.std.proofs.Common.{◌≡◌, ◌%◌, length, map, take}
-use Rattle.ipc_format_writing.specs.MessageWriting.{node_pair, buffer_pair}
-use Rattle.ipc_format_grammar.specs.Buffers as buffers_format
+use Rattle.ipc_format.specs.writing.MessageWriting.{node_pair, buffer_pair}
+use Rattle.ipc_format.specs.grammar.Buffers as buffers_format
 use Rattle.tables_stream.specs.Int32Written as int32_written
-use Rattle.ipc_format_grammar.specs.WrittenMessages as messages_format
+use Rattle.ipc_format.specs.grammar.WrittenMessages as messages_format
 use Rattle.tables_stream.specs.Batches.{window_cells}
 use Rattle.tables_stream.specs.Int32Written.{buffers_of}
 use Rattle.tables_stream.specs.Tables.{batch_slots}

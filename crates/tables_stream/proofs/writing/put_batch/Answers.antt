@@ -1,7 +1,7 @@
 -- The metadata and the body.
 use Rattle.std.proofs.Common.{rules, ◌≡◌, ◌∙◌, ◌≤◌, ◌+◌, sym, ap, ap₂, subst, length, map, List, ℕ, true}
-use Rattle.ipc_format_grammar.specs.WrittenMessages.{body_bytes, fits_limit, prefix_size, most_metadata}
-use Rattle.ipc_format_writing.specs.MessageWriting as metadata
+use Rattle.ipc_format.specs.grammar.WrittenMessages.{body_bytes, fits_limit, prefix_size, most_metadata}
+use Rattle.ipc_format.specs.writing.MessageWriting as metadata
 use Rattle.tables_stream.specs.Int32Written.{int32_message, buffers_of}
 use Rattle.tables_stream.specs.Tables.{batch_slots, stored_cells}
 use Rattle.tables_stream.proofs.Placed.{rows_are_of_cells}

@@ -1,7 +1,7 @@
 -- The buffers of the columns before the place are written.
 use Rattle.std.proofs.Common.{take}
 use Rattle.std.specs.Io.KnownBytes.{Appends}
-use Rattle.ipc_format_grammar.specs.WrittenMessages as messages_format
+use Rattle.ipc_format.specs.grammar.WrittenMessages as messages_format
 use Rattle.tables_stream.specs.Batches.{window_cells}
 use Rattle.tables_stream.specs.Int32Written.{buffers_of}
 use Rattle.tables_stream.specs.Tables.{batch_slots}

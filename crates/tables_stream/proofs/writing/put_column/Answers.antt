@@ -4,10 +4,10 @@ use Rattle.std.specs.Prelude.{Option}
 use Rattle.std.specs.Io.KnownBytes.{Appends}
 use Rattle.std.specs.List.{flat_map}
 use Rattle.nested_arrays_columns.specs.Slots.{Slot}
-use Rattle.ipc_format_grammar.specs.Buffers.{null_count}
-use Rattle.ipc_format_grammar.specs.WrittenMessages.{padded_buffer}
+use Rattle.ipc_format.specs.grammar.Buffers.{null_count}
+use Rattle.ipc_format.specs.grammar.WrittenMessages.{padded_buffer}
 use Rattle.tables_stream.specs.Int32Written.{bitmap_bytes, value_bytes}
-use Rattle.ipc_format_streams.specs.Devices.{Puts}
+use Rattle.ipc_format.specs.streams.Devices.{Puts}
 use Rattle.tables_stream.proofs.Padded.{slots_between, slots_size, column_put, values_put, validity_refused}
 use Rattle.tables_stream.proofs.writing.put_column.Goals as goal
 use Rattle.tables_stream.proofs.writing.put_column.Goals.{then-nulls-gt0+in_ok-put_validity, else-nulls-gt0}

@@ -2,8 +2,8 @@
 use Rattle.std.proofs.Common.{rules, ◌≡◌, ◌∙◌, ◌++◌, List, ℕ, [], length, replicate, ap, sym, subst}
 use Rattle.std.specs.Int.{w32, to_le_bytes}
 use Rattle.std.specs.Io.KnownBytes.{Appends}
-use Rattle.ipc_format_streams.proofs.Appending.{appends_both, begins_first, puts_behind, puts_first}
-use Rattle.ipc_format_streams.proofs.Appending.{puts_same, puts_between, append-empty, refused_same, appends_same}
+use Rattle.ipc_format.proofs.streams_lemmas.Appending.{appends_both, begins_first, puts_behind, puts_first}
+use Rattle.ipc_format.proofs.streams_lemmas.Appending.{puts_same, puts_between, append-empty, refused_same, appends_same}
 use Rattle.tables_stream.proofs.writing.put_metadata.Goals as goal
 
 pub returns-in_err-put : goal.returns-in_err-put

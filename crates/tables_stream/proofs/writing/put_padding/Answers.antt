@@ -1,6 +1,6 @@
 -- The zeros that are written.
 use Rattle.std.proofs.Common.{arith}
-use Rattle.ipc_format_streams.proofs.Appending.{puts_same}
+use Rattle.ipc_format.proofs.streams_lemmas.Appending.{puts_same}
 use Rattle.tables_stream.proofs.Padded.{zeros_behind}
 use Rattle.tables_stream.proofs.writing.put_padding.Goals as goal
 

@@ -1,7 +1,7 @@
 -- The metadata, and no body.
 use Rattle.std.proofs.Common.{rules, ◌∙◌, ap}
-use Rattle.ipc_format_metadata.specs.Views.{ids_views}
-use Rattle.ipc_format_grammar.specs.Ids.{default_ids}
+use Rattle.ipc_format.specs.metadata.Views.{ids_views}
+use Rattle.ipc_format.specs.grammar.Ids.{default_ids}
 use Rattle.tables_stream.proofs.Messages.{ids_unmade, schema_unwritten, schema_metadata, schema_prefix, schema_put}
 use Rattle.tables_stream.proofs.writing.put_schema.Goals as goal
 

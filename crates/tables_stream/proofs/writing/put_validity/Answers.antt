@@ -3,7 +3,7 @@ use Rattle.std.proofs.Common.{rules, ◌≡◌, ℕ, ◌+◌, ◌/◌, ◌%◌, 
 use Rattle.std.specs.Int.{div_ceil}
 use Rattle.std.specs.Io.KnownBytes.{Appends}
 use Rattle.tables_stream.specs.Int32Written.{bitmap_bytes}
-use Rattle.ipc_format_streams.proofs.Appending.{appends_known, refused_known}
+use Rattle.ipc_format.proofs.streams_lemmas.Appending.{appends_known, refused_known}
 use Rattle.tables_stream.proofs.Padded.{slots_between, slots_size, bitmap_block, bitmap_size, bitmap_refused, puts_padded}
 use Rattle.tables_stream.proofs.writing.put_validity.Goals as goal
 

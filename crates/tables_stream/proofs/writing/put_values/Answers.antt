@@ -4,7 +4,7 @@ use Rattle.std.specs.Prelude.{slice_range}
 use Rattle.std.specs.List.{flat_map}
 use Rattle.std.specs.Io.KnownBytes.{Appends}
 use Rattle.tables_stream.specs.Int32Written.{value_bytes}
-use Rattle.ipc_format_streams.proofs.Appending.{appends_known, refused_known}
+use Rattle.ipc_format.proofs.streams_lemmas.Appending.{appends_known, refused_known}
 use Rattle.tables_stream.proofs.Padded.{slots_between, values_block, values_size, values_refused, puts_padded}
 use Rattle.tables_stream.proofs.Slices.{part_size}
 use Rattle.tables_stream.proofs.writing.put_values.Goals as goal

@@ -4,7 +4,7 @@ use Rattle.std.specs.Prelude.{Option}
 use Rattle.std.specs.Io.KnownBytes.{Appends}
 use Rattle.std.specs.List.{list_all}
 use Rattle.ipc_format.specs.WrittenMessages.{fits_limit}
-use Rattle.ipc_format_streams.specs.Devices.{AppendsBeginning}
+use Rattle.ipc_format.specs.streams.Devices.{AppendsBeginning}
 use Rattle.tables_stream.specs.Int32Written.{int32_messages}
 use Rattle.tables_stream.specs.Refusals.{bytes_of_stream, StopsAtTooLong, IsWriteError}
 use Rattle.tables_stream.specs.Tables.{Stored, batch_slots, stored_cells}

@@ -1,5 +1,0 @@
-use Rattle.ipc_format_column_laws.proofs.FlatTypes.{flat_columns_read_back}
-use Rattle.ipc_format_column_laws.proofs.flat_columns_read_back.Goals as goal
-
-pub returns : goal.returns
-returns c = flat_columns_read_back

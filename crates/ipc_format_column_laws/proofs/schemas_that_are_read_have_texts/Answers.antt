@@ -1,5 +1,0 @@
-use Rattle.ipc_format_column_laws.proofs.Texts.{schemas_read_have_texts}
-use Rattle.ipc_format_column_laws.proofs.schemas_that_are_read_have_texts.Goals as goal
-
-pub returns : goal.returns
-returns c = schemas_read_have_texts

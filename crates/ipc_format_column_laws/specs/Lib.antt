@@ -1,4 +1,0 @@
-pub mod Columns
-pub mod WholeColumns
-pub mod Batches
-pub mod Texts

@@ -1,5 +1,0 @@
-use Rattle.ipc_format_round_trip.proofs.dictionary_batches_read_back.Goals as goal
-use Rattle.ipc_format_round_trip.proofs.Batches as batches
-
-pub returns : goal.returns
-returns c = batches.dictionary_batches_read_back

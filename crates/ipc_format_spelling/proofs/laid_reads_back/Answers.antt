@@ -1,5 +1,0 @@
-use Rattle.ipc_format_spelling.proofs.laid_reads_back.Goals as goal
-use Rattle.ipc_format_spelling.proofs.Objects as objects
-
-pub returns : goal.returns
-returns c = objects.laid_reads_back

@@ -1,5 +1,0 @@
-use Rattle.ipc_format_stream_laws.proofs.messages_read_back.Goals as goal
-use Rattle.ipc_format_stream_laws.proofs.StreamMessages as messages
-
-pub returns : goal.returns
-returns c = messages.messages_read_back
