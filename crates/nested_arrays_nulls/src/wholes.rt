@@ -10,7 +10,7 @@ ghost use Rattle.nested_arrays_nulls.specs.NullColumns.{first_id, flat_nulls, no
 use crate::{flats, generic_layouts, layouts};
 use nested_arrays_iterators::arrays::AnyArray;
 use nested_arrays_iterators::columnar_memory::{DataType, IntegerType, Items, Result, UnionMode};
-use nested_arrays_iterators::generic::DictionaryKey;
+use nested_arrays_iterators::generic::{DictionaryKey, ToBoxed};
 use std::alloc::Global;
 
 /// Nulls of a type whose arrays have no children.
@@ -32,7 +32,7 @@ pub(crate) fn lists(
     ensures { IsMade (lists whole.now (no_marks length) (no_items length) items) result }
 {
     let array = generic_layouts::lists::<i32>(alloc, whole.clone()?, items, length)?;
-    Ok(AnyArray::from(array))
+    Ok(array.into_any())
 }
 
 /// Nulls of a type of lists with large offsets.
@@ -46,7 +46,7 @@ pub(crate) fn large_lists(
     ensures { IsMade (lists whole.now (no_marks length) (no_items length) items) result }
 {
     let array = generic_layouts::lists::<i64>(alloc, whole.clone()?, items, length)?;
-    Ok(AnyArray::from(array))
+    Ok(array.into_any())
 }
 
 /// Nulls of a type of maps.
@@ -129,7 +129,7 @@ fn keyed<K: DictionaryKey>(
     ensures { IsMade (dictionary whole.now (no_marks length) (replicate length (pos 0)) values) result }
 {
     let array = generic_layouts::dictionary::<K>(alloc, whole.clone()?, values, length)?;
-    Ok(AnyArray::from(array))
+    Ok(array.into_any())
 }
 
 /// The same, where the type of the keys is known when it runs.
