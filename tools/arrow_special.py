@@ -140,7 +140,8 @@ def unseen_type(random):
     for _ in range(random.choice((0, 0, 1, 2))):
         field = field_of(data_type)
         data_type = random.choice((
-            ("Struct", (field,)), ("Struct", (field_of(("Int8",)), field)), ("FixedSizeList", field, 2), ("List", field), ("Extension", b"e", data_type, None),
+            ("Struct", (field,)), ("Struct", (field_of(("Int8",)), field)), ("FixedSizeList", field, 2), ("List", field),
+            ("Extension", b"e", data_type, None),
         ))
     return data_type
 

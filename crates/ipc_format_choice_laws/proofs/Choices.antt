@@ -1,5 +1,6 @@
 -- A choice of columns under a limit is that choice of the first rows of the whole.
-use Rattle.std.proofs.Common.{inl, inr, ◌≡◌, ◌∙◌, ℕ, zero, suc, ◌-◌, ◌≤◌, ◌<◌, ◌^◌, min, Bool, true, List, [], ◌∷◌, ◌++◌, length, map, take, refl, sym, ap}
+use Rattle.std.proofs.Common.{inl, inr, ◌≡◌, ◌∙◌, ℕ, zero, suc, ◌-◌, ◌≤◌, ◌<◌, ◌^◌, min, Bool, true, List, [], ◌∷◌, ◌++◌, length, map, take, refl}
+use Rattle.std.proofs.Common.{sym, ap}
 use Rattle.std.proofs.Common.{ap₂, subst, arith, nat_lt}
 use Rattle.std.specs.Prelude.{Option, Some, None}
 use Rattle.std.specs.List.{list_all}
@@ -15,7 +16,8 @@ use Rattle.ipc_format_grammar.specs.Messages as message
 use Rattle.ipc_format_grammar.specs.Writable.{normalised}
 use Rattle.ipc_format_grammar.specs.Columns.{Dictionary, taken_of}
 use Rattle.ipc_format_grammar.specs.Dictionaries.{Entry, Layout, dictionary_in}
-use Rattle.ipc_format_grammar.specs.Tables.{Contents, agree_in_length, contents_of, layout_of, batch_in, batches_with, batches_of, table_of, left_of, chosen_batch_in}
+use Rattle.ipc_format_grammar.specs.Tables.{Contents, agree_in_length, contents_of, layout_of, batch_in, batches_with, batches_of, table_of}
+use Rattle.ipc_format_grammar.specs.Tables.{left_of, chosen_batch_in}
 use Rattle.ipc_format_grammar.specs.Tables.{chosen_batches_with, chosen_batches, choice_of}
 use Rattle.ipc_format_choice_laws.specs.Choices.{ChoicesAreOfTheWhole}
 use Rattle.ipc_format_choice_laws.proofs.Firsts.{came_of, bind_is, same_value, guarded}

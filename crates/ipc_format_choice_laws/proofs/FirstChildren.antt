@@ -15,7 +15,8 @@ use Rattle.nested_arrays_columns.proofs.Windows.{length-window}
 use Rattle.ipc_format_grammar.specs.Messages.{FieldNode, natural}
 use Rattle.ipc_format_grammar.specs.Schemas.{IdsList}
 use Rattle.ipc_format_grammar.specs.Values.{signed_of, element_bytes}
-use Rattle.ipc_format_grammar.specs.Columns.{Place, Reader, Marked, taken_of, slot_by, marked_in, buffer_at, offsets_in, last_of, piece_at, first_below}
+use Rattle.ipc_format_grammar.specs.Columns.{Place, Reader, Marked, taken_of, slot_by, marked_in, buffer_at, offsets_in, last_of, piece_at}
+use Rattle.ipc_format_grammar.specs.Columns.{first_below}
 use Rattle.ipc_format_grammar.specs.Columns.{behind_column, limit_times, list_slots, fixed_list_slots, columns_below, have_length, struct_slots}
 use Rattle.ipc_format_grammar.specs.Columns.{ids_below, first_ids, other_ids, places_in, are_as_long, picked, child_of, all_of, union_slots}
 use Rattle.ipc_format_choice_laws.proofs.Firsts.{came_of, bind_is, same_value, guarded, IsWithin, taken_within, taken_most, range_take}

@@ -1,5 +1,6 @@
 -- Columns without children under a smaller limit are the first slots of what they are under a greater one.
-use Rattle.std.proofs.Common.{◌≡◌, ◌∙◌, ℕ, zero, suc, ◌+◌, ◌*◌, ◌/◌, ◌≤◌, ◌<◌, ℤ, Bool, true, List, length, take, replicate, refl, sym, ap, ap₂, arith, add-zero, zero-add}
+use Rattle.std.proofs.Common.{◌≡◌, ◌∙◌, ℕ, zero, suc, ◌+◌, ◌*◌, ◌/◌, ◌≤◌, ◌<◌, ℤ, Bool, true, List, length, take, replicate, refl, sym, ap, ap₂}
+use Rattle.std.proofs.Common.{arith, add-zero, zero-add}
 use Rattle.std.specs.Prelude.{Option, Some, slice_get, not, ◌||◌}
 use Rattle.std.specs.Int.{Width}
 use Rattle.std.specs.List.{list_all}
@@ -15,7 +16,8 @@ use Rattle.nested_arrays_columns.specs.Slots.{Slot, null, truth, bytes, window}
 use Rattle.nested_arrays_columns.proofs.Windows.{length-window}
 use Rattle.ipc_format_grammar.specs.Messages.{FieldNode, natural}
 use Rattle.ipc_format_grammar.specs.Values.{bit_at, kind_size, value_of, value_at, element_bytes, key_of, key_at, key_size}
-use Rattle.ipc_format_grammar.specs.Columns.{Place, Reader, Dictionary, Validity, Marked, taken_of, taken_in, is_valid_in, slot_by, marked_in, buffer_at}
+use Rattle.ipc_format_grammar.specs.Columns.{Place, Reader, Dictionary, Validity, Marked, taken_of, taken_in, is_valid_in, slot_by, marked_in}
+use Rattle.ipc_format_grammar.specs.Columns.{buffer_at}
 use Rattle.ipc_format_grammar.specs.Columns.{null_slots, fixed_slots, truth_slots, number_slots, fixed_bytes_slots, offsets_in, last_of, piece_at}
 use Rattle.ipc_format_grammar.specs.Columns.{byte_slots, own_id, standing_for, names_value, slot_of_key, dictionary_slots}
 use Rattle.ipc_format_choice_laws.proofs.Firsts.{came_of, same_value, guarded, IsWithin, taken_within, taken_most, bit_take, element_take, all_take}
