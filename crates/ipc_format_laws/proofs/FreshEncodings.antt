@@ -116,7 +116,7 @@ lists_encode w whole width item encoder cell below slots fits =
     let are : AreOffsets offsets (length slots) total = piece_offsets items_of slots in
     let n : ℕ = length offsets - 1 in
     let range : (taken : List ℕ) → taken ≡ offsets
-        → encode_range true child (slice_index taken 0) (last_offset taken - slice_index taken 0) ≡ encoder (joined_items slots) =
+    → encode_range true child (slice_index taken 0) (last_offset taken - slice_index taken 0) ≡ encoder (joined_items slots) =
     λ taken e. ap (λ (t : List ℕ). encode_range true child (slice_index t 0) (last_offset t - slice_index t 0)) e
     ∙ (λ j. encode_range true child (are.first j) (are.last j - are.first j))
     ∙ ap (encode_range true child 0) (less_0 total ∙ sym (below.counts (joined_items slots) fits))

@@ -56,3 +56,11 @@ pub mod StreamContents
 pub mod NoDictionaries
 pub mod Int32Schemas
 pub mod StreamTables
+pub mod Firsts
+pub mod FirstBuffers
+pub mod FirstOffsets
+pub mod FirstColumns
+pub mod FirstChildren
+pub mod FirstTypes
+pub mod ChosenBatches
+pub mod Choices

@@ -16,3 +16,4 @@ pub mod Texts
 pub mod Messages
 pub mod Contents
 pub mod Tables
+pub mod Choices

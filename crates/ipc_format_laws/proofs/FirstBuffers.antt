@@ -9,7 +9,7 @@ use Rattle.nested_arrays_columns.specs.Slots.{Slot, null, window}
 use Rattle.ipc_format_grammar.specs.Messages.{FieldNode, Buffer, natural}
 use Rattle.ipc_format_grammar.specs.Columns.{Source, Place, Validity, all_valid, bitmap, is_valid_in, slot_by, Marked, buffer_at, taken_of, taken_in}
 use Rattle.ipc_format_grammar.specs.Columns.{validity_in, marked_in}
-use Rattle.ipc_format_choice_laws.proofs.Firsts.{came_of, bind_is, same_value, guarded, IsWithin, taken_within, taken_most, bit_take, first_same}
+use Rattle.ipc_format_laws.proofs.Firsts.{came_of, bind_is, same_value, guarded, IsWithin, taken_within, taken_most, bit_take, first_same}
 
 window_by : (bytes : List ℕ) (place n m : ℕ) (found : List ℕ) (test : Bool) → nat_le (place + n) (length bytes) ≡ test
     → (if test then Some (take n (drop place bytes)) else None) ≡ Some found → m ≤ n → window_at bytes place m ≡ Some (take m found)

@@ -19,9 +19,9 @@ use Rattle.ipc_format_grammar.specs.Dictionaries.{Entry, Layout, dictionary_in}
 use Rattle.ipc_format_grammar.specs.Tables.{Contents, agree_in_length, contents_of, layout_of, batch_in, batches_with, batches_of, table_of}
 use Rattle.ipc_format_grammar.specs.Tables.{left_of, chosen_batch_in}
 use Rattle.ipc_format_grammar.specs.Tables.{chosen_batches_with, chosen_batches, choice_of}
-use Rattle.ipc_format_choice_laws.specs.Choices.{ChoicesAreOfTheWhole}
-use Rattle.ipc_format_choice_laws.proofs.Firsts.{came_of, bind_is, same_value, guarded}
-use Rattle.ipc_format_choice_laws.proofs.ChosenBatches.{cut_columns, rows_chosen, batch_chosen}
+use Rattle.ipc_format_laws.specs.Choices.{ChoicesAreOfTheWhole}
+use Rattle.ipc_format_laws.proofs.Firsts.{came_of, bind_is, same_value, guarded}
+use Rattle.ipc_format_laws.proofs.ChosenBatches.{cut_columns, rows_chosen, batch_chosen}
 
 -- the first rows under a limit, with the chosen slots; without a chosen column there is none
 abbrev picked_rows : List ℕ → Option ℕ → List (List Slot) → List (List Slot)

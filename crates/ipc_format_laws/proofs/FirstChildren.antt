@@ -19,10 +19,10 @@ use Rattle.ipc_format_grammar.specs.Columns.{Place, Reader, Marked, taken_of, sl
 use Rattle.ipc_format_grammar.specs.Columns.{first_below}
 use Rattle.ipc_format_grammar.specs.Columns.{behind_column, limit_times, list_slots, fixed_list_slots, columns_below, have_length, struct_slots}
 use Rattle.ipc_format_grammar.specs.Columns.{ids_below, first_ids, other_ids, places_in, are_as_long, picked, child_of, all_of, union_slots}
-use Rattle.ipc_format_choice_laws.proofs.Firsts.{came_of, bind_is, same_value, guarded, IsWithin, taken_within, taken_most, range_take}
-use Rattle.ipc_format_choice_laws.proofs.FirstBuffers.{marked_first}
-use Rattle.ipc_format_choice_laws.proofs.FirstOffsets.{offsets_first, last_fewer, piece_first}
-use Rattle.ipc_format_choice_laws.proofs.FirstColumns.{Cuts, cut_to, cut_is}
+use Rattle.ipc_format_laws.proofs.Firsts.{came_of, bind_is, same_value, guarded, IsWithin, taken_within, taken_most, range_take}
+use Rattle.ipc_format_laws.proofs.FirstBuffers.{marked_first}
+use Rattle.ipc_format_laws.proofs.FirstOffsets.{offsets_first, last_fewer, piece_first}
+use Rattle.ipc_format_laws.proofs.FirstColumns.{Cuts, cut_to, cut_is}
 
 -- ---- lists
 

@@ -12,8 +12,8 @@ use Rattle.nested_arrays_columns.proofs.Windows.{length-window}
 use Rattle.ipc_format_grammar.specs.Messages.{Buffer, natural}
 use Rattle.ipc_format_grammar.specs.Values.{signed_of, element_bytes}
 use Rattle.ipc_format_grammar.specs.Columns.{Source, buffer_at, rising, offsets_in, last_of, piece_at}
-use Rattle.ipc_format_choice_laws.proofs.Firsts.{came_of, same_value, guarded, index_take, element_take, range_take, first_same}
-use Rattle.ipc_format_choice_laws.proofs.FirstBuffers.{buffer_first, buffer_states}
+use Rattle.ipc_format_laws.proofs.Firsts.{came_of, same_value, guarded, index_take, element_take, range_take, first_same}
+use Rattle.ipc_format_laws.proofs.FirstBuffers.{buffer_first, buffer_states}
 
 -- ---- offsets that don't fall
 

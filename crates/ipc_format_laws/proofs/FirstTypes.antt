@@ -14,8 +14,8 @@ use Rattle.nested_arrays_columns.specs.Slots.{bytes, text}
 use Rattle.ipc_format_grammar.specs.Layouts.{before_V5, union_parts}
 use Rattle.ipc_format_grammar.specs.Columns.{Reader, read_step, read_field_step, slots_in}
 use Rattle.ipc_format_grammar.proofs.Claims.{TypeWith, FieldWith, LayerWith, bare_layer}
-use Rattle.ipc_format_choice_laws.proofs.FirstColumns.{Cuts, nulls_cut, truths_cut, numbers_cut, fixed_bytes_cut, bytes_cut, keys_cut}
-use Rattle.ipc_format_choice_laws.proofs.FirstChildren.{lists_cut, fixed_lists_cut, AllCut, structs_cut, unions_cut}
+use Rattle.ipc_format_laws.proofs.FirstColumns.{Cuts, nulls_cut, truths_cut, numbers_cut, fixed_bytes_cut, bytes_cut, keys_cut}
+use Rattle.ipc_format_laws.proofs.FirstChildren.{lists_cut, fixed_lists_cut, AllCut, structs_cut, unions_cut}
 
 abbrev Layer : Type 0
 Layer = layer.DataType-F DataType Field

@@ -14,9 +14,9 @@ use Rattle.nested_arrays_columns.proofs.Windows.{window_same}
 use Rattle.ipc_format_grammar.specs.Columns.{Source, Dictionary, taken_of, have_length}
 use Rattle.ipc_format_grammar.specs.Dictionaries.{Entry, Layout, source_in}
 use Rattle.ipc_format_grammar.specs.Tables.{column_place, column_in, columns_from, agree_in_length, batch_in, chosen_columns, chosen_batch_in}
-use Rattle.ipc_format_choice_laws.proofs.Firsts.{came_of, bind_is, same_value, guarded, taken_most, first_same}
-use Rattle.ipc_format_choice_laws.proofs.FirstColumns.{cut_to}
-use Rattle.ipc_format_choice_laws.proofs.FirstTypes.{types_cut}
+use Rattle.ipc_format_laws.proofs.Firsts.{came_of, bind_is, same_value, guarded, taken_most, first_same}
+use Rattle.ipc_format_laws.proofs.FirstColumns.{cut_to}
+use Rattle.ipc_format_laws.proofs.FirstTypes.{types_cut}
 
 -- ---- columns
 

@@ -20,10 +20,10 @@ use Rattle.ipc_format_grammar.specs.Columns.{Place, Reader, Dictionary, Validity
 use Rattle.ipc_format_grammar.specs.Columns.{buffer_at}
 use Rattle.ipc_format_grammar.specs.Columns.{null_slots, fixed_slots, truth_slots, number_slots, fixed_bytes_slots, offsets_in, last_of, piece_at}
 use Rattle.ipc_format_grammar.specs.Columns.{byte_slots, own_id, standing_for, names_value, slot_of_key, dictionary_slots}
-use Rattle.ipc_format_choice_laws.proofs.Firsts.{came_of, same_value, guarded, IsWithin, taken_within, taken_most, bit_take, element_take, all_take}
-use Rattle.ipc_format_choice_laws.proofs.Firsts.{first_same, replicate_take}
-use Rattle.ipc_format_choice_laws.proofs.FirstBuffers.{buffer_first, marked_first, slots_first}
-use Rattle.ipc_format_choice_laws.proofs.FirstOffsets.{offsets_first, last_fewer, piece_first}
+use Rattle.ipc_format_laws.proofs.Firsts.{came_of, same_value, guarded, IsWithin, taken_within, taken_most, bit_take, element_take, all_take}
+use Rattle.ipc_format_laws.proofs.Firsts.{first_same, replicate_take}
+use Rattle.ipc_format_laws.proofs.FirstBuffers.{buffer_first, marked_first, slots_first}
+use Rattle.ipc_format_laws.proofs.FirstOffsets.{offsets_first, last_fewer, piece_first}
 
 -- the first slots under a limit
 abbrev pub cut_to : Option ℕ → List Slot → List Slot
