@@ -8,7 +8,7 @@ use Rattle.std.proofs.Math.Nat.{mul-le-mul_right}
 use Rattle.std.proofs.lemmas.Bool.{and_parts, and_from}
 use Rattle.std.proofs.lemmas.List.{length-replicate}
 use Rattle.ipc_format_flatbuffers.specs.Reading.{guard}
-use Rattle.columnar_memory_schema.specs.Equality.{same_type}
+use Rattle.columnar_memory_types.specs.Equality.{same_type}
 use Rattle.columnar_memory.specs.declared.DataType.{DataType}
 use Rattle.columnar_memory.specs.declared.IntegerType.{IntegerType}
 use Rattle.columnar_memory.specs.declared.PrimitiveType.{PrimitiveType}
