@@ -244,7 +244,7 @@ class Defined:
     # ---- causes of refusals, found by trying every place
 
     def has_feather_mark(self, form, content):
-        return form == "file" and called(self.feather_mark, content)
+        return called(self.feather_mark, self.forms[form], content)
 
     def has_float(self, form, content):
         """Whether a float field stands at some path of the schema."""

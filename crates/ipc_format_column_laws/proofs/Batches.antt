@@ -1,5 +1,5 @@
 -- The message of a batch of written columns reads back.
-use Rattle.std.proofs.Common.{◌≡◌, ◌∙◌, ℕ, ◌+◌, ◌-◌, ◌*◌, ◌≤◌, ◌<◌, ◌^◌, Bool, true, false, List, [], ◌∷◌, ◌++◌, length, replicate, refl, sym}
+use Rattle.std.proofs.Common.{◌≡◌, ◌∙◌, ℕ, ◌+◌, ◌-◌, ◌*◌, ◌≤◌, ◌<◌, ◌^◌, Bool, true, List, [], ◌∷◌, ◌++◌, length, map, replicate, refl, sym}
 use Rattle.std.proofs.Common.{ap, subst, arith, add-one, append-nil, length-append, nat_lt, nat_le, sum_by, ◌==◌}
 use Rattle.std.specs.Prelude.{Some, None}
 use Rattle.std.specs.Int.{next_multiple_of}
@@ -21,13 +21,12 @@ use Rattle.nested_arrays_columns.specs.Slots.{Slot}
 use Rattle.nested_arrays_columns.specs.Cells.{is_null, fits_cell}
 use Rattle.ipc_format_grammar.specs.Messages as message
 use Rattle.ipc_format_grammar.specs.Messages.{V5, record_batch_in}
-use Rattle.ipc_format_grammar.specs.Schemas.{Ids}
-use Rattle.ipc_format_round_trip.specs.Batches.{AreSigned, IsRecordBatch}
+use Rattle.ipc_format_round_trip.specs.Batches.{AreSigned, IsRecordBatch, stated_node, stated_buffer}
 use Rattle.ipc_format_round_trip.proofs.Batches.{record_batches_read_back}
 use Rattle.ipc_format_grammar.specs.Layouts.{node_number, buffer_number}
-use Rattle.ipc_format_grammar.specs.Columns.{Source, Dictionary, slots_in, have_length}
+use Rattle.ipc_format_grammar.specs.Columns.{Source, Dictionary, Place, slots_in, have_length, taken_of}
 use Rattle.ipc_format_grammar.specs.Dictionaries.{Layout, source_in}
-use Rattle.ipc_format_grammar.specs.Tables.{agree_in_length, batch_in, columns_from, ids_at, stream_entry}
+use Rattle.ipc_format_grammar.specs.Tables.{agree_in_length, batch_in, column_place, columns_from, stream_entry}
 use Rattle.ipc_format_grammar.specs.Buffers.{validity_bytes, null_count, kind_bytes}
 use Rattle.ipc_format_grammar.specs.Encoding.{Encoded, Encoder, encode, encode_step, joined, node_of}
 use Rattle.ipc_format_grammar.specs.WrittenMessages.{padded_buffer, buffer_places, body_bytes, body_limit, most_metadata, prefix_size}
@@ -58,8 +57,8 @@ are_whole fields = list_all (λ (field : Field). is_whole field.data_type) field
 -- one column of a batch that is read, wherever it stands among written columns
 record ColumnReads (field : Field) (column : List Slot) : Type 0 where
   plain : has_no_union field.data_type ≡ true
-  reads : (source : Source) (all : Encoded) (standing : List Dictionary) (n b : ℕ) (here : Ids) → source.version ≡ V5 → HoldsColumns source all
-      → StandsAmong all (encode field.data_type column) n b → slots_in field.data_type source standing None n b here ≡ Some column
+  reads : (at : Place) (all : Encoded) → at.source.version ≡ V5 → HoldsColumns at.source all
+      → StandsAmong all (encode field.data_type column) at.node at.buffer → at.limit ≡ None → slots_in field.data_type at ≡ Some column
 
 -- a column is read for each field
 abbrev EachReads : List Field → List (List Slot) → Type 0
@@ -78,7 +77,8 @@ flat_reads (field ∷ fields) (column ∷ columns) flat fit =
     let facts = flat_holds field.data_type flats.0 in
     let here : ColumnReads field column = record {
       plain = facts.plain;
-      reads = λ source all standing n b ids version holds stands. facts.reads column source all standing None n b ids fits.0 holds stands refl;
+      reads = λ at all version holds stands none.
+          facts.reads column at all fits.0 holds stands (ap (λ limit. taken_of limit (length column)) none);
     } in
     (here, flat_reads fields columns flats.1 fits.1)
 
@@ -94,8 +94,8 @@ whole_reads (field ∷ fields) (column ∷ columns) whole fit room =
     let facts = whole_holds field.data_type wholes.0 in
     let here : ColumnReads field column = record {
       plain = facts.plain;
-      reads = λ source all standing n b ids version holds stands.
-          facts.reads column source all standing None n b ids fits.0 rooms.0 version holds stands refl;
+      reads = λ at all version holds stands none.
+          facts.reads column at all fits.0 rooms.0 version holds stands (ap (λ limit. taken_of limit (length column)) none);
     } in
     (here, whole_reads fields columns wholes.1 fits.1 rooms.1)
 
@@ -119,10 +119,14 @@ columns_read layout standing source all k (field ∷ fields) (column ∷ columns
     ap (λ j. node_number layout.fields j) (add-one k) ∙ next.0 ∙ ap (λ j. n + j) (sym counts.0) in
     let buffers_next : buffer_number V5 layout.fields (k + 1) ≡ b + length first.buffers =
     ap (λ j. buffer_number V5 layout.fields j) (add-one k) ∙ next.1 ∙ ap (λ j. b + j) (sym counts.1) in
-    let read : slots_in field.data_type source standing None n (buffer_number source.version layout.fields k) (ids_at layout.below k) ≡ Some column =
-    ap (λ v. slots_in field.data_type source standing None n (buffer_number v layout.fields k) (ids_at layout.below k)) version
-    ∙ each.0.reads source all standing n b (ids_at layout.below k) version holds
-    (record { nodes = part_front first.nodes more.nodes s.nodes; buffers = part_front first.buffers more.buffers s.buffers }) in
+    let place : Place = column_place layout standing source None k in
+    let buffer_is : place.buffer ≡ b = ap (λ v. buffer_number v layout.fields k) version in
+    let read : slots_in field.data_type place ≡ Some column =
+    each.0.reads place all version holds
+    (record {
+      nodes = part_front first.nodes more.nodes s.nodes;
+      buffers = subst (λ (j : ℕ). StandsAt all.buffers j first.buffers) (sym buffer_is) (part_front first.buffers more.buffers s.buffers);
+    }) refl in
     let others : columns_from layout standing source (k + 1) fields ≡ Some columns =
     columns_read layout standing source all (k + 1) fields columns version holds each.1 (part_next field fields at)
     (record {
@@ -171,8 +175,8 @@ batch_reads layout columns metadata header table standing little each agree h =
     let all : Encoded = joined (columns_of_slots layout.fields columns) in
     let body : List ℕ = body_bytes all.buffers in
     let source : Source = record {
-      metadata = metadata;
-      vectors = record { nodes = h.nodes_at; buffers = h.buffers_at; is_compressed = false };
+      nodes = map stated_node all.nodes;
+      buffers = map stated_buffer (buffer_places 0 all.buffers);
       version = V5;
       is_little_endian = layout.is_little_endian;
       room = body;
@@ -181,11 +185,11 @@ batch_reads layout columns metadata header table standing little each agree h =
     let enough : nat_le (sum_by (λ (pair : ℕ × ℕ). pair.1) (buffer_places 0 all.buffers)) (length body) ≡ true =
     le-leb (sum_by (λ (pair : ℕ × ℕ). pair.1) (buffer_places 0 all.buffers)) (length body) (lengths_within 0 all.buffers) in
     let holds : HoldsColumns source all =
-    record { nodes = h.has_nodes; buffers = h.has_buffers; body = whole_window body; order = little } in
+    record { nodes = refl; buffers = refl; body = whole_window body; order = little } in
     let read : columns_from layout standing source 0 layout.fields ≡ Some columns =
     columns_read layout standing source all 0 layout.fields columns refl holds each (whole_list layout.fields)
     (record { nodes = whole_list all.nodes; buffers = whole_list all.buffers }) in
-    rw (h.batch, h.has_buffers.sum_is, enough, read, agree) refl
+    rw (h.batch, h.sum_is, enough, h.nodes_are, h.buffers_are, read, agree) refl
 
 -- ---- the numbers of a batch fit its metadata
 

@@ -1,43 +1,36 @@
 -- The nodes and buffers of written columns, read in a batch that has them.
-use Rattle.std.proofs.Common.{inl, inr, ◌≡◌, ◌∙◌, ℕ, zero, suc, ◌+◌, ◌-◌, ◌/◌, ◌<◌, pos, Bool, true, false, cond, not, List, [], ◌∷◌, ◌++◌}
-use Rattle.std.proofs.Common.{length, get_or, replicate, refl, sym, ap, ap₂, subst, arith, add-zero, zero-add, le_refl, length-append, append-nil}
+use Rattle.std.proofs.Common.{inl, inr, ◌≡◌, ◌∙◌, ℕ, zero, suc, ◌+◌, ◌-◌, ◌/◌, ◌<◌, Bool, true, false, cond, not, List, [], ◌∷◌, ◌++◌}
+use Rattle.std.proofs.Common.{length, map, get_or, replicate, refl, sym, ap, subst, arith, add-zero, zero-add, le_refl, length-append, append-nil}
 use Rattle.std.proofs.Common.{nat_lt, nat_le}
-use Rattle.std.specs.Prelude.{Some, if◌then◌else◌}
+use Rattle.std.specs.Prelude.{Some, if◌then◌else◌, slice_get}
+use Rattle.std.specs.Option.{option_map}
+use Rattle.std.proofs.lemmas.Option.{slice_get-map}
 use Rattle.std.specs.Int.{next_multiple_of}
-use Rattle.std.proofs.Math.Seq.{get_or-append_seam}
 use Rattle.std.proofs.lemmas.Bool.{cases_lt, lt-ltb, le-ltb, le-leb}
 use Rattle.std.proofs.lemmas.Grind.{flat_map-append}
 use Rattle.std.proofs.lemmas.List.Sums.{sum_by-cons}
 use Rattle.ipc_format_flatbuffers.specs.Reading.{window_at}
-use Rattle.ipc_format_flatbuffers.specs.FlatBuffers.{Vector}
 use Rattle.ipc_format_spelling.proofs.Places.{Stands, front, back, window_stands}
 use Rattle.ipc_format_spelling.proofs.Contents.{stands_window}
 use Rattle.nested_arrays_columns.specs.Slots.{Slot, null, window}
 use Rattle.nested_arrays_columns.specs.Cells.{is_null}
-use Rattle.ipc_format_grammar.specs.Messages.{Pair, struct_at}
-use Rattle.ipc_format_round_trip.specs.Batches.{HasPairs}
-use Rattle.ipc_format_grammar.specs.Columns.{Source, Validity, all_valid, bitmap, is_valid_at, slot_by, buffer_at, validity_in}
+use Rattle.ipc_format_round_trip.specs.Batches.{stated_node, stated_buffer}
+use Rattle.ipc_format_grammar.specs.Columns.{Source, Place, Validity, all_valid, bitmap, is_valid_in, slot_by, buffer_at}
+use Rattle.ipc_format_grammar.specs.Columns.{taken_of, validity_in, marked_in}
 use Rattle.ipc_format_grammar.specs.Buffers.{bitmap_of, is_valid, null_count, validity_bytes}
 use Rattle.ipc_format_grammar.specs.Encoding.{Encoded, node_of}
 use Rattle.ipc_format_grammar.specs.WrittenMessages.{padded_buffer, buffer_places, body_bytes}
 use Rattle.ipc_format_column_laws.specs.Columns.{StandsAt, HoldsColumns}
-use Rattle.ipc_format_column_laws.proofs.Elements.{window_is}
+use Rattle.ipc_format_column_laws.proofs.Elements.{part_first, window_is}
 use Rattle.ipc_format_column_laws.proofs.Bitmaps.{bitmap_size, bit_back}
 
--- ---- pairs of numbers
+-- ---- nodes and buffers by their numbers
 
-abbrev pub pair_of : ℕ × ℕ → Pair
-pair_of pair = record { first = pos pair.0; second = pos pair.1 }
-
--- a pair, where it stands among those of a vector
-pub pair_reads : (bytes : List ℕ) (vector : Vector) (pairs : List (ℕ × ℕ)) (k : ℕ) (pair : ℕ × ℕ) (rest : List (ℕ × ℕ))
-    → HasPairs bytes vector pairs → StandsAt pairs k (pair ∷ rest) → struct_at bytes vector k ≡ Some (pair_of pair)
-pair_reads bytes vector pairs k pair rest has s =
-    let inside : k < length pairs =
-    omega (arith, s.at, ap length s.whole, length-append s.before (pair ∷ (rest ++ s.after))) in
-    let found : get_or pairs k pair ≡ pair =
-    ap₂ (λ (xs : List (ℕ × ℕ)) j. get_or xs j pair) s.whole (sym s.at) ∙ get_or-append_seam s.before pair (rest ++ s.after) pair in
-    has.each k pair inside ∙ ap (λ (p : ℕ × ℕ). Some (pair_of p)) found
+-- what stands among things that were made of others, one each
+pub made_reads : {A B : Type 0} (make : A → B) (made : List B) (all : List A) (k : ℕ) (x : A) (rest : List A)
+    → made ≡ map make all → StandsAt all k (x ∷ rest) → slice_get made k ≡ Some (make x)
+made_reads make made all k x rest is s =
+    ap (λ xs. slice_get xs k) is ∙ slice_get-map make all k ∙ ap (option_map make) (part_first x rest s)
 
 -- ---- places of buffers
 
@@ -82,10 +75,10 @@ body_parts buffers k bytes rest s = ap body_bytes s.whole ∙ flat_map-append pa
 -- where a buffer begins, and how many bytes it states
 pub place_reads : (source : Source) (all : Encoded) (k : ℕ) (bytes : List ℕ) (rest : List (List ℕ)) → HoldsColumns source all
     → (s : StandsAt all.buffers k (bytes ∷ rest))
-    → struct_at source.metadata source.vectors.buffers k ≡ Some (pair_of (0 + length (body_bytes s.before), length bytes))
+    → slice_get source.buffers k ≡ Some (stated_buffer (0 + length (body_bytes s.before), length bytes))
 place_reads source all k bytes rest holds s =
     let place : ℕ = 0 + length (body_bytes s.before) in
-    pair_reads source.metadata source.vectors.buffers (buffer_places 0 all.buffers) k (place, length bytes)
+    made_reads stated_buffer source.buffers (buffer_places 0 all.buffers) k (place, length bytes)
     (buffer_places (place + length (padded_buffer bytes)) (rest ++ s.after)) holds.buffers (place_stands all.buffers k bytes rest s)
 
 -- the bytes of a buffer, where it stands among written ones
@@ -94,7 +87,7 @@ pub buffer_reads : (source : Source) (all : Encoded) (k needed : ℕ) (bytes : L
 unfolding buffer_at
 buffer_reads source all k needed bytes rest holds s enough =
     let place : ℕ = 0 + length (body_bytes s.before) in
-    let pair = place_reads source all k bytes rest holds s in
+    let buffer = place_reads source all k bytes rest holds s in
     let stated : nat_le needed (length bytes) ≡ true = le-leb needed (length bytes) (omega arith) in
     let whole : Stands source.room source.origin (body_bytes all.buffers) =
     stands_window (length (body_bytes all.buffers)) (body_bytes all.buffers) holds.body in
@@ -106,7 +99,7 @@ buffer_reads source all k needed bytes rest holds s enough =
     let here : Stands source.room (source.origin + place) bytes =
     front bytes (replicate (next_multiple_of (length bytes) 64 - length bytes) 0) refl padded in
     let seen : window_at source.room (source.origin + place) needed ≡ Some bytes = window_stands needed enough here in
-    rw (pair, stated, seen) refl
+    rw (buffer, stated, seen) refl
 
 -- ---- validity
 
@@ -132,36 +125,48 @@ none_null (slot ∷ slots) zero none inside = first_valid (is_null slot) (null_c
 none_null (slot ∷ slots) (suc i) none inside =
     none_null slots i (others_none (is_null slot) (null_count slots) (sym (count_next slot slots) ∙ none)) (omega arith)
 
-valid_at : (slots : List Slot) (i : ℕ) → i < length slots → is_valid_at (written_validity slots) i ≡ is_valid (get_or slots i null)
+valid_at : (slots : List Slot) (i : ℕ) → i < length slots → is_valid_in (written_validity slots) i ≡ is_valid (get_or slots i null)
 valid_at slots i inside = elim (cases_lt 0 (null_count slots)) [
   | inl some ↦
       let test : nat_lt 0 (null_count slots) ≡ true = lt-ltb 0 (null_count slots) some in
-      ap (λ b. is_valid_at (if b then bitmap (bitmap_of is_valid slots) else all_valid) i) test
+      ap (λ b. is_valid_in (if b then bitmap (bitmap_of is_valid slots) else all_valid) i) test
       ∙ bit_back is_valid (length slots) slots i null (le_refl (length slots)) inside
   | inr none ↦
       let test : nat_lt 0 (null_count slots) ≡ false = le-ltb 0 (null_count slots) none in
-      ap (λ b. is_valid_at (if b then bitmap (bitmap_of is_valid slots) else all_valid) i) test
+      ap (λ b. is_valid_in (if b then bitmap (bitmap_of is_valid slots) else all_valid) i) test
       ∙ sym (none_null slots i (omega arith) inside)
 ]
 
 -- the validity of written slots, where its bitmap stands
 pub validity_reads : (source : Source) (all : Encoded) (slots : List Slot) (rest : List (List ℕ)) (b : ℕ) → HoldsColumns source all
     → StandsAt all.buffers b (validity_bytes slots ∷ rest)
-    → validity_in source (pair_of (node_of slots)) b (length slots) ≡ Some (written_validity slots)
+    → validity_in source (stated_node (node_of slots)) b (length slots) ≡ Some (written_validity slots)
 unfolding validity_in
-validity_reads source all slots rest b holds s = elim (cases_lt 0 (null_count slots)) [
-  | inl some ↦
-      let test : nat_lt 0 (null_count slots) ≡ true = lt-ltb 0 (null_count slots) some in
-      let bytes : validity_bytes slots ≡ bitmap_of is_valid slots = ap (λ b. if b then bitmap_of is_valid slots else []) test in
-      let bits : buffer_at source b ((length slots + 7) / 8) ≡ Some (bitmap_of is_valid slots) =
-      buffer_reads source all b ((length slots + 7) / 8) (bitmap_of is_valid slots) rest holds
-      (subst (λ (first : List ℕ). StandsAt all.buffers b (first ∷ rest)) bytes s)
-      (bitmap_size is_valid (length slots) slots (le_refl (length slots))) in
-      rw (test, bits) refl
-  | inr none ↦
-      let test : nat_lt 0 (null_count slots) ≡ false = le-ltb 0 (null_count slots) none in
-      rw (test) refl
-]
+validity_reads source all slots rest b holds s = let buffer = place_reads source all b (validity_bytes slots) rest holds s in
+    elim (cases_lt 0 (null_count slots)) [
+      | inl some ↦
+          let test : nat_lt 0 (null_count slots) ≡ true = lt-ltb 0 (null_count slots) some in
+          let bytes : validity_bytes slots ≡ bitmap_of is_valid slots = ap (λ b. if b then bitmap_of is_valid slots else []) test in
+          let bits : buffer_at source b ((length slots + 7) / 8) ≡ Some (bitmap_of is_valid slots) =
+          buffer_reads source all b ((length slots + 7) / 8) (bitmap_of is_valid slots) rest holds
+          (subst (λ (first : List ℕ). StandsAt all.buffers b (first ∷ rest)) bytes s)
+          (bitmap_size is_valid (length slots) slots (le_refl (length slots))) in
+          rw (buffer, test, bits) refl
+      | inr none ↦
+          let test : nat_lt 0 (null_count slots) ≡ false = le-ltb 0 (null_count slots) none in
+          rw (buffer, test) refl
+    ]
+
+-- how many slots are taken of a written column, and which of them are valid
+pub marked_reads : (at : Place) (all : Encoded) (slots : List Slot) (nodes : List (ℕ × ℕ)) (rest : List (List ℕ))
+    → HoldsColumns at.source all → StandsAt all.nodes at.node (node_of slots ∷ nodes)
+    → StandsAt all.buffers at.buffer (validity_bytes slots ∷ rest) → taken_of at.limit (length slots) ≡ length slots
+    → marked_in at ≡ Some (record { taken = length slots; validity = written_validity slots })
+unfolding marked_in
+marked_reads at all slots nodes rest holds n b whole =
+    let node : slice_get at.source.nodes at.node ≡ Some (stated_node (node_of slots)) =
+    made_reads stated_node at.source.nodes all.nodes at.node (node_of slots) nodes holds.nodes n in
+    rw (node, whole, validity_reads at.source all slots rest at.buffer holds b) refl
 
 -- a slot by its validity, and its value where it is valid
 slot_back : (valid : Bool) (value slot : Slot) → valid ≡ is_valid slot → (is_valid slot ≡ true → value ≡ slot)

@@ -1,6 +1,6 @@
 -- Columns of texts and bytes read back (Arrow columnar format, "Variable-size Binary Layout").
 use Rattle.std.proofs.Common.{◌≡◌, ◌∙◌, ℕ, ◌+◌, ◌<◌, ◌^◌, Bool, true, List, [], ◌∷◌, length, get_or, map, refl, ap, zero-add}
-use Rattle.std.specs.Prelude.{Option, Some}
+use Rattle.std.specs.Prelude.{Some}
 use Rattle.std.specs.Int.{Width}
 use Rattle.std.specs.List.{flat_map, list_all}
 use Rattle.std.specs.Str.{is_utf8, chars}
@@ -8,34 +8,33 @@ use lib.Utf8.{encode as encode_characters}
 use mir.Val.{hbits}
 use Rattle.nested_arrays_columns.specs.Slots.{Slot, null, text, bytes, window}
 use Rattle.nested_arrays_columns.specs.Cells.{is_text, is_bytes}
-use Rattle.ipc_format_grammar.specs.Columns.{Source, node_at, buffer_at, taken_of, last_of, piece_at, slot_by, byte_slots}
+use Rattle.ipc_format_grammar.specs.Columns.{Place, buffer_at, taken_of, last_of, piece_at, slot_by, byte_slots}
 use Rattle.ipc_format_grammar.specs.Buffers.{is_valid, validity_bytes, content_of, offset_bytes}
-use Rattle.ipc_format_grammar.specs.Encoding.{Encoded, node_of, bytes_column}
+use Rattle.ipc_format_grammar.specs.Encoding.{Encoded, bytes_column}
 use Rattle.ipc_format_column_laws.specs.Columns.{StandsAmong, HoldsColumns}
 use Rattle.ipc_format_column_laws.proofs.Elements.{part_next, part_back, passes_at, window_passes}
-use Rattle.ipc_format_column_laws.proofs.Buffers.{pair_of, pair_reads, buffer_reads, written_validity, validity_reads, slots_back}
+use Rattle.ipc_format_column_laws.proofs.Buffers.{buffer_reads, written_validity, marked_reads, slots_back}
 use Rattle.ipc_format_column_laws.proofs.Offsets.{ends_of, last_end, piece_back, offsets_read}
 
 -- offsets and bytes behind the validity bitmap
 pub bytes_read : (w : Width) (is_allowed : List ℕ → Bool) (make : List ℕ → Slot) (fits : Slot → Bool)
     → ((slot : Slot) → fits slot ≡ true → is_allowed (content_of slot) ≡ true)
     → ((slot : Slot) → fits slot ≡ true → is_valid slot ≡ true → make (content_of slot) ≡ slot)
-    → (slots : List Slot) (source : Source) (all : Encoded) (limit : Option ℕ) (n b : ℕ) → list_all fits slots ≡ true
-    → length (flat_map content_of slots) < 2 ^ hbits w → HoldsColumns source all → StandsAmong all (bytes_column w slots) n b
-    → taken_of limit (length slots) ≡ length slots → byte_slots w is_allowed make source limit n b ≡ Some slots
+    → (slots : List Slot) (at : Place) (all : Encoded) → list_all fits slots ≡ true
+    → length (flat_map content_of slots) < 2 ^ hbits w → HoldsColumns at.source all
+    → StandsAmong all (bytes_column w slots) at.node at.buffer → taken_of at.limit (length slots) ≡ length slots
+    → byte_slots w is_allowed make at ≡ Some slots
 unfolding byte_slots
-bytes_read w is_allowed make fits allowed back slots source all limit n b fit small holds stands whole =
+bytes_read w is_allowed make fits allowed back slots at all fit small holds stands whole =
     let ends : List ℕ = ends_of content_of 0 slots in
     let content : List ℕ = flat_map content_of slots in
     let offsets : List ℕ = offset_bytes w (map (λ slot. length (content_of slot)) slots) in
-    let node : node_at source n ≡ Some (pair_of (node_of slots)) =
-    pair_reads source.metadata source.vectors.nodes all.nodes n (node_of slots) [] holds.nodes stands.nodes in
-    let validity = validity_reads source all slots (offsets ∷ content ∷ []) b holds stands.buffers in
-    let found = offsets_read w content_of slots source all (b + 1) (content ∷ []) holds small
+    let marked = marked_reads at all slots [] (offsets ∷ content ∷ []) holds stands.nodes stands.buffers whole in
+    let found = offsets_read w content_of slots at.source all (at.buffer + 1) (content ∷ []) holds small
     (part_next (validity_bytes slots) (offsets ∷ content ∷ []) stands.buffers) in
-    let values : buffer_at source (b + 2) (last_of ends) ≡ Some content =
-    buffer_reads source all (b + 2) (last_of ends) content [] holds
-    (part_back (validity_bytes slots ∷ offsets ∷ []) (content ∷ []) (b + 2) refl stands.buffers)
+    let values : buffer_at at.source (at.buffer + 2) (last_of ends) ≡ Some content =
+    buffer_reads at.source all (at.buffer + 2) (last_of ends) content [] holds
+    (part_back (validity_bytes slots ∷ offsets ∷ []) (content ∷ []) (at.buffer + 2) refl stands.buffers)
     (last_end content_of 0 slots ∙ zero-add (length content)) in
     let pieces : list_all is_allowed (window (piece_at ends content) 0 (length slots)) ≡ true =
     window_passes is_allowed (piece_at ends content) 0 (length slots) (λ (i : ℕ) (inside : i < length slots).
@@ -45,7 +44,7 @@ bytes_read w is_allowed make fits allowed back slots source all limit n b fit sm
     slots_back slots (λ i. make (piece_at ends content i))
     (λ (i : ℕ) (inside : i < length slots) (valid : is_valid (get_or slots i null) ≡ true). ap make (piece_back content_of slots i inside)
     ∙ back (get_or slots i null) (passes_at fits slots i null fit inside) valid) in
-    rw (node, whole, validity, found, values, pieces, same) refl
+    rw (marked, found, values, pieces, same) refl
 
 empty_is_text : is_utf8 [] ≡ true
 unfolding is_utf8 chars encode_characters

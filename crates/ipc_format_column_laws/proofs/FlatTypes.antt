@@ -25,18 +25,18 @@ pub record IsFlat (encoder : Encoder) (fits : Slot → Bool) (no_union : Bool) (
   pub reads : ReadsBack encoder fits reader
 
 numbers_flat : (kind : PrimitiveType) → IsFlat (values_column (kind_bytes kind)) (fits_kind kind) true
-    (λ source standing limit n b here. number_slots kind source limit n b)
+    (number_slots kind)
 numbers_flat kind = record { node = λ slots. refl; plain = refl; reads = numbers_read_back kind }
 
 fixed_bytes_flat : (size : ℕ) → IsFlat (values_column (fixed_content_of size)) (is_bytes_of size) true
-    (λ source standing limit n b here. fixed_bytes_slots size source limit n b)
+    (fixed_bytes_slots size)
 fixed_bytes_flat size = record { node = λ slots. refl; plain = refl; reads = fixed_bytes_read_back size }
 
 truths_flat : IsFlat (λ slots. flat_column (bitmap_of is_true slots ∷ []) slots) is_truth true
-    (λ source standing limit n b here. truth_slots source limit n b)
+    truth_slots
 truths_flat = record { node = λ slots. refl; plain = refl; reads = truths_read_back }
 
-nulls_flat : IsFlat (λ slots. column_over (node_of slots) [] []) is_null true (λ source standing limit n b here. null_slots source limit n)
+nulls_flat : IsFlat (λ slots. column_over (node_of slots) [] []) is_null true null_slots
 nulls_flat = record { node = λ slots. refl; plain = refl; reads = nulls_read_back }
 
 -- ---- the induction

@@ -14,16 +14,15 @@ use Rattle.columnar_memory.specs.declared.Field.{Field}
 use Rattle.nested_arrays_columns.specs.Slots.{Slot, Slots, null, items, no_slot, slot_then, in_slots, slot_list, window}
 use Rattle.nested_arrays_columns.specs.Cells.{is_null, is_list_of, is_list_of_size}
 use Rattle.nested_arrays_columns.specs.Children.{items_of, fixed_items_of, joined_items, joined_fixed_items}
-use Rattle.ipc_format_grammar.specs.Schemas.{Ids}
 use Rattle.ipc_format_grammar.specs.Messages.{V5}
-use Rattle.ipc_format_grammar.specs.Columns.{Source, Dictionary, Reader, node_at, taken_of, last_of, piece_at, slot_by, list_slots, fixed_list_slots}
-use Rattle.ipc_format_grammar.specs.Columns.{limit_times, first_ids, ids_below}
+use Rattle.ipc_format_grammar.specs.Columns.{Place, Reader, taken_of, last_of, piece_at, slot_by, list_slots, fixed_list_slots}
+use Rattle.ipc_format_grammar.specs.Columns.{limit_times, first_below}
 use Rattle.ipc_format_grammar.specs.Buffers.{is_valid, validity_bytes, offset_bytes}
 use Rattle.ipc_format_grammar.specs.Encoding.{Encoded, Encoder, node_of, column_over, list_column}
 use Rattle.ipc_format_column_laws.specs.Columns.{StandsAmong, HoldsColumns}
 use Rattle.ipc_format_column_laws.specs.WholeColumns.{ReadsWhole}
 use Rattle.ipc_format_column_laws.proofs.Elements.{part_front, part_next, part_back, passes_at, element_back, elements_size}
-use Rattle.ipc_format_column_laws.proofs.Buffers.{pair_of, pair_reads, written_validity, validity_reads, slots_back}
+use Rattle.ipc_format_column_laws.proofs.Buffers.{written_validity, marked_reads, slots_back}
 use Rattle.ipc_format_column_laws.proofs.Offsets.{ends_of, last_end, piece_back, offsets_read}
 
 -- items listed and gathered are the same
@@ -51,30 +50,26 @@ pub lists_read : (w : Width) (field : Field) (encoder : Encoder) (fits_item : Sl
     → ((slot : Slot) → fits slot ≡ true → list_all fits_item (items_of slot) ≡ true)
     → ((slot : Slot) → fits slot ≡ true → is_valid slot ≡ true → items (in_slots (items_of slot)) ≡ slot)
     → (slots : List Slot) → length (joined_items slots) < 2 ^ hbits w → below_fits (joined_items slots) ≡ true
-    → (source : Source) (all : Encoded) (standing : List Dictionary) (limit : Option ℕ) (n b : ℕ) (here : Ids) → list_all fits slots ≡ true
-    → source.version ≡ V5 → HoldsColumns source all → StandsAmong all (list_column w encoder slots) n b
-    → taken_of limit (length slots) ≡ length slots → list_slots w (field, reader) source standing limit n b here ≡ Some slots
+    → (at : Place) (all : Encoded) → list_all fits slots ≡ true → at.source.version ≡ V5 → HoldsColumns at.source all
+    → StandsAmong all (list_column w encoder slots) at.node at.buffer → taken_of at.limit (length slots) ≡ length slots
+    → list_slots w (field, reader) at ≡ Some slots
 unfolding list_slots
-lists_read w field encoder fits_item below_fits reader fits reads each back slots small below source all standing limit n b here fit version holds
-    stands whole =
+lists_read w field encoder fits_item below_fits reader fits reads each back slots small below at all fit version holds stands whole =
     let ends : List ℕ = ends_of items_of 0 slots in
     let joined : List Slot = joined_items slots in
     let item : Encoded = encoder joined in
     let offsets : List ℕ = offset_bytes w (map (λ slot. length (items_of slot)) slots) in
-    let node : node_at source n ≡ Some (pair_of (node_of slots)) =
-    pair_reads source.metadata source.vectors.nodes all.nodes n (node_of slots) (item.nodes ++ []) holds.nodes stands.nodes in
-    let validity = validity_reads source all slots (offsets ∷ (item.buffers ++ [])) b holds stands.buffers in
-    let found = offsets_read w items_of slots source all (b + 1) (item.buffers ++ []) holds small
+    let marked = marked_reads at all slots (item.nodes ++ []) (offsets ∷ (item.buffers ++ [])) holds stands.nodes stands.buffers whole in
+    let found = offsets_read w items_of slots at.source all (at.buffer + 1) (item.buffers ++ []) holds small
     (part_next (validity_bytes slots) (offsets ∷ (item.buffers ++ [])) stands.buffers) in
     let last : last_of ends ≡ length joined = last_end items_of 0 slots ∙ zero-add (length joined) in
     let taken : taken_of (Some (last_of ends)) (length joined) ≡ length joined =
     ap (λ m. min m (length joined)) last ∙ min_itself (length joined) in
-    let values : reader source standing (Some (last_of ends)) (n + 1) (b + 2) (first_ids (ids_below here)) ≡ Some joined =
-    reads joined source all standing (Some (last_of ends)) (n + 1) (b + 2) (first_ids (ids_below here))
-    (joined_passes fits fits_item items_of each slots fit) below version holds
+    let values : reader (first_below at 2 (Some (last_of ends))) ≡ Some joined =
+    reads joined (first_below at 2 (Some (last_of ends))) all (joined_passes fits fits_item items_of each slots fit) below version holds
     (record {
       nodes = part_front item.nodes [] (part_next (node_of slots) (item.nodes ++ []) stands.nodes);
-      buffers = part_front item.buffers [] (part_back (validity_bytes slots ∷ offsets ∷ []) (item.buffers ++ []) (b + 2) refl stands.buffers);
+      buffers = part_front item.buffers [] (part_back (validity_bytes slots ∷ offsets ∷ []) (item.buffers ++ []) (at.buffer + 2) refl stands.buffers);
     }) taken in
     let size : (length joined == last_of ends) ≡ true = eq-eqb (length joined) (last_of ends) (sym last) in
     let same : window (slot_by (written_validity slots) (λ i. items (in_slots (piece_at ends joined i)))) 0 (length slots) ≡ slots =
@@ -82,7 +77,7 @@ lists_read w field encoder fits_item below_fits reader fits reads each back slot
     (λ (i : ℕ) (inside : i < length slots) (valid : is_valid (get_or slots i null) ≡ true).
     ap (λ (xs : List Slot). items (in_slots xs)) (piece_back items_of slots i inside)
     ∙ back (get_or slots i null) (passes_at fits slots i null fit inside) valid) in
-    rw (node, whole, validity, found, values, size, same) refl
+    rw (marked, found, values, size, same) refl
 
 pub list_items : (fits_item : Slot → Bool) (slot : Slot) → is_list_of fits_item slot ≡ true → list_all fits_item (items_of slot) ≡ true
 list_items fits_item null fits = refl
@@ -140,26 +135,22 @@ times_taken (Some limit) count size whole =
 pub fixed_lists_read : (size : ℕ) (field : Field) (encoder : Encoder) (fits_item : Slot → Bool) (below_fits : List Slot → Bool) (reader : Reader)
     → fits_item null ≡ true → ReadsWhole encoder fits_item below_fits reader
     → (slots : List Slot) → below_fits (joined_fixed_items size slots) ≡ true
-    → (source : Source) (all : Encoded) (standing : List Dictionary) (limit : Option ℕ) (n b : ℕ) (here : Ids)
-    → list_all (is_list_of_size size fits_item) slots ≡ true → source.version ≡ V5 → HoldsColumns source all
-    → StandsAmong all (column_over (node_of slots) (validity_bytes slots ∷ []) (encoder (joined_fixed_items size slots) ∷ [])) n b
-    → taken_of limit (length slots) ≡ length slots → fixed_list_slots size (field, reader) source standing limit n b here ≡ Some slots
+    → (at : Place) (all : Encoded) → list_all (is_list_of_size size fits_item) slots ≡ true → at.source.version ≡ V5
+    → HoldsColumns at.source all
+    → StandsAmong all (column_over (node_of slots) (validity_bytes slots ∷ []) (encoder (joined_fixed_items size slots) ∷ [])) at.node at.buffer
+    → taken_of at.limit (length slots) ≡ length slots → fixed_list_slots size (field, reader) at ≡ Some slots
 unfolding fixed_list_slots
-fixed_lists_read size field encoder fits_item below_fits reader null_fits reads slots below source all standing limit n b here fit version holds
-    stands whole =
+fixed_lists_read size field encoder fits_item below_fits reader null_fits reads slots below at all fit version holds stands whole =
     let joined : List Slot = joined_fixed_items size slots in
     let item : Encoded = encoder joined in
     let fits : Slot → Bool = is_list_of_size size fits_item in
-    let node : node_at source n ≡ Some (pair_of (node_of slots)) =
-    pair_reads source.metadata source.vectors.nodes all.nodes n (node_of slots) (item.nodes ++ []) holds.nodes stands.nodes in
-    let validity = validity_reads source all slots (item.buffers ++ []) b holds stands.buffers in
+    let marked = marked_reads at all slots (item.nodes ++ []) (item.buffers ++ []) holds stands.nodes stands.buffers whole in
     let count : length slots * size ≡ length joined =
     elements_size (fixed_items_of size) size fits (fixed_count size fits_item) slots fit in
-    let taken : taken_of (limit_times limit size) (length joined) ≡ length joined =
-    subst (λ m. taken_of (limit_times limit size) m ≡ m) count (times_taken limit (length slots) size whole) in
-    let values : reader source standing (limit_times limit size) (n + 1) (b + 1) (first_ids (ids_below here)) ≡ Some joined =
-    reads joined source all standing (limit_times limit size) (n + 1) (b + 1) (first_ids (ids_below here))
-    (joined_passes fits fits_item (fixed_items_of size) (fixed_items size fits_item null_fits) slots fit) below version holds
+    let taken : taken_of (limit_times at.limit size) (length joined) ≡ length joined =
+    subst (λ m. taken_of (limit_times at.limit size) m ≡ m) count (times_taken at.limit (length slots) size whole) in
+    let values : reader (first_below at 1 (limit_times at.limit size)) ≡ Some joined =
+    reads joined (first_below at 1 (limit_times at.limit size)) all (joined_passes fits fits_item (fixed_items_of size) (fixed_items size fits_item null_fits) slots fit) below version holds
     (record {
       nodes = part_front item.nodes [] (part_next (node_of slots) (item.nodes ++ []) stands.nodes);
       buffers = part_front item.buffers [] (part_next (validity_bytes slots) (item.buffers ++ []) stands.buffers);
@@ -174,4 +165,4 @@ fixed_lists_read size field encoder fits_item below_fits reader null_fits reads 
     ap (λ m. items (in_slots (take m (drop (size * i) joined)))) width
     ∙ ap (λ (xs : List Slot). items (in_slots xs)) (element_back (fixed_items_of size) size fits (fixed_count size fits_item) slots i null fit inside)
     ∙ fixed_back size fits_item (get_or slots i null) (passes_at fits slots i null fit inside) valid) in
-    rw (node, whole, validity, values, test, same) refl
+    rw (marked, values, test, same) refl

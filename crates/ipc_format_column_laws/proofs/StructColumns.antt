@@ -1,7 +1,7 @@
 -- Columns of structs read back where those of their fields do (Arrow columnar format, "Struct Layout").
 use Rattle.std.proofs.Common.{◌≡◌, ◌∙◌, ℕ, zero, suc, ◌+◌, ◌<◌, Bool, true, List, [], ◌∷◌, length, get_or, map, refl, sym, ap, ap₂}
 use Rattle.std.proofs.Common.{◌==◌}
-use Rattle.std.specs.Prelude.{Option, Some}
+use Rattle.std.specs.Prelude.{Some}
 use Rattle.std.specs.List.{list_all}
 use Rattle.std.proofs.Math.ListN.{get_or-map}
 use Rattle.std.proofs.lemmas.Bool.{and_parts, and_from, eq-eqb}
@@ -10,10 +10,11 @@ use Rattle.columnar_memory.specs.declared.Field.{Field}
 use Rattle.nested_arrays_columns.specs.Slots.{Slot, Slots, null, fields, no_slot, slot_then, in_slots, slot_list, window}
 use Rattle.nested_arrays_columns.specs.Cells.{fit_each, is_record_of}
 use Rattle.nested_arrays_columns.specs.Children.{slot_number, field_of, field_slots}
+use Rattle.nested_arrays_columns.specs.Tables.{row_at}
 use Rattle.ipc_format_grammar.specs.Messages.{V5}
 use Rattle.ipc_format_grammar.specs.Schemas.{IdsList}
 use Rattle.ipc_format_grammar.specs.Layouts.{node_count, buffer_count}
-use Rattle.ipc_format_grammar.specs.Columns.{Source, Dictionary, Reader, node_at, taken_of, have_length, slots_at, slot_by, columns_below}
+use Rattle.ipc_format_grammar.specs.Columns.{Place, Reader, taken_of, have_length, slot_by, columns_below, first_below, behind_column}
 use Rattle.ipc_format_grammar.specs.Columns.{struct_slots}
 use Rattle.ipc_format_grammar.specs.Columns.{first_ids, other_ids, ids_below}
 use Rattle.ipc_format_grammar.specs.Buffers.{is_valid, validity_bytes}
@@ -22,7 +23,7 @@ use Rattle.ipc_format_laws.specs.Counts.{HasCounts}
 use Rattle.ipc_format_column_laws.specs.Columns.{StandsAmong, HoldsColumns}
 use Rattle.ipc_format_column_laws.specs.WholeColumns.{ReadsWhole, fields_have_room}
 use Rattle.ipc_format_column_laws.proofs.Elements.{part_front, part_next, part_back, passes_at}
-use Rattle.ipc_format_column_laws.proofs.Buffers.{pair_of, pair_reads, written_validity, validity_reads, slots_back}
+use Rattle.ipc_format_column_laws.proofs.Buffers.{written_validity, marked_reads, slots_back}
 use Rattle.ipc_format_column_laws.proofs.ListColumns.{listed_back}
 
 -- a field whose columns read back: what encodes, tests and reads it
@@ -114,31 +115,30 @@ abbrev fields_from : List Slot → ℕ → ℕ → List (List Slot)
 fields_from slots k zero = []
 fields_from slots k (suc m) = field_slots slots k ∷ fields_from slots (suc k) m
 
-below_reads : (children : List Child) (slots : List Slot) (k : ℕ) (source : Source) (all : Encoded) (standing : List Dictionary)
-    (limit : Option ℕ) (n b : ℕ) (below : IdsList) → fields_fit children slots k → fields_have_room (rooms_of children) slots k ≡ true
-    → source.version ≡ V5 → HoldsColumns source all → StandsAmong all (joined (field_columns (encoders_of children) slots k)) n b
-    → taken_of limit (length slots) ≡ length slots
-    → columns_below (readers_of children) source standing limit n b below ≡ Some (fields_from slots k (length children))
-below_reads [] slots k source all standing limit n b below fit room version holds stands whole = refl
-below_reads (child ∷ children) slots k source all standing limit n b below fit room version holds stands whole =
+below_reads : (children : List Child) (slots : List Slot) (k : ℕ) (at : Place) (all : Encoded) (below : IdsList) → fields_fit children slots k
+    → fields_have_room (rooms_of children) slots k ≡ true → at.source.version ≡ V5 → HoldsColumns at.source all
+    → StandsAmong all (joined (field_columns (encoders_of children) slots k)) at.node at.buffer → taken_of at.limit (length slots) ≡ length slots
+    → columns_below (readers_of children) at below ≡ Some (fields_from slots k (length children))
+below_reads [] slots k at all below fit room version holds stands whole = refl
+below_reads (child ∷ children) slots k at all below fit room version holds stands whole =
     let rooms = and_parts (child.room (field_slots slots k)) (fields_have_room (rooms_of children) slots (suc k)) room in
     let first : Encoded = child.encoder (field_slots slots k) in
     let more : Encoded = joined (field_columns (encoders_of children) slots (suc k)) in
     let counts = child.counts (field_slots slots k) in
+    let next : Place = behind_column at child.field.data_type in
     let size : length (field_slots slots k) ≡ length slots = length-map slots (field_of k) in
-    let taken : taken_of limit (length (field_slots slots k)) ≡ length (field_slots slots k) =
-    ap (taken_of limit) size ∙ whole ∙ sym size in
-    let nodes_next : n + node_count child.field.data_type ≡ n + length first.nodes = ap (λ j. n + j) (sym counts.0) in
-    let buffers_next : b + buffer_count source.version child.field.data_type ≡ b + length first.buffers =
-    ap (λ v. b + buffer_count v child.field.data_type) version ∙ ap (λ j. b + j) (sym counts.1) in
-    let read : child.reader source standing limit n b (first_ids below) ≡ Some (field_slots slots k) =
-    child.reads (field_slots slots k) source all standing limit n b (first_ids below) fit.0 rooms.0 version holds
+    let taken : taken_of at.limit (length (field_slots slots k)) ≡ length (field_slots slots k) =
+    ap (taken_of at.limit) size ∙ whole ∙ sym size in
+    let nodes_next : next.node ≡ at.node + length first.nodes = ap (λ j. at.node + j) (sym counts.0) in
+    let buffers_next : next.buffer ≡ at.buffer + length first.buffers =
+    ap (λ v. at.buffer + buffer_count v child.field.data_type) version ∙ ap (λ j. at.buffer + j) (sym counts.1) in
+    let read : child.reader (record at { ids = first_ids below }) ≡ Some (field_slots slots k) =
+    child.reads (field_slots slots k) (record at { ids = first_ids below }) all fit.0 rooms.0 version holds
     (record { nodes = part_front first.nodes more.nodes stands.nodes; buffers = part_front first.buffers more.buffers stands.buffers }) taken in
-    let others = below_reads children slots (suc k) source all standing limit (n + node_count child.field.data_type)
-    (b + buffer_count source.version child.field.data_type) (other_ids below) fit.1 rooms.1 version holds
+    let others = below_reads children slots (suc k) next all (other_ids below) fit.1 rooms.1 version holds
     (record {
-      nodes = part_back first.nodes more.nodes (n + node_count child.field.data_type) nodes_next stands.nodes;
-      buffers = part_back first.buffers more.buffers (b + buffer_count source.version child.field.data_type) buffers_next stands.buffers;
+      nodes = part_back first.nodes more.nodes next.node nodes_next stands.nodes;
+      buffers = part_back first.buffers more.buffers next.buffer buffers_next stands.buffers;
     }) whole in
     rw (read, others) refl
 
@@ -154,7 +154,7 @@ abbrev fields_of_slot : Slot → ℕ → ℕ → List Slot
 fields_of_slot slot k zero = []
 fields_of_slot slot k (suc m) = field_of k slot ∷ fields_of_slot slot (suc k) m
 
-at_slot : (slots : List Slot) (i k m : ℕ) → slots_at (fields_from slots k m) i ≡ fields_of_slot (get_or slots i null) k m
+at_slot : (slots : List Slot) (i k m : ℕ) → row_at (fields_from slots k m) i ≡ fields_of_slot (get_or slots i null) k m
 at_slot slots i k zero = refl
 at_slot slots i k (suc m) = ap₂ (λ (x : Slot) xs. x ∷ xs) (get_or-map (field_of k) slots i null) (at_slot slots i (suc k) m)
 
@@ -181,20 +181,18 @@ pub structs_read : (children : List Child) → ReadsWhole
     (λ slots. column_over (node_of slots) (validity_bytes slots ∷ []) (field_columns (encoders_of children) slots 0))
     (is_record_of (tests_of children)) (λ slots. fields_have_room (rooms_of children) slots 0) (struct_slots (readers_of children))
 unfolding struct_slots
-structs_read children slots source all standing limit n b here fit room version holds stands whole =
+structs_read children slots at all fit room version holds stands whole =
     let below : Encoded = joined (field_columns (encoders_of children) slots 0) in
     let columns : List (List Slot) = fields_from slots 0 (length children) in
-    let node : node_at source n ≡ Some (pair_of (node_of slots)) =
-    pair_reads source.metadata source.vectors.nodes all.nodes n (node_of slots) below.nodes holds.nodes stands.nodes in
-    let validity = validity_reads source all slots below.buffers b holds stands.buffers in
-    let found : columns_below (readers_of children) source standing limit (n + 1) (b + 1) (ids_below here) ≡ Some columns =
-    below_reads children slots 0 source all standing limit (n + 1) (b + 1) (ids_below here) (records_fit children slots fit) room version holds
+    let marked = marked_reads at all slots below.nodes below.buffers holds stands.nodes stands.buffers whole in
+    let found : columns_below (readers_of children) (first_below at 1 at.limit) (ids_below at.ids) ≡ Some columns =
+    below_reads children slots 0 (first_below at 1 at.limit) all (ids_below at.ids) (records_fit children slots fit) room version holds
     (record { nodes = part_next (node_of slots) below.nodes stands.nodes; buffers = part_next (validity_bytes slots) below.buffers stands.buffers })
     whole in
     let long = fields_long slots 0 (length children) in
-    let same : window (slot_by (written_validity slots) (λ i. fields (in_slots (slots_at columns i)))) 0 (length slots) ≡ slots =
-    slots_back slots (λ i. fields (in_slots (slots_at columns i)))
+    let same : window (slot_by (written_validity slots) (λ i. fields (in_slots (row_at columns i)))) 0 (length slots) ≡ slots =
+    slots_back slots (λ i. fields (in_slots (row_at columns i)))
     (λ (i : ℕ) (inside : i < length slots) (valid : is_valid (get_or slots i null) ≡ true).
     ap (λ xs. fields (in_slots xs)) (at_slot slots i 0 (length children))
     ∙ record_back children (get_or slots i null) (passes_at (is_record_of (tests_of children)) slots i null fit inside) valid) in
-    rw (node, whole, validity, found, long, same) refl
+    rw (marked, found, long, same) refl

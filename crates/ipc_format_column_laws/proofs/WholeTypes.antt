@@ -52,12 +52,11 @@ flat_whole : (encoder : Encoder) (fits : Slot → Bool) (reader : Reader) → fi
 flat_whole encoder fits reader null_fits reads = record {
   plain = refl;
   null_fits = null_fits;
-  reads = λ slots source all standing limit n b here fit room version holds stands whole.
-      reads slots source all standing limit n b here fit holds stands whole;
+  reads = λ slots at all fit room version holds stands whole. reads slots at all fit holds stands whole;
 }
 
 numbers_whole : (kind : PrimitiveType) → fits_kind kind null ≡ true → IsWhole (values_column (kind_bytes kind)) (fits_kind kind)
-    (λ slots. true) true (λ source standing limit n b here. number_slots kind source limit n b)
+    (λ slots. true) true (number_slots kind)
 numbers_whole kind null_fits = flat_whole _ (fits_kind kind) _ null_fits (numbers_read_back kind)
 
 -- ---- the claim
@@ -113,12 +112,12 @@ bytes_whole : (w : Width) → 8 * byte_len w - 1 ≡ hbits w → (is_allowed : L
     → fits null ≡ true → ((slot : Slot) → fits slot ≡ true → is_allowed (content_of slot) ≡ true)
     → ((slot : Slot) → fits slot ≡ true → is_valid slot ≡ true → make (content_of slot) ≡ slot)
     → IsWhole (bytes_column w) fits (λ slots. have_room w (flat_map content_of slots)) true
-    (λ source standing limit n b here. byte_slots w is_allowed make source limit n b)
+    (byte_slots w is_allowed make)
 bytes_whole w same is_allowed make fits null_fits allowed back = record {
   plain = refl;
   null_fits = null_fits;
-  reads = λ slots source all standing limit n b here fit room version holds stands whole.
-      bytes_read w is_allowed make fits allowed back slots source all limit n b fit
+  reads = λ slots at all fit room version holds stands whole.
+      bytes_read w is_allowed make fits allowed back slots at all fit
       (room_below w same (length (flat_map content_of slots)) room) holds stands whole;
 }
 
@@ -132,10 +131,10 @@ lists_whole : (w : Width) → 8 * byte_len w - 1 ≡ hbits w → (u : Field)
 lists_whole w same u below fits null_fits each back = record {
   plain = with_true (no_union_field u) below.plain;
   null_fits = null_fits;
-  reads = λ slots source all standing limit n b here fit room version holds stands whole.
+  reads = λ slots at all fit room version holds stands whole.
       let rooms = and_parts (have_room w (joined_items slots)) (room_field u (joined_items slots)) room in
       lists_read w u (encode_field u) (fits_field u) (room_field u) (read_field u) fits below.reads each back slots
-      (room_below w same (length (joined_items slots)) rooms.0) rooms.1 source all standing limit n b here fit version holds stands whole;
+      (room_below w same (length (joined_items slots)) rooms.0) rooms.1 at all fit version holds stands whole;
 }
 
 -- ---- the fields of a struct
@@ -242,9 +241,9 @@ whole_step (layer.FixedSizeList item size) = at_roll (layer.FixedSizeList item.0
     record {
       plain = with_true (no_union_field item.0) below.plain;
       null_fits = refl;
-      reads = λ slots source all standing limit n b here fit room version holds stands taken.
+      reads = λ slots at all fit room version holds stands taken.
           fixed_lists_read size item.0 (encode_field item.0) (fits_field item.0) (room_field item.0) (read_field item.0) below.null_fits below.reads
-          slots room source all standing limit n b here fit version holds stands taken;
+          slots room at all fit version holds stands taken;
     })
 whole_step (layer.Struct children) = at_roll (layer.Struct (map (λ e. e.0) children)) (λ whole.
     let below = children_are children whole in

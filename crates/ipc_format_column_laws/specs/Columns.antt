@@ -1,6 +1,6 @@
 -- When a written column reads back as the slots that it was written from (Arrow columnar format, "Physical Memory Layout"; Arrow IPC,
 -- "RecordBatch message").
-use Rattle.std.specs.Prelude.{◌≡◌, ℕ, Bool, true, List, ◌++◌, length, Option, Some, is_some}
+use Rattle.std.specs.Prelude.{◌≡◌, ℕ, Bool, true, List, ◌++◌, length, map, Some, is_some}
 use Rattle.std.specs.List.{list_all}
 use Rattle.ipc_format_flatbuffers.specs.Reading.{window_at}
 use Rattle.columnar_memory.specs.declared.DataType.{DataType}
@@ -8,10 +8,9 @@ use Rattle.columnar_memory.specs.declared.DataType.TheOpen as layer
 use Rattle.columnar_memory.specs.declared.DataType.TheFolds.{fold-DataType}
 use Rattle.nested_arrays_columns.specs.Slots.{Slot}
 use Rattle.nested_arrays_columns.specs.Cells.{fits_cell}
-use Rattle.ipc_format_grammar.specs.Schemas.{Ids}
-use Rattle.ipc_format_round_trip.specs.Batches.{HasPairs}
+use Rattle.ipc_format_round_trip.specs.Batches.{stated_node, stated_buffer}
 use Rattle.ipc_format_grammar.specs.Layouts.{kind_of}
-use Rattle.ipc_format_grammar.specs.Columns.{Source, Dictionary, Reader, slots_in, taken_of}
+use Rattle.ipc_format_grammar.specs.Columns.{Source, Place, Reader, slots_in, taken_of}
 use Rattle.ipc_format_grammar.specs.Encoding.{Encoded, Encoder, encode}
 use Rattle.ipc_format_grammar.specs.WrittenMessages.{buffer_places, body_bytes}
 
@@ -29,16 +28,15 @@ pub record StandsAmong (all column : Encoded) (n b : ℕ) : Type 0 where
 
 -- a batch that is read has the nodes and buffers of written columns, and their body behind its origin, little-endian
 pub record HoldsColumns (source : Source) (columns : Encoded) : Type 0 where
-  pub nodes : HasPairs source.metadata source.vectors.nodes columns.nodes
-  pub buffers : HasPairs source.metadata source.vectors.buffers (buffer_places 0 columns.buffers)
+  pub nodes : source.nodes ≡ map stated_node columns.nodes
+  pub buffers : source.buffers ≡ map stated_buffer (buffer_places 0 columns.buffers)
   pub body : window_at source.room source.origin (length (body_bytes columns.buffers)) ≡ Some (body_bytes columns.buffers)
   pub order : source.is_little_endian ≡ true
 
 -- What an encoder writes of slots that fit, a reader gives back, wherever the column stands among written columns, where no limit cuts it.
 abbrev pub ReadsBack : Encoder → (Slot → Bool) → Reader → Type 0
-ReadsBack encoder fits reader = (slots : List Slot) (source : Source) (all : Encoded) (standing : List Dictionary) (limit : Option ℕ) (n b : ℕ)
-    (here : Ids) → list_all fits slots ≡ true → HoldsColumns source all → StandsAmong all (encoder slots) n b
-    → taken_of limit (length slots) ≡ length slots → reader source standing limit n b here ≡ Some slots
+ReadsBack encoder fits reader = (slots : List Slot) (at : Place) (all : Encoded) → list_all fits slots ≡ true → HoldsColumns at.source all
+    → StandsAmong all (encoder slots) at.node at.buffer → taken_of at.limit (length slots) ≡ length slots → reader at ≡ Some slots
 
 -- the columns of a type read back, where their slots fit it
 abbrev pub ColumnsReadBack : DataType → Type 0

@@ -1,5 +1,5 @@
 -- When columns of offsets, and columns over columns, read back (Arrow columnar format, "Variable-size Binary Layout" to "Struct Layout").
-use Rattle.std.specs.Prelude.{◌≡◌, ℕ, suc, ◌-◌, ◌*◌, ◌^◌, Bool, true, false, ◌&&◌, List, [], ◌∷◌, length, Option, Some, nat_lt}
+use Rattle.std.specs.Prelude.{◌≡◌, ℕ, suc, ◌-◌, ◌*◌, ◌^◌, Bool, true, false, ◌&&◌, List, [], ◌∷◌, length, Some, nat_lt}
 use Rattle.std.specs.List.{flat_map, list_all}
 use Rattle.std.specs.Int.{Width, w32, w64, byte_len}
 use Rattle.columnar_memory.specs.declared.DataType.{DataType}
@@ -9,9 +9,8 @@ use Rattle.nested_arrays_columns.specs.Slots.{Slot}
 use Rattle.nested_arrays_columns.specs.Cells.{fits_cell}
 use Rattle.nested_arrays_columns.specs.Children.{joined_items, joined_fixed_items, field_slots}
 use Rattle.ipc_format_grammar.specs.Messages.{V5}
-use Rattle.ipc_format_grammar.specs.Schemas.{Ids}
 use Rattle.ipc_format_grammar.specs.Layouts.{below}
-use Rattle.ipc_format_grammar.specs.Columns.{Source, Dictionary, Reader, slots_in, taken_of}
+use Rattle.ipc_format_grammar.specs.Columns.{Place, Reader, slots_in, taken_of}
 use Rattle.ipc_format_grammar.specs.Buffers.{content_of}
 use Rattle.ipc_format_grammar.specs.Encoding.{Encoded, Encoder, encode}
 use Rattle.ipc_format_laws.specs.NormalForm.{all_of}
@@ -58,9 +57,9 @@ has_room = fold-DataType (List Slot → Bool) (List Slot → Bool) room_step (λ
 -- What an encoder writes of slots that fit, and for which offsets have room, a reader gives back in a batch of version V5, wherever the
 -- column stands among written columns, where no limit cuts it.
 abbrev pub ReadsWhole : Encoder → (Slot → Bool) → (List Slot → Bool) → Reader → Type 0
-ReadsWhole encoder fits room reader = (slots : List Slot) (source : Source) (all : Encoded) (standing : List Dictionary) (limit : Option ℕ)
-    (n b : ℕ) (here : Ids) → list_all fits slots ≡ true → room slots ≡ true → source.version ≡ V5 → HoldsColumns source all
-    → StandsAmong all (encoder slots) n b → taken_of limit (length slots) ≡ length slots → reader source standing limit n b here ≡ Some slots
+ReadsWhole encoder fits room reader = (slots : List Slot) (at : Place) (all : Encoded) → list_all fits slots ≡ true → room slots ≡ true
+    → at.source.version ≡ V5 → HoldsColumns at.source all → StandsAmong all (encoder slots) at.node at.buffer
+    → taken_of at.limit (length slots) ≡ length slots → reader at ≡ Some slots
 
 -- a column of each type without a dictionary or union reads back
 abbrev pub WholeColumnsReadBack : Type 0

@@ -9,7 +9,7 @@ use Rattle.columnar_memory.specs.declared.DataType.TheOpen as layer
 use Rattle.columnar_memory.specs.declared.DataType.TheFolds.{para-DataType}
 use Rattle.columnar_memory.specs.declared.Field.{Field}
 use Rattle.ipc_format_grammar.specs.Messages as message
-use Rattle.ipc_format_grammar.specs.Messages.{Version, record_batch_in, dictionary_batch_in, lengths_sum}
+use Rattle.ipc_format_grammar.specs.Messages.{Version, record_batch_in, dictionary_batch_in, lengths_sum, structs_in, as_node, as_buffer}
 use Rattle.ipc_format_grammar.specs.Schemas.{Ids, IdsList, ids}
 use Rattle.ipc_format_grammar.specs.Columns.{Source, Dictionary, slots_in, first_ids, other_ids, ids_below}
 
@@ -85,9 +85,11 @@ source_in is_little_endian entry table = do
   _ ← guard (not vectors.is_compressed)
   sum ← lengths_sum entry.metadata vectors.buffers
   _ ← guard (nat_le sum (length entry.room))
+  nodes ← structs_in as_node entry.metadata vectors.nodes
+  buffers ← structs_in as_buffer entry.metadata vectors.buffers
   Some (record {
-    metadata = entry.metadata;
-    vectors = vectors;
+    nodes = nodes;
+    buffers = buffers;
     version = entry.version;
     is_little_endian = is_little_endian;
     room = entry.room;
@@ -102,5 +104,6 @@ dictionary_in layout standing entry table = do
   _ ← guard (not batch.is_delta)
   source ← source_in layout.is_little_endian entry batch.values
   values ← values_of layout.fields batch.id layout.below
-  slots ← slots_in values.data_type source standing None 0 0 (ids None values.below)
+  slots ← slots_in values.data_type
+      (record { source = source; standing = standing; limit = None; node = 0; buffer = 0; ids = ids None values.below })
   Some (record { id = batch.id; data_type = values.data_type; slots = slots })

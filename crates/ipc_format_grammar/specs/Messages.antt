@@ -1,6 +1,7 @@
 -- Messages and record batches in their metadata (Arrow IPC, "Encapsulated message format", "RecordBatch message", "Dictionary Messages";
 -- Message.fbs). Each word gives nothing where the bytes break a rule of the format; what has to be there and is absent breaks one.
-use Rattle.std.specs.Prelude.{ℕ, zero, suc, ◌+◌, ◌*◌, ℤ, pos, negsuc, Bool, List, length, Option, Some, None, nat_lt, is_some, if◌then◌else◌}
+use Rattle.std.specs.Prelude.{ℕ, zero, suc, ◌+◌, ◌*◌, ℤ, pos, negsuc, Bool, List, [], ◌∷◌, Option, Some, None}
+use Rattle.std.specs.Prelude.{nat_lt, is_some, if◌then◌else◌}
 use Rattle.std.specs.Int.{w8, w16, w64}
 use Rattle.ipc_format_flatbuffers.specs.Reading.{◌>>=◌}
 use Rattle.ipc_format_flatbuffers.specs.FlatBuffers.{Table, Vector, number_field, signed_field, truth_field, signed_at, table_field}
@@ -107,9 +108,37 @@ pair_at bytes place = do
   second ← signed_at w64 bytes (place + 8)
   Some (record { first = first; second = second })
 
--- element k of a vector of such structs: of a node its length and how many slots are null, of a buffer its offset and length
+-- element k of a vector of such structs
 unfoldable pub struct_at : List ℕ → Vector → ℕ → Option Pair
 struct_at bytes vector k = if nat_lt k vector.count then pair_at bytes (vector.place + slots.pair_size * k) else None
+
+-- n such structs from a place on, each made into something
+abbrev pub structs_from : {A : Type 0} → (Pair → A) → List ℕ → ℕ → ℕ → Option (List A)
+structs_from make bytes place zero = Some []
+structs_from make bytes place (suc n) = do
+  pair ← pair_at bytes place
+  others ← structs_from make bytes (place + slots.pair_size) n
+  Some (make pair ∷ others)
+
+-- the same of all structs of a vector
+unfoldable pub structs_in : {A : Type 0} → (Pair → A) → List ℕ → Vector → Option (List A)
+structs_in make bytes vector = structs_from make bytes vector.place vector.count
+
+-- what a batch says of a column: how many slots it has, and how many of them are null
+pub record FieldNode : Type 0 where
+  pub length : ℤ
+  pub null_count : ℤ
+
+abbrev pub as_node : Pair → FieldNode
+as_node pair = record { length = pair.first; null_count = pair.second }
+
+-- what a batch says of a buffer: where it begins, and how many bytes it states
+pub record Buffer : Type 0 where
+  pub offset : ℤ
+  pub length : ℤ
+
+abbrev pub as_buffer : Pair → Buffer
+as_buffer pair = record { offset = pair.first; length = pair.second }
 
 -- a number that isn't negative
 abbrev pub natural : ℤ → Option ℕ

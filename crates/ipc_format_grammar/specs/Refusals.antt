@@ -1,13 +1,12 @@
 -- Why bytes are refused: what stands in them, whatever else is broken.
 use Rattle.std.specs.Prelude.{◌≡◌, ◌≤◌, ℕ, zero, suc, ◌^◌, Bool, true, false, List, [], ◌∷◌, length, map, take}
-use Rattle.std.specs.Prelude.{codes, Option, Some, None, IsSome, IsSomeAnd, nat_lt}
+use Rattle.std.specs.Prelude.{codes, Option, Some, None, IsSome, IsSomeAnd, nat_lt, slice_get}
 use Rattle.std.specs.Int.{w8}
 use Rattle.ipc_format_flatbuffers.specs.Reading.{◌>>=◌, guard}
 use Rattle.ipc_format_flatbuffers.specs.FlatBuffers.{Table, number_field, truth_field, table_field, vector_field, element_at}
 use Rattle.ipc_format_grammar.specs.Messages as message
 use Rattle.ipc_format_grammar.specs.Messages.{version_in}
 use Rattle.ipc_format_grammar.specs.SchemaGrammar.{schema_in}
-use Rattle.ipc_format_grammar.specs.Types.{at_place}
 use Rattle.nested_arrays_columns.specs.Slots.{Slot}
 use Rattle.nested_arrays_columns.specs.Tables.{rows_of_batches}
 use Rattle.ipc_format_grammar.specs.Framing.{Framed, Next, nothing_whole, by_next, next_at, first_of}
@@ -101,7 +100,7 @@ message_at stream bytes among_dictionaries k = do
   message_there next
 message_at file bytes among_dictionaries k = do
   footer ← footer_in bytes
-  block ← at_place (blocks footer among_dictionaries) k
+  block ← slice_get (blocks footer among_dictionaries) k
   message_of_block bytes block
 
 -- the table of a message's record batch, which for a dictionary holds its values
@@ -178,5 +177,10 @@ IsUnfinished bytes = (n : ℕ) × (behind_messages n bytes ≡ Some nothing_whol
 abbrev pub feather_mark : List ℕ
 feather_mark = codes "FEA1"
 
-abbrev pub HasFeatherMark : List ℕ → Type 0
-HasFeatherMark bytes = stands_at feather_mark bytes 0 ≡ true
+-- a stream has none
+abbrev pub has_feather_mark : Form → List ℕ → Bool
+has_feather_mark stream bytes = false
+has_feather_mark file bytes = stands_at feather_mark bytes 0
+
+abbrev pub HasFeatherMark : Form → List ℕ → Type 0
+HasFeatherMark form bytes = has_feather_mark form bytes ≡ true

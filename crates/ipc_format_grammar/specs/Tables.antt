@@ -1,6 +1,6 @@
 -- The table of a stream's or a file's bytes, or nothing where the grammar gives none (Arrow IPC, "IPC Streaming Format", "IPC File
 -- Format").
-use Rattle.std.specs.Prelude.{ℕ, zero, suc, ◌+◌, ◌-◌, ◌^◌, Bool, true, List, [], ◌∷◌, length, map, Option, Some, None, nat_lt}
+use Rattle.std.specs.Prelude.{ℕ, zero, suc, ◌+◌, ◌-◌, ◌^◌, Bool, true, List, [], ◌∷◌, length, map, Option, Some, None, nat_lt, slice_get}
 use Rattle.std.specs.List.{list_all}
 use Rattle.ipc_format_flatbuffers.specs.Reading.{◌>>=◌, guard}
 use Rattle.ipc_format_flatbuffers.specs.FlatBuffers as flat
@@ -11,10 +11,9 @@ use Rattle.ipc_format_grammar.specs.Messages as message
 use Rattle.ipc_format_grammar.specs.Messages.{Version, version_in}
 use Rattle.ipc_format_grammar.specs.Schemas.{SchemaIn, Ids, IdsList}
 use Rattle.ipc_format_grammar.specs.SchemaGrammar.{schema_in}
-use Rattle.ipc_format_grammar.specs.Types.{at_place}
 use Rattle.ipc_format_grammar.specs.Writable.{normalised}
 use Rattle.ipc_format_grammar.specs.Layouts.{node_number, buffer_number}
-use Rattle.ipc_format_grammar.specs.Columns.{Source, Dictionary, slots_in, have_length, first_ids, other_ids}
+use Rattle.ipc_format_grammar.specs.Columns.{Source, Dictionary, Place, slots_in, have_length, first_ids, other_ids}
 use Rattle.ipc_format_grammar.specs.Dictionaries.{Entry, Layout, source_in, dictionary_in}
 use Rattle.ipc_format_grammar.specs.Framing.{Framed, messages_of, later_messages}
 use Rattle.ipc_format_grammar.specs.Files.{footer_in, file_entries}
@@ -31,11 +30,21 @@ abbrev pub ids_at : IdsList → ℕ → Ids
 ids_at below zero = first_ids below
 ids_at below (suc k) = ids_at (other_ids below) k
 
--- column k of a batch: it is found by the nodes and buffers before it
+-- where column k of a batch is read: behind the nodes and buffers of the columns before it
+abbrev pub column_place : Layout → List Dictionary → Source → Option ℕ → ℕ → Place
+column_place layout standing source limit k = record {
+  source = source;
+  standing = standing;
+  limit = limit;
+  node = node_number layout.fields k;
+  buffer = buffer_number source.version layout.fields k;
+  ids = ids_at layout.below k;
+}
+
+-- column k of a batch
 abbrev pub column_in : Layout → List Dictionary → Source → Option ℕ → ℕ → Field → Option (List Slot)
 column_in layout standing source limit k field =
-    slots_in field.data_type source standing limit (node_number layout.fields k) (buffer_number source.version layout.fields k)
-    (ids_at layout.below k)
+    slots_in field.data_type (column_place layout standing source limit k)
 
 -- the columns of some fields, from column k on
 abbrev pub columns_from : Layout → List Dictionary → Source → ℕ → List Field → Option (List (List Slot))
@@ -133,7 +142,7 @@ table_of form bytes = do
 abbrev pub chosen_columns : Layout → List Dictionary → Source → Option ℕ → List ℕ → Option (List (List Slot))
 chosen_columns layout standing source limit [] = Some []
 chosen_columns layout standing source limit (k ∷ columns) = do
-  field ← at_place layout.fields k
+  field ← slice_get layout.fields k
   column ← column_in layout standing source limit k field
   others ← chosen_columns layout standing source limit columns
   Some (column ∷ others)

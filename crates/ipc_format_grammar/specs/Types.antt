@@ -1,5 +1,5 @@
 -- The types of columns in metadata (Schema.fbs, union Type and its tables).
-use Rattle.std.specs.Prelude.{ℕ, zero, suc, ◌+◌, ℤ, pos, Bool, true, false, List, [], ◌∷◌, Option, Some, None, if◌then◌else◌}
+use Rattle.std.specs.Prelude.{ℕ, zero, suc, ◌+◌, ℤ, pos, Bool, true, false, List, [], ◌∷◌, Option, Some, None, slice_get, if◌then◌else◌}
 use Rattle.std.specs.Ordering.{int_eq}
 use Rattle.std.specs.Int.{w16, w32}
 use Rattle.ipc_format_flatbuffers.specs.Reading.{◌>>=◌}
@@ -40,12 +40,6 @@ pub data Tag : Type 0 where
   large_utf8 : Tag
   large_list : Tag
 
--- what stands at a place of a list
-abbrev pub at_place : {A : Type 0} → List A → ℕ → Option A
-at_place [] k = None
-at_place (x ∷ xs) zero = Some x
-at_place (x ∷ xs) (suc k) = at_place xs k
-
 -- the tags in the order of their numbers, from 1 on; another number is no type
 abbrev pub tags : List Tag
 tags = null ∷ int ∷ floating_point ∷ binary ∷ utf8 ∷ bool ∷ decimal ∷ date ∷ time ∷ timestamp ∷ interval ∷ list ∷ struct ∷ union ∷ fixed_size_binary
@@ -53,7 +47,7 @@ tags = null ∷ int ∷ floating_point ∷ binary ∷ utf8 ∷ bool ∷ decimal 
 
 abbrev pub tag_of : ℕ → Option Tag
 tag_of zero = None
-tag_of (suc n) = at_place tags n
+tag_of (suc n) = slice_get tags n
 
 -- the units of time by their numbers
 abbrev pub time_unit_of : ℤ → Option TimeUnit

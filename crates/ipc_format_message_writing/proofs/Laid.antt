@@ -3,7 +3,7 @@ use Rattle.std.proofs.Common.{◌≡◌, ◌∙◌, ℕ, ◌+◌, ◌*◌, ◌�
 use Rattle.std.proofs.Common.{arith, rules, length-append}
 use Rattle.std.proofs.lemmas.List.{length-map}
 use Rattle.std.proofs.lemmas.List.Folds.{flat_map-map}
-use Rattle.std.specs.Prelude.{Bool, ◌&&◌, Option, Some, Result, Ok, Err, nat_le, nat_lt}
+use Rattle.std.specs.Prelude.{Bool, ◌&&◌, Option, Some, Result, Ok, Err, nat_le, nat_lt, slice_get}
 use Rattle.std.specs.declared.vec.Vec.{Vec}
 use Rattle.std.specs.declared.alloc.Global.{Global}
 use Rattle.std.specs.List.{flat_map}
@@ -17,7 +17,6 @@ use Rattle.ipc_format_flatbuffers.specs.Laying.{Piece, Slot, refers, table_piece
 use Rattle.ipc_format_flatbuffers.specs.Objects.{Object, piece_of, laid}
 use Rattle.ipc_format_flatbuffers.specs.Views.{Lays, piece_view}
 use Rattle.ipc_format_grammar.specs.SchemaObjects.{structs_object}
-use Rattle.ipc_format_grammar.specs.Types.{at_place}
 use Rattle.ipc_format_schema_writing.proofs.Sizes.{table_over, lays_over}
 use Rattle.ipc_format_message_writing.specs.MessageWriting.{WritesMessage, Finishes, fits, pair_bytes}
 
@@ -57,7 +56,7 @@ structs-made pair_of items content result same h =
 -- ---- parts that could not be laid
 
 -- a part that could not be laid keeps its table from it
-pub part-refused : (error : LayError) (slots : List Slot) (k : ℕ) (p : Piece) → at_place slots k ≡ Some (refers p) → Lays (Err error) p
+pub part-refused : (error : LayError) (slots : List Slot) (k : ℕ) (p : Piece) → slice_get slots k ≡ Some (refers p) → Lays (Err error) p
     → Lays (Err error) (table_piece slots)
 part-refused error slots k p at h = lays_over error p (table_piece slots) (table_over slots k (refers p) at) h
 

@@ -1,27 +1,26 @@
 -- Messages and batches read back.
-use Rattle.std.proofs.Common.{◌≡◌, ℕ, suc, ◌+◌, ◌*◌, ◌<◌, ◌^◌, ℤ, pos, true, List, [], ◌∷◌, ◌++◌, length, get_or, refl, sym, ap}
+use Rattle.std.proofs.Common.{◌≡◌, ℕ, suc, ◌+◌, ◌*◌, ◌<◌, ◌^◌, ℤ, pos, List, [], ◌∷◌, ◌++◌, length, map, refl, sym, ap}
 use Rattle.std.proofs.Common.{◌∙◌, arith, sum_by}
-use Rattle.std.specs.Prelude.{Some, nat_lt, FitsSigned}
+use Rattle.std.specs.Prelude.{Some, FitsSigned}
 use Rattle.std.specs.List.{flat_map}
 use Rattle.std.specs.Int.{w8, w16, w64, to_le_bytes, cast_signed, cast_unsigned}
 use Rattle.std.proofs.lemmas.Int.{to_z_pos}
 use Rattle.std.proofs.Math.Facts.{Fits-of_z, Fits-lt-pow}
-use Rattle.std.proofs.lemmas.Bool.{lt-ltb}
 use Rattle.std.proofs.lemmas.List.Sums.{sum_by-cons}
 use Rattle.ipc_format_flatbuffers.specs.FlatBuffers.{Table, Vector, signed_at, number_field, signed_field, table_field, vector_field, root_of}
 use Rattle.ipc_format_flatbuffers.specs.Objects.{Object, Fields, table, laid, no_field, absent_then, number_then, refers_then}
 use Rattle.ipc_format_spelling.specs.Spelling.{Spells, SpellsFields, SpellsReference}
 use Rattle.ipc_format_spelling.specs.Theorem.{Fits, SpellsRoot}
 use Rattle.ipc_format_spelling.proofs.Places.{Stands, front, back}
-use Rattle.ipc_format_spelling.proofs.Contents.{signed_stands, stands_window, struct_stands}
+use Rattle.ipc_format_spelling.proofs.Contents.{signed_stands, stands_window}
 use Rattle.ipc_format_spelling.proofs.Readers.{absent_reads, numbers_read, truths_read, tables_read, elements_read, roots_read}
 use Rattle.ipc_format_spelling.proofs.Objects.{laid_reads_back}
 use Rattle.ipc_format_grammar.specs.Messages as grammar
-use Rattle.ipc_format_grammar.specs.Messages.{Header, V5, message_in, version_in, record_batch_in, dictionary_batch_in, pair_at, struct_at}
-use Rattle.ipc_format_grammar.specs.Messages.{lengths_from, lengths_sum}
+use Rattle.ipc_format_grammar.specs.Messages.{Header, V5, Pair, message_in, version_in, record_batch_in, dictionary_batch_in, pair_at}
+use Rattle.ipc_format_grammar.specs.Messages.{as_node, as_buffer, structs_from, structs_in, lengths_from, lengths_sum}
 use Rattle.ipc_format_grammar.specs.SchemaObjects.{structs_object, message_object, record_batch_object, dictionary_batch_object}
-use Rattle.ipc_format_round_trip.specs.Batches.{AreSigned, HasPairs, IsRecordBatch, IsDictionaryBatch, IsMessage, RecordBatchesReadBack}
-use Rattle.ipc_format_round_trip.specs.Batches.{DictionaryBatchesReadBack}
+use Rattle.ipc_format_round_trip.specs.Batches.{AreSigned, IsRecordBatch, IsDictionaryBatch, IsMessage, stated_node, stated_buffer}
+use Rattle.ipc_format_round_trip.specs.Batches.{RecordBatchesReadBack, DictionaryBatchesReadBack}
 
 -- ---- pairs of numbers
 
@@ -55,16 +54,34 @@ lengths_stand bytes (pair ∷ pairs) place small s =
     (back (pair_bytes pair) (flat_map pair_bytes pairs) (place + 16) refl refl s) in
     rw (first, others) (ap Some (sym (sum_by-cons (λ (pair : ℕ × ℕ). pair.1) pair pairs)))
 
+abbrev pair_of : ℕ × ℕ → Pair
+pair_of pair = record { first = pos pair.0; second = pos pair.1 }
+
+-- what is made of all pairs
+structs_stand : {A : Type 0} (make : Pair → A) (bytes : List ℕ) (pairs : List (ℕ × ℕ)) (place : ℕ) → AreSigned pairs
+    → Stands bytes place (flat_map pair_bytes pairs)
+    → structs_from make bytes place (length pairs) ≡ Some (map (λ pair. make (pair_of pair)) pairs)
+structs_stand make bytes [] place small s = refl
+structs_stand make bytes (pair ∷ pairs) place small s =
+    let here = small 0 pair (omega arith) in
+    let first = pair_stands pair here.0 here.1 (front (pair_bytes pair) (flat_map pair_bytes pairs) refl s) in
+    let others = structs_stand make bytes pairs (place + 16) (λ (k : ℕ) (d : ℕ × ℕ) (inside : k < length pairs). small (suc k) d (omega arith))
+    (back (pair_bytes pair) (flat_map pair_bytes pairs) (place + 16) refl refl s) in
+    rw (first, others) refl
+
+-- what a vector of pairs holds, read as nodes and as buffers
+record HasPairs (bytes : List ℕ) (vector : Vector) (pairs : List (ℕ × ℕ)) : Type 0 where
+  nodes_are : structs_in as_node bytes vector ≡ Some (map stated_node pairs)
+  buffers_are : structs_in as_buffer bytes vector ≡ Some (map stated_buffer pairs)
+  sum_is : lengths_sum bytes vector ≡ Some (sum_by (λ (pair : ℕ × ℕ). pair.1) pairs)
+
 -- a vector of pairs where its content stands
 pairs_stand : (bytes : List ℕ) (place : ℕ) (pairs : List (ℕ × ℕ)) → AreSigned pairs → Stands bytes place (flat_map pair_bytes pairs)
     → HasPairs bytes (record { place = place; count = length pairs }) pairs
-unfolding struct_at lengths_sum
+unfolding structs_in lengths_sum
 pairs_stand bytes place pairs small s = record {
-  count_is = refl;
-  each = λ (k : ℕ) (d : ℕ × ℕ) (inside : k < length pairs).
-      let below : nat_lt k (length pairs) ≡ true = lt-ltb k (length pairs) inside in
-      let here = small k d inside in
-      rw below (pair_stands (get_or pairs k d) here.0 here.1 (struct_stands pair_bytes 16 (λ (pair : ℕ × ℕ). refl) pairs k d place inside s));
+  nodes_are = structs_stand as_node bytes pairs place small s;
+  buffers_are = structs_stand as_buffer bytes pairs place small s;
   sum_is = lengths_stand bytes pairs place small s;
 }
 
@@ -103,8 +120,9 @@ record_batch_reads bytes found rows nodes buffers small-nodes small-buffers s =
       nodes_at = its-nodes.vector_at;
       buffers_at = its-buffers.vector_at;
       batch = rw (its-nodes.vector, its-buffers.vector, compression.table) refl;
-      has_nodes = its-nodes.has_pairs;
-      has_buffers = its-buffers.has_pairs;
+      nodes_are = its-nodes.has_pairs.nodes_are;
+      buffers_are = its-buffers.has_pairs.buffers_are;
+      sum_is = its-buffers.has_pairs.sum_is;
     }
 
 -- the slots of a dictionary batch

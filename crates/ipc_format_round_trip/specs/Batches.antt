@@ -1,30 +1,32 @@
 -- What the readers of messages and batches answer where bytes spell the objects that are written for them.
-use Rattle.std.specs.Prelude.{◌≡◌, ℕ, ◌<◌, ◌^◌, ℤ, pos, false, List, length, get_or, Some, sum_by, FitsSigned}
+use Rattle.std.specs.Prelude.{◌≡◌, ℕ, ◌<◌, ◌^◌, ℤ, pos, false, List, length, map, get_or, Some, sum_by, FitsSigned}
 use Rattle.std.specs.Int.{w64}
 use Rattle.ipc_format_flatbuffers.specs.FlatBuffers.{Table, Vector}
 use Rattle.ipc_format_flatbuffers.specs.Objects.{laid}
 use Rattle.ipc_format_grammar.specs.Messages as grammar
-use Rattle.ipc_format_grammar.specs.Messages.{Header, V5, message_in, version_in, record_batch_in, dictionary_batch_in, struct_at, lengths_sum}
+use Rattle.ipc_format_grammar.specs.Messages.{Header, V5, FieldNode, Buffer, as_node, as_buffer, message_in, version_in, record_batch_in}
+use Rattle.ipc_format_grammar.specs.Messages.{dictionary_batch_in, structs_in, lengths_sum}
 use Rattle.ipc_format_grammar.specs.SchemaObjects.{message_object, record_batch_object, dictionary_batch_object}
 
 -- numbers that a signed one of eight bytes has room for
 abbrev pub AreSigned : List (ℕ × ℕ) → Type 0
 AreSigned pairs = (k : ℕ) (d : ℕ × ℕ) → k < length pairs → ((get_or pairs k d).0 < 2 ^ 63) × ((get_or pairs k d).1 < 2 ^ 63)
 
--- a vector has so many pairs of numbers, each at its place
-pub record HasPairs (bytes : List ℕ) (vector : Vector) (pairs : List (ℕ × ℕ)) : Type 0 where
-  pub count_is : vector.count ≡ length pairs
-  pub each : (k : ℕ) (d : ℕ × ℕ) → k < length pairs
-      → struct_at bytes vector k ≡ Some (record { first = pos (get_or pairs k d).0; second = pos (get_or pairs k d).1 })
-  pub sum_is : lengths_sum bytes vector ≡ Some (sum_by (λ (pair : ℕ × ℕ). pair.1) pairs)
+-- a node and a buffer that state two numbers
+abbrev pub stated_node : ℕ × ℕ → FieldNode
+stated_node pair = record { length = pos pair.0; null_count = pos pair.1 }
+
+abbrev pub stated_buffer : ℕ × ℕ → Buffer
+stated_buffer pair = record { offset = pos pair.0; length = pos pair.1 }
 
 -- a table is a record batch with such nodes and buffers
 pub record IsRecordBatch (bytes : List ℕ) (found : Table) (nodes buffers : List (ℕ × ℕ)) : Type 0 where
   pub nodes_at : Vector
   pub buffers_at : Vector
   pub batch : record_batch_in bytes found ≡ Some (record { nodes = nodes_at; buffers = buffers_at; is_compressed = false })
-  pub has_nodes : HasPairs bytes nodes_at nodes
-  pub has_buffers : HasPairs bytes buffers_at buffers
+  pub nodes_are : structs_in as_node bytes nodes_at ≡ Some (map stated_node nodes)
+  pub buffers_are : structs_in as_buffer bytes buffers_at ≡ Some (map stated_buffer buffers)
+  pub sum_is : lengths_sum bytes buffers_at ≡ Some (sum_by (λ (pair : ℕ × ℕ). pair.1) buffers)
 
 -- a table is a dictionary batch of an id, whose values replace earlier ones and are a record batch
 pub record IsDictionaryBatch (bytes : List ℕ) (found : Table) (id : ℤ) (nodes buffers : List (ℕ × ℕ)) : Type 0 where

@@ -1,6 +1,6 @@
 -- What is laid is at least as long as each of its parts.
 use Rattle.std.proofs.Common.{◌≡◌, ◌∙◌, ℕ, zero, suc, ◌+◌, ◌-◌, ◌*◌, ◌≤◌, List, [], ◌∷◌, ◌++◌, length, replicate, ap, arith, length-append}
-use Rattle.std.specs.Prelude.{Some, Err}
+use Rattle.std.specs.Prelude.{Some, Err, slice_get}
 use Rattle.std.specs.List.{flat_map}
 use Rattle.std.specs.Int.{to_le_bytes, next_multiple_of, w32}
 use Rattle.std.proofs.lemmas.Grind.{flat_map-append}
@@ -9,13 +9,12 @@ use Rattle.ipc_format_flatbuffers.specs.declared.LayError.TheVariants.{Memory, T
 use Rattle.ipc_format_flatbuffers.specs.Laying.{Piece, Slot, padded, vtable, table_bytes, child_bytes, reference_bytes, table_piece}
 use Rattle.ipc_format_flatbuffers.specs.Laying.{references_piece, elements_piece}
 use Rattle.ipc_format_flatbuffers.specs.Views.{Lays}
-use Rattle.ipc_format_grammar.specs.Types.{at_place}
 
 -- the bytes of some objects
 abbrev pub bytes_of_all : List Piece → List ℕ
 bytes_of_all pieces = flat_map (λ (piece : Piece). piece.bytes) pieces
 
-slots_over : (slots : List Slot) (k : ℕ) (slot : Slot) → at_place slots k ≡ Some slot → length (child_bytes slot) ≤ length (flat_map child_bytes
+slots_over : (slots : List Slot) (k : ℕ) (slot : Slot) → slice_get slots k ≡ Some slot → length (child_bytes slot) ≤ length (flat_map child_bytes
     slots)
 slots_over [] k slot e = absurd cc
 slots_over (first ∷ slots) zero slot e =
@@ -29,7 +28,7 @@ unfolding table_piece
 all_over slots = omega (arith, length-append (vtable slots ++ table_bytes slots) (flat_map child_bytes slots))
 
 -- a table has the objects to which it refers
-pub table_over : (slots : List Slot) (k : ℕ) (slot : Slot) → at_place slots k ≡ Some slot → length (child_bytes slot) ≤ length (table_piece
+pub table_over : (slots : List Slot) (k : ℕ) (slot : Slot) → slice_get slots k ≡ Some slot → length (child_bytes slot) ≤ length (table_piece
     slots).bytes
 table_over slots k slot e = omega (arith, slots_over slots k slot e, all_over slots)
 

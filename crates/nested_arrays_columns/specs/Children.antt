@@ -1,14 +1,10 @@
 -- Which slots a list of slots brings to each child of a type (Arrow columnar format, "Variable-size List Layout" to "Dictionary-encoded
 -- Layout").
-use Rattle.std.specs.Prelude.{ℕ, zero, suc, not, List, [], ◌∷◌, length, map, replicate}
+use Rattle.std.specs.Prelude.{ℕ, zero, suc, not, List, [], ◌∷◌, map, replicate}
 use Rattle.std.specs.List.{filter, flat_map}
-use Rattle.columnar_memory.specs.declared.DataType.{DataType}
-use Rattle.columnar_memory.specs.declared.DataType.TheOpen as layer
-use Rattle.columnar_memory.specs.declared.Field.{Field}
 use Rattle.nested_arrays_columns.specs.Cells.{is_null}
 use Rattle.nested_arrays_columns.specs.SameSlots.{distinct}
-use Rattle.nested_arrays_columns.specs.Slots.{Slot, Slots, null, items, fields, no_slot, slot_then, slot_list, window}
-use Rattle.nested_arrays_columns.specs.StoredColumns.{type_layer}
+use Rattle.nested_arrays_columns.specs.Slots.{Slot, Slots, null, items, fields, no_slot, slot_then, slot_list}
 
 -- the items of a list; null brings none
 abbrev pub items_of : Slot → List Slot
@@ -46,17 +42,3 @@ field_slots slots k = map (field_of k) slots
 -- the values of a dictionary: the distinct slots but null, in the order of first use
 abbrev pub dictionary_values : List Slot → List Slot
 dictionary_values slots = distinct (filter (λ slot. not (is_null slot)) slots)
-
--- the slots of each child of one layer of a type
-abbrev pub layer_children : layer.DataType-F DataType Field → List Slot → List (List Slot)
-layer_children (layer.List item) slots = joined_items slots ∷ []
-layer_children (layer.LargeList item) slots = joined_items slots ∷ []
-layer_children (layer.Map entry is_sorted) slots = joined_items slots ∷ []
-layer_children (layer.FixedSizeList item size) slots = joined_fixed_items size slots ∷ []
-layer_children (layer.Struct children) slots = window (field_slots slots) 0 (length children)
-layer_children (layer.Dictionary key value is_ordered) slots = dictionary_values slots ∷ []
-layer_children _ slots = []
-
--- the slots of each child of a type, an extension's being those of its inner type
-abbrev pub child_slots : DataType → List Slot → List (List Slot)
-child_slots data_type slots = layer_children (type_layer data_type) slots

@@ -1,7 +1,6 @@
 -- How many slots stand in slots: one for each, and those inside it.
-use Rattle.std.specs.Prelude.{ℕ, ◌+◌, List, sum_by}
+use Rattle.std.specs.Prelude.{ℕ, ◌+◌}
 use Rattle.nested_arrays_columns.specs.Slots.{Slot, Slots, null, truth, number, pair, triple, text, bytes, items, fields, pick, no_slot, slot_then}
-use Rattle.nested_arrays_columns.specs.Tables.{Table}
 
 abbrev mutual
   pub slot_nodes : Slot → ℕ
@@ -19,7 +18,3 @@ abbrev mutual
   pub nodes_of : Slots → ℕ
   nodes_of no_slot = 0
   nodes_of (slot_then slot slots) = slot_nodes slot + nodes_of slots
-
--- the nodes of all slots of a table
-abbrev pub table_nodes : Table → ℕ
-table_nodes table = sum_by (λ (row : List Slot). sum_by slot_nodes row) table.rows

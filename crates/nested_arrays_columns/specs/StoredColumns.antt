@@ -52,11 +52,6 @@ abbrev pub in_columns : List Column → Columns
 in_columns [] = no_column
 in_columns (column ∷ columns) = column_then column (in_columns columns)
 
--- the columns of a struct or a union, as a list
-abbrev pub column_list : Columns → List Column
-column_list no_column = []
-column_list (column_then column columns) = column ∷ column_list columns
-
 -- ---- masks and stored values
 
 -- whether a mask says that there is a value

@@ -1,5 +1,5 @@
 -- Tables: rows of values under a schema, and what is made of them.
-use Rattle.std.specs.Prelude.{ℕ, ◌+◌, ◌<◌, ◌^◌, List, [], ◌∷◌, ◌++◌, length, map, take, slice_get, slice_range, slice_index_or}
+use Rattle.std.specs.Prelude.{ℕ, ◌+◌, ◌<◌, ◌^◌, List, [], ◌∷◌, ◌++◌, length, map, take, Option, Some, None, slice_get, slice_range, slice_index_or}
 use Rattle.std.specs.List.{filter_map, flat_map}
 use Rattle.columnar_memory.specs.declared.Schema.{Schema}
 use Rattle.nested_arrays_columns.specs.Slots.{Slot, null, window}
@@ -49,6 +49,15 @@ choice (column ∷ columns) table = record {
 -- the first k rows
 abbrev pub limit : ℕ → Table → Table
 limit k table = record table { rows = take k table.rows }
+
+-- the first rows under a limit, if there is one
+abbrev pub within : Option ℕ → Table → Table
+within None table = table
+within (Some k) table = limit k table
+
+-- the chosen columns of the first rows
+abbrev pub choice_within : List ℕ → Option ℕ → Table → Table
+choice_within columns most table = within most (choice columns table)
 
 -- the rows of both, under the first one's schema
 abbrev pub joined : Table → Table → Table
