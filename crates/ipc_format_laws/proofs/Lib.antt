@@ -64,3 +64,5 @@ pub mod FirstChildren
 pub mod FirstTypes
 pub mod ChosenBatches
 pub mod Choices
+pub mod FlatBatches
+pub mod Runs

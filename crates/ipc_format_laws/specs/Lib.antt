@@ -17,3 +17,4 @@ pub mod Messages
 pub mod Contents
 pub mod Tables
 pub mod Choices
+pub mod Runs

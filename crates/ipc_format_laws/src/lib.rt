@@ -34,5 +34,6 @@ pub use round_trip::{
 };
 pub use spelling::{laid_reads_back, spelled_reads};
 pub use stream_laws::{
-    messages_read_back, no_dictionaries_given, streams_read_back, tables_read_back,
+    messages_read_back, no_dictionaries_given, runs_stand_for_their_messages, streams_read_back,
+    tables_read_back,
 };
