@@ -19,7 +19,7 @@ use Rattle.columnar_memory.specs.declared.PrimitiveType.TheVariants as kinds
 use Rattle.nested_arrays_columns.specs.Cells.{is_null, is_bytes_of, is_list_of_size, fits_step, fits_cell}
 use Rattle.nested_arrays_columns.specs.Children.{items_of, fixed_items_of, joined_items, joined_fixed_items, field_of, field_slots, dictionary_values}
 use Rattle.nested_arrays_columns.specs.FreshColumns.{is_true, content_of, fixed_content_of, key_among, mask_of, sums_from, numbers_as, content_offsets}
-use Rattle.nested_arrays_columns.specs.FreshColumns.{item_offsets, Maker, MakerUnder, fresh_fields, fresh_lists, fresh_keys, fresh_step, fresh_field_step, fresh_under}
+use Rattle.nested_arrays_columns.specs.FreshColumns.{item_offsets, Maker, MakerUnder, fresh_fields, fresh_lists, fresh_keys, fresh_step, fresh_field_step, fresh_under, fresh}
 use Rattle.nested_arrays_columns.specs.FreshLaws.{buildable_step, is_buildable}
 use Rattle.nested_arrays_columns.specs.OpenBatch.{is_within}
 use Rattle.nested_arrays_columns.specs.Slots.{Slot, null}
@@ -321,5 +321,9 @@ encoding_all = ind-DataType TypeEncoding FieldEncodes (λ x y is. subst (λ (x :
     (λ x y is. subst (λ (x : layer.Field-F DataType Field). FieldEncodes (roll-Field x)) is
     (field_encodes (map-Field (TypeWith TypeEncoding) (FieldWith FieldEncodes) DataType Field (λ e. e.0) (λ e. e.0) y) y.data_type.1))
 
+pub encoding_of : (t : DataType) → is_buildable t ≡ true → (slots : List Slot) → list_all (fits_cell t) slots ≡ true
+    → encode_stored true (fresh t slots) ≡ encode t slots
+encoding_of t can slots fits = encoding_all t can t refl slots fits
+
 pub fresh_encodes : FreshEncodes
-fresh_encodes t slots can fit = encoding_all t can t refl slots (and_parts (list_all (fits_cell t) slots) (is_within t slots) fit).0
+fresh_encodes t slots can fit = encoding_of t can slots (and_parts (list_all (fits_cell t) slots) (is_within t slots) fit).0

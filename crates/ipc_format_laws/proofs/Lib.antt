@@ -4,6 +4,7 @@ pub mod DefaultIds
 pub mod FlatColumns
 pub mod FreshBuffers
 pub mod FreshColumns
+pub mod FreshDictionaries
 pub mod FreshEncodings
 pub mod FreshStrings
 pub mod Layers
