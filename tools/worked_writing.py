@@ -88,6 +88,22 @@ def normalised_types(defined):
         yield "a stream of lists whose item has %s" % name, is_written(defined, "stream", schema, of_columns(defined, stored)), answer
 
 
+def normalised_dictionaries(defined):
+    """Dictionaries whose types have one form are the same: a file takes the second, and writes it once."""
+    terms, inner = defined.terms, ("Extension", b"mine", INT32, None)
+    schema, chunks = schema_of(field(b"d", ("Dictionary", "Int8", ("List", Field(b"item", inner, True, ())), False))), []
+    for pairs in ((), ((NAME_KEY, b"other"),)):
+        values = ("List", Field(b"item", inner, True, pairs))
+        child = terms.plain("flat", terms.data_type(inner), None, terms.plain("numbers", terms.plain("Int32"), [5]))
+        stored = terms.plain("lists", terms.data_type(values), None, [0, 1], child)
+        chunks.append(of_columns(defined, terms.plain("dictionary", terms.data_type(("Dictionary", "Int8", values, False)), None, [0], stored)))
+    for form in FORMS:
+        found = defined.defined_written(form, schema, numbered(schema.fields), chunks) or NO_BYTES
+        yield "a %s of two batches of one dictionary, which is written once" % form, found.count(raw("05000000") + bytes(60)), 1
+        yield "a %s of two batches of one dictionary as read" % form, (defined.defined_table(form, found) or SEVEN_AND_NULL).rows, [
+            (items(int32(5)),)] * 2
+
+
 def ids(defined):
     """A dictionary's id is a signed number of eight bytes."""
     schema = schema_of(field(b"d", KEYED))
@@ -146,6 +162,15 @@ def unions(defined):
     ):
         yield "a stream of slots of a union in %s" % name, is_written(
             defined, "stream", schema_of(field(b"c", data_type)), of_slots(defined, [slot])), False
+
+
+def keys(defined):
+    """Keys of 8 bits tell 128 values apart."""
+    schema = schema_of(field(b"d", ("Dictionary", "Int8", INT32, False)))
+    for count, answer in ((128, True), (129, False)):
+        for form in FORMS:
+            yield "a %s of %d values under keys of 8 bits" % (form, count), is_written(
+                defined, form, schema, of_slots(defined, [int32(n) for n in range(count)])), answer
 
 
 # ---- seals
@@ -278,8 +303,8 @@ def not_appended(defined):
 # ---- the list
 
 WORKED = (
-    other_types, other_numbers_of_columns, normalised_types, ids, lengths, unions, seals, big_endian, runs, appended, appended_dictionaries,
-    not_appended,
+    other_types, other_numbers_of_columns, normalised_types, normalised_dictionaries, ids, lengths, unions, keys, seals, big_endian, runs,
+    appended, appended_dictionaries, not_appended,
 )
 
 if __name__ == "__main__":

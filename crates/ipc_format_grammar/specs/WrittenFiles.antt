@@ -96,7 +96,7 @@ is_first_or_same written given = is_none (last_under given.id written) || stands
 -- no dictionary is replaced
 abbrev pub none_replaced : List Given → List Given → Bool
 none_replaced written [] = true
-none_replaced written (given ∷ others) = is_first_or_same written given && none_replaced (given ∷ written) others
+none_replaced written (given ∷ others) = is_first_or_same written given && none_replaced (written_after written (given ∷ [])) others
 
 abbrev pub all_given : List Batch → List Given
 all_given batches = flat_map (λ (batch : Batch). batch.given) batches

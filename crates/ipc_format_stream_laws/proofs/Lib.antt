@@ -9,3 +9,4 @@ pub mod StreamContents
 pub mod NoDictionaries
 pub mod Int32Schemas
 pub mod StreamTables
+pub mod Runs

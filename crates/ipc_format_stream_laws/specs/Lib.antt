@@ -1,3 +1,4 @@
 pub mod Messages
 pub mod Contents
 pub mod Tables
+pub mod Runs

@@ -5,6 +5,7 @@
 
 ghost use Rattle.ipc_format_stream_laws.specs.Contents.{StreamsReadBack};
 ghost use Rattle.ipc_format_stream_laws.specs.Messages.{MessagesReadBack};
+ghost use Rattle.ipc_format_stream_laws.specs.Runs.{RunsAreStreams, RunsAreFiles};
 ghost use Rattle.ipc_format_stream_laws.specs.Tables.{NoDictionariesGiven, FlatTablesReadBack, Int32TablesReadBack};
 
 /// The messages of a stream that is written are its messages, whatever stands behind the end mark (Arrow IPC, "IPC Streaming Format").
@@ -31,4 +32,11 @@ pub fn no_dictionaries_given()
 pub fn tables_read_back()
     ensures flat { FlatTablesReadBack }
     ensures int32 { Int32TablesReadBack }
+{}
+
+/// A run of a writer's calls, start, writes and finish, stands for what is written of the chunks that were not refused: its messages, those
+/// of the dictionaries among them, are those of that stream, and of that file where its footer is within its limit.
+pub fn runs_stand_for_their_messages()
+    ensures streams { RunsAreStreams }
+    ensures files { RunsAreFiles }
 {}
