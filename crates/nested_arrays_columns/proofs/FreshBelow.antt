@@ -16,7 +16,7 @@ use Rattle.nested_arrays_columns.specs.Slots.{Slot, Slots, null, items, fields, 
 -- ---- items
 
 -- what passes for the items of each slot passes for all of them
-pub joined_passes : (test fits_item : Slot → Bool) (below : Slot → List Slot)
+pub joined_passes : {A : Type 0} (test : Slot → Bool) (fits_item : A → Bool) (below : Slot → List A)
     → ((slot : Slot) → test slot ≡ true → list_all fits_item (below slot) ≡ true) → (slots : List Slot) → list_all test slots ≡ true
     → list_all fits_item (flat_map below slots) ≡ true
 joined_passes test fits_item below each [] fits = refl

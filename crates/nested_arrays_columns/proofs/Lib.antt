@@ -12,6 +12,7 @@ pub mod Folds
 pub mod FreshBelow
 pub mod FreshKeys
 pub mod FreshLengths
+pub mod FreshParts
 pub mod FreshPlaces
 pub mod FreshSlots
 pub mod FreshTypes
@@ -19,5 +20,6 @@ pub mod Parts
 pub mod SameSlotsDecide
 pub mod SoundCuts
 pub mod SoundParts
+pub mod TextBytes
 pub mod TypeLayers
 pub mod Windows
