@@ -14,6 +14,7 @@ use Rattle.columnar_memory.specs.declared.Field.{Field, map-Field}
 use Rattle.nested_arrays_columns.specs.FreshLaws.{buildable_step, is_buildable}
 use Rattle.nested_arrays_columns.specs.SoundColumns.{is_entry}
 use Rattle.nested_arrays_columns.proofs.Claims.{TypeWith, FieldWith, LayerWith, bare_layer}
+use Rattle.nested_arrays_columns.proofs.FreshLengths.{answers, can_all}
 use Rattle.nested_arrays_columns.proofs.FreshLengths.{buildable_field, buildable_layer, unlike}
 use Rattle.nested_arrays_columns.proofs.TypeLayers.{Layer}
 use Rattle.ipc_format_grammar.specs.Encoding.{any_of, union_step, has_union}
@@ -56,12 +57,6 @@ Children = List (FieldWith SaysOfField)
 
 abbrev fields_of : Children → List Field
 fields_of ys = map (λ e. e.0) ys
-
-abbrev answers : List Field → List (Field × Bool)
-answers us = map (λ u. (u, buildable_field u)) us
-
-abbrev can_all : List Field → Bool
-can_all us = list_all (λ (child : Field × Bool). child.1) (answers us)
 
 children_build : (ys : Children) → list_all (λ (child : Report). child.is_allowed) (map report_field (fields_of ys)) ≡ true
     → any_of (map union_field (fields_of ys)) ≡ false → can_all (fields_of ys) ≡ true

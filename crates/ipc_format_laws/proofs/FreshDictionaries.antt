@@ -21,6 +21,7 @@ use Rattle.nested_arrays_columns.specs.StoredColumns.{Column, column_type, slots
 use Rattle.nested_arrays_columns.proofs.Claims.{TypeWith, FieldWith, LayerWith, bare_layer}
 use Rattle.nested_arrays_columns.proofs.Fitting.{null_fits}
 use Rattle.nested_arrays_columns.proofs.FreshBelow.{items_fit, no_items, fixed_items_fit, values_fit, TakeNull, fields_pass, fields_fit}
+use Rattle.nested_arrays_columns.proofs.FreshLengths.{makers_of, answers, can_all}
 use Rattle.nested_arrays_columns.proofs.FreshLengths.{Layer, buildable_field, fresh_field, cell_field, buildable_layer, fresh_layer, cell_layer, unlike}
 use Rattle.nested_arrays_columns.proofs.FreshSlots.{fresh_keeps}
 use Rattle.nested_arrays_columns.proofs.FreshTypes.{fresh_type}
@@ -71,17 +72,8 @@ Children = List (FieldWith FieldGives)
 abbrev fields_of : Children → List Field
 fields_of ys = map (λ e. e.0) ys
 
-abbrev makers_of : List Field → List (Field × Maker)
-makers_of us = map (λ u. (u, fresh_field u)) us
-
 abbrev givers_of : List Field → List Giver
 givers_of us = givers (map (λ u. (u, giver_field u)) us)
-
-abbrev answers : List Field → List (Field × Bool)
-answers us = map (λ u. (u, buildable_field u)) us
-
-abbrev can_all : List Field → Bool
-can_all us = list_all (λ (child : Field × Bool). child.1) (answers us)
 
 take_nulls : (ys : Children) → can_all (fields_of ys) ≡ true → TakeNull (map cell_field (fields_of ys))
 take_nulls [] can = tt

@@ -27,6 +27,7 @@ use Rattle.nested_arrays_columns.specs.SoundColumns.{is_entry}
 use Rattle.nested_arrays_columns.specs.StoredColumns.{bits, texts, byte_strings, fixed_bytes, flat, fixed_lists, column_len, type_layer, cut_list, stored_len}
 use Rattle.nested_arrays_columns.proofs.Claims.{TypeWith, FieldWith, LayerWith, bare_layer}
 use Rattle.nested_arrays_columns.proofs.FreshBelow.{items_fit, no_items, fixed_items_fit, pieces_length, fixed_piece, TakeNull, fields_pass, fields_fit}
+use Rattle.nested_arrays_columns.proofs.FreshLengths.{makers_of, can_all}
 use Rattle.nested_arrays_columns.proofs.FreshLengths.{buildable_field, fresh_field, cell_field, buildable_layer, fresh_layer, cell_layer, unlike}
 use Rattle.nested_arrays_columns.proofs.FreshLengths.{offsets_count, content_piece, of_size, fresh_counts}
 use Rattle.nested_arrays_columns.proofs.Fitting.{null_fits}
@@ -134,17 +135,11 @@ lists_encode w whole width item encoder cell below slots fits =
 
 -- ---- the fields of a struct
 
-abbrev makers_of : List Field → List (Field × Maker)
-makers_of us = map (λ u. (u, fresh_field u)) us
-
 abbrev Children : Type 0
 Children = List (FieldWith FieldEncodes)
 
 abbrev fields_of : Children → List Field
 fields_of ys = map (λ e. e.0) ys
-
-abbrev can_all : List Field → Bool
-can_all us = list_all (λ (child : Field × Bool). child.1) (map (λ u. (u, buildable_field u)) us)
 
 take_nulls : (ys : Children) → can_all (fields_of ys) ≡ true → TakeNull (map cell_field (fields_of ys))
 take_nulls [] can = tt

@@ -1,7 +1,7 @@
 -- The parts of the column that stores some slots are sound: masks, offsets, values and keys.
-use Rattle.std.proofs.Common.{◌≡◌, ◌∙◌, ℕ, zero, suc, ◌+◌, ◌-◌, ◌*◌, ◌/◌, ◌<◌, ◌≤◌, Bool, true, false, List, [], ◌∷◌, ◌++◌, length, map, take}
+use Rattle.std.proofs.Common.{◌≡◌, ◌∙◌, ℕ, zero, suc, ◌+◌, ◌-◌, ◌*◌, ◌/◌, ◌<◌, ◌≤◌, Bool, true, List, [], ◌∷◌, length, map}
 use Rattle.std.proofs.Common.{get_or, replicate, refl, sym, ap, arith, ◌==◌, min, length-append}
-use Rattle.std.specs.Prelude.{ℤ, pos, ◌^◌, ◌&&◌, ◌||◌, not, nat_le, nat_lt, int_le, Option, Some, None, if◌then◌else◌, sum_by, slice_index}
+use Rattle.std.specs.Prelude.{ℤ, pos, ◌^◌, ◌&&◌, not, nat_le, nat_lt, int_le, Some, None, if◌then◌else◌, sum_by, slice_index}
 use Rattle.std.specs.List.{list_all, list_any, flat_map}
 use Rattle.std.specs.Str.{is_utf8}
 use Rattle.std.proofs.Math.ListN.{get_or-map}
@@ -11,24 +11,22 @@ use Rattle.std.proofs.lemmas.List.Folds.{list_all-map}
 use Rattle.std.proofs.lemmas.List.Sums.{sum_by-cons}
 use Rattle.std.proofs.lemmas.Str.{is_utf8-from_IsUtf8}
 use mathlib.Core.Logic.{inl, inr}
-use Rattle.columnar_memory.specs.declared.DataType.{DataType}
 use Rattle.columnar_memory.specs.declared.IntegerType.{IntegerType}
 use Rattle.columnar_memory.specs.declared.IntegerType.TheVariants as integers
 use Rattle.columnar_memory.specs.declared.PhysicalType.{PhysicalType}
 use Rattle.columnar_memory.specs.declared.PrimitiveType.{PrimitiveType}
 use Rattle.columnar_memory.specs.declared.PrimitiveType.TheVariants as kinds
-use Rattle.columnar_memory.specs.Layouts.{physical_type}
 use Rattle.nested_arrays_columns.specs.Cells.{is_null, is_number_of, is_days_and_ms, is_months_days_and_ns, is_text, is_bytes, is_bytes_of}
-use Rattle.nested_arrays_columns.specs.Children.{items_of, joined_items, dictionary_values}
+use Rattle.nested_arrays_columns.specs.Children.{dictionary_values}
 use Rattle.nested_arrays_columns.specs.FreshColumns.{is_valid, number_of, pair_of, triple_of, content_of, fixed_content_of, key_among, mask_of, sums_from}
-use Rattle.nested_arrays_columns.specs.FreshColumns.{content_offsets, item_offsets}
+use Rattle.nested_arrays_columns.specs.FreshColumns.{content_offsets}
 use Rattle.nested_arrays_columns.specs.Kinds.{is_signed, in_kind, same_kind, is_key, most_values, most_offset}
 use Rattle.nested_arrays_columns.specs.OpenBatch.{byte_count, is_length, bytes_within}
 use Rattle.nested_arrays_columns.specs.SameSlots.{is_among}
 use Rattle.nested_arrays_columns.specs.Slots.{Slot, null, number, pair, triple, text, bytes}
 use Rattle.nested_arrays_columns.specs.SoundColumns.{holds_below, is_byte, mask_fits, rises_at, are_offsets, are_strings, is_text_at, are_pairs}
 use Rattle.nested_arrays_columns.specs.SoundColumns.{are_triples, are_pieces, has_value_at}
-use Rattle.nested_arrays_columns.specs.StoredColumns.{string_at, place_of, is_valid_at}
+use Rattle.nested_arrays_columns.specs.StoredColumns.{place_of, is_valid_at}
 use Rattle.nested_arrays_columns.proofs.Conditions.{holds_from, parts_of_3}
 use Rattle.nested_arrays_columns.proofs.FreshBelow.{joined_passes}
 use Rattle.nested_arrays_columns.proofs.FreshKeys.{implied, all_among, key_below}

@@ -1,17 +1,17 @@
 -- The column that stores some slots has these slots: an induction over its type.
 use Rattle.std.proofs.Common.{◌≡◌, ◌∙◌, ℕ, zero, suc, ◌+◌, ◌-◌, ◌*◌, ◌<◌, ◌≤◌, Bool, true, false, List, [], ◌∷◌, length, map, take, get_or, refl, sym, ap}
-use Rattle.std.proofs.Common.{subst, arith, ◌==◌}
-use Rattle.std.specs.Prelude.{ℤ, pos, not, ◌&&◌, nat_le, slice_range, Some}
+use Rattle.std.proofs.Common.{subst, arith}
+use Rattle.std.specs.Prelude.{ℤ, pos, ◌&&◌, nat_le, slice_range}
 use Rattle.std.specs.List.{list_all, flat_map}
 use Rattle.std.proofs.Math.ListN.{get_or-map}
 use Rattle.std.proofs.lemmas.Bool.{and_parts}
 use Rattle.std.proofs.lemmas.List.{length-map}
 use Rattle.std.proofs.lemmas.Option.{get_or_from_slice_get}
-use Rattle.columnar_memory.specs.declared.DataType.{DataType, map-DataType}
+use Rattle.columnar_memory.specs.declared.DataType.{DataType}
 use Rattle.columnar_memory.specs.declared.DataType.TheOpen as layer
 use Rattle.columnar_memory.specs.declared.DataType.TheFolds.{fold-roll-DataType, para-roll-DataType, fold-roll-Field}
 use Rattle.columnar_memory.specs.declared.DataType.TheFolds.{para-roll-Field, ind-DataType}
-use Rattle.columnar_memory.specs.declared.DataType.TheViews.{roll-DataType, roll-Field, out-DataType}
+use Rattle.columnar_memory.specs.declared.DataType.TheViews.{roll-DataType, roll-Field}
 use Rattle.columnar_memory.specs.declared.Field.{Field, map-Field}
 use Rattle.columnar_memory.specs.declared.IntervalUnit.TheVariants as intervals
 use Rattle.columnar_memory.specs.declared.PrimitiveType.{PrimitiveType}
@@ -27,7 +27,6 @@ use Rattle.nested_arrays_columns.specs.FreshLaws.{buildable_step, is_buildable, 
 use Rattle.nested_arrays_columns.specs.Kinds.{same_kind, in_kind, is_signed}
 use Rattle.nested_arrays_columns.specs.OpenBatch.{is_within}
 use Rattle.nested_arrays_columns.specs.SameSlots.{is_among}
-use Rattle.nested_arrays_columns.specs.SoundColumns.{is_entry}
 use Rattle.nested_arrays_columns.specs.Slots.{Slot, Slots, null, truth, number, pair, triple, text, bytes, items, fields, no_slot, slot_then, in_slots}
 use Rattle.nested_arrays_columns.specs.Slots.{slot_list, window}
 use Rattle.nested_arrays_columns.specs.StoredColumns.{bits, numbers, pairs, triples, texts, byte_strings, fixed_bytes, Column, flat, fixed_lists, records}
@@ -36,6 +35,7 @@ use Rattle.nested_arrays_columns.proofs.Claims.{TypeWith, FieldWith, LayerWith, 
 use Rattle.nested_arrays_columns.proofs.Fitting.{null_fits}
 use Rattle.nested_arrays_columns.proofs.FreshBelow.{items_fit, fixed_items_fit, fixed_piece, values_fit, TakeNull, fields_pass, fields_fit}
 use Rattle.nested_arrays_columns.proofs.FreshKeys.{all_among, key_below, at_key}
+use Rattle.nested_arrays_columns.proofs.FreshLengths.{makers_of, answers, can_all}
 use Rattle.nested_arrays_columns.proofs.FreshLengths.{Layer, buildable_field, fresh_field, cell_field, buildable_layer, fresh_layer, cell_layer, unlike}
 use Rattle.nested_arrays_columns.proofs.FreshLengths.{content_piece, fresh_counts}
 use Rattle.nested_arrays_columns.proofs.FreshPlaces.{by_place, at_window, passes_at, masked, begins_at, ends_at, piece_at, size_at, piece_inside}
@@ -247,15 +247,6 @@ Children = List (FieldWith FieldKeeps)
 
 abbrev fields_of : Children → List Field
 fields_of ys = map (λ e. e.0) ys
-
-abbrev makers_of : List Field → List (Field × Maker)
-makers_of us = map (λ u. (u, fresh_field u)) us
-
-abbrev answers : List Field → List (Field × Bool)
-answers us = map (λ u. (u, buildable_field u)) us
-
-abbrev can_all : List Field → Bool
-can_all us = list_all (λ (child : Field × Bool). child.1) (answers us)
 
 take_nulls : (ys : Children) → can_all (fields_of ys) ≡ true → TakeNull (map cell_field (fields_of ys))
 take_nulls [] can = tt

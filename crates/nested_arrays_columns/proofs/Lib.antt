@@ -15,6 +15,7 @@ pub mod FreshLengths
 pub mod FreshParts
 pub mod FreshPlaces
 pub mod FreshSlots
+pub mod FreshSound
 pub mod FreshTypes
 pub mod Parts
 pub mod SameSlotsDecide

@@ -1,5 +1,5 @@
 -- A text is made of bytes.
-use Rattle.std.proofs.Common.{◌≡◌, ◌∙◌, ℕ, ◌+◌, ◌/◌, ◌%◌, ◌<◌, ◌≤◌, Bool, true, false, List, [], ◌∷◌, ◌++◌, refl, sym, ap, subst, arith, ⊎_elim}
+use Rattle.std.proofs.Common.{◌≡◌, ◌∙◌, ℕ, ◌+◌, ◌/◌, ◌%◌, ◌<◌, true, false, List, [], ◌∷◌, refl, sym, ap, arith, ⊎_elim}
 use Rattle.std.specs.Char.{encode_utf8}
 use Rattle.std.specs.List.{list_all}
 use Rattle.std.specs.Str.{encode_utf8_all, is_utf8}
@@ -21,6 +21,12 @@ one a h = and_from (is_byte a) true (lt-ltb a 256 h) refl
 more : (a : ℕ) (rest : List ℕ) → a < 256 → list_all is_byte rest ≡ true → list_all is_byte (a ∷ rest) ≡ true
 more a rest h g = and_from (is_byte a) (list_all is_byte rest) (lt-ltb a 256 h) g
 
+two : (a b : ℕ) → a < 256 → b < 256 → list_all is_byte (a ∷ b ∷ []) ≡ true
+two a b h g = more a (b ∷ []) h (one b g)
+
+three : (a b d : ℕ) → a < 256 → b < 256 → d < 256 → list_all is_byte (a ∷ b ∷ d ∷ []) ≡ true
+three a b d h g k = more a (b ∷ d ∷ []) h (two b d g k)
+
 char_bytes : (c : ℕ) → scalar c ≡ true → list_all is_byte (encode_utf8 c) ≡ true
 unfolding encode_utf8
 char_bytes c is =
@@ -35,7 +41,7 @@ char_bytes c is =
     (λ in_two.
     let e : encode_utf8 c ≡ (192 + c / 64) ∷ (128 + c % 64) ∷ [] =
     cond-false _ _ _ not_one ∙ cond-true _ _ _ (by (ltb c 2048 ≡ true) (grind (arith, nat_tests))) in
-    ap (list_all is_byte) e ∙ more (192 + c / 64) _ (omega arith) (one (128 + c % 64) (omega arith)))
+    ap (list_all is_byte) e ∙ two (192 + c / 64) (128 + c % 64) (omega arith) (omega arith))
     (λ wide.
     let not_two : ltb c 2048 ≡ false = grind (arith, nat_tests) in
     ⊎_elim
@@ -43,14 +49,14 @@ char_bytes c is =
     let e : encode_utf8 c ≡ (224 + c / 4096) ∷ (128 + (c / 64) % 64) ∷ (128 + c % 64) ∷ [] =
     cond-false _ _ _ not_one ∙ cond-false _ _ _ not_two ∙ cond-true _ _ _ (by (ltb c 65536 ≡ true) (grind (arith, nat_tests))) in
     ap (list_all is_byte) e
-    ∙ more (224 + c / 4096) _ (omega arith) (more (128 + (c / 64) % 64) _ (omega arith) (one (128 + c % 64) (omega arith))))
+    ∙ three (224 + c / 4096) (128 + (c / 64) % 64) (128 + c % 64) (omega arith) (omega arith) (omega arith))
     (λ in_four.
     let not_three : ltb c 65536 ≡ false = grind (arith, nat_tests) in
     let e : encode_utf8 c ≡ (240 + c / 262144) ∷ (128 + (c / 4096) % 64) ∷ (128 + (c / 64) % 64) ∷ (128 + c % 64) ∷ [] =
     cond-false _ _ _ not_one ∙ cond-false _ _ _ not_two ∙ cond-false _ _ _ not_three in
     ap (list_all is_byte) e
-    ∙ more (240 + c / 262144) _ (omega arith) (more (128 + (c / 4096) % 64) _ (omega arith)
-    (more (128 + (c / 64) % 64) _ (omega arith) (one (128 + c % 64) (omega arith)))))
+    ∙ more (240 + c / 262144) ((128 + (c / 4096) % 64) ∷ (128 + (c / 64) % 64) ∷ (128 + c % 64) ∷ []) (omega arith)
+    (three (128 + (c / 4096) % 64) (128 + (c / 64) % 64) (128 + c % 64) (omega arith) (omega arith) (omega arith)))
     (cases_lt c 65536))
     (cases_lt c 2048))
     (cases_lt c 128)
