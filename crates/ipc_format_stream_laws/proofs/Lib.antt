@@ -8,5 +8,6 @@ pub mod SentMessages
 pub mod StreamContents
 pub mod NoDictionaries
 pub mod Int32Schemas
+pub mod FlatBatches
 pub mod StreamTables
 pub mod Runs

@@ -29,6 +29,7 @@ use Rattle.ipc_format_stream_laws.specs.Tables.{AreBatches, ReadsAs, written_bat
 use Rattle.ipc_format_stream_laws.specs.Tables.{chunks_of, table_messages, table_stream, Int32TablesReadBack}
 use Rattle.ipc_format_stream_laws.proofs.LaterMessages.{read_of, ReadLater, batches_more, one_message_each}
 use Rattle.ipc_format_stream_laws.proofs.Room.{rows_small}
+use Rattle.ipc_format_stream_laws.proofs.FlatBatches.{fields_fit, lengths_agree}
 use Rattle.ipc_format_stream_laws.proofs.StreamContents.{IsWritten, was_written, stream_holds}
 use Rattle.ipc_format_stream_laws.proofs.NoDictionaries.{none_given, flat_fields_have_none}
 use Rattle.ipc_format_stream_laws.proofs.Int32Schemas.{AreInt32, default_ids_fit, reports_int32, writable_int32}
@@ -131,30 +132,39 @@ batches_same schema below [] = refl
 batches_same schema below (columns ∷ batches) =
     ap (λ (others : List Batch). batch_of_slots schema.fields below columns ∷ others) (batches_same schema below batches)
 
--- batches that belong to a schema are not too long
-are_small : (schema : Schema) (below : IdsList) (batches : List (List (List Slot)))
-    → list_all (belongs schema below) (chunks_of batches) ≡ true → All (λ columns. rows_of_slots columns < 2 ^ 63) batches
+-- a batch that belongs to a schema of such types
+flat_batch : (schema : Schema) (below : IdsList) (columns : List (List Slot))
+    → list_all (λ (field : Field). is_flat field.data_type) schema.fields ≡ true → belongs schema below (slot_columns columns) ≡ true
+    → IsFlatBatch schema columns
 unfolding belongs batch_of_slots
-are_small schema below [] belong = All-nil (λ columns. rows_of_slots columns < 2 ^ 63)
-are_small schema below (columns ∷ batches) belong =
-    let tests = both (belongs schema below (slot_columns columns)) (list_all (belongs schema below) (chunks_of batches)) belong in
+flat_batch schema below columns flat belong =
     let chunk = slot_columns columns in
     let batch = batch_of schema.fields below chunk in
-    let is_in = both (are_columns_of schema.fields chunk && are_equal (chunk_lengths chunk)) (is_in_room batch) tests.0 in
-    All-cons (λ columns. rows_of_slots columns < 2 ^ 63) columns batches (rows_small batch is_in.1) (are_small schema below batches tests.1)
+    let is_in = both (are_columns_of schema.fields chunk && are_equal (chunk_lengths chunk)) (is_in_room batch) belong in
+    let tests = both (are_columns_of schema.fields chunk) (are_equal (chunk_lengths chunk)) is_in.0 in
+    record {
+      batch = record { slots = fields_fit schema.fields columns flat tests.0; same_length = lengths_agree columns tests.1 };
+      small = rows_small batch is_in.1;
+    }
+
+flat_batches : (schema : Schema) (below : IdsList) (batches : List (List (List Slot)))
+    → list_all (λ (field : Field). is_flat field.data_type) schema.fields ≡ true
+    → list_all (belongs schema below) (chunks_of batches) ≡ true → All (IsFlatBatch schema) batches
+flat_batches schema below [] flat belong = All-nil (IsFlatBatch schema)
+flat_batches schema below (columns ∷ batches) flat belong =
+    let tests = both (belongs schema below (slot_columns columns)) (list_all (belongs schema below) (chunks_of batches)) belong in
+    All-cons (IsFlatBatch schema) columns batches (flat_batch schema below columns flat tests.0) (flat_batches schema below batches flat tests.1)
 
 pub flat_tables_read_back : FlatTablesReadBack
-flat_tables_read_back schema below batches bytes behind e are flat =
+flat_tables_read_back schema below batches bytes behind e normal texts rows flat =
     let was = was_written schema below (chunks_of batches) bytes e in
-    let small = are_small schema below batches was.belong in
     let none = flat_fields_have_none schema.fields flat in
     let is = subst (λ (written : List Batch). IsWritten schema below written bytes) (batches_same schema below batches) was.is in
-    tables_read schema below batches bytes behind (IsFlatBatch schema) is are.texts are.normal are.rows
+    tables_read schema below batches bytes behind (IsFlatBatch schema) is texts normal rows
     (λ (columns : List (List Slot)) (is : IsFlatBatch schema columns). none_given schema.fields below columns none)
     (λ (columns : List (List Slot)) (is : IsFlatBatch schema columns) (fits : fits_limit (batch_written schema.fields columns) ≡ true).
     flat_batches_read_back (layout_read schema below) columns refl flat is.batch.slots is.batch.same_length is.small fits)
-    (λ (k : ℕ) (d : List (List Slot)) (inside : k < length batches).
-    record { batch = each_batch schema batches are k d inside; small = small k d inside })
+    (flat_batches schema below batches flat was.belong)
 
 int32_written : (schema : Schema) (batches : List (List (List Slot))) → AreInt32 schema.fields
     → list_all fits_limit (table_messages schema batches) ≡ true

@@ -48,8 +48,8 @@ chunks_of batches = map slot_columns batches
 -- whatever stands behind it
 abbrev pub FlatTablesReadBack : Type 0
 FlatTablesReadBack = (schema : Schema) (below : IdsList) (batches : List (List (List Slot))) (bytes behind : List ℕ)
-    → written_stream schema below (chunks_of batches) ≡ Some bytes → AreBatches schema batches
-    → list_all (λ (field : Field). is_flat field.data_type) schema.fields ≡ true
+    → written_stream schema below (chunks_of batches) ≡ Some bytes → normalised schema ≡ schema → HasTexts schema
+    → length (rows_of_batches batches) < 2 ^ 64 → list_all (λ (field : Field). is_flat field.data_type) schema.fields ≡ true
     → ReadsAs (bytes ++ behind) schema batches
 
 -- ---- signed 32-bit integers, the ids numbered from 0 on
