@@ -27,7 +27,7 @@ use Rattle.nested_arrays_columns.specs.SoundColumns.{is_entry}
 use Rattle.nested_arrays_columns.specs.StoredColumns.{bits, texts, byte_strings, fixed_bytes, flat, fixed_lists, column_len, type_layer, cut_list, stored_len}
 use Rattle.nested_arrays_columns.proofs.Claims.{TypeWith, FieldWith, LayerWith, bare_layer}
 use Rattle.nested_arrays_columns.proofs.FreshBelow.{items_fit, no_items, fixed_items_fit, pieces_length, fixed_piece, TakeNull, fields_pass, fields_fit}
-use Rattle.nested_arrays_columns.proofs.FreshLengths.{makers_of, can_all}
+use Rattle.nested_arrays_columns.proofs.FreshLengths.{makers_of, answers, can_all}
 use Rattle.nested_arrays_columns.proofs.FreshLengths.{buildable_field, fresh_field, cell_field, buildable_layer, fresh_layer, cell_layer, unlike}
 use Rattle.nested_arrays_columns.proofs.FreshLengths.{offsets_count, content_piece, of_size, fresh_counts}
 use Rattle.nested_arrays_columns.proofs.Fitting.{null_fits}
@@ -286,7 +286,7 @@ encoding_step (layer.FixedSizeList item size) = at_plain (layer.FixedSizeList it
     let parts = and_parts (nat_le 1 size) (buildable_field item.0) can in
     fixed_lists_encode size parts.0 whole (fresh_field item.0) (encode_field item.0) (cell_field item.0) (item.1 parts.1) slots fits)
 encoding_step (layer.Struct children) = at_plain (layer.Struct (fields_of children)) refl (λ can whole is slots fits.
-    let parts = and_parts (nat_le 1 (length (map (λ u. (u, buildable_field u)) (fields_of children)))) (can_all (fields_of children)) can in
+    let parts = and_parts (nat_le 1 (length (answers (fields_of children)))) (can_all (fields_of children)) can in
     column_same slots (length slots) [] [] _ (field_columns (map encode_field (fields_of children)) slots 0) refl refl
     (children_encode children parts.1 slots 0
     (fields_fit (map cell_field (fields_of children)) slots (take_nulls children parts.1) fits)))

@@ -18,6 +18,7 @@ pub mod FreshSlots
 pub mod FreshSound
 pub mod FreshTypes
 pub mod Parts
+pub mod RowBatches
 pub mod SameSlotsDecide
 pub mod SoundCuts
 pub mod SoundParts
