@@ -1,6 +1,7 @@
 -- Seals: the one byte text of a schema, a list of rows and a batch size. The rows go in batches of that size, little-endian, each column
 -- from its slots alone, the dictionaries numbered from 0.
-use Rattle.std.specs.Prelude.{◌≡◌, ℕ, zero, suc, Bool, true, ◌&&◌, List, [], ◌∷◌, length, map, take, drop, is_none, nat_le, nat_lt, ◌==◌, Option, Some}
+use Rattle.std.specs.Prelude.{◌≡◌, ℕ, zero, suc, Bool, true, ◌&&◌, List, [], ◌∷◌, length, map, take, drop, is_none, nat_le, nat_lt, ◌==◌}
+use Rattle.std.specs.Prelude.{Option, Some}
 use Rattle.std.specs.List.{list_all}
 use Rattle.ipc_format_flatbuffers.specs.Reading.{◌>>=◌, guard}
 use Rattle.columnar_memory.specs.declared.Field.{Field}

@@ -18,7 +18,8 @@ use Rattle.nested_arrays_columns.proofs.FreshLengths.{answers, can_all}
 use Rattle.nested_arrays_columns.proofs.FreshLengths.{buildable_field, buildable_layer, unlike}
 use Rattle.nested_arrays_columns.proofs.TypeLayers.{Layer}
 use Rattle.ipc_format_grammar.specs.Encoding.{any_of, union_step, has_union}
-use Rattle.ipc_format_grammar.specs.Writable.{Report, report_step, field_step, report_of, is_struct_of_two, is_size, fits_i32, is_plain, is_dictionary}
+use Rattle.ipc_format_grammar.specs.Writable.{Report, report_step, field_step, report_of, is_struct_of_two, is_size, fits_i32, is_plain}
+use Rattle.ipc_format_grammar.specs.Writable.{is_dictionary}
 use Rattle.ipc_format_laws.specs.FreshEncodings.{WritableIsBuildable}
 
 abbrev report_field : Field → Report
@@ -62,7 +63,8 @@ children_build : (ys : Children) → list_all (λ (child : Report). child.is_all
     → any_of (map union_field (fields_of ys)) ≡ false → can_all (fields_of ys) ≡ true
 children_build [] allowed none = refl
 children_build (y ∷ ys) allowed none =
-    let allows = and_parts (report_field y.0).is_allowed (list_all (λ (child : Report). child.is_allowed) (map report_field (fields_of ys))) allowed in
+    let allows = and_parts (report_field y.0).is_allowed (list_all (λ (child : Report). child.is_allowed) (map report_field
+    (fields_of ys))) allowed in
     let nones = or_parts (union_field y.0) (any_of (map union_field (fields_of ys))) none in
     and_from (buildable_field y.0) (can_all (fields_of ys)) (y.1.builds allows.0 nones.0) (children_build ys allows.1 nones.1)
 

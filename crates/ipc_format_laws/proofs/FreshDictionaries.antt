@@ -22,13 +22,15 @@ use Rattle.nested_arrays_columns.proofs.Claims.{TypeWith, FieldWith, LayerWith, 
 use Rattle.nested_arrays_columns.proofs.Fitting.{null_fits}
 use Rattle.nested_arrays_columns.proofs.FreshBelow.{items_fit, no_items, fixed_items_fit, values_fit, TakeNull, fields_pass, fields_fit}
 use Rattle.nested_arrays_columns.proofs.FreshLengths.{makers_of, answers, can_all}
-use Rattle.nested_arrays_columns.proofs.FreshLengths.{Layer, buildable_field, fresh_field, cell_field, buildable_layer, fresh_layer, cell_layer, unlike}
+use Rattle.nested_arrays_columns.proofs.FreshLengths.{Layer, buildable_field, fresh_field, cell_field, buildable_layer, fresh_layer, cell_layer}
+use Rattle.nested_arrays_columns.proofs.FreshLengths.{unlike}
 use Rattle.nested_arrays_columns.proofs.FreshSlots.{fresh_keeps}
 use Rattle.nested_arrays_columns.proofs.FreshTypes.{fresh_type}
 use Rattle.ipc_format_grammar.specs.Columns.{first_ids, other_ids, ids_below, own_id}
 use Rattle.ipc_format_grammar.specs.Encoding.{Encoded, encode}
 use Rattle.ipc_format_grammar.specs.StoredEncoding.{encode_stored}
-use Rattle.ipc_format_grammar.specs.GivenDictionaries.{Given, id_or_0, Giver, given_fields, given_values, givers, give_step, give_field_step, given_by}
+use Rattle.ipc_format_grammar.specs.GivenDictionaries.{Given, id_or_0, Giver, given_fields, given_values, givers, give_step, give_field_step}
+use Rattle.ipc_format_grammar.specs.GivenDictionaries.{given_by}
 use Rattle.ipc_format_grammar.specs.GivenDictionaries.{given_stored, given_each}
 use Rattle.ipc_format_grammar.specs.Schemas.{Ids, IdsList, ids}
 use Rattle.ipc_format_laws.specs.FreshEncodings.{FreshGives}

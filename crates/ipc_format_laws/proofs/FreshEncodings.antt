@@ -18,15 +18,19 @@ use Rattle.columnar_memory.specs.declared.PrimitiveType.{PrimitiveType}
 use Rattle.columnar_memory.specs.declared.PrimitiveType.TheVariants as kinds
 use Rattle.nested_arrays_columns.specs.Cells.{is_null, is_bytes_of, is_list_of_size, fits_step, fits_cell}
 use Rattle.nested_arrays_columns.specs.Children.{items_of, fixed_items_of, joined_items, joined_fixed_items, field_of, field_slots, dictionary_values}
-use Rattle.nested_arrays_columns.specs.FreshColumns.{is_true, content_of, fixed_content_of, key_among, mask_of, sums_from, numbers_as, content_offsets}
-use Rattle.nested_arrays_columns.specs.FreshColumns.{item_offsets, Maker, MakerUnder, fresh_fields, fresh_lists, fresh_keys, fresh_step, fresh_field_step, fresh_under, fresh}
+use Rattle.nested_arrays_columns.specs.FreshColumns.{is_true, content_of, fixed_content_of, key_among, mask_of, sums_from, numbers_as}
+use Rattle.nested_arrays_columns.specs.FreshColumns.{content_offsets}
+use Rattle.nested_arrays_columns.specs.FreshColumns.{item_offsets, Maker, MakerUnder, fresh_fields, fresh_lists, fresh_keys, fresh_step}
+use Rattle.nested_arrays_columns.specs.FreshColumns.{fresh_field_step, fresh_under, fresh}
 use Rattle.nested_arrays_columns.specs.FreshLaws.{buildable_step, is_buildable}
 use Rattle.nested_arrays_columns.specs.OpenBatch.{is_within}
 use Rattle.nested_arrays_columns.specs.Slots.{Slot, null}
 use Rattle.nested_arrays_columns.specs.SoundColumns.{is_entry}
-use Rattle.nested_arrays_columns.specs.StoredColumns.{bits, texts, byte_strings, fixed_bytes, flat, fixed_lists, column_len, type_layer, cut_list, stored_len}
+use Rattle.nested_arrays_columns.specs.StoredColumns.{bits, texts, byte_strings, fixed_bytes, flat, fixed_lists, column_len, type_layer, cut_list}
+use Rattle.nested_arrays_columns.specs.StoredColumns.{stored_len}
 use Rattle.nested_arrays_columns.proofs.Claims.{TypeWith, FieldWith, LayerWith, bare_layer}
-use Rattle.nested_arrays_columns.proofs.FreshBelow.{items_fit, no_items, fixed_items_fit, pieces_length, fixed_piece, TakeNull, fields_pass, fields_fit}
+use Rattle.nested_arrays_columns.proofs.FreshBelow.{items_fit, no_items, fixed_items_fit, pieces_length, fixed_piece, TakeNull, fields_pass}
+use Rattle.nested_arrays_columns.proofs.FreshBelow.{fields_fit}
 use Rattle.nested_arrays_columns.proofs.FreshLengths.{makers_of, answers, can_all}
 use Rattle.nested_arrays_columns.proofs.FreshLengths.{buildable_field, fresh_field, cell_field, buildable_layer, fresh_layer, cell_layer, unlike}
 use Rattle.nested_arrays_columns.proofs.FreshLengths.{offsets_count, content_piece, of_size, fresh_counts}
@@ -39,7 +43,8 @@ use Rattle.ipc_format_grammar.specs.StoredEncoding.{encode_stored, encode_range,
 use Rattle.ipc_format_grammar.specs.StoredEncoding.{stored_buffers}
 use Rattle.ipc_format_laws.specs.FreshEncodings.{FreshEncodes}
 use Rattle.ipc_format_laws.proofs.FlatColumns.{bitmap_answers, whole_cut}
-use Rattle.ipc_format_laws.proofs.FreshBuffers.{column_same, flat_same, is_float, numbers_same, AreOffsets, piece_offsets, whole_offsets, offsets_same}
+use Rattle.ipc_format_laws.proofs.FreshBuffers.{column_same, flat_same, is_float, numbers_same, AreOffsets, piece_offsets, whole_offsets}
+use Rattle.ipc_format_laws.proofs.FreshBuffers.{offsets_same}
 use Rattle.ipc_format_laws.proofs.FreshBuffers.{strings_same, keys_same}
 
 abbrev encode_field : Field → Encoder
@@ -60,7 +65,8 @@ abbrev Encoding : Maker → Encoder → (Slot → Bool) → Type 0
 Encoding make encoder cell = (slots : List Slot) → list_all cell slots ≡ true → encode_stored true (make slots) ≡ encoder slots
 
 abbrev TypeEncoding : DataType → Type 0
-TypeEncoding t = is_buildable t ≡ true → (whole : DataType) → type_layer whole ≡ type_layer t → Encoding (fresh_under t whole) (encode t) (fits_cell t)
+TypeEncoding t = is_buildable t ≡ true → (whole : DataType) → type_layer whole ≡ type_layer t
+    → Encoding (fresh_under t whole) (encode t) (fits_cell t)
 
 abbrev FieldEncodes : Field → Type 0
 FieldEncodes u = buildable_field u ≡ true → Encodes (fresh_field u) (encode_field u) (cell_field u)
@@ -258,7 +264,8 @@ encoding_step (layer.Interval intervals.YearMonth) =
 encoding_step (layer.Interval intervals.DayTime) =
     at_plain (layer.Interval intervals.DayTime) refl (λ can whole is slots fits. numbers_encode kinds.DaysMs refl whole slots (length-map slots _))
 encoding_step (layer.Interval intervals.MonthDayNano) =
-    at_plain (layer.Interval intervals.MonthDayNano) refl (λ can whole is slots fits. numbers_encode kinds.MonthDayNano refl whole slots (length-map slots _))
+    at_plain (layer.Interval intervals.MonthDayNano) refl (λ can whole is slots fits. numbers_encode kinds.MonthDayNano refl whole slots
+    (length-map slots _))
 encoding_step (layer.Decimal precision scale) =
     at_plain (layer.Decimal precision scale) refl (λ can whole is slots fits. numbers_encode kinds.Int128 refl whole slots (length-map slots _))
 encoding_step (layer.Decimal256 precision scale) =

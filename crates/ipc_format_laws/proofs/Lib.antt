@@ -2,6 +2,7 @@ pub mod BuildableTypes
 pub mod Counts
 pub mod DefaultIds
 pub mod FlatColumns
+pub mod FreshBatches
 pub mod FreshBuffers
 pub mod FreshColumns
 pub mod FreshDictionaries

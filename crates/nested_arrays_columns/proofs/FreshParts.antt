@@ -18,7 +18,8 @@ use Rattle.columnar_memory.specs.declared.PrimitiveType.{PrimitiveType}
 use Rattle.columnar_memory.specs.declared.PrimitiveType.TheVariants as kinds
 use Rattle.nested_arrays_columns.specs.Cells.{is_null, is_number_of, is_days_and_ms, is_months_days_and_ns, is_text, is_bytes, is_bytes_of}
 use Rattle.nested_arrays_columns.specs.Children.{dictionary_values}
-use Rattle.nested_arrays_columns.specs.FreshColumns.{is_valid, number_of, pair_of, triple_of, content_of, fixed_content_of, key_among, mask_of, sums_from}
+use Rattle.nested_arrays_columns.specs.FreshColumns.{is_valid, number_of, pair_of, triple_of, content_of, fixed_content_of, key_among, mask_of}
+use Rattle.nested_arrays_columns.specs.FreshColumns.{sums_from}
 use Rattle.nested_arrays_columns.specs.FreshColumns.{content_offsets}
 use Rattle.nested_arrays_columns.specs.Kinds.{is_signed, in_kind, same_kind, is_key, most_values, most_offset}
 use Rattle.nested_arrays_columns.specs.OpenBatch.{byte_count, is_length, bytes_within}
@@ -92,7 +93,8 @@ pub strings_sound : (layout : PhysicalType) (limit : ℕ) → most_offset layout
     → bytes_within limit xs ≡ true → are_strings layout (content_offsets xs) (flat_map content_of xs) ≡ true
 strings_sound layout limit most test each xs fits within =
     let content : List ℕ = flat_map content_of xs in
-    let few : sum_by byte_count xs ≤ limit = leb-true (sum_by byte_count xs) limit (and_parts (is_length xs) (nat_le (sum_by byte_count xs) limit) within).1 in
+    let few : sum_by byte_count xs ≤ limit = leb-true (sum_by byte_count xs) limit (and_parts (is_length xs) (nat_le
+    (sum_by byte_count xs) limit) within).1 in
     and_from (are_offsets (content_offsets xs) (min (most_offset layout) (length content))) (list_all is_byte content)
     (offsets_sound content_of xs (min (most_offset layout) (length content)) (to_min (length content) (most_offset layout)
     (omega (arith, few, counted xs, most))))
@@ -243,6 +245,7 @@ keys_stand xs count size =
         let key = get_or (keys_of xs) i (pos 0) in
         let has : Bool = int_le (pos 0) key && nat_lt (place_of key) count in
         elim (cases_Bool (is_valid (get_or xs i null))) [
-          | inl valid ↦ or_right (not (is_valid_at (mask_of xs) i)) has (valid_at i lt valid key (get_or-map (λ x. pos (key_among values x)) xs i null))
+          | inl valid ↦ or_right (not (is_valid_at (mask_of xs) i)) has (valid_at i lt valid key (get_or-map (λ x. pos
+          (key_among values x)) xs i null))
           | inr invalid ↦ or_left (not (is_valid_at (mask_of xs) i)) has (ap not (mark_at xs i lt ∙ invalid))
         ]

@@ -1,5 +1,6 @@
 -- The column that stores some slots is sound: an induction over its type.
-use Rattle.std.proofs.Common.{◌≡◌, ◌∙◌, ℕ, suc, ◌-◌, ◌*◌, ◌/◌, ◌≤◌, Bool, true, false, List, [], ◌∷◌, length, map, refl, sym, ap, subst, arith, ◌==◌, min}
+use Rattle.std.proofs.Common.{◌≡◌, ◌∙◌, ℕ, suc, ◌-◌, ◌*◌, ◌/◌, ◌≤◌, Bool, true, false, List, [], ◌∷◌, length, map, refl, sym, ap, subst, arith, ◌==◌}
+use Rattle.std.proofs.Common.{min}
 use Rattle.std.specs.Prelude.{pos, ◌&&◌, nat_le}
 use Rattle.std.specs.List.{list_all, flat_map}
 use Rattle.std.proofs.lemmas.Bool.{and_parts, and_from, leb-true, eq-eqb}
@@ -20,7 +21,8 @@ use Rattle.columnar_memory.specs.Equality.{same_type, same_type-Decides}
 use Rattle.columnar_memory.specs.Layouts.{physical_type}
 use Rattle.nested_arrays_columns.specs.Cells.{is_text, is_bytes, is_bytes_of, is_list_of_size, fits_step, fits_cell}
 use Rattle.nested_arrays_columns.specs.Children.{items_of, fixed_items_of, joined_items, joined_fixed_items, field_of, field_slots, dictionary_values}
-use Rattle.nested_arrays_columns.specs.FreshColumns.{is_true, number_of, pair_of, triple_of, content_of, fixed_content_of, key_among, mask_of, content_offsets}
+use Rattle.nested_arrays_columns.specs.FreshColumns.{is_true, number_of, pair_of, triple_of, content_of, fixed_content_of, key_among, mask_of}
+use Rattle.nested_arrays_columns.specs.FreshColumns.{content_offsets}
 use Rattle.nested_arrays_columns.specs.FreshColumns.{item_offsets, Maker, MakerUnder, fresh_fields, fresh_lists, fresh_keys, fresh_step}
 use Rattle.nested_arrays_columns.specs.FreshColumns.{fresh_field_step, fresh_under}
 use Rattle.nested_arrays_columns.specs.FreshLaws.{buildable_step, is_buildable, FreshIsSound}
@@ -30,7 +32,8 @@ use Rattle.nested_arrays_columns.specs.Slots.{Slot, null}
 use Rattle.nested_arrays_columns.specs.SoundColumns.{holds_below, is_byte, mask_fits, are_offsets, are_strings, is_text_at, are_pieces, is_stored_as}
 use Rattle.nested_arrays_columns.specs.SoundColumns.{has_size, is_null_type, is_entry, has_item_type, has_fixed_item_type, has_value_type, have_types}
 use Rattle.nested_arrays_columns.specs.SoundColumns.{has_field_types, have_len, has_value_at, is_sound, are_sound}
-use Rattle.nested_arrays_columns.specs.StoredColumns.{Stored, bits, numbers, pairs, triples, texts, byte_strings, fixed_bytes, Columns, flat, fixed_lists}
+use Rattle.nested_arrays_columns.specs.StoredColumns.{Stored, bits, numbers, pairs, triples, texts, byte_strings, fixed_bytes, Columns, flat}
+use Rattle.nested_arrays_columns.specs.StoredColumns.{fixed_lists}
 use Rattle.nested_arrays_columns.specs.StoredColumns.{records, stored_len, column_type, column_len, type_layer}
 use Rattle.nested_arrays_columns.proofs.Claims.{TypeWith, FieldWith, LayerWith, bare_layer}
 use Rattle.nested_arrays_columns.proofs.Conditions.{parts_of_3}
@@ -38,10 +41,12 @@ use Rattle.nested_arrays_columns.proofs.Fitting.{null_fits}
 use Rattle.nested_arrays_columns.proofs.FreshBelow.{joined_passes, items_fit, no_items, fixed_items_fit, pieces_length, fixed_piece, values_fit}
 use Rattle.nested_arrays_columns.proofs.FreshBelow.{TakeNull, fields_pass, fields_fit}
 use Rattle.nested_arrays_columns.proofs.FreshLengths.{makers_of, answers, can_all}
-use Rattle.nested_arrays_columns.proofs.FreshLengths.{Layer, buildable_field, fresh_field, cell_field, buildable_layer, fresh_layer, cell_layer, unlike}
+use Rattle.nested_arrays_columns.proofs.FreshLengths.{Layer, buildable_field, fresh_field, cell_field, buildable_layer, fresh_layer, cell_layer}
+use Rattle.nested_arrays_columns.proofs.FreshLengths.{unlike}
 use Rattle.nested_arrays_columns.proofs.FreshLengths.{offsets_count, content_piece, of_size, fresh_counts}
 use Rattle.nested_arrays_columns.proofs.FreshParts.{mask_sound, offsets_sound, strings_sound, text_is_bytes, bytes_are_bytes, texts_sound}
-use Rattle.nested_arrays_columns.proofs.FreshParts.{fixed_is_bytes, pieces_sound, numbers_sound, pairs_sound, triples_sound, keys_of, keys_fit, keys_stand}
+use Rattle.nested_arrays_columns.proofs.FreshParts.{fixed_is_bytes, pieces_sound, numbers_sound, pairs_sound, triples_sound, keys_of, keys_fit}
+use Rattle.nested_arrays_columns.proofs.FreshParts.{keys_stand}
 use Rattle.nested_arrays_columns.proofs.FreshTypes.{fresh_type}
 use Rattle.nested_arrays_columns.proofs.TypeLayers.{is_extension, layer_itself, layer_within, layer_layout, layout_is}
 
@@ -238,7 +243,8 @@ keys_sound : (key : IntegerType) (value : DataType) (is_ordered : Bool) (whole :
     → (is_length xs && nat_le (length (dictionary_values xs)) (most_values key) && is_within value (dictionary_values xs)) ≡ true
     → is_sound (fresh_keys whole (fresh_under value value) xs) ≡ true
 keys_sound key value is_ordered whole is can below xs fits within =
-    let parts = parts_of_3 (is_length xs) (nat_le (length (dictionary_values xs)) (most_values key)) (is_within value (dictionary_values xs)) within in
+    let parts = parts_of_3 (is_length xs) (nat_le (length (dictionary_values xs)) (most_values key)) (is_within value
+    (dictionary_values xs)) within in
     let each = values_fit (fits_cell value) xs fits in
     let values = fresh_under value value (dictionary_values xs) in
     let size = fresh_counts value can value (dictionary_values xs) each in
@@ -265,37 +271,53 @@ sound_step layer.Boolean = at_plain layer.Boolean refl (λ can whole is xs fits 
 sound_step layer.Int8 = at_plain layer.Int8 refl (λ can whole is xs fits within.
     flat_sound whole layer.Int8 is xs (numbers kinds.Int8 (map number_of xs)) (numbers_sound kinds.Int8 refl xs fits) refl (length-map xs number_of))
 sound_step layer.Int16 = at_plain layer.Int16 refl (λ can whole is xs fits within.
-    flat_sound whole layer.Int16 is xs (numbers kinds.Int16 (map number_of xs)) (numbers_sound kinds.Int16 refl xs fits) refl (length-map xs number_of))
+    flat_sound whole layer.Int16 is xs (numbers kinds.Int16 (map number_of xs)) (numbers_sound kinds.Int16 refl xs fits) refl
+    (length-map xs number_of))
 sound_step layer.Int32 = at_plain layer.Int32 refl (λ can whole is xs fits within.
-    flat_sound whole layer.Int32 is xs (numbers kinds.Int32 (map number_of xs)) (numbers_sound kinds.Int32 refl xs fits) refl (length-map xs number_of))
+    flat_sound whole layer.Int32 is xs (numbers kinds.Int32 (map number_of xs)) (numbers_sound kinds.Int32 refl xs fits) refl
+    (length-map xs number_of))
 sound_step layer.Int64 = at_plain layer.Int64 refl (λ can whole is xs fits within.
-    flat_sound whole layer.Int64 is xs (numbers kinds.Int64 (map number_of xs)) (numbers_sound kinds.Int64 refl xs fits) refl (length-map xs number_of))
+    flat_sound whole layer.Int64 is xs (numbers kinds.Int64 (map number_of xs)) (numbers_sound kinds.Int64 refl xs fits) refl
+    (length-map xs number_of))
 sound_step layer.UInt8 = at_plain layer.UInt8 refl (λ can whole is xs fits within.
-    flat_sound whole layer.UInt8 is xs (numbers kinds.UInt8 (map number_of xs)) (numbers_sound kinds.UInt8 refl xs fits) refl (length-map xs number_of))
+    flat_sound whole layer.UInt8 is xs (numbers kinds.UInt8 (map number_of xs)) (numbers_sound kinds.UInt8 refl xs fits) refl
+    (length-map xs number_of))
 sound_step layer.UInt16 = at_plain layer.UInt16 refl (λ can whole is xs fits within.
-    flat_sound whole layer.UInt16 is xs (numbers kinds.UInt16 (map number_of xs)) (numbers_sound kinds.UInt16 refl xs fits) refl (length-map xs number_of))
+    flat_sound whole layer.UInt16 is xs (numbers kinds.UInt16 (map number_of xs)) (numbers_sound kinds.UInt16 refl xs fits) refl
+    (length-map xs number_of))
 sound_step layer.UInt32 = at_plain layer.UInt32 refl (λ can whole is xs fits within.
-    flat_sound whole layer.UInt32 is xs (numbers kinds.UInt32 (map number_of xs)) (numbers_sound kinds.UInt32 refl xs fits) refl (length-map xs number_of))
+    flat_sound whole layer.UInt32 is xs (numbers kinds.UInt32 (map number_of xs)) (numbers_sound kinds.UInt32 refl xs fits) refl
+    (length-map xs number_of))
 sound_step layer.UInt64 = at_plain layer.UInt64 refl (λ can whole is xs fits within.
-    flat_sound whole layer.UInt64 is xs (numbers kinds.UInt64 (map number_of xs)) (numbers_sound kinds.UInt64 refl xs fits) refl (length-map xs number_of))
+    flat_sound whole layer.UInt64 is xs (numbers kinds.UInt64 (map number_of xs)) (numbers_sound kinds.UInt64 refl xs fits) refl
+    (length-map xs number_of))
 sound_step layer.Date32 = at_plain layer.Date32 refl (λ can whole is xs fits within.
-    flat_sound whole layer.Date32 is xs (numbers kinds.Int32 (map number_of xs)) (numbers_sound kinds.Int32 refl xs fits) refl (length-map xs number_of))
+    flat_sound whole layer.Date32 is xs (numbers kinds.Int32 (map number_of xs)) (numbers_sound kinds.Int32 refl xs fits) refl
+    (length-map xs number_of))
 sound_step layer.Date64 = at_plain layer.Date64 refl (λ can whole is xs fits within.
-    flat_sound whole layer.Date64 is xs (numbers kinds.Int64 (map number_of xs)) (numbers_sound kinds.Int64 refl xs fits) refl (length-map xs number_of))
+    flat_sound whole layer.Date64 is xs (numbers kinds.Int64 (map number_of xs)) (numbers_sound kinds.Int64 refl xs fits) refl
+    (length-map xs number_of))
 sound_step (layer.Timestamp unit timezone) = at_plain (layer.Timestamp unit timezone) refl (λ can whole is xs fits within.
-    flat_sound whole (layer.Timestamp unit timezone) is xs (numbers kinds.Int64 (map number_of xs)) (numbers_sound kinds.Int64 refl xs fits) refl (length-map xs number_of))
+    flat_sound whole (layer.Timestamp unit timezone) is xs (numbers kinds.Int64 (map number_of xs)) (numbers_sound kinds.Int64 refl xs fits) refl
+    (length-map xs number_of))
 sound_step (layer.Time32 unit) = at_plain (layer.Time32 unit) refl (λ can whole is xs fits within.
-    flat_sound whole (layer.Time32 unit) is xs (numbers kinds.Int32 (map number_of xs)) (numbers_sound kinds.Int32 refl xs fits) refl (length-map xs number_of))
+    flat_sound whole (layer.Time32 unit) is xs (numbers kinds.Int32 (map number_of xs)) (numbers_sound kinds.Int32 refl xs fits) refl
+    (length-map xs number_of))
 sound_step (layer.Time64 unit) = at_plain (layer.Time64 unit) refl (λ can whole is xs fits within.
-    flat_sound whole (layer.Time64 unit) is xs (numbers kinds.Int64 (map number_of xs)) (numbers_sound kinds.Int64 refl xs fits) refl (length-map xs number_of))
+    flat_sound whole (layer.Time64 unit) is xs (numbers kinds.Int64 (map number_of xs)) (numbers_sound kinds.Int64 refl xs fits) refl
+    (length-map xs number_of))
 sound_step (layer.Duration unit) = at_plain (layer.Duration unit) refl (λ can whole is xs fits within.
-    flat_sound whole (layer.Duration unit) is xs (numbers kinds.Int64 (map number_of xs)) (numbers_sound kinds.Int64 refl xs fits) refl (length-map xs number_of))
+    flat_sound whole (layer.Duration unit) is xs (numbers kinds.Int64 (map number_of xs)) (numbers_sound kinds.Int64 refl xs fits) refl
+    (length-map xs number_of))
 sound_step (layer.Interval intervals.YearMonth) = at_plain (layer.Interval intervals.YearMonth) refl (λ can whole is xs fits within.
-    flat_sound whole (layer.Interval intervals.YearMonth) is xs (numbers kinds.Int32 (map number_of xs)) (numbers_sound kinds.Int32 refl xs fits) refl (length-map xs number_of))
+    flat_sound whole (layer.Interval intervals.YearMonth) is xs (numbers kinds.Int32 (map number_of xs))
+    (numbers_sound kinds.Int32 refl xs fits) refl (length-map xs number_of))
 sound_step (layer.Decimal precision scale) = at_plain (layer.Decimal precision scale) refl (λ can whole is xs fits within.
-    flat_sound whole (layer.Decimal precision scale) is xs (numbers kinds.Int128 (map number_of xs)) (numbers_sound kinds.Int128 refl xs fits) refl (length-map xs number_of))
+    flat_sound whole (layer.Decimal precision scale) is xs (numbers kinds.Int128 (map number_of xs)) (numbers_sound kinds.Int128 refl xs fits) refl
+    (length-map xs number_of))
 sound_step (layer.Decimal256 precision scale) = at_plain (layer.Decimal256 precision scale) refl (λ can whole is xs fits within.
-    flat_sound whole (layer.Decimal256 precision scale) is xs (numbers kinds.Int256 (map number_of xs)) (numbers_sound kinds.Int256 refl xs fits) refl (length-map xs number_of))
+    flat_sound whole (layer.Decimal256 precision scale) is xs (numbers kinds.Int256 (map number_of xs))
+    (numbers_sound kinds.Int256 refl xs fits) refl (length-map xs number_of))
 sound_step (layer.Interval intervals.DayTime) = at_plain (layer.Interval intervals.DayTime) refl (λ can whole is xs fits within.
     flat_sound whole (layer.Interval intervals.DayTime) is xs (pairs kinds.DaysMs (map pair_of xs)) (pairs_sound xs fits) refl
     (length-map xs pair_of))
