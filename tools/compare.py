@@ -324,7 +324,10 @@ class Comparison:
         if old.bar() is not None:
             self.counts["files barred alike: %s" % old.bar()] += 1
             return
-        groups = [[random.choice(table.rows) for _ in range(random.randint(1, 3))] for _ in range(random.randint(0, 2) if table.rows else 0)]
+        if not self.defined.is_base(content):
+            raise Disagreement("a file's schema may not be written with its ids")
+        count = random.randint(0, 2) if table.rows else 0
+        groups = [[random.choice(table.rows) for _ in range(random.randint(1, 3))] for _ in range(count)]
         whole = answer_of(arrow_reader.read, "file", old.with_other_tail()) == table
         if not any(holds_union(field.data_type) for field in table.schema.fields):
             self.compare_appended_slots(old, table, groups, whole)

@@ -209,10 +209,11 @@ class Defined:
         self.first_batches, self.behind_messages = find(GRAMMAR, "first_batches"), find(GRAMMAR, "behind_messages")
         self.laid, self.schema_message = find(FLATBUFFERS, "laid"), find(GRAMMAR, "schema_message")
         self.default_ids, self.seal = find(GRAMMAR, "default_ids"), find(GRAMMAR, "sealed")
-        self.belongs, self.base, self.appended = (find(GRAMMAR, name) for name in ("belongs", "base_of", "appended"))
+        self.base, self.appended = find(GRAMMAR, "base_of"), find(GRAMMAR, "appended")
         self.append_bar, self.write_bar = find(GRAMMAR, "append_bar"), find(GRAMMAR, "write_bar")
         self.start, self.writes = find(GRAMMAR, "after_start"), find(GRAMMAR, "after_writes")
-        self.ids_fit, self.footer, self.message_bytes = (find(GRAMMAR, name) for name in ("ids_fit_fields", "footer_in", "bytes_of_messages"))
+        self.is_written_with, self.footer = find(GRAMMAR, "is_written_with"), find(GRAMMAR, "footer_in")
+        self.message_bytes = find(GRAMMAR, "bytes_of_messages")
         self.encode, self.encode_stored = find(GRAMMAR, "encode"), find(GRAMMAR, "encode_stored")
         self.union = find(GRAMMAR, "has_union")
         self.stream, self.file = find(GRAMMAR, "written_stream"), find(GRAMMAR, "written_file")
@@ -354,6 +355,11 @@ class Defined:
     def defined_appended(self, content, chunks):
         """A file with chunks appended, or None."""
         return as_text(called(self.appended, content, chunks))
+
+    def is_base(self, content):
+        """Whether something may be appended to a file, whose schema may then be written with its ids."""
+        base = called(self.base, content)
+        return base is not None and called(self.is_written_with, base[0].f_found.f_schema, base[0].f_found.f_ids)
 
     def defined_append_bar(self, is_little_endian, content):
         """Why nothing may be appended to a file with a footer, or None."""

@@ -33,8 +33,8 @@ natural_or_0 (pos n) = n
 natural_or_0 (negsuc n) = 0
 
 -- a block as it is written again
-abbrev pub as_written : read.Block → Block
-as_written block =
+abbrev pub kept_block : read.Block → Block
+kept_block block =
     record { offset = block.offset; metadata_length = block.metadata_length; body_length = natural_or_0 block.body_length }
 
 -- where a block's body ends
@@ -67,21 +67,21 @@ append_bar is_little_endian size dictionaries record_batches = let blocks = dict
     if not is_little_endian then Some big_endian
     else if is_empty record_batches then Some no_record_batch
     else if list_any (λ (block : read.Block). is_negative block.body_length) blocks then Some negative_body
-    else if nat_lt size (greatest_end (map as_written blocks)) then Some block_past_end
+    else if nat_lt size (greatest_end (map kept_block blocks)) then Some block_past_end
     else None
 
 -- the dictionaries of messages that are read one after another, the latest first
-abbrev pub dictionaries_with : Layout → List Dictionary → Entry → (List Dictionary → Option (List Dictionary)) → message.Header
+abbrev pub standing_with : Layout → List Dictionary → Entry → (List Dictionary → Option (List Dictionary)) → message.Header
     → Option (List Dictionary)
-dictionaries_with layout standing entry rest (message.dictionary_batch table) = do
+standing_with layout standing entry rest (message.dictionary_batch table) = do
   dictionary ← dictionary_in layout standing entry table
   rest (dictionary ∷ standing)
-dictionaries_with layout standing entry rest _ = None
+standing_with layout standing entry rest _ = None
 
-abbrev pub dictionaries_of : Layout → List Dictionary → List Entry → Option (List Dictionary)
-dictionaries_of layout standing [] = Some standing
-dictionaries_of layout standing (entry ∷ others) =
-    dictionaries_with layout standing entry (λ now. dictionaries_of layout now others) entry.header
+abbrev pub standing_behind : Layout → List Dictionary → List Entry → Option (List Dictionary)
+standing_behind layout standing [] = Some standing
+standing_behind layout standing (entry ∷ others) =
+    standing_with layout standing entry (λ now. standing_behind layout now others) entry.header
 
 -- a dictionary that stands in the file, as one that was told; its column is not written again
 abbrev pub as_told : Dictionary → Given
@@ -102,11 +102,11 @@ base_of bytes = do
   _ ← guard (is_none (append_bar found.is_little_endian (length bytes) footer.dictionaries footer.record_batches))
   _ ← guard (nat_le (length footer.dictionaries) most_dictionaries)
   entries ← entries_at is_dictionary bytes footer.dictionaries
-  standing ← dictionaries_of (layout_of found) [] entries
+  standing ← standing_behind (layout_of found) [] entries
   Some (record {
     found = found;
-    dictionaries = map as_written footer.dictionaries;
-    record_batches = map as_written footer.record_batches;
+    dictionaries = map kept_block footer.dictionaries;
+    record_batches = map kept_block footer.record_batches;
     told = map as_told standing;
   })
 

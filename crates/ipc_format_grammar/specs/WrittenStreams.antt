@@ -141,13 +141,13 @@ are_equal (n ∷ ns) = list_all (λ other. other == n) ns
 abbrev pub is_node : ℕ × ℕ → Bool
 is_node node = nat_lt node.0 length_limit && nat_lt node.1 length_limit
 
-abbrev pub has_room : Encoded → Bool
-has_room column = list_all is_node column.nodes
+abbrev pub has_nodes_in_room : Encoded → Bool
+has_nodes_in_room column = list_all is_node column.nodes
 
 -- a batch's rows, its nodes and those of its dictionaries are within the lengths of arrays
 abbrev pub is_in_room : Batch → Bool
-is_in_room batch = nat_lt batch.rows length_limit && has_room (joined batch.columns)
-    && list_all (λ (given : Given). has_room given.column && nat_lt (length given.slots) length_limit) batch.given
+is_in_room batch = nat_lt batch.rows length_limit && has_nodes_in_room (joined batch.columns)
+    && list_all (λ (given : Given). has_nodes_in_room given.column && nat_lt (length given.slots) length_limit) batch.given
 
 -- A batch belongs to a schema: a column a field, all of one length, each of its field's type, and none longer than an array may be. Another
 -- batch is an invalid argument.

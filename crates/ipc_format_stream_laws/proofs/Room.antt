@@ -11,7 +11,7 @@ use Rattle.ipc_format_grammar.specs.Schemas.{Ids, IdsList, ids, no_ids, ids_then
 use Rattle.ipc_format_grammar.specs.Encoding.{joined}
 use Rattle.ipc_format_grammar.specs.Ids.{is_id, are_ids, all_are_ids}
 use Rattle.ipc_format_grammar.specs.GivenDictionaries.{Given}
-use Rattle.ipc_format_grammar.specs.WrittenStreams.{Batch, is_node, has_room, is_in_room}
+use Rattle.ipc_format_grammar.specs.WrittenStreams.{Batch, is_node, has_nodes_in_room, is_in_room}
 use Rattle.ipc_format_round_trip.specs.Batches.{AreSigned}
 use Rattle.ipc_format_round_trip.specs.Schemas.{FitsId, FitIds, FitIdsList}
 use Rattle.ipc_format_round_trip.proofs.SchemaParts.{both}
@@ -61,7 +61,7 @@ pub record HasRoomForColumns (batch : Batch) : Type 0 where
   pub few : length batch.given ≤ most_dictionaries
 
 abbrev has_room_for : Given → Bool
-has_room_for given = has_room given.column && nat_lt (length given.slots) length_limit
+has_room_for given = has_nodes_in_room given.column && nat_lt (length given.slots) length_limit
 
 -- a dictionary whose id is a signed number
 abbrev pub HasId : Given → Type 0
@@ -71,7 +71,7 @@ rooms : (given : List Given) → list_all has_room_for given ≡ true → All Ha
 rooms [] e its_ids = All-nil HasRoomForValues
 rooms (next ∷ given) e its_ids =
     let here = both (has_room_for next) (list_all has_room_for given) e in
-    let tests = both (has_room next.column) (nat_lt (length next.slots) length_limit) here.0 in
+    let tests = both (has_nodes_in_room next.column) (nat_lt (length next.slots) length_limit) here.0 in
     All-cons HasRoomForValues next given (record {
       id = All-head HasId next given its_ids;
       rows = omega (arith, ltb-true (length next.slots) length_limit tests.1);
@@ -81,8 +81,8 @@ rooms (next ∷ given) e its_ids =
 pub has_room_for_columns : (batch : Batch) → is_in_room batch ≡ true → All HasId batch.given → length batch.given ≤ most_dictionaries
     → HasRoomForColumns batch
 has_room_for_columns batch e its_ids few =
-    let first = both (nat_lt batch.rows length_limit && has_room (joined batch.columns)) (list_all has_room_for batch.given) e in
-    let tests = both (nat_lt batch.rows length_limit) (has_room (joined batch.columns)) first.0 in
+    let first = both (nat_lt batch.rows length_limit && has_nodes_in_room (joined batch.columns)) (list_all has_room_for batch.given) e in
+    let tests = both (nat_lt batch.rows length_limit) (has_nodes_in_room (joined batch.columns)) first.0 in
     record {
       rows = omega (arith, ltb-true batch.rows length_limit tests.0);
       nodes = are_signed (joined batch.columns).nodes tests.1;
@@ -92,5 +92,5 @@ has_room_for_columns batch e its_ids few =
 
 pub rows_small : (batch : Batch) → is_in_room batch ≡ true → batch.rows < 2 ^ 63
 rows_small batch e =
-    let first = both (nat_lt batch.rows length_limit && has_room (joined batch.columns)) (list_all has_room_for batch.given) e in
-    ltb-true batch.rows length_limit (both (nat_lt batch.rows length_limit) (has_room (joined batch.columns)) first.0).0
+    let first = both (nat_lt batch.rows length_limit && has_nodes_in_room (joined batch.columns)) (list_all has_room_for batch.given) e in
+    ltb-true batch.rows length_limit (both (nat_lt batch.rows length_limit) (has_nodes_in_room (joined batch.columns)) first.0).0

@@ -4,6 +4,7 @@ use Rattle.std.specs.Prelude.{Option, Some, nat_lt}
 use Rattle.std.specs.List.{All, list_all}
 use Rattle.std.proofs.lemmas.Bool.{lt-ltb}
 use Rattle.std.proofs.lemmas.List.Elements.{All-nil, All-cons}
+use Rattle.columnar_memory.specs.declared.Field.{Field}
 use Rattle.columnar_memory.specs.declared.Schema.{Schema}
 use Rattle.nested_arrays_columns.specs.Slots.{Slot}
 use Rattle.nested_arrays_columns.specs.Tables.{rows_of_batches}
@@ -22,6 +23,7 @@ use Rattle.ipc_format_grammar.specs.WrittenStreams.{stream_messages, stream_byte
 use Rattle.ipc_format_grammar.specs.WrittenStreams.{are_columns_of, are_equal, chunk_lengths}
 use Rattle.ipc_format_round_trip.specs.Schemas.{HasTexts, ids_read}
 use Rattle.ipc_format_round_trip.proofs.SchemaParts.{both}
+use Rattle.ipc_format_column_laws.specs.Columns.{is_flat}
 use Rattle.ipc_format_column_laws.specs.Batches.{fit_fields, batch_written, GivesColumns, BatchReadsBack}
 use Rattle.ipc_format_column_laws.proofs.Batches.{flat_batches_read_back, int32_batches_read_back}
 use Rattle.ipc_format_stream_laws.specs.Contents.{IsMessageOf, AreThoseOf, HoldsStream}
