@@ -400,8 +400,8 @@ class Defined:
 
     # ---- fresh columns and rows
 
-    def why_not_fresh(self, field, spec, slots, random):
-        """What a column that stores some slots, which fit, does not keep of them, or None."""
+    def why_not_fresh(self, field, spec, slots, expected, random):
+        """What a column that stores some slots, which fit, does not keep of them, or None; it is to have the parts of another one."""
         data_type, terms = self.terms.data_type(field.data_type), list(map(self.terms.slot, slots))
         ids, values = self.terms.ids((spec,))[1], Slots()
         if not called(self.is_buildable, data_type) or not called(self.fits, data_type, terms):
@@ -410,6 +410,7 @@ class Defined:
         offset = random.randint(0, count)
         cut = called(self.cut, column, offset, count - offset)
         kept = {
+            "its parts": lambda: same(column, expected),
             "the type": lambda: same(called(self.column_type, column), data_type),
             "the length": lambda: called(self.column_len, column) == count,
             "the slots": lambda: list(map(values.value, called(self.slots, column))) == slots,

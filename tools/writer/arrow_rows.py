@@ -4,8 +4,9 @@ Written from the public formats and the profile of this project, apart from the 
 """
 
 from arrow_sealed import distinct, is_of_type
+from arrow_stored import StoredColumns
 from arrow_trees import numbered
-from arrow_types import INTEGERS, Field, child_fields, holds_union, kind_of, storage_of
+from arrow_types import BYTES, INTEGERS, KINDS, TEXTS, Field, child_fields, holds_union, kind_of, storage_of
 
 # Values of several types, most of which do not fit a column, and values out of their kind's range.
 OTHER_CELLS = (
@@ -113,6 +114,38 @@ def full_dictionaries():
     yield [Field(b"", lists, True, ())], [(("items", values),)], [(("items", (None, number(-1))),)]
 
 
+class ColumnsOfSlots(StoredColumns):
+    """Makes columns that store their values and nothing else."""
+
+    def __init__(self, terms):
+        super().__init__(None, terms)
+
+    def mask(self, slots):
+        return ([slot is not None for slot in slots],) if None in slots else None
+
+    def fillers(self, data_type, most):
+        return ()
+
+    def numbers(self, kind):
+        return (0,) * len(KINDS[kind])
+
+    def flat(self, data_type, slots):
+        name, make = data_type[0], self.terms.plain
+        if name == "Boolean":
+            return make("bits", [slot is True for slot in slots])
+        if name == "FixedSizeBinary":
+            return make("fixed_bytes", data_type[1], list(b"".join(slot[1] if slot else bytes(data_type[1]) for slot in slots)))
+        if name in BYTES:
+            offsets, content = self.offsets([slot[1] if slot else b"" for slot in slots], b"")
+            return make("texts" if name in TEXTS else "byte_strings", offsets, list(content))
+        return super().flat(data_type, slots)
+
+    def dictionary(self, whole, data_type, slots):
+        values = distinct(slots)
+        keys = [values.index(slot) if slot is not None else 0 for slot in slots]
+        return self.terms.plain("dictionary", whole, self.mask(slots), keys, self.column(data_type[2], values))
+
+
 class RowComparison:
     """Compares columns of slots and rows of cells; each comparison says what differs, or None."""
 
@@ -135,7 +168,7 @@ class RowComparison:
         if not fits_column(field.data_type, slots):
             return None
         self.counts["columns of slots that keep all"] += 1
-        why = self.defined.why_not_fresh(field, spec, slots, random)
+        why = self.defined.why_not_fresh(field, spec, slots, ColumnsOfSlots(self.defined.terms).column(field.data_type, slots), random)
         return why and "the column of %s that stores %s does not keep %s" % (field, slots, why)
 
     def compare_row(self, fields, rows, row):

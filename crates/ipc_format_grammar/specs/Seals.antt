@@ -1,14 +1,14 @@
 -- Seals: the one byte text of a schema, a list of rows and a batch size. The rows go in batches of that size, little-endian, each column
 -- from its slots alone, the dictionaries numbered from 0.
-use Rattle.std.specs.Prelude.{◌≡◌, ℕ, zero, suc, Bool, true, ◌&&◌, List, [], ◌∷◌, length, map, take, drop, is_none, nat_le, nat_lt, ◌==◌, Option, Some}
-use Rattle.std.specs.Prelude.{slice_index_or}
+use Rattle.std.specs.Prelude.{◌≡◌, ℕ, zero, suc, Bool, true, ◌&&◌, List, [], ◌∷◌, length, map, take, drop, is_none, nat_le, nat_lt, ◌==◌}
+use Rattle.std.specs.Prelude.{Option, Some}
 use Rattle.std.specs.List.{list_all}
 use Rattle.ipc_format_flatbuffers.specs.Reading.{◌>>=◌, guard}
 use Rattle.columnar_memory.specs.declared.Field.{Field}
 use Rattle.columnar_memory.specs.declared.Schema.{Schema}
-use Rattle.nested_arrays_columns.specs.Slots.{Slot, null, window}
+pub use Rattle.nested_arrays_columns.specs.Rows.{column_of_rows, columns_of_rows, columns_fit}
+use Rattle.nested_arrays_columns.specs.Slots.{Slot}
 use Rattle.nested_arrays_columns.specs.Tables.{Table}
-use Rattle.nested_arrays_columns.specs.OpenBatch.{fits}
 use Rattle.nested_arrays_columns.specs.Sealing.{seal_bar}
 use Rattle.ipc_format_grammar.specs.Limits.{most_batch_rows}
 use Rattle.ipc_format_grammar.specs.Writable.{is_writable, IsTable}
@@ -25,13 +25,6 @@ groups_within (suc most) n (x ∷ xs) = take n (x ∷ xs) ∷ groups_within most
 abbrev pub groups_of : {A : Type 0} → ℕ → List A → List (List A)
 groups_of n xs = groups_within (length xs) n xs
 
--- the column of field k of some rows
-abbrev pub column_of_rows : List (List Slot) → ℕ → List Slot
-column_of_rows rows k = map (λ row. slice_index_or row k null) rows
-
-abbrev pub columns_of_rows : List Field → List (List Slot) → List (List Slot)
-columns_of_rows fields rows = window (column_of_rows rows) 0 (length fields)
-
 -- the batches of a seal
 abbrev pub seal_batches : Schema → List (List Slot) → ℕ → List Batch
 seal_batches schema rows n =
@@ -40,12 +33,6 @@ seal_batches schema rows n =
 -- the bytes of a seal
 unfoldable pub seal_bytes : Schema → List (List Slot) → ℕ → List ℕ
 seal_bytes schema rows n = stream_bytes schema (default_ids schema.fields) (seal_batches schema rows n)
-
--- each column of a group fits its type
-abbrev pub columns_fit : List Field → List (List Slot) → Bool
-columns_fit [] columns = true
-columns_fit (field ∷ fields) [] = true
-columns_fit (field ∷ fields) (column ∷ columns) = fits field.data_type column && columns_fit fields columns
 
 -- each row has a value a field, and without fields there is no row
 abbrev pub are_rows_of : List Field → List (List Slot) → Bool

@@ -14,10 +14,12 @@ use Rattle.columnar_memory.specs.declared.Field.{Field, map-Field}
 use Rattle.nested_arrays_columns.specs.FreshLaws.{buildable_step, is_buildable}
 use Rattle.nested_arrays_columns.specs.SoundColumns.{is_entry}
 use Rattle.nested_arrays_columns.proofs.Claims.{TypeWith, FieldWith, LayerWith, bare_layer}
+use Rattle.nested_arrays_columns.proofs.FreshLengths.{answers, can_all}
 use Rattle.nested_arrays_columns.proofs.FreshLengths.{buildable_field, buildable_layer, unlike}
 use Rattle.nested_arrays_columns.proofs.TypeLayers.{Layer}
 use Rattle.ipc_format_grammar.specs.Encoding.{any_of, union_step, has_union}
-use Rattle.ipc_format_grammar.specs.Writable.{Report, report_step, field_step, report_of, is_struct_of_two, is_size, fits_i32, is_plain, is_dictionary}
+use Rattle.ipc_format_grammar.specs.Writable.{Report, report_step, field_step, report_of, is_struct_of_two, is_size, fits_i32, is_plain}
+use Rattle.ipc_format_grammar.specs.Writable.{is_dictionary}
 use Rattle.ipc_format_laws.specs.FreshEncodings.{WritableIsBuildable}
 
 abbrev report_field : Field → Report
@@ -57,17 +59,12 @@ Children = List (FieldWith SaysOfField)
 abbrev fields_of : Children → List Field
 fields_of ys = map (λ e. e.0) ys
 
-abbrev answers : List Field → List (Field × Bool)
-answers us = map (λ u. (u, buildable_field u)) us
-
-abbrev can_all : List Field → Bool
-can_all us = list_all (λ (child : Field × Bool). child.1) (answers us)
-
 children_build : (ys : Children) → list_all (λ (child : Report). child.is_allowed) (map report_field (fields_of ys)) ≡ true
     → any_of (map union_field (fields_of ys)) ≡ false → can_all (fields_of ys) ≡ true
 children_build [] allowed none = refl
 children_build (y ∷ ys) allowed none =
-    let allows = and_parts (report_field y.0).is_allowed (list_all (λ (child : Report). child.is_allowed) (map report_field (fields_of ys))) allowed in
+    let allows = and_parts (report_field y.0).is_allowed (list_all (λ (child : Report). child.is_allowed) (map report_field
+    (fields_of ys))) allowed in
     let nones = or_parts (union_field y.0) (any_of (map union_field (fields_of ys))) none in
     and_from (buildable_field y.0) (can_all (fields_of ys)) (y.1.builds allows.0 nones.0) (children_build ys allows.1 nones.1)
 

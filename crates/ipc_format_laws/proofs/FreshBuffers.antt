@@ -126,18 +126,30 @@ whole_bytes kind n = kind_bytes kind (number kind n)
 
 pub numbers_same : (w : Width) (kind : PrimitiveType) (slots : List Slot) → is_float kind ≡ false
     → stored_buffers true w (cut_stored (numbers_as kind slots) 0 (stored_len (numbers_as kind slots))) ≡ flat_map (kind_bytes kind) slots ∷ []
-numbers_same w kinds.Int8 slots plain = ap (λ b. b ∷ []) (values_same (kind_bytes kinds.Int8) (whole_bytes kinds.Int8) number_of (number_same w8 kinds.Int8) slots)
-numbers_same w kinds.Int16 slots plain = ap (λ b. b ∷ []) (values_same (kind_bytes kinds.Int16) (whole_bytes kinds.Int16) number_of (number_same w16 kinds.Int16) slots)
-numbers_same w kinds.Int32 slots plain = ap (λ b. b ∷ []) (values_same (kind_bytes kinds.Int32) (whole_bytes kinds.Int32) number_of (number_same w32 kinds.Int32) slots)
-numbers_same w kinds.Int64 slots plain = ap (λ b. b ∷ []) (values_same (kind_bytes kinds.Int64) (whole_bytes kinds.Int64) number_of (number_same w64 kinds.Int64) slots)
-numbers_same w kinds.Int128 slots plain = ap (λ b. b ∷ []) (values_same (kind_bytes kinds.Int128) (whole_bytes kinds.Int128) number_of (number_same w128 kinds.Int128) slots)
-numbers_same w kinds.Int256 slots plain = ap (λ b. b ∷ []) (values_same (kind_bytes kinds.Int256) (whole_bytes kinds.Int256) number_of (wide_same kinds.Int256) slots)
-numbers_same w kinds.UInt8 slots plain = ap (λ b. b ∷ []) (values_same (kind_bytes kinds.UInt8) (whole_bytes kinds.UInt8) number_of (number_same w8 kinds.UInt8) slots)
-numbers_same w kinds.UInt16 slots plain = ap (λ b. b ∷ []) (values_same (kind_bytes kinds.UInt16) (whole_bytes kinds.UInt16) number_of (number_same w16 kinds.UInt16) slots)
-numbers_same w kinds.UInt32 slots plain = ap (λ b. b ∷ []) (values_same (kind_bytes kinds.UInt32) (whole_bytes kinds.UInt32) number_of (number_same w32 kinds.UInt32) slots)
-numbers_same w kinds.UInt64 slots plain = ap (λ b. b ∷ []) (values_same (kind_bytes kinds.UInt64) (whole_bytes kinds.UInt64) number_of (number_same w64 kinds.UInt64) slots)
-numbers_same w kinds.DaysMs slots plain = ap (λ b. b ∷ []) (values_same (kind_bytes kinds.DaysMs) (λ (v : ℤ × ℤ). kind_bytes kinds.DaysMs (pair kinds.DaysMs v.0 v.1)) pair_of pair_same slots)
-numbers_same w kinds.MonthDayNano slots plain = ap (λ b. b ∷ []) (values_same (kind_bytes kinds.MonthDayNano) (λ (v : ℤ × ℤ × ℤ). kind_bytes kinds.MonthDayNano (triple kinds.MonthDayNano v.0 v.1 v.2)) triple_of triple_same slots)
+numbers_same w kinds.Int8 slots plain = ap (λ b. b ∷ []) (values_same (kind_bytes kinds.Int8) (whole_bytes kinds.Int8) number_of
+    (number_same w8 kinds.Int8) slots)
+numbers_same w kinds.Int16 slots plain = ap (λ b. b ∷ []) (values_same (kind_bytes kinds.Int16) (whole_bytes kinds.Int16) number_of
+    (number_same w16 kinds.Int16) slots)
+numbers_same w kinds.Int32 slots plain = ap (λ b. b ∷ []) (values_same (kind_bytes kinds.Int32) (whole_bytes kinds.Int32) number_of
+    (number_same w32 kinds.Int32) slots)
+numbers_same w kinds.Int64 slots plain = ap (λ b. b ∷ []) (values_same (kind_bytes kinds.Int64) (whole_bytes kinds.Int64) number_of
+    (number_same w64 kinds.Int64) slots)
+numbers_same w kinds.Int128 slots plain = ap (λ b. b ∷ []) (values_same (kind_bytes kinds.Int128) (whole_bytes kinds.Int128) number_of
+    (number_same w128 kinds.Int128) slots)
+numbers_same w kinds.Int256 slots plain = ap (λ b. b ∷ []) (values_same (kind_bytes kinds.Int256) (whole_bytes kinds.Int256) number_of
+    (wide_same kinds.Int256) slots)
+numbers_same w kinds.UInt8 slots plain = ap (λ b. b ∷ []) (values_same (kind_bytes kinds.UInt8) (whole_bytes kinds.UInt8) number_of
+    (number_same w8 kinds.UInt8) slots)
+numbers_same w kinds.UInt16 slots plain = ap (λ b. b ∷ []) (values_same (kind_bytes kinds.UInt16) (whole_bytes kinds.UInt16) number_of
+    (number_same w16 kinds.UInt16) slots)
+numbers_same w kinds.UInt32 slots plain = ap (λ b. b ∷ []) (values_same (kind_bytes kinds.UInt32) (whole_bytes kinds.UInt32) number_of
+    (number_same w32 kinds.UInt32) slots)
+numbers_same w kinds.UInt64 slots plain = ap (λ b. b ∷ []) (values_same (kind_bytes kinds.UInt64) (whole_bytes kinds.UInt64) number_of
+    (number_same w64 kinds.UInt64) slots)
+numbers_same w kinds.DaysMs slots plain = ap (λ b. b ∷ []) (values_same (kind_bytes kinds.DaysMs) (λ (v : ℤ × ℤ). kind_bytes kinds.DaysMs
+    (pair kinds.DaysMs v.0 v.1)) pair_of pair_same slots)
+numbers_same w kinds.MonthDayNano slots plain = ap (λ b. b ∷ []) (values_same (kind_bytes kinds.MonthDayNano) (λ
+    (v : ℤ × ℤ × ℤ). kind_bytes kinds.MonthDayNano (triple kinds.MonthDayNano v.0 v.1 v.2)) triple_of triple_same slots)
 numbers_same w kinds.Float16 slots plain = absurd cc
 numbers_same w kinds.Float32 slots plain = absurd cc
 numbers_same w kinds.Float64 slots plain = absurd cc

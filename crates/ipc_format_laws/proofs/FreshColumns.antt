@@ -25,6 +25,7 @@ use Rattle.nested_arrays_columns.specs.SoundColumns.{mask_fits, holds_below, are
 use Rattle.nested_arrays_columns.specs.SoundColumns.{are_triples, is_byte}
 use Rattle.nested_arrays_columns.specs.StoredColumns.{string_at, Stored, bits, numbers, pairs, triples, texts, byte_strings, fixed_bytes}
 use Rattle.nested_arrays_columns.specs.StoredColumns.{stored_len, pair_slot, triple_slot, type_layer, cut_mask, cut_list, cut_stored}
+use Rattle.nested_arrays_columns.proofs.TypeLayers.{is_extension, layer_itself, layer_within}
 use Rattle.nested_arrays_columns.proofs.SameSlotsDecide.{same_kind-implies}
 use Rattle.ipc_format_grammar.specs.Buffers.{content_of, bitmap_of, bitmap_bytes, is_true, kind_bytes, fixed_content_of}
 use Rattle.ipc_format_grammar.specs.Encoding.{Encoded, Encoder, encode, encode_step, column_over, flat_column, values_column, number_column}
@@ -305,10 +306,6 @@ Agrees encoder layout here = (mask : Mask) (stored : Stored) → is_stored_as la
     → mask_fits mask (stored_len stored) ≡ true → is_fresh mask stored ≡ true
     → encoder (flat_slots mask stored) ≡ stored_column (offset_width here) mask stored
 
-abbrev is_extension : {A B : Type 0} → layer.DataType-F A B → Bool
-is_extension (layer.Extension name inner metadata) = true
-is_extension _ = false
-
 step_agrees : (x : Layer) → is_extension x ≡ false → Agrees (encode_layer x) (physical_layer x) x
 step_agrees layer.Boolean plain mask stored sound sized fits fresh = truths_agree w32 mask stored sound fits fresh
 step_agrees (layer.FixedSizeBinary size) plain mask stored sound sized fits fresh = fixed_agree size w32 mask stored sound sized fits fresh
@@ -364,22 +361,6 @@ encode_roll x = sym (fold-roll-DataType Encoder Encoder encode_step (λ field. f
 physical_roll : (x : Layer) → physical_layer x ≡ physical_type (roll-DataType x)
 physical_roll x = sym (fold-roll-DataType PhysicalType (Unit {0}) physical_step (λ f. tt) x)
 
--- a type's layer, under its extensions
-layer_itself : (x : Layer) → is_extension x ≡ false → x ≡ type_layer (roll-DataType x)
-unfolding roll-DataType denote.Hole.Carrier.roll
-layer_itself (layer.Extension name inner metadata) plain = absurd (both_ways true plain refl)
-layer_itself x plain =
-    sym (ap out-DataType (ap (λ stored. unwrap_or stored (roll-DataType x)) (para-roll-DataType (Option DataType) (Unit {0}) stored_step
-    (λ f. tt) x))
-    ∙ out-roll-DataType x)
-
-layer_within : (name : List ℕ) (inner : DataType) (metadata : Option (List ℕ)) → type_layer inner
-    ≡ type_layer (roll-DataType (layer.Extension name inner metadata))
-unfolding roll-DataType denote.Hole.Carrier.roll
-layer_within name inner metadata =
-    sym (ap out-DataType (ap (λ stored. unwrap_or stored (roll-DataType (layer.Extension name inner metadata)))
-    (para-roll-DataType (Option DataType) (Unit {0}) stored_step (λ f. tt) (layer.Extension name inner metadata))))
-
 moved : (e f : Encoder) (p q : PhysicalType) (x y : Layer) → e ≡ f → p ≡ q → x ≡ y → Agrees e p x → Agrees f q y
 moved e f p q x y same alike equal h =
     subst (λ (e : Encoder). Agrees e q y) same (subst (λ (p : PhysicalType). Agrees e p y) alike (subst (λ (x : Layer). Agrees e p x) equal h))
@@ -387,14 +368,14 @@ moved e f p q x y same alike equal h =
 plain_agrees : (x : Layer) → is_extension x ≡ false → TypeAgrees (roll-DataType x)
 plain_agrees x plain =
     moved (encode_layer x) (encode (roll-DataType x)) (physical_layer x) (physical_type (roll-DataType x)) x (type_layer (roll-DataType x))
-    (encode_roll x) (physical_roll x) (layer_itself x plain) (step_agrees x plain)
+    (encode_roll x) (physical_roll x) (sym (layer_itself x plain)) (step_agrees x plain)
 
 roll_agrees : (y : layer.DataType-F D F) → TypeAgrees (roll-DataType (plain_layer y))
 roll_agrees (layer.Extension name inner metadata) =
     let x = layer.Extension name inner.0 metadata in
     moved (encode inner.0) (encode (roll-DataType x)) (physical_type inner.0) (physical_type (roll-DataType x)) (type_layer inner.0) (type_layer
     (roll-DataType x))
-    (encode_roll x) (physical_roll x) (layer_within name inner.0 metadata) inner.1
+    (encode_roll x) (physical_roll x) (sym (layer_within name inner.0 metadata)) inner.1
 roll_agrees y = plain_agrees (plain_layer y) refl
 
 type_agrees : (t : DataType) → TypeAgrees t

@@ -18,15 +18,20 @@ use Rattle.columnar_memory.specs.declared.PrimitiveType.{PrimitiveType}
 use Rattle.columnar_memory.specs.declared.PrimitiveType.TheVariants as kinds
 use Rattle.nested_arrays_columns.specs.Cells.{is_null, is_bytes_of, is_list_of_size, fits_step, fits_cell}
 use Rattle.nested_arrays_columns.specs.Children.{items_of, fixed_items_of, joined_items, joined_fixed_items, field_of, field_slots, dictionary_values}
-use Rattle.nested_arrays_columns.specs.FreshColumns.{is_true, content_of, fixed_content_of, key_among, mask_of, sums_from, numbers_as, content_offsets}
-use Rattle.nested_arrays_columns.specs.FreshColumns.{item_offsets, Maker, MakerUnder, fresh_fields, fresh_lists, fresh_keys, fresh_step, fresh_field_step, fresh_under}
+use Rattle.nested_arrays_columns.specs.FreshColumns.{is_true, content_of, fixed_content_of, key_among, mask_of, sums_from, numbers_as}
+use Rattle.nested_arrays_columns.specs.FreshColumns.{content_offsets}
+use Rattle.nested_arrays_columns.specs.FreshColumns.{item_offsets, Maker, MakerUnder, fresh_fields, fresh_lists, fresh_keys, fresh_step}
+use Rattle.nested_arrays_columns.specs.FreshColumns.{fresh_field_step, fresh_under, fresh}
 use Rattle.nested_arrays_columns.specs.FreshLaws.{buildable_step, is_buildable}
 use Rattle.nested_arrays_columns.specs.OpenBatch.{is_within}
 use Rattle.nested_arrays_columns.specs.Slots.{Slot, null}
 use Rattle.nested_arrays_columns.specs.SoundColumns.{is_entry}
-use Rattle.nested_arrays_columns.specs.StoredColumns.{bits, texts, byte_strings, fixed_bytes, flat, fixed_lists, column_len, type_layer, cut_list, stored_len}
+use Rattle.nested_arrays_columns.specs.StoredColumns.{bits, texts, byte_strings, fixed_bytes, flat, fixed_lists, column_len, type_layer, cut_list}
+use Rattle.nested_arrays_columns.specs.StoredColumns.{stored_len}
 use Rattle.nested_arrays_columns.proofs.Claims.{TypeWith, FieldWith, LayerWith, bare_layer}
-use Rattle.nested_arrays_columns.proofs.FreshBelow.{items_fit, no_items, fixed_items_fit, pieces_length, fixed_piece, TakeNull, fields_pass, fields_fit}
+use Rattle.nested_arrays_columns.proofs.FreshBelow.{items_fit, no_items, fixed_items_fit, pieces_length, fixed_piece, TakeNull, fields_pass}
+use Rattle.nested_arrays_columns.proofs.FreshBelow.{fields_fit}
+use Rattle.nested_arrays_columns.proofs.FreshLengths.{makers_of, answers, can_all}
 use Rattle.nested_arrays_columns.proofs.FreshLengths.{buildable_field, fresh_field, cell_field, buildable_layer, fresh_layer, cell_layer, unlike}
 use Rattle.nested_arrays_columns.proofs.FreshLengths.{offsets_count, content_piece, of_size, fresh_counts}
 use Rattle.nested_arrays_columns.proofs.Fitting.{null_fits}
@@ -38,7 +43,8 @@ use Rattle.ipc_format_grammar.specs.StoredEncoding.{encode_stored, encode_range,
 use Rattle.ipc_format_grammar.specs.StoredEncoding.{stored_buffers}
 use Rattle.ipc_format_laws.specs.FreshEncodings.{FreshEncodes}
 use Rattle.ipc_format_laws.proofs.FlatColumns.{bitmap_answers, whole_cut}
-use Rattle.ipc_format_laws.proofs.FreshBuffers.{column_same, flat_same, is_float, numbers_same, AreOffsets, piece_offsets, whole_offsets, offsets_same}
+use Rattle.ipc_format_laws.proofs.FreshBuffers.{column_same, flat_same, is_float, numbers_same, AreOffsets, piece_offsets, whole_offsets}
+use Rattle.ipc_format_laws.proofs.FreshBuffers.{offsets_same}
 use Rattle.ipc_format_laws.proofs.FreshBuffers.{strings_same, keys_same}
 
 abbrev encode_field : Field → Encoder
@@ -59,7 +65,8 @@ abbrev Encoding : Maker → Encoder → (Slot → Bool) → Type 0
 Encoding make encoder cell = (slots : List Slot) → list_all cell slots ≡ true → encode_stored true (make slots) ≡ encoder slots
 
 abbrev TypeEncoding : DataType → Type 0
-TypeEncoding t = is_buildable t ≡ true → (whole : DataType) → type_layer whole ≡ type_layer t → Encoding (fresh_under t whole) (encode t) (fits_cell t)
+TypeEncoding t = is_buildable t ≡ true → (whole : DataType) → type_layer whole ≡ type_layer t
+    → Encoding (fresh_under t whole) (encode t) (fits_cell t)
 
 abbrev FieldEncodes : Field → Type 0
 FieldEncodes u = buildable_field u ≡ true → Encodes (fresh_field u) (encode_field u) (cell_field u)
@@ -134,17 +141,11 @@ lists_encode w whole width item encoder cell below slots fits =
 
 -- ---- the fields of a struct
 
-abbrev makers_of : List Field → List (Field × Maker)
-makers_of us = map (λ u. (u, fresh_field u)) us
-
 abbrev Children : Type 0
 Children = List (FieldWith FieldEncodes)
 
 abbrev fields_of : Children → List Field
 fields_of ys = map (λ e. e.0) ys
-
-abbrev can_all : List Field → Bool
-can_all us = list_all (λ (child : Field × Bool). child.1) (map (λ u. (u, buildable_field u)) us)
 
 take_nulls : (ys : Children) → can_all (fields_of ys) ≡ true → TakeNull (map cell_field (fields_of ys))
 take_nulls [] can = tt
@@ -263,7 +264,8 @@ encoding_step (layer.Interval intervals.YearMonth) =
 encoding_step (layer.Interval intervals.DayTime) =
     at_plain (layer.Interval intervals.DayTime) refl (λ can whole is slots fits. numbers_encode kinds.DaysMs refl whole slots (length-map slots _))
 encoding_step (layer.Interval intervals.MonthDayNano) =
-    at_plain (layer.Interval intervals.MonthDayNano) refl (λ can whole is slots fits. numbers_encode kinds.MonthDayNano refl whole slots (length-map slots _))
+    at_plain (layer.Interval intervals.MonthDayNano) refl (λ can whole is slots fits. numbers_encode kinds.MonthDayNano refl whole slots
+    (length-map slots _))
 encoding_step (layer.Decimal precision scale) =
     at_plain (layer.Decimal precision scale) refl (λ can whole is slots fits. numbers_encode kinds.Int128 refl whole slots (length-map slots _))
 encoding_step (layer.Decimal256 precision scale) =
@@ -291,7 +293,7 @@ encoding_step (layer.FixedSizeList item size) = at_plain (layer.FixedSizeList it
     let parts = and_parts (nat_le 1 size) (buildable_field item.0) can in
     fixed_lists_encode size parts.0 whole (fresh_field item.0) (encode_field item.0) (cell_field item.0) (item.1 parts.1) slots fits)
 encoding_step (layer.Struct children) = at_plain (layer.Struct (fields_of children)) refl (λ can whole is slots fits.
-    let parts = and_parts (nat_le 1 (length (map (λ u. (u, buildable_field u)) (fields_of children)))) (can_all (fields_of children)) can in
+    let parts = and_parts (nat_le 1 (length (answers (fields_of children)))) (can_all (fields_of children)) can in
     column_same slots (length slots) [] [] _ (field_columns (map encode_field (fields_of children)) slots 0) refl refl
     (children_encode children parts.1 slots 0
     (fields_fit (map cell_field (fields_of children)) slots (take_nulls children parts.1) fits)))
@@ -321,5 +323,9 @@ encoding_all = ind-DataType TypeEncoding FieldEncodes (λ x y is. subst (λ (x :
     (λ x y is. subst (λ (x : layer.Field-F DataType Field). FieldEncodes (roll-Field x)) is
     (field_encodes (map-Field (TypeWith TypeEncoding) (FieldWith FieldEncodes) DataType Field (λ e. e.0) (λ e. e.0) y) y.data_type.1))
 
+pub encoding_of : (t : DataType) → is_buildable t ≡ true → (slots : List Slot) → list_all (fits_cell t) slots ≡ true
+    → encode_stored true (fresh t slots) ≡ encode t slots
+encoding_of t can slots fits = encoding_all t can t refl slots fits
+
 pub fresh_encodes : FreshEncodes
-fresh_encodes t slots can fit = encoding_all t can t refl slots (and_parts (list_all (fits_cell t) slots) (is_within t slots) fit).0
+fresh_encodes t slots can fit = encoding_of t can slots (and_parts (list_all (fits_cell t) slots) (is_within t slots) fit).0

@@ -2,8 +2,10 @@ pub mod BuildableTypes
 pub mod Counts
 pub mod DefaultIds
 pub mod FlatColumns
+pub mod FreshBatches
 pub mod FreshBuffers
 pub mod FreshColumns
+pub mod FreshDictionaries
 pub mod FreshEncodings
 pub mod FreshStrings
 pub mod Layers

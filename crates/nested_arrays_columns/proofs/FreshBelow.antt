@@ -1,10 +1,10 @@
 -- The slots that fitting slots bring to the types below theirs fit those.
-use Rattle.std.proofs.Common.{◌≡◌, ◌∙◌, ℕ, zero, suc, ◌+◌, ◌*◌, Bool, true, ◌&&◌, List, [], ◌∷◌, ◌++◌, length, map, replicate, refl, sym, ap}
+use Rattle.std.proofs.Common.{◌≡◌, ◌∙◌, ℕ, zero, suc, ◌+◌, ◌*◌, Bool, true, List, [], ◌∷◌, ◌++◌, length, replicate, refl, sym, ap}
 use Rattle.std.proofs.Common.{arith, length-append, mul-suc, ◌==◌, cond}
 use Rattle.std.specs.Prelude.{not}
 use Rattle.std.specs.List.{list_all, filter, flat_map}
 use Rattle.std.proofs.lemmas.Bool.{and_parts, and_from, eqb-true, cases_Bool}
-use Rattle.std.proofs.lemmas.List.{length-replicate, length-map}
+use Rattle.std.proofs.lemmas.List.{length-replicate}
 use Rattle.std.proofs.lemmas.List.Folds.{list_all-append}
 use mathlib.Core.Logic.{inl, inr}
 use Rattle.nested_arrays_columns.specs.Cells.{is_null, fit_each, is_list_of, is_list_of_size, is_record_of}
@@ -16,7 +16,7 @@ use Rattle.nested_arrays_columns.specs.Slots.{Slot, Slots, null, items, fields, 
 -- ---- items
 
 -- what passes for the items of each slot passes for all of them
-pub joined_passes : (test fits_item : Slot → Bool) (below : Slot → List Slot)
+pub joined_passes : {A : Type 0} (test : Slot → Bool) (fits_item : A → Bool) (below : Slot → List A)
     → ((slot : Slot) → test slot ≡ true → list_all fits_item (below slot) ≡ true) → (slots : List Slot) → list_all test slots ≡ true
     → list_all fits_item (flat_map below slots) ≡ true
 joined_passes test fits_item below each [] fits = refl

@@ -1,13 +1,12 @@
 -- The keys of a dictionary's slots stand below the number of its values.
 use Rattle.std.proofs.Common.{◌≡◌, ◌∙◌, ℕ, suc, ◌<◌, Bool, true, false, List, [], ◌∷◌, length, refl, sym, ap, arith, cond}
-use Rattle.std.specs.Prelude.{◌||◌, not, if◌then◌else◌, Some, slice_get}
+use Rattle.std.specs.Prelude.{if◌then◌else◌, Some, slice_get}
 use Rattle.std.specs.List.{list_all, filter}
 use Rattle.std.proofs.lemmas.Bool.{and_parts, and_from, or_cases, or_left, or_right, cases_Bool, both_ways, false≢true}
 use mathlib.Core.Logic.{inl, inr}
-use Rattle.nested_arrays_columns.specs.Cells.{is_null}
 use Rattle.nested_arrays_columns.specs.Children.{dictionary_values}
 use Rattle.nested_arrays_columns.specs.FreshColumns.{is_valid, key_among}
-use Rattle.nested_arrays_columns.specs.SameSlots.{same_slot, distinct, is_among, place_among}
+use Rattle.nested_arrays_columns.specs.SameSlots.{same_slot, is_among, place_among}
 use Rattle.nested_arrays_columns.specs.Slots.{Slot, null}
 use Rattle.nested_arrays_columns.proofs.SameSlotsDecide.{same_slot-implies, same_slot-itself}
 use Rattle.nested_arrays_columns.proofs.Distinct.{among_distinct, at_place_among}

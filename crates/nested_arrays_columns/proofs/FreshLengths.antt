@@ -1,7 +1,7 @@
 -- The column that stores some slots has a slot for each.
-use Rattle.std.proofs.Common.{◌≡◌, ◌∙◌, ℕ, zero, suc, ◌+◌, ◌-◌, ◌*◌, ◌/◌, ◌<◌, Bool, true, false, List, [], ◌∷◌, length, map, refl, sym, ap}
+use Rattle.std.proofs.Common.{◌≡◌, ◌∙◌, ℕ, suc, ◌+◌, ◌-◌, ◌*◌, ◌/◌, Bool, true, false, List, [], ◌∷◌, length, map, refl, sym, ap}
 use Rattle.std.proofs.Common.{subst, arith, ◌==◌}
-use Rattle.std.specs.Prelude.{◌&&◌, nat_le}
+use Rattle.std.specs.Prelude.{nat_le}
 use Rattle.std.specs.List.{list_all, flat_map}
 use Rattle.std.proofs.Math.Nat.{mul-div_cancel_left}
 use Rattle.std.proofs.lemmas.Bool.{and_parts, eqb-true, leb-true}
@@ -50,6 +50,16 @@ fresh_layer x =
 
 abbrev pub cell_layer : Layer → Slot → Bool
 cell_layer x = fits_step (map-DataType DataType Field (Slot → Bool) (Slot → Bool) fits_cell cell_field x)
+
+-- the fields of a struct: what makes their columns, and whether each is built
+abbrev pub makers_of : List Field → List (Field × Maker)
+makers_of us = map (λ u. (u, fresh_field u)) us
+
+abbrev pub answers : List Field → List (Field × Bool)
+answers us = map (λ u. (u, buildable_field u)) us
+
+abbrev pub can_all : List Field → Bool
+can_all us = list_all (λ (child : Field × Bool). child.1) (answers us)
 
 pub unlike : false ≡ true → ⊥
 unlike e = absurd cc

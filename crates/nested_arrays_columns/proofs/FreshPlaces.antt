@@ -1,7 +1,7 @@
 -- What stands at a place of the column that stores some slots: masks, values, and pieces between offsets.
 use Rattle.std.proofs.Common.{◌≡◌, ◌∙◌, ℕ, zero, suc, ◌+◌, ◌-◌, ◌*◌, ◌<◌, ◌≤◌, Bool, true, false, List, [], ◌∷◌, ◌++◌, length, map, take, drop}
-use Rattle.std.proofs.Common.{get_or, refl, sym, ap, subst, arith, cond}
-use Rattle.std.specs.Prelude.{not, Option, Some, None, if◌then◌else◌, slice_range}
+use Rattle.std.proofs.Common.{get_or, refl, sym, ap, arith}
+use Rattle.std.specs.Prelude.{not, Some, None, if◌then◌else◌}
 use Rattle.std.specs.List.{list_all, list_any, flat_map}
 use Rattle.std.proofs.Math.ListN.{get_or-map}
 use Rattle.std.proofs.Math.Seq.{drop-append-add, take-append_seam}

@@ -1,17 +1,18 @@
 -- The column that stores some slots has these slots: an induction over its type.
-use Rattle.std.proofs.Common.{◌≡◌, ◌∙◌, ℕ, zero, suc, ◌+◌, ◌-◌, ◌*◌, ◌<◌, ◌≤◌, Bool, true, false, List, [], ◌∷◌, length, map, take, get_or, refl, sym, ap}
-use Rattle.std.proofs.Common.{subst, arith, ◌==◌}
-use Rattle.std.specs.Prelude.{ℤ, pos, not, ◌&&◌, nat_le, slice_range, Some}
+use Rattle.std.proofs.Common.{◌≡◌, ◌∙◌, ℕ, zero, suc, ◌+◌, ◌-◌, ◌*◌, ◌<◌, ◌≤◌, Bool, true, false, List, [], ◌∷◌, length, map, take, get_or, refl, sym}
+use Rattle.std.proofs.Common.{ap}
+use Rattle.std.proofs.Common.{subst, arith}
+use Rattle.std.specs.Prelude.{ℤ, pos, ◌&&◌, nat_le, slice_range}
 use Rattle.std.specs.List.{list_all, flat_map}
 use Rattle.std.proofs.Math.ListN.{get_or-map}
 use Rattle.std.proofs.lemmas.Bool.{and_parts}
 use Rattle.std.proofs.lemmas.List.{length-map}
 use Rattle.std.proofs.lemmas.Option.{get_or_from_slice_get}
-use Rattle.columnar_memory.specs.declared.DataType.{DataType, map-DataType}
+use Rattle.columnar_memory.specs.declared.DataType.{DataType}
 use Rattle.columnar_memory.specs.declared.DataType.TheOpen as layer
 use Rattle.columnar_memory.specs.declared.DataType.TheFolds.{fold-roll-DataType, para-roll-DataType, fold-roll-Field}
 use Rattle.columnar_memory.specs.declared.DataType.TheFolds.{para-roll-Field, ind-DataType}
-use Rattle.columnar_memory.specs.declared.DataType.TheViews.{roll-DataType, roll-Field, out-DataType}
+use Rattle.columnar_memory.specs.declared.DataType.TheViews.{roll-DataType, roll-Field}
 use Rattle.columnar_memory.specs.declared.Field.{Field, map-Field}
 use Rattle.columnar_memory.specs.declared.IntervalUnit.TheVariants as intervals
 use Rattle.columnar_memory.specs.declared.PrimitiveType.{PrimitiveType}
@@ -20,23 +21,27 @@ use Rattle.nested_arrays_columns.specs.Cells.{is_null, is_truth, is_number_of, i
 use Rattle.nested_arrays_columns.specs.Cells.{is_list_of, is_list_of_size, fit_each, is_record_of, fits_step, fits_cell}
 use Rattle.nested_arrays_columns.specs.Children.{items_of, fixed_items_of, slot_number, field_of, joined_items, joined_fixed_items, field_slots}
 use Rattle.nested_arrays_columns.specs.Children.{dictionary_values}
-use Rattle.nested_arrays_columns.specs.FreshColumns.{is_valid, is_true, number_of, pair_of, triple_of, content_of, fixed_content_of, key_among, mask_of}
+use Rattle.nested_arrays_columns.specs.FreshColumns.{is_valid, is_true, number_of, pair_of, triple_of, content_of, fixed_content_of, key_among}
+use Rattle.nested_arrays_columns.specs.FreshColumns.{mask_of}
 use Rattle.nested_arrays_columns.specs.FreshColumns.{content_offsets, item_offsets, Maker, MakerUnder, fresh_fields, fresh_lists, fresh_keys}
 use Rattle.nested_arrays_columns.specs.FreshColumns.{fresh_step, fresh_field_step, fresh_under}
 use Rattle.nested_arrays_columns.specs.FreshLaws.{buildable_step, is_buildable, FreshLengths, FreshSlots}
 use Rattle.nested_arrays_columns.specs.Kinds.{same_kind, in_kind, is_signed}
 use Rattle.nested_arrays_columns.specs.OpenBatch.{is_within}
 use Rattle.nested_arrays_columns.specs.SameSlots.{is_among}
-use Rattle.nested_arrays_columns.specs.SoundColumns.{is_entry}
-use Rattle.nested_arrays_columns.specs.Slots.{Slot, Slots, null, truth, number, pair, triple, text, bytes, items, fields, no_slot, slot_then, in_slots}
+use Rattle.nested_arrays_columns.specs.Slots.{Slot, Slots, null, truth, number, pair, triple, text, bytes, items, fields, no_slot, slot_then}
+use Rattle.nested_arrays_columns.specs.Slots.{in_slots}
 use Rattle.nested_arrays_columns.specs.Slots.{slot_list, window}
-use Rattle.nested_arrays_columns.specs.StoredColumns.{bits, numbers, pairs, triples, texts, byte_strings, fixed_bytes, Column, flat, fixed_lists, records}
+use Rattle.nested_arrays_columns.specs.StoredColumns.{bits, numbers, pairs, triples, texts, byte_strings, fixed_bytes, Column, flat, fixed_lists}
+use Rattle.nested_arrays_columns.specs.StoredColumns.{records}
 use Rattle.nested_arrays_columns.specs.StoredColumns.{unless_null, string_at, stored_at, column_len, slot_at, slots_at, slots, cut_list, place_of}
 use Rattle.nested_arrays_columns.proofs.Claims.{TypeWith, FieldWith, LayerWith, bare_layer}
 use Rattle.nested_arrays_columns.proofs.Fitting.{null_fits}
 use Rattle.nested_arrays_columns.proofs.FreshBelow.{items_fit, fixed_items_fit, fixed_piece, values_fit, TakeNull, fields_pass, fields_fit}
 use Rattle.nested_arrays_columns.proofs.FreshKeys.{all_among, key_below, at_key}
-use Rattle.nested_arrays_columns.proofs.FreshLengths.{Layer, buildable_field, fresh_field, cell_field, buildable_layer, fresh_layer, cell_layer, unlike}
+use Rattle.nested_arrays_columns.proofs.FreshLengths.{makers_of, answers, can_all}
+use Rattle.nested_arrays_columns.proofs.FreshLengths.{Layer, buildable_field, fresh_field, cell_field, buildable_layer, fresh_layer, cell_layer}
+use Rattle.nested_arrays_columns.proofs.FreshLengths.{unlike}
 use Rattle.nested_arrays_columns.proofs.FreshLengths.{content_piece, fresh_counts}
 use Rattle.nested_arrays_columns.proofs.FreshPlaces.{by_place, at_window, passes_at, masked, begins_at, ends_at, piece_at, size_at, piece_inside}
 use Rattle.nested_arrays_columns.proofs.SameSlotsDecide.{same_kind-implies}
@@ -117,7 +122,8 @@ truths_stand : (whole : DataType) → Places (λ xs. flat whole (mask_of xs) (bi
 truths_stand whole xs fits = under_mask is_truth xs (λ i. truth (get_or (map is_true xs) i false)) fits
     (λ i lt fit valid. ap truth (get_or-map is_true xs i null) ∙ truth_back (get_or xs i null) fit valid)
 
-numbers_stand : (kind : PrimitiveType) (whole : DataType) → Places (λ xs. flat whole (mask_of xs) (numbers kind (map number_of xs))) (is_number_of kind)
+numbers_stand : (kind : PrimitiveType) (whole : DataType) → Places (λ xs. flat whole (mask_of xs) (numbers kind (map number_of xs)))
+    (is_number_of kind)
 numbers_stand kind whole xs fits = under_mask (is_number_of kind) xs (λ i. number kind (get_or (map number_of xs) i (pos 0))) fits
     (λ i lt fit valid. ap (number kind) (get_or-map number_of xs i null) ∙ number_back kind (get_or xs i null) fit valid)
 
@@ -203,7 +209,8 @@ lists_stand item cell whole below xs fits =
     let column = item (joined_items xs) in
     let same = below.keeps (joined_items xs) (items_fit cell xs fits) in
     under_mask (is_list_of cell) xs
-    (λ i. items (in_slots (window (slot_at column) (get_or (item_offsets xs) i 0) (get_or (item_offsets xs) (i + 1) 0 - get_or (item_offsets xs) i 0))))
+    (λ i. items (in_slots (window (slot_at column) (get_or (item_offsets xs) i 0) (get_or (item_offsets xs) (i + 1) 0 - get_or
+    (item_offsets xs) i 0))))
     fits
     (λ i lt fit valid. ap (λ ys. items (in_slots ys)) (items_are column xs i same lt) ∙ list_back cell (get_or xs i null) fit valid)
 
@@ -216,7 +223,8 @@ maps_stand : (item : Maker) (whole : DataType) → Places (fresh_lists whole ite
 maps_stand item whole xs fits =
     let column = item (joined_items xs) in
     under_mask is_null xs
-    (λ i. items (in_slots (window (slot_at column) (get_or (item_offsets xs) i 0) (get_or (item_offsets xs) (i + 1) 0 - get_or (item_offsets xs) i 0))))
+    (λ i. items (in_slots (window (slot_at column) (get_or (item_offsets xs) i 0) (get_or (item_offsets xs) (i + 1) 0 - get_or
+    (item_offsets xs) i 0))))
     fits (λ i lt fit valid. no_map (get_or xs i null) _ fit valid)
 
 fixed_list_back : (size : ℕ) (cell : Slot → Bool) (slot : Slot) → is_list_of_size size cell slot ≡ true → is_valid slot ≡ true
@@ -247,15 +255,6 @@ Children = List (FieldWith FieldKeeps)
 
 abbrev fields_of : Children → List Field
 fields_of ys = map (λ e. e.0) ys
-
-abbrev makers_of : List Field → List (Field × Maker)
-makers_of us = map (λ u. (u, fresh_field u)) us
-
-abbrev answers : List Field → List (Field × Bool)
-answers us = map (λ u. (u, buildable_field u)) us
-
-abbrev can_all : List Field → Bool
-can_all us = list_all (λ (child : Field × Bool). child.1) (answers us)
 
 take_nulls : (ys : Children) → can_all (fields_of ys) ≡ true → TakeNull (map cell_field (fields_of ys))
 take_nulls [] can = tt

@@ -12,12 +12,16 @@ pub mod Folds
 pub mod FreshBelow
 pub mod FreshKeys
 pub mod FreshLengths
+pub mod FreshParts
 pub mod FreshPlaces
 pub mod FreshSlots
+pub mod FreshSound
 pub mod FreshTypes
 pub mod Parts
+pub mod RowBatches
 pub mod SameSlotsDecide
 pub mod SoundCuts
 pub mod SoundParts
+pub mod TextBytes
 pub mod TypeLayers
 pub mod Windows

@@ -1,6 +1,6 @@
 -- Which slots a list of slots brings to each child of a type (Arrow columnar format, "Variable-size List Layout" to "Dictionary-encoded
 -- Layout").
-use Rattle.std.specs.Prelude.{ℕ, zero, suc, not, List, [], ◌∷◌, map, replicate}
+use Rattle.std.specs.Prelude.{ℕ, zero, suc, not, List, [], map, replicate}
 use Rattle.std.specs.List.{filter, flat_map}
 use Rattle.nested_arrays_columns.specs.Cells.{is_null}
 use Rattle.nested_arrays_columns.specs.SameSlots.{distinct}

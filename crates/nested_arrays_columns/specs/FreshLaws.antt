@@ -1,5 +1,5 @@
 -- What holds of the column that stores some slots, where they fit its type.
-use Rattle.std.specs.Prelude.{◌≡◌, Bool, true, false, ◌&&◌, List, length, nat_le}
+use Rattle.std.specs.Prelude.{◌≡◌, Bool, true, false, ◌&&◌, List, length, map, nat_le}
 use Rattle.std.specs.List.{list_all}
 use Rattle.columnar_memory.specs.declared.DataType.{DataType}
 use Rattle.columnar_memory.specs.declared.DataType.TheOpen as layer
@@ -8,6 +8,7 @@ use Rattle.columnar_memory.specs.declared.DataType.TheViews.{out-DataType}
 use Rattle.columnar_memory.specs.declared.Field.{Field}
 use Rattle.nested_arrays_columns.specs.FreshColumns.{fresh}
 use Rattle.nested_arrays_columns.specs.OpenBatch.{fits}
+use Rattle.nested_arrays_columns.specs.Rows.{columns_of_rows, columns_fit, batch_of_rows}
 use Rattle.nested_arrays_columns.specs.Slots.{Slot}
 use Rattle.nested_arrays_columns.specs.SoundColumns.{is_sound, is_entry}
 use Rattle.nested_arrays_columns.specs.StoredColumns.{column_len, column_type, slots}
@@ -49,3 +50,14 @@ FreshSlots = (data_type : DataType) (some : List Slot) → is_buildable data_typ
 abbrev pub FreshIsSound : Type 0
 FreshIsSound = (data_type : DataType) (some : List Slot) → is_buildable data_type ≡ true → fits data_type some ≡ true
     → is_sound (fresh data_type some) ≡ true
+
+-- each of several fields has a type of which slots are stored as they come
+abbrev pub are_buildable : List Field → Bool
+are_buildable schema_fields = list_all (λ (field : Field). is_buildable field.data_type) schema_fields
+
+-- where the columns of some rows fit, the columns that a batch of these rows becomes have their slots, and are sound
+abbrev pub BatchesOfRows : Type 0
+BatchesOfRows = (schema_fields : List Field) (rows : List (List Slot)) → are_buildable schema_fields ≡ true
+    → columns_fit schema_fields (columns_of_rows schema_fields rows) ≡ true
+    → (map slots (batch_of_rows schema_fields rows) ≡ columns_of_rows schema_fields rows)
+    × (list_all is_sound (batch_of_rows schema_fields rows) ≡ true)

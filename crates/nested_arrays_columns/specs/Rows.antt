@@ -1,5 +1,5 @@
 -- Rows of cells, as they are pushed into open columns: which are accepted, and what a batch of them becomes.
-use Rattle.std.specs.Prelude.{ℕ, ℤ, Bool, true, false, ◌&&◌, ◌==◌, List, [], ◌∷◌, ◌++◌, length, map, slice_index_or}
+use Rattle.std.specs.Prelude.{ℕ, ℤ, Bool, true, ◌&&◌, ◌==◌, List, [], ◌∷◌, ◌++◌, length, map, slice_index_or}
 use Rattle.columnar_memory.specs.declared.Field.{Field}
 use Rattle.columnar_memory.specs.declared.PrimitiveType.{PrimitiveType}
 use Rattle.columnar_memory.specs.declared.PrimitiveType.TheVariants as kinds

@@ -14,7 +14,8 @@ pub use cut_laws::{
     a_cut_has_its_length, a_cut_is_sound, a_cut_keeps_its_size, a_cut_of_a_cut_is_one_cut,
 };
 pub use fresh_laws::{
-    a_column_of_slots_has_its_length, a_column_of_slots_has_its_type, a_column_of_slots_has_the_slots,
+    a_batch_of_rows_has_their_slots, a_column_of_slots_has_its_length,
+    a_column_of_slots_has_its_type, a_column_of_slots_has_the_slots, a_column_of_slots_is_sound,
 };
 pub use slot_laws::{
     a_beginning_of_what_fits_fits, a_slot_has_its_place_among_distinct_ones,
