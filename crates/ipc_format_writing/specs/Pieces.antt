@@ -17,7 +17,7 @@ use Rattle.ipc_format_messages.specs.flatbuffers.declared.LayError.TheVariants a
 use Rattle.ipc_format_messages.specs.grammar.Schemas.{Ids, IdsList, extension_name_key, extension_metadata_key}
 use Rattle.ipc_format_messages.specs.grammar.SchemaObjects.{Told, told_step, told_field_step, truth, pair_object, encoding_object, metadata_object}
 use Rattle.ipc_format_messages.specs.grammar.SchemaObjects.{written_pairs}
-use Rattle.ipc_format_writing.specs.declared.pairs.Named.{Named}
+use Rattle.ipc_format_writing.specs.declared.written_pairs.Named.{Named}
 use Rattle.ipc_format_writing.specs.declared.fields.LaidType.{LaidType}
 use Rattle.ipc_format_messages.specs.columnar_memory.declared.Field.{Field}
 use Rattle.ipc_format_messages.specs.columnar_memory.declared.DataType.TheFolds.{fold-Field}
