@@ -6,7 +6,7 @@ use Rattle.ipc_format_writing.specs.flatbuffers.Reading.{◌>>=◌}
 use Rattle.ipc_format_writing.proofs.metadata_lemmas.Options.{bind-some}
 use Rattle.ipc_format_writing.specs.messages.MessageSlots.{TableIn, VectorIn}
 use Rattle.ipc_format_writing.specs.grammar.Schemas.{Visits}
-use Rattle.ipc_format_values.specs.declared.Field.{Field}
+use Rattle.ipc_format_values.specs.declared.fields.Field.{Field}
 use Rattle.ipc_format_values.specs.Owned.{gathered, table_at}
 use Rattle.ipc_format_values.specs.OwnedFields.{each_of, fields_in}
 

@@ -13,12 +13,12 @@ use Rattle.ipc_format_writing.specs.messages.TypeSlots as type_slots
 use Rattle.ipc_format_writing.specs.messages.TypeSlots.{TypeIn}
 use Rattle.ipc_format_writing.specs.messages.declared.DateUnit.{DateUnit}
 use Rattle.ipc_format_writing.specs.messages.declared.DateUnit.TheVariants.{Day, Millisecond}
-use Rattle.ipc_format_values.specs.declared.KeyValue.{KeyValue}
-use Rattle.ipc_format_values.specs.declared.Int.{Int}
-use Rattle.ipc_format_values.specs.declared.Precision.{Precision}
-use Rattle.ipc_format_values.specs.declared.Precision.TheVariants as precisions
-use Rattle.ipc_format_values.specs.declared.Type_.{Type_}
-use Rattle.ipc_format_values.specs.declared.Type_.TheVariants as types
+use Rattle.ipc_format_values.specs.declared.fields.KeyValue.{KeyValue}
+use Rattle.ipc_format_values.specs.declared.fields.Int.{Int}
+use Rattle.ipc_format_values.specs.declared.types.Precision.{Precision}
+use Rattle.ipc_format_values.specs.declared.types.Precision.TheVariants as precisions
+use Rattle.ipc_format_values.specs.declared.types.Type_.{Type_}
+use Rattle.ipc_format_values.specs.declared.types.Type_.TheVariants as types
 
 -- ---- lists
 

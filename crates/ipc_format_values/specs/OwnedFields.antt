@@ -11,10 +11,10 @@ use Rattle.ipc_format_writing.specs.messages.TypeSlots.{field_type}
 use Rattle.ipc_format_writing.specs.messages.declared.Endianness.{Endianness}
 use Rattle.ipc_format_writing.specs.messages.declared.Endianness.TheVariants.{Little, Big}
 use Rattle.ipc_format_values.specs.Owned.{int_in, type_in, pairs_in, table_at}
-use Rattle.ipc_format_values.specs.declared.DictionaryEncoding.{DictionaryEncoding}
-use Rattle.ipc_format_values.specs.declared.Field.{Field}
-use Rattle.ipc_format_values.specs.declared.Field.TheViews.{roll-Field}
-use Rattle.ipc_format_values.specs.declared.Schema.{Schema}
+use Rattle.ipc_format_values.specs.declared.fields.DictionaryEncoding.{DictionaryEncoding}
+use Rattle.ipc_format_values.specs.declared.fields.Field.{Field}
+use Rattle.ipc_format_values.specs.declared.fields.Field.TheViews.{roll-Field}
+use Rattle.ipc_format_values.specs.declared.fields.Schema.{Schema}
 use Rattle.ipc_format_values.specs.declared.fields.FieldParts.{FieldParts}
 
 -- ---- fields

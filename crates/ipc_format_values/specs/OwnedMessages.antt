@@ -15,12 +15,12 @@ use Rattle.ipc_format_writing.specs.messages.declared.MetadataVersion.{MetadataV
 use Rattle.ipc_format_writing.specs.messages.declared.MetadataVersion.TheVariants as versions
 use Rattle.ipc_format_values.specs.Owned.{gathered, pairs_in}
 use Rattle.ipc_format_values.specs.OwnedFields.{schema_in}
-use Rattle.ipc_format_values.specs.declared.RecordBatch.{RecordBatch}
-use Rattle.ipc_format_values.specs.declared.DictionaryBatch.{DictionaryBatch}
-use Rattle.ipc_format_values.specs.declared.MessageHeader.{MessageHeader}
-use Rattle.ipc_format_values.specs.declared.MessageHeader.TheVariants as headers
-use Rattle.ipc_format_values.specs.declared.Message.{Message}
-use Rattle.ipc_format_values.specs.declared.Footer.{Footer}
+use Rattle.ipc_format_values.specs.declared.message_values.RecordBatch.{RecordBatch}
+use Rattle.ipc_format_values.specs.declared.message_values.DictionaryBatch.{DictionaryBatch}
+use Rattle.ipc_format_values.specs.declared.message_values.MessageHeader.{MessageHeader}
+use Rattle.ipc_format_values.specs.declared.message_values.MessageHeader.TheVariants as headers
+use Rattle.ipc_format_values.specs.declared.message_values.Message.{Message}
+use Rattle.ipc_format_values.specs.declared.message_values.Footer.{Footer}
 
 -- ---- structs of vectors
 

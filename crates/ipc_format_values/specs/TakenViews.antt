@@ -2,7 +2,7 @@
 use Rattle.std.specs.Prelude.{ℕ, List}
 use Rattle.ipc_format_writing.specs.flatbuffers.Views.{vector_of}
 use Rattle.ipc_format_writing.specs.messages.MessageSlots.{VectorIn}
-use Rattle.ipc_format_values.specs.declared.Field.{Field}
+use Rattle.ipc_format_values.specs.declared.fields.Field.{Field}
 use Rattle.ipc_format_values.specs.declared.numbers.NumbersRef.{NumbersRef}
 use Rattle.ipc_format_values.specs.declared.fields.FieldTaken.{FieldTaken}
 use Rattle.ipc_format_values.specs.declared.fields.FieldsTaken.{FieldsTaken}

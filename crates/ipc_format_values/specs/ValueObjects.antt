@@ -27,12 +27,12 @@ use Rattle.ipc_format_values.specs.declared.types.Precision.{Precision}
 use Rattle.ipc_format_values.specs.declared.types.Precision.TheVariants as precisions
 use Rattle.ipc_format_values.specs.declared.types.Type_.{Type_}
 use Rattle.ipc_format_values.specs.declared.types.Type_.TheVariants as types
-use Rattle.ipc_format_values.specs.declared.messages.RecordBatch.{RecordBatch}
-use Rattle.ipc_format_values.specs.declared.messages.DictionaryBatch.{DictionaryBatch}
-use Rattle.ipc_format_values.specs.declared.messages.MessageHeader.{MessageHeader}
-use Rattle.ipc_format_values.specs.declared.messages.MessageHeader.TheVariants as headers
-use Rattle.ipc_format_values.specs.declared.messages.Message.{Message}
-use Rattle.ipc_format_values.specs.declared.messages.Footer.{Footer}
+use Rattle.ipc_format_values.specs.declared.message_values.RecordBatch.{RecordBatch}
+use Rattle.ipc_format_values.specs.declared.message_values.DictionaryBatch.{DictionaryBatch}
+use Rattle.ipc_format_values.specs.declared.message_values.MessageHeader.{MessageHeader}
+use Rattle.ipc_format_values.specs.declared.message_values.MessageHeader.TheVariants as headers
+use Rattle.ipc_format_values.specs.declared.message_values.Message.{Message}
+use Rattle.ipc_format_values.specs.declared.message_values.Footer.{Footer}
 
 -- ---- types
 
