@@ -165,7 +165,7 @@ class Negative(Ready):
 
     def file_parts(self):
         dictionaries, records = super().file_parts()
-        return dictionaries, records or [self.part(RECORD_BATCH, None, self.version)]
+        return dictionaries, [self.part(RECORD_BATCH, None, self.version)] if dictionaries and not records else records
 
     def block(self, place):
         if self.random.random() < 0.3:
