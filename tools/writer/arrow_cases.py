@@ -177,7 +177,7 @@ class Writer:
         if not dictionaries and self.random.random() < 0.5:
             tree.slots = tree.slots[:2] + (None,) + tree.slots[3:]
         if not records and self.random.random() < 0.5:
-            tree.slots = tree.slots[:2] + (Elements(1, struct.pack("<qi4xq", 2**40, 7, -1)),) + tree.slots[3:]
+            tree.slots = tree.slots[:2] + (Elements(1, struct.pack("<qi4xq", *self.block((2**40, 7, -1)))),) + tree.slots[3:]
         footer = self.lay(self.damage.tree(tree))
         out += footer + self.damage.framing(struct.pack("<i", len(footer))) + b"ARROW1"
         return Case("file", bytes(out), self.table())

@@ -141,9 +141,8 @@ def unseen_type(random):
         field = field_of(data_type)
         data_type = random.choice((
             ("Struct", (field,)), ("Struct", (field_of(("Int8",)), field)), ("FixedSizeList", field, 2), ("List", field),
-            ("Extension", b"e", data_type, None),
         ))
-    return data_type
+    return ("Extension", b"e", data_type, None) if random.random() < 0.2 else data_type
 
 
 def missing(random):
@@ -164,8 +163,12 @@ class Negative(Ready):
         super().__init__(random, fields)
         self.place, self.is_refused = random.choice((0, 1, 2)), False
 
+    def file_parts(self):
+        dictionaries, records = super().file_parts()
+        return dictionaries, [self.part(RECORD_BATCH, None, self.version)] if dictionaries and not records else records
+
     def block(self, place):
-        if self.random.random() < 0.5:
+        if self.random.random() < 0.3:
             return place
         self.is_refused = self.is_refused or self.place < 2
         least = -(2**31) if self.place == 1 else -(2**63)
@@ -185,7 +188,7 @@ def feather(random):
     return Case("stream", b"FEA1" + random.choice((b"", bytes(40), END)), None)
 
 
-SMALL = (deep, wide, shared, short, unwritable, unwritable, missing, missing, missing, negative, feather)
+SMALL = (deep, wide, shared, short, unwritable, unwritable, missing, missing, negative, negative, feather)
 
 
 # ---- long runs of dictionaries
