@@ -78,8 +78,8 @@ def takes(data_type, slot):
 
 
 def accepts(fields, rows, row):
-    """Whether a row is accepted where some rows are open."""
-    if len(row) != len(fields):
+    """Whether a row is accepted where some rows are open; without fields none is."""
+    if not fields or len(row) != len(fields):
         return False
     return all(fits_column(field.data_type, [other[k] for other in rows] + [row[k]]) for k, field in enumerate(fields))
 
@@ -106,12 +106,14 @@ def other_row(row, random):
 
 
 def full_dictionaries():
-    """Fields of a dictionary with as many values as its keys tell apart, the rows so far, and rows to be pushed, of which the last is too much."""
+    """Fields of a dictionary with as many values as its keys tell apart, and no fields, the rows so far, and rows to be pushed, of which the
+    last is too much."""
     number, dictionary = (lambda n: ("number", "Int32", n)), ("Dictionary", "Int8", ("Int32",), False)
     values = tuple(number(n) for n in range(128))
     yield [Field(b"", dictionary, True, ())], [(value,) for value in values], [(number(5),), (number(128),)]
     lists = ("List", Field(b"item", dictionary, True, ()))
     yield [Field(b"", lists, True, ())], [(("items", values),)], [(("items", (None, number(-1))),)]
+    yield [], [], [()]
 
 
 class ColumnsOfSlots(StoredColumns):

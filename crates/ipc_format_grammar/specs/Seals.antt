@@ -1,12 +1,11 @@
 -- Seals: the one byte text of a schema, a list of rows and a batch size. The rows go in batches of that size, little-endian, each column
 -- from its slots alone, the dictionaries numbered from 0.
-use Rattle.std.specs.Prelude.{◌≡◌, ℕ, zero, suc, Bool, true, ◌&&◌, List, [], ◌∷◌, length, map, take, drop, is_none, nat_le, nat_lt, ◌==◌}
-use Rattle.std.specs.Prelude.{Option, Some}
+use Rattle.std.specs.Prelude.{◌≡◌, ℕ, zero, suc, Bool, true, ◌&&◌, List, [], ◌∷◌, length, map, take, drop, is_none, nat_le, Option, Some}
 use Rattle.std.specs.List.{list_all}
 use Rattle.ipc_format_flatbuffers.specs.Reading.{◌>>=◌, guard}
 use Rattle.columnar_memory.specs.declared.Field.{Field}
 use Rattle.columnar_memory.specs.declared.Schema.{Schema}
-pub use Rattle.nested_arrays_columns.specs.Rows.{column_of_rows, columns_of_rows, columns_fit}
+pub use Rattle.nested_arrays_columns.specs.Rows.{column_of_rows, columns_of_rows, columns_fit, is_row_of}
 use Rattle.nested_arrays_columns.specs.Slots.{Slot}
 use Rattle.nested_arrays_columns.specs.Tables.{Table}
 use Rattle.nested_arrays_columns.specs.Sealing.{seal_bar}
@@ -36,7 +35,7 @@ seal_bytes schema rows n = stream_bytes schema (default_ids schema.fields) (seal
 
 -- each row has a value a field, and without fields there is no row
 abbrev pub are_rows_of : List Field → List (List Slot) → Bool
-are_rows_of fields rows = list_all (λ row. nat_lt 0 (length fields) && (length row == length fields)) rows
+are_rows_of fields rows = list_all (is_row_of fields) rows
 
 -- how many rows a batch of a seal may have
 abbrev pub is_batch_size : ℕ → Bool

@@ -1,7 +1,7 @@
 -- Types that are written and in which no union stands are those of which slots are stored as they come.
-use Rattle.std.proofs.Common.{◌≡◌, ◌∙◌, ℕ, Bool, true, false, List, [], ◌∷◌, length, map, refl, sym, ap, subst}
-use Rattle.std.specs.Prelude.{◌&&◌, ◌||◌, nat_le}
-use Rattle.std.specs.List.{list_all, list_any}
+use Rattle.std.proofs.Common.{◌≡◌, ◌∙◌, Bool, true, false, List, [], ◌∷◌, length, map, refl, sym, ap, subst}
+use Rattle.std.specs.Prelude.{◌&&◌, nat_le}
+use Rattle.std.specs.List.{list_all}
 use Rattle.std.proofs.lemmas.Bool.{and_parts, and_from, or_parts}
 use Rattle.std.proofs.lemmas.List.{length-map}
 use denote.Hole.Carrier
@@ -18,8 +18,7 @@ use Rattle.nested_arrays_columns.proofs.FreshLengths.{answers, can_all}
 use Rattle.nested_arrays_columns.proofs.FreshLengths.{buildable_field, buildable_layer, unlike}
 use Rattle.nested_arrays_columns.proofs.TypeLayers.{Layer}
 use Rattle.ipc_format_grammar.specs.Encoding.{any_of, union_step, has_union}
-use Rattle.ipc_format_grammar.specs.Writable.{Report, report_step, field_step, report_of, is_struct_of_two, is_size, fits_i32, is_plain}
-use Rattle.ipc_format_grammar.specs.Writable.{is_dictionary}
+use Rattle.ipc_format_grammar.specs.Writable.{Report, report_step, field_step, report_of, is_struct_of_two, is_size, fits_i32}
 use Rattle.ipc_format_laws.specs.FreshEncodings.{WritableIsBuildable}
 
 abbrev report_field : Field → Report

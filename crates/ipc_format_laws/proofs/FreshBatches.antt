@@ -1,17 +1,16 @@
 -- What is written of rows is what is written of the columns that a batch of them becomes.
-use Rattle.std.proofs.Common.{◌≡◌, ℕ, zero, suc, ◌+◌, Bool, true, List, [], ◌∷◌, ◌++◌, length, map, refl}
-use Rattle.std.specs.Prelude.{◌&&◌}
+use Rattle.std.proofs.Common.{◌≡◌, ℕ, ◌+◌, true, List, [], ◌∷◌, ◌++◌, length, map, refl}
 use Rattle.std.proofs.lemmas.Bool.{and_parts}
 use Rattle.columnar_memory.specs.declared.Field.{Field}
 use Rattle.nested_arrays_columns.specs.FreshLaws.{is_buildable, are_buildable}
 use Rattle.nested_arrays_columns.specs.OpenBatch.{fits}
-use Rattle.nested_arrays_columns.specs.Rows.{column_of_rows, columns_of_rows, columns_fit, fresh_columns, batch_of_rows}
+use Rattle.nested_arrays_columns.specs.Rows.{column_of_rows, columns_fit, fresh_columns}
 use Rattle.nested_arrays_columns.specs.Slots.{Slot, window}
 use Rattle.nested_arrays_columns.proofs.FreshSlots.{fresh_lengths}
 use Rattle.ipc_format_grammar.specs.Columns.{first_ids, other_ids}
 use Rattle.ipc_format_grammar.specs.Schemas.{IdsList}
 use Rattle.ipc_format_grammar.specs.StoredEncoding.{encode_stored}
-use Rattle.ipc_format_grammar.specs.WrittenStreams.{Batch, columns_of_slots, given_of_slots, rows_of_slots, batch_of_slots, given_of_stored}
+use Rattle.ipc_format_grammar.specs.WrittenStreams.{columns_of_slots, given_of_slots, rows_of_slots, batch_of_slots, given_of_stored}
 use Rattle.ipc_format_grammar.specs.WrittenStreams.{rows_of_stored, batch_of_stored}
 use Rattle.ipc_format_laws.specs.FreshEncodings.{RowsEncode}
 use Rattle.ipc_format_laws.proofs.FreshDictionaries.{fresh_gives}

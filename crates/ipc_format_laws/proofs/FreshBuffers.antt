@@ -1,36 +1,28 @@
 -- The buffers of the column that stores some slots are those of the slots.
-use Rattle.std.proofs.Common.{◌≡◌, ◌∙◌, ℕ, zero, suc, ◌+◌, ◌-◌, ◌^◌, ◌<◌, ◌≤◌, Bool, true, false, List, [], ◌∷◌, ◌++◌, length, map, take, drop}
-use Rattle.std.proofs.Common.{replicate, get_or, refl, sym, ap, arith, length-append}
-use Rattle.std.specs.Prelude.{ℤ, pos, ◌||◌, not, nat_lt, Option, Some, None, if◌then◌else◌, slice_index, slice_range, count_by, cond}
-use Rattle.std.specs.List.{flat_map, list_all, list_any}
+use Rattle.std.proofs.Common.{◌≡◌, ◌∙◌, ℕ, suc, ◌+◌, ◌-◌, Bool, true, false, List, [], ◌∷◌, ◌++◌, length, map}
+use Rattle.std.proofs.Common.{replicate, refl, sym, ap, arith, length-append}
+use Rattle.std.specs.Prelude.{ℤ, pos, nat_lt, Option, Some, None, if◌then◌else◌, slice_index, slice_range, cond}
+use Rattle.std.specs.List.{flat_map, list_any}
 use Rattle.std.specs.Int.{Width, w8, w16, w32, w64, w128, byte_len, to_le_bytes, cast_unsigned}
-use mir.Val.{bits}
-use Rattle.std.proofs.Math.Nat.{mod-eq_of_lt}
-use Rattle.std.proofs.lemmas.Bool.{and_parts, or_parts, cases_Bool}
+use Rattle.std.proofs.lemmas.Bool.{or_parts, cases_Bool}
 use Rattle.std.proofs.lemmas.List.{length-map}
 use Rattle.std.proofs.lemmas.List.Sums.{sum_by-cons}
 use mathlib.Core.Logic.{inl, inr}
 use Rattle.columnar_memory.specs.declared.DataType.{DataType}
-use Rattle.columnar_memory.specs.declared.DataType.TheOpen as layer
-use Rattle.columnar_memory.specs.declared.Field.{Field}
 use Rattle.columnar_memory.specs.declared.IntegerType.{IntegerType}
-use Rattle.columnar_memory.specs.declared.IntegerType.TheVariants as integers
 use Rattle.columnar_memory.specs.declared.PrimitiveType.{PrimitiveType}
 use Rattle.columnar_memory.specs.declared.PrimitiveType.TheVariants as kinds
 use Rattle.nested_arrays_columns.specs.Cells.{is_null}
 use Rattle.nested_arrays_columns.specs.Children.{dictionary_values}
 use Rattle.nested_arrays_columns.specs.FreshColumns.{is_valid, number_of, pair_of, triple_of, mask_of, sums_from, numbers_as, key_among}
 use Rattle.nested_arrays_columns.specs.FreshColumns.{content_of}
-use Rattle.nested_arrays_columns.specs.Kinds.{most_values}
-use Rattle.nested_arrays_columns.specs.SameSlots.{is_among}
-use Rattle.nested_arrays_columns.specs.Slots.{Slot, null, truth, number, pair, triple, text, bytes, items, fields, pick}
-use Rattle.nested_arrays_columns.specs.StoredColumns.{Stored, numbers, pairs, triples, flat, stored_len, cut_list, cut_mask, cut_stored, type_layer}
-use Rattle.nested_arrays_columns.proofs.FreshKeys.{all_among, key_below}
+use Rattle.nested_arrays_columns.specs.Slots.{Slot, number, pair, triple}
+use Rattle.nested_arrays_columns.specs.StoredColumns.{Stored, flat, stored_len, cut_list, cut_mask, cut_stored, type_layer}
 use Rattle.nested_arrays_columns.proofs.FreshLengths.{sums_length}
 use Rattle.ipc_format_grammar.specs.Buffers.{null_count, validity_bytes, bitmap_of, number_bytes, wide_bytes, days_and_ms_bytes}
 use Rattle.ipc_format_grammar.specs.Buffers.{months_days_and_ns_bytes, kind_bytes, key_width, offset_bytes}
-use Rattle.ipc_format_grammar.specs.Encoding.{Encoded, column_over, node_of, flat_column, values_column}
-use Rattle.ipc_format_grammar.specs.StoredEncoding.{mask_nulls, mask_bytes, node_over, last_offset, moved_offsets, moved_bytes, between_offsets}
+use Rattle.ipc_format_grammar.specs.Encoding.{Encoded, column_over, node_of, flat_column}
+use Rattle.ipc_format_grammar.specs.StoredEncoding.{mask_nulls, mask_bytes, node_over, last_offset, moved_bytes, between_offsets}
 use Rattle.ipc_format_grammar.specs.StoredEncoding.{stored_buffers, offset_width, integer_bytes, encode_stored}
 use Rattle.ipc_format_laws.proofs.FlatColumns.{front_by, whole_cut}
 

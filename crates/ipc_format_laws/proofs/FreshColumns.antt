@@ -1,24 +1,23 @@
 -- Fresh columns are written the same from their slots and as they are stored.
 use Rattle.std.proofs.Common.{◌≡◌, ℕ, ◌+◌, ◌-◌, ◌*◌, ◌/◌, List, [], ◌∷◌, ◌++◌, length, map, drop, get_or, replicate, refl, sym, ap, ◌∙◌}
 use Rattle.std.proofs.Common.{subst, Bool, true, false, arith}
-use Rattle.std.specs.Prelude.{ℤ, pos, ◌&&◌, ◌==◌, nat_le, Option, Some, unwrap_or, slice_range}
+use Rattle.std.specs.Prelude.{ℤ, pos, ◌&&◌, ◌==◌, nat_le, Option, Some, slice_range}
 use Rattle.std.specs.List.{flat_map, list_all}
 use Rattle.std.specs.Int.{Width, w32, w64}
 use Rattle.std.specs.Cmp.{unsigned_Decides, signed_Decides}
 use Rattle.std.specs.Cmp.Lexicographic.{bytes_decides}
 use Rattle.std.proofs.lemmas.Bool.{and_parts, both_ways, not-true}
-use denote.Hole.Carrier
 use Rattle.columnar_memory.specs.declared.DataType.{DataType, map-DataType}
 use Rattle.columnar_memory.specs.declared.DataType.TheOpen as layer
-use Rattle.columnar_memory.specs.declared.DataType.TheFolds.{fold-Field, fold-roll-DataType, para-roll-DataType, ind-DataType}
-use Rattle.columnar_memory.specs.declared.DataType.TheViews.{roll-DataType, out-DataType, out-roll-DataType}
+use Rattle.columnar_memory.specs.declared.DataType.TheFolds.{fold-Field, fold-roll-DataType, ind-DataType}
+use Rattle.columnar_memory.specs.declared.DataType.TheViews.{roll-DataType}
 use Rattle.columnar_memory.specs.declared.Field.{Field}
 use Rattle.columnar_memory.specs.declared.IntervalUnit.TheVariants as intervals
 use Rattle.columnar_memory.specs.declared.PhysicalType.{PhysicalType}
 use Rattle.columnar_memory.specs.declared.PhysicalType.TheVariants as physical
 use Rattle.columnar_memory.specs.declared.PrimitiveType.{PrimitiveType}
 use Rattle.columnar_memory.specs.declared.PrimitiveType.TheVariants as kinds
-use Rattle.columnar_memory.specs.Layouts.{stored_step, physical_step, physical_type}
+use Rattle.columnar_memory.specs.Layouts.{physical_step, physical_type}
 use Rattle.nested_arrays_columns.specs.Kinds.{same_kind, numbers_of_kind, in_kind}
 use Rattle.nested_arrays_columns.specs.Slots.{null, number, pair, triple}
 use Rattle.nested_arrays_columns.specs.SoundColumns.{mask_fits, holds_below, are_strings, is_text_at, is_stored_as, has_size, are_pieces, are_pairs}

@@ -1,6 +1,6 @@
 -- The column that stores some slots brings the dictionaries that the slots bring: an induction over its type.
-use Rattle.std.proofs.Common.{◌≡◌, ◌∙◌, ℕ, suc, Bool, true, false, List, [], ◌∷◌, ◌++◌, length, map, refl, sym, ap, subst}
-use Rattle.std.specs.Prelude.{◌&&◌, nat_le, None}
+use Rattle.std.proofs.Common.{◌≡◌, ◌∙◌, ℕ, suc, Bool, true, List, [], ◌∷◌, ◌++◌, length, map, refl, sym, ap, subst}
+use Rattle.std.specs.Prelude.{nat_le, None}
 use Rattle.std.specs.List.{list_all}
 use Rattle.std.proofs.lemmas.Bool.{and_parts}
 use Rattle.columnar_memory.specs.declared.DataType.{DataType, map-DataType}
@@ -17,7 +17,7 @@ use Rattle.nested_arrays_columns.specs.FreshLaws.{buildable_step, is_buildable}
 use Rattle.nested_arrays_columns.specs.OpenBatch.{is_within}
 use Rattle.nested_arrays_columns.specs.Slots.{Slot, null}
 use Rattle.nested_arrays_columns.specs.SoundColumns.{is_entry}
-use Rattle.nested_arrays_columns.specs.StoredColumns.{Column, column_type, slots}
+use Rattle.nested_arrays_columns.specs.StoredColumns.{column_type, slots}
 use Rattle.nested_arrays_columns.proofs.Claims.{TypeWith, FieldWith, LayerWith, bare_layer}
 use Rattle.nested_arrays_columns.proofs.Fitting.{null_fits}
 use Rattle.nested_arrays_columns.proofs.FreshBelow.{items_fit, no_items, fixed_items_fit, values_fit, TakeNull, fields_pass, fields_fit}
@@ -27,9 +27,8 @@ use Rattle.nested_arrays_columns.proofs.FreshLengths.{unlike}
 use Rattle.nested_arrays_columns.proofs.FreshSlots.{fresh_keeps}
 use Rattle.nested_arrays_columns.proofs.FreshTypes.{fresh_type}
 use Rattle.ipc_format_grammar.specs.Columns.{first_ids, other_ids, ids_below, own_id}
-use Rattle.ipc_format_grammar.specs.Encoding.{Encoded, encode}
 use Rattle.ipc_format_grammar.specs.StoredEncoding.{encode_stored}
-use Rattle.ipc_format_grammar.specs.GivenDictionaries.{Given, id_or_0, Giver, given_fields, given_values, givers, give_step, give_field_step}
+use Rattle.ipc_format_grammar.specs.GivenDictionaries.{id_or_0, Giver, given_fields, given_values, givers, give_step, give_field_step}
 use Rattle.ipc_format_grammar.specs.GivenDictionaries.{given_by}
 use Rattle.ipc_format_grammar.specs.GivenDictionaries.{given_stored, given_each}
 use Rattle.ipc_format_grammar.specs.Schemas.{Ids, IdsList, ids}
@@ -98,7 +97,9 @@ values_give : (value : DataType) → is_buildable value ≡ true → Gives (fres
     → list_all (fits_cell value) xs ≡ true
     → (given_stored (ids None (ids_below here)) (fresh value xs)
     ++ record {
-      id = id_or_0 (own_id here); data_type = column_type (fresh value xs); slots = slots (fresh value xs);
+      id = id_or_0 (own_id here);
+      data_type = column_type (fresh value xs);
+      slots = slots (fresh value xs);
       column = encode_stored true (fresh value xs);
     } ∷ []) ≡ given_values value (given_by value) here xs
 values_give value can below here xs fits =

@@ -1,8 +1,8 @@
 -- The column that stores some slots is written as the slots are: an induction over its type.
 use Rattle.std.proofs.Common.{◌≡◌, ◌∙◌, ℕ, suc, ◌+◌, ◌-◌, ◌*◌, ◌/◌, Bool, true, false, List, [], ◌∷◌, length, map, refl, sym, ap, subst, arith}
-use Rattle.std.specs.Prelude.{ℤ, ◌&&◌, nat_le, slice_index, pos, cond}
+use Rattle.std.specs.Prelude.{ℤ, nat_le, slice_index, pos, cond}
 use Rattle.std.specs.List.{list_all, flat_map}
-use Rattle.std.specs.Int.{Width, w32, w64, to_le_bytes}
+use Rattle.std.specs.Int.{Width, w32, w64}
 use Rattle.std.proofs.lemmas.Bool.{and_parts}
 use Rattle.std.proofs.lemmas.List.{length-map}
 use Rattle.std.proofs.lemmas.List.Sums.{sum_by-cons}
@@ -18,7 +18,7 @@ use Rattle.columnar_memory.specs.declared.PrimitiveType.{PrimitiveType}
 use Rattle.columnar_memory.specs.declared.PrimitiveType.TheVariants as kinds
 use Rattle.nested_arrays_columns.specs.Cells.{is_null, is_bytes_of, is_list_of_size, fits_step, fits_cell}
 use Rattle.nested_arrays_columns.specs.Children.{items_of, fixed_items_of, joined_items, joined_fixed_items, field_of, field_slots, dictionary_values}
-use Rattle.nested_arrays_columns.specs.FreshColumns.{is_true, content_of, fixed_content_of, key_among, mask_of, sums_from, numbers_as}
+use Rattle.nested_arrays_columns.specs.FreshColumns.{is_true, content_of, fixed_content_of, key_among, mask_of, numbers_as}
 use Rattle.nested_arrays_columns.specs.FreshColumns.{content_offsets}
 use Rattle.nested_arrays_columns.specs.FreshColumns.{item_offsets, Maker, MakerUnder, fresh_fields, fresh_lists, fresh_keys, fresh_step}
 use Rattle.nested_arrays_columns.specs.FreshColumns.{fresh_field_step, fresh_under, fresh}
@@ -37,10 +37,9 @@ use Rattle.nested_arrays_columns.proofs.FreshLengths.{offsets_count, content_pie
 use Rattle.nested_arrays_columns.proofs.Fitting.{null_fits}
 use Rattle.nested_arrays_columns.proofs.TypeLayers.{Layer, is_extension, layer_itself, layer_within}
 use Rattle.ipc_format_grammar.specs.Buffers.{bitmap_of, bitmap_bytes, null_count, validity_bytes, kind_bytes, offset_bytes}
-use Rattle.ipc_format_grammar.specs.Encoding.{Encoded, Encoder, encode, encode_step, column_over, node_of, flat_column, values_column, bytes_column}
+use Rattle.ipc_format_grammar.specs.Encoding.{Encoder, encode, encode_step, column_over, node_of, values_column, bytes_column}
 use Rattle.ipc_format_grammar.specs.Encoding.{list_column, dictionary_column, field_columns}
 use Rattle.ipc_format_grammar.specs.StoredEncoding.{encode_stored, encode_range, encode_ranges, offset_width, last_offset, moved_bytes, key_bytes}
-use Rattle.ipc_format_grammar.specs.StoredEncoding.{stored_buffers}
 use Rattle.ipc_format_laws.specs.FreshEncodings.{FreshEncodes}
 use Rattle.ipc_format_laws.proofs.FlatColumns.{bitmap_answers, whole_cut}
 use Rattle.ipc_format_laws.proofs.FreshBuffers.{column_same, flat_same, is_float, numbers_same, AreOffsets, piece_offsets, whole_offsets}

@@ -20,8 +20,8 @@ pub use count_laws::{
 };
 pub use fresh_laws::{
     a_fresh_column_is_written_as_its_slots_are, a_writable_type_is_buildable,
-    rows_are_written_as_they_are_stored,
-    slots_are_written_as_they_are_stored, slots_bring_the_dictionaries_that_are_stored,
+    rows_are_written_as_they_are_stored, slots_are_written_as_they_are_stored,
+    slots_bring_the_dictionaries_that_are_stored,
 };
 pub use id_laws::{default_ids_count_in_pre_order, default_ids_fit};
 pub use normal_form_laws::{

@@ -246,6 +246,6 @@ keys_stand xs count size =
         let has : Bool = int_le (pos 0) key && nat_lt (place_of key) count in
         elim (cases_Bool (is_valid (get_or xs i null))) [
           | inl valid ↦ or_right (not (is_valid_at (mask_of xs) i)) has (valid_at i lt valid key (get_or-map (λ x. pos
-          (key_among values x)) xs i null))
+              (key_among values x)) xs i null))
           | inr invalid ↦ or_left (not (is_valid_at (mask_of xs) i)) has (ap not (mark_at xs i lt ∙ invalid))
         ]

@@ -1,5 +1,5 @@
 -- Rows of cells, as they are pushed into open columns: which are accepted, and what a batch of them becomes.
-use Rattle.std.specs.Prelude.{ℕ, ℤ, Bool, true, ◌&&◌, ◌==◌, List, [], ◌∷◌, ◌++◌, length, map, slice_index_or}
+use Rattle.std.specs.Prelude.{ℕ, ℤ, Bool, true, ◌&&◌, ◌==◌, List, [], ◌∷◌, ◌++◌, length, map, nat_lt, slice_index_or}
 use Rattle.columnar_memory.specs.declared.Field.{Field}
 use Rattle.columnar_memory.specs.declared.PrimitiveType.{PrimitiveType}
 use Rattle.columnar_memory.specs.declared.PrimitiveType.TheVariants as kinds
@@ -63,10 +63,14 @@ columns_fit [] columns = true
 columns_fit (field ∷ more) [] = true
 columns_fit (field ∷ more) (column ∷ columns) = fits field.data_type column && columns_fit more columns
 
+-- whether a row has a value a field; without fields there is no row
+abbrev pub is_row_of : {A : Type 0} → List Field → List A → Bool
+is_row_of schema_fields row = nat_lt 0 (length schema_fields) && (length row == length schema_fields)
+
 -- Whether a row is accepted where some rows are open: it has a cell a field, and each column's open slots with the cell's slot fit.
 abbrev pub is_accepted : List Field → List (List Slot) → List Cell → Bool
 is_accepted schema_fields rows row =
-    (length row == length schema_fields) && columns_fit schema_fields (columns_of_rows schema_fields (rows ++ map cell_slot row ∷ []))
+    is_row_of schema_fields row && columns_fit schema_fields (columns_of_rows schema_fields (rows ++ map cell_slot row ∷ []))
 
 -- the columns of some fields that store these columns' slots
 abbrev pub fresh_columns : List Field → List (List Slot) → List Column
