@@ -6,7 +6,7 @@ use Rattle.ipc_format_writing.specs.grammar.Schemas.{Visits}
 use Rattle.ipc_format_writing.specs.messages.MessageSlots.{TableIn, VectorIn}
 use Rattle.ipc_format_writing.specs.messages.SchemaSlots.{field_children}
 use Rattle.ipc_format_values.specs.declared.fields.Field.{Field}
-use Rattle.ipc_format_values.specs.declared.fields.FieldParts.{FieldParts}
+use Rattle.ipc_format_values.specs.declared.taken_fields.FieldParts.{FieldParts}
 use Rattle.ipc_format_values.specs.OwnedFields.{parts_in, field_over, fields_if, field_in}
 
 pub field_no_level : (field : TableIn) (left : ℕ) → None ≡ field_in zero field left

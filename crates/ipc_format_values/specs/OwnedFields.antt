@@ -15,7 +15,7 @@ use Rattle.ipc_format_values.specs.declared.fields.DictionaryEncoding.{Dictionar
 use Rattle.ipc_format_values.specs.declared.fields.Field.{Field}
 use Rattle.ipc_format_values.specs.declared.fields.Field.TheViews.{roll-Field}
 use Rattle.ipc_format_values.specs.declared.fields.Schema.{Schema}
-use Rattle.ipc_format_values.specs.declared.fields.FieldParts.{FieldParts}
+use Rattle.ipc_format_values.specs.declared.taken_fields.FieldParts.{FieldParts}
 
 -- ---- fields
 

@@ -4,8 +4,8 @@ use Rattle.ipc_format_writing.specs.flatbuffers.Views.{vector_of}
 use Rattle.ipc_format_writing.specs.messages.MessageSlots.{VectorIn}
 use Rattle.ipc_format_values.specs.declared.fields.Field.{Field}
 use Rattle.ipc_format_values.specs.declared.numbers.NumbersRef.{NumbersRef}
-use Rattle.ipc_format_values.specs.declared.fields.FieldTaken.{FieldTaken}
-use Rattle.ipc_format_values.specs.declared.fields.FieldsTaken.{FieldsTaken}
+use Rattle.ipc_format_values.specs.declared.taken_fields.FieldTaken.{FieldTaken}
+use Rattle.ipc_format_values.specs.declared.taken_fields.FieldsTaken.{FieldsTaken}
 
 abbrev pub numbers_view : NumbersRef → VectorIn
 numbers_view numbers = record { bytes = numbers.bytes.now; vector = vector_of numbers.vector }
