@@ -113,10 +113,19 @@ class Writer:
         if not self.tidy and self.random.random() < 0.2:
             nodes += [(self.random.choice((-1, 3)), 0)]
             places += [(self.random.choice((-1, 2**63 - 1)), 0)]
+        nodes, places = self.counted(part, nodes, places)
         tree = batch_tree(self.random.choice((len(self.rows), 0, -1)), nodes, places)
         header = dictionary_tree(part.number, tree) if part.tag == DICTIONARY_BATCH else tree
         body = self.damage.body(body)
         return self.message(part.tag, header, len(body), part.version), body
+
+    def counted(self, part, nodes, places):
+        """The nodes and buffers that a batch states, of those of its columns."""
+        return nodes, places
+
+    def block(self, place):
+        """What a file's footer says of a message at a place, in so many bytes of metadata and of body."""
+        return place
 
     def framed(self, metadata):
         marker = MARKER if self.random.random() < self.marker_chance else b""
@@ -160,7 +169,7 @@ class Writer:
             metadata, body = self.batch_message((dictionaries + records)[index])
             head = self.framed(metadata)
             gap = self.random.choice((0, 0, 0, 5))
-            places[index] = (len(out), len(head) + gap, self.random.choice((len(body),) * 12 + (0, -1, 2**40)))
+            places[index] = self.block((len(out), len(head) + gap, self.random.choice((len(body),) * 12 + (0, -1, 2**40))))
             out += head + bytes(gap) + body
         out += self.random.choice((MARKER + bytes(4), b"", b"rest"))
         blocks = [places[index] for index in range(len(places))]
@@ -168,7 +177,7 @@ class Writer:
         if not dictionaries and self.random.random() < 0.5:
             tree.slots = tree.slots[:2] + (None,) + tree.slots[3:]
         if not records and self.random.random() < 0.5:
-            tree.slots = tree.slots[:2] + (Elements(1, struct.pack("<qi4xq", 2**40, 7, -1)),) + tree.slots[3:]
+            tree.slots = tree.slots[:2] + (Elements(1, struct.pack("<qi4xq", *self.block((2**40, 7, -1)))),) + tree.slots[3:]
         footer = self.lay(self.damage.tree(tree))
         out += footer + self.damage.framing(struct.pack("<i", len(footer))) + b"ARROW1"
         return Case("file", bytes(out), self.table())

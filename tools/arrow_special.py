@@ -6,11 +6,13 @@ Each answers a case whose table is None where the input has to be refused.
 import struct
 
 from arrow_cases import Case, Writer
+from arrow_damage import NoDamage
+from arrow_generator import Schemas
 from arrow_sealed import Batch, END, dictionary_message, record_message, schema_message
 from arrow_trees import (
     DICTIONARY_BATCH, Free, RECORD_BATCH, SCHEMA, footer_tree, message_tree, numbered, schema_tree,
 )
-from arrow_types import DEEPEST, Field, MODES, MOST_DICTIONARIES, Schema, Table, UNITS, normalised
+from arrow_types import DEEPEST, Field, MODES, MOST_DICTIONARIES, Schema, Table, UNITS, dictionaries_in, normalised
 from laying import Number, Table as Tree, Text, Vector, lay
 
 
@@ -113,7 +115,80 @@ def short(random):
     return Case("file", content, None)
 
 
-SMALL = (deep, wide, shared, short, unwritable, unwritable)
+class Short(Ready):
+    """A writer whose record batches lack some of the last nodes or buffers of their columns."""
+
+    def __init__(self, random, fields):
+        super().__init__(random, fields)
+        self.tidy, self.is_short, self.lacks = True, False, random.choice(("nodes", "buffers", "buffers", "both"))
+
+    def fewer(self, parts, is_lacking):
+        count = self.random.choice((1, 1, 1, len(parts))) if parts and is_lacking else 0
+        self.is_short = self.is_short or count > 0
+        return parts[: len(parts) - count]
+
+    def counted(self, part, nodes, places):
+        if part.tag != RECORD_BATCH:
+            return nodes, places
+        return self.fewer(nodes, self.lacks != "buffers"), self.fewer(places, self.lacks != "nodes")
+
+
+def unseen_type(random):
+    """A type whose last buffer is a validity bitmap, which is not looked at where no slot is null."""
+    null = field_of(("Null",))
+    data_type = random.choice((("Struct", (null,)), ("FixedSizeList", null, 2), ("Struct", (null, null))))
+    for _ in range(random.choice((0, 0, 1, 2))):
+        field = field_of(data_type)
+        data_type = random.choice((
+            ("Struct", (field,)), ("Struct", (field_of(("Int8",)), field)), ("FixedSizeList", field, 2), ("List", field),
+        ))
+    return ("Extension", b"e", data_type, None) if random.random() < 0.2 else data_type
+
+
+def missing(random):
+    """Batches whose nodes or buffers are missing, of types whose last buffers are looked at, and of those whose are not."""
+    types = unseen_type(random) if random.random() < 0.6 else Schemas(random, NoDamage()).data_type(3)
+    writer = Short(random, [field_of(("Int8",))] * random.choice((0, 0, 1)) + [field_of(types)])
+    if dictionaries_in(types):
+        writer = Ready(random, writer.schema.fields)
+        return writer.case()
+    case = writer.case()
+    return case._replace(table=None) if writer.is_short else case
+
+
+class Negative(Ready):
+    """A writer of files whose blocks have a negative number."""
+
+    def __init__(self, random, fields):
+        super().__init__(random, fields)
+        self.place, self.is_refused = random.choice((0, 1, 2)), False
+
+    def file_parts(self):
+        dictionaries, records = super().file_parts()
+        return dictionaries, [self.part(RECORD_BATCH, None, self.version)] if dictionaries and not records else records
+
+    def block(self, place):
+        if self.random.random() < 0.3:
+            return place
+        self.is_refused = self.is_refused or self.place < 2
+        least = -(2**31) if self.place == 1 else -(2**63)
+        return place[: self.place] + (self.random.choice((-1, least)),) + place[self.place + 1 :]
+
+
+def negative(random):
+    """A file where a block has a negative offset or length, or only a negative length of a body, which is not looked at."""
+    keyed = ("Dictionary", "Int8", ("Utf8",), False)
+    writer = Negative(random, [field_of(random.choice((("Int8",), ("Struct", (field_of(("Null",)),)), keyed)))])
+    case = writer.case("file")
+    return case._replace(table=None) if writer.is_refused else case
+
+
+def feather(random):
+    """A stream that begins with the mark of a feather file, which says nothing there."""
+    return Case("stream", b"FEA1" + random.choice((b"", bytes(40), END)), None)
+
+
+SMALL = (deep, wide, shared, short, unwritable, unwritable, missing, missing, negative, negative, feather)
 
 
 # ---- long runs of dictionaries

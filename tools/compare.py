@@ -32,6 +32,7 @@ from arrow_trees import (
     DICTIONARY_BATCH, RECORD_BATCH, SCHEMA, Spec, batch_tree, dictionary_tree, message_tree, numbered, schema_tree,
 )
 from arrow_types import Schema, Table, child_fields
+from arrow_windows import free_bytes
 from defined_values import MOST_TRIED, Defined
 from definitions import TOP, deeply
 from laying import lay
@@ -85,6 +86,8 @@ class Comparison:
             self.counts["inputs %s" % ("read" if isinstance(read, Table) else "refused")] += 1
             return
         defined = defined_answer(self.defined, case.form, case.content)
+        if self.defined.has_feather_mark(case.form, case.content) != (case.form == "file" and case.content.startswith(b"FEA1")):
+            raise Disagreement("the mark of a feather file is found where it isn't, or not where it is")
         if TOO_LARGE in (read, defined):
             self.counts["inputs too large to be compared"] += 1
         else:
@@ -92,6 +95,7 @@ class Comparison:
         if isinstance(read, Table):
             self.compare_laying(read)
             self.compare_choice(case, read, random)
+            self.compare_windows(case, read, random)
             self.compare_seal(read, random)
             self.compare_writing(read, random)
             self.compare_stored(read, random)
@@ -184,7 +188,34 @@ class Comparison:
         if defined != read:
             raise Disagreement("the choice of %s under %s: the reader gives\n%s\nthe definitions give\n%s" % (
                 columns, limit, read, defined))
+        if self.defined.defined_part(case.form, case.content, columns, limit) != read:
+            raise Disagreement("the choice of %s under %s is not that of the whole table" % (columns, limit))
         self.counts["choices read alike"] += 1
+
+    def compare_windows(self, case, table, random):
+        """Bytes outside of the windows of a choice change no choice, under no limit; one inside may change it."""
+        width = len(table.schema.fields)
+        columns, limit = random.sample(range(width), random.randint(0, width)), random.choice((None, None, 0, 1, 2, 5))
+        free, rooms = free_bytes(case.form, case.content)
+        windows, inside = self.defined.defined_windows(case.form, case.content, columns), bytearray(len(case.content))
+        if windows is None or len(windows) != len(rooms):
+            raise Disagreement("windows of other messages: %s" % (windows,))
+        for room, taken in zip(rooms, windows):
+            for start, size in taken:
+                if case.form == "stream" and not all(free[room + start : room + start + size]):
+                    raise Disagreement("a window of the choice of %s with bytes that are no buffer's: %d, %d" % (columns, start, size))
+                inside[room + start : room + start + size] = b"\1" * size
+        before = self.defined.defined_choice(case.form, case.content, columns, limit)
+        outside = bytes(random.randrange(256) if free[i] and not inside[i] else byte for i, byte in enumerate(case.content))
+        if self.defined.defined_choice(case.form, outside, columns, limit) != before:
+            raise Disagreement("bytes outside of its windows change the choice of %s under %s" % (columns, limit))
+        self.counts["choices alike whatever stands outside of their windows"] += 1
+        places = [i for i, is_inside in enumerate(inside) if is_inside]
+        if places:
+            other = bytearray(case.content)
+            other[random.choice(places)] ^= 1 << random.randrange(8)
+            is_alike = self.defined.defined_choice(case.form, bytes(other), columns, limit) == before
+            self.counts["choices %s by a bit inside of their windows" % ("not changed" if is_alike else "changed")] += 1
 
     def compare_seal(self, table, random):
         """A seal as both lay it; it reads back, by the reader and by the definitions."""

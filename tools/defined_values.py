@@ -184,6 +184,7 @@ class Defined:
         self.terms, find = Terms(self.definitions), self.definitions.named
         self.forms = {form: find(GRAMMAR, form) for form in ("stream", "file")}
         self.table, self.choice = find(GRAMMAR, "table_of"), find(GRAMMAR, "choice_of")
+        self.choice_within, self.windows = find(ARRAYS, "choice_within"), find(GRAMMAR, "choice_windows")
         self.ends_early, self.is_truncated = find(GRAMMAR, "EndsInLaterMessage"), find(GRAMMAR, "is_truncated")
         self.schema_table, self.child_at, self.is_float = (find(GRAMMAR, name) for name in ("schema_table", "child_at", "IsFloat"))
         self.message_at, self.is_delta = find(GRAMMAR, "message_at"), find(GRAMMAR, "is_delta")
@@ -213,6 +214,16 @@ class Defined:
         limit = None if limit is None else (limit,)
         found = called(self.choice, self.forms[form], content, columns, limit)
         return None if found is None else as_table(found[0])
+
+    def defined_part(self, form, content, columns, limit):
+        """The chosen columns of the first rows of the table that the definitions give, or None."""
+        limit, found = None if limit is None else (limit,), called(self.table, self.forms[form], content)
+        return None if found is None else as_table(called(self.choice_within, columns, limit, found[0]))
+
+    def defined_windows(self, form, content, columns):
+        """The windows of each message that a choice takes, as beginnings and sizes, or None."""
+        found = called(self.windows, self.forms[form], content, columns)
+        return None if found is None else [[(window.f_start, window.f_size) for window in windows] for windows in found[0]]
 
     def defined_end(self, content):
         """Whether a stream ends within the first four bytes of a later message, as the definitions say."""

@@ -70,6 +70,7 @@ A, B, P, Q, R = text(b"a"), text(b"b"), text(b"p"), text(b"q"), text(b"r")
 
 NO_BYTES = b""
 NO_BIT = raw("00")
+KEY_0 = raw("00")
 VALID_NOT_VALID = raw("05")  # the first and the third of three slots are valid
 NUMBERS_1_2_3 = raw("01000000 02000000 03000000")
 NUMBERS_1_2 = raw("01000000 02000000")
@@ -284,11 +285,31 @@ def columns_in_order(defined):
     ]
 
 
+# ---- missing nodes and buffers
+
+def missing_parts(defined):
+    """Types whose last buffer is a validity bitmap that isn't looked at: without it they are not read, nor without a node."""
+    null = field(b"n", ("Null",))
+    for name, data_type, nodes, slots in (
+        ("a struct of nulls", ("Struct", (null,)), [(2, 0), (2, 2)], [parts(None), parts(None)]),
+        ("lists of two nulls", ("FixedSizeList", null, 2), [(1, 0), (2, 2)], [items(None, None)]),
+    ):
+        yield "%s as read" % name, read(defined, data_type, nodes, [NO_BYTES]), column(b"c", data_type, slots)
+        yield "%s with a buffer to spare" % name, read(defined, data_type, nodes, [NO_BYTES, NO_BIT]), column(b"c", data_type, slots)
+        yield "%s with a node to spare" % name, read(defined, data_type, nodes + [(-1, 0)], [NO_BYTES]), column(b"c", data_type, slots)
+        yield "%s without a buffer" % name, read(defined, data_type, nodes, []), None
+        yield "%s without a node" % name, read(defined, data_type, nodes[:1], [NO_BYTES]), None
+    wrapped = ("Dictionary", "Int8", ("Struct", (null,)), False)
+    schema, keys = schema_of(field(b"c", wrapped)), record([(1, 0)], [NO_BYTES, KEY_0])
+    for name, buffers, table in (("", [NO_BYTES], column(b"c", wrapped, [parts(None)])), (" without a buffer", [], None)):
+        values = dictionary(0, [(1, 0), (1, 1)], buffers)
+        yield "a dictionary of structs of nulls%s" % name, defined.defined_table("stream", stream(schema, values, keys)), table
+
+
 # ---- dictionaries
 
 KEYED = ("Dictionary", "Int32", TEXT, False)
 WORDS = ("Dictionary", "Int8", ("Struct", (field(b"word", ("Dictionary", "Int8", TEXT, False)),)), False)
-KEY_0 = raw("00")
 
 
 def stored_keys(terms):
@@ -515,7 +536,7 @@ def files(defined):
 # ---- the list
 
 WORKED = (
-    lists, null_lists, structs, texts_under_nulls, columns_in_order, dictionaries, nested_dictionaries, sealed_nested_dictionaries,
+    lists, null_lists, structs, texts_under_nulls, columns_in_order, missing_parts, dictionaries, nested_dictionaries, sealed_nested_dictionaries,
     sparse_unions, dense_unions, big_endian, short_offsets, early_ends, whole_seals, seal_in_batches, files,
 )
 

@@ -14,6 +14,7 @@ pub mod Dictionaries
 pub mod Framing
 pub mod Files
 pub mod Tables
+pub mod Windows
 pub mod Refusals
 pub mod Buffers
 pub mod Encoding

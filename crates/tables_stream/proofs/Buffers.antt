@@ -3,7 +3,7 @@ use Rattle.std.proofs.Common.{◌≡◌, ℕ, ◌+◌, ◌<◌, List, length, Op
 use Rattle.std.proofs.lemmas.Grind.{common_steps}
 use Rattle.ipc_format.specs.Reading.{◌>>=◌, guard, window_at}
 use Rattle.ipc_format.specs.Messages.{Pair, struct_at, natural}
-use Rattle.ipc_format_grammar.specs.Columns.{Source, buffer_at}
+use Rattle.tables_stream.specs.AddressedColumns.{Source, buffer_at}
 use Rattle.std.specs.Prelude.{nat_le}
 
 -- nothing comes of something if nothing comes of each value

@@ -10,7 +10,8 @@ use Rattle.std.proofs.lemmas.Bool.{eq-eqb, ne_eqb, eqb-false, eqb-true}
 use Rattle.std.proofs.lemmas.List.Elements.{All-nil, All-cons, All-head, All-tail, All-push}
 use Rattle.std.proofs.lemmas.List.{map-append, append-nil, length-map, length-append}
 use Rattle.nested_arrays_columns.specs.Slots.{Slot}
-use Rattle.ipc_format_grammar.specs.Columns.{Source, have_length}
+use Rattle.ipc_format_grammar.specs.Columns.{have_length}
+use Rattle.tables_stream.specs.AddressedColumns.{Source}
 use Rattle.tables_stream.specs.Int32Values.{int32_slots}
 use Rattle.ipc_format_grammar.specs.Tables.{agree_in_length}
 use Rattle.ipc_format.specs.Reading.{◌>>=◌}

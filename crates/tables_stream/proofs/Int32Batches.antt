@@ -10,17 +10,20 @@ use Rattle.columnar_memory.specs.declared.DataType.TheViews.{roll-DataType}
 use Rattle.columnar_memory.specs.declared.DataType.TheFolds.{fold-roll-DataType, para-roll-DataType}
 use Rattle.columnar_memory.specs.declared.DataType.TheVariants as types
 use Rattle.columnar_memory.specs.declared.Field.{Field}
+use Rattle.columnar_memory.specs.declared.PrimitiveType.TheVariants as kinds
 use Rattle.columnar_memory.specs.declared.Schema.{Schema}
 use Rattle.nested_arrays_columns.specs.Slots.{Slot}
 use Rattle.ipc_format_grammar.specs.Messages.{Version, V5, Header, schema, dictionary_batch, record_batch, RecordBatch, DictionaryBatch}
-use Rattle.ipc_format_grammar.specs.Messages.{record_batch_in, dictionary_batch_in, lengths_sum}
+use Rattle.ipc_format_grammar.specs.Messages.{FieldNode, Buffer, as_node, as_buffer, record_batch_in, dictionary_batch_in, structs_in, lengths_sum}
 use Rattle.ipc_format_grammar.specs.Schemas.{Ids, IdsList}
 use Rattle.ipc_format_grammar.specs.Layouts.{node_count, node_number, node_step, buffer_count, buffer_number, buffer_step}
-use Rattle.ipc_format_grammar.specs.Columns.{Source, Dictionary, Reader, fixed_slots, validity_in, buffer_at, read_step, read_field_step}
-use Rattle.ipc_format_grammar.specs.Columns.{slots_in, first_ids, other_ids}
+use Rattle.ipc_format_grammar.specs.Columns as format
+use Rattle.ipc_format_grammar.specs.Columns.{Dictionary, Place, Reader, read_step, read_field_step, slots_in, first_ids, other_ids}
+use Rattle.tables_stream.specs.AddressedColumns.{Source}
+use Rattle.tables_stream.proofs.Addressed.{IsInside, slots_by_address, nodes_there, buffers_there, in_its_message}
 use Rattle.ipc_format_grammar.specs.Dictionaries.{Entry, Layout, Finder, find_step, find_field_step, values_in, values_of, source_in, dictionary_in}
 use Rattle.ipc_format_grammar.specs.Framing.{Framed, Next, nothing_whole, at_end, message_then, next_at, by_next, dictionaries_after, later_messages}
-use Rattle.ipc_format_grammar.specs.Tables.{columns_from, batch_in, batches_of, batches_behind, stream_entry, ids_at}
+use Rattle.ipc_format_grammar.specs.Tables.{column_place, columns_from, batch_in, batches_of, batches_behind, stream_entry}
 use Rattle.ipc_format.specs.Reading.{◌>>=◌, guard}
 use Rattle.ipc_format.specs.FlatBuffers as flat
 use Rattle.tables_stream.specs.Int32Schemas.{IsInt32Schema, IsInt32Field}
@@ -82,43 +85,47 @@ buffer_numbers version (field ∷ fields) (suc k) all h =
 
 -- ---- columns and batches
 
-slots_of_int32 : (source : Source) (standing : List Dictionary) (n b : ℕ) (here : Ids)
-    → slots_in types.Int32 source standing None n b here ≡ int32_slots source n b
+slots_of_int32 : (at : Place) → slots_in types.Int32 at ≡ format.number_slots kinds.Int32 at
 unfolding roll-DataType denote.Hole.Carrier.roll
-slots_of_int32 source standing n b here =
-    ap (λ (read : Reader). read source standing None n b here) (para-roll-DataType Reader Reader read_step read_field_step layer.Int32)
+slots_of_int32 at = ap (λ (read : Reader). read at) (para-roll-DataType Reader Reader read_step read_field_step layer.Int32)
 
--- a batch of a message, whose buffers stand in its body
-abbrev source_by : Version → List ℕ → RecordBatch → List ℕ → Source
-source_by version metadata vectors body =
-    record { metadata = metadata; vectors = vectors; version = version; is_little_endian = true; room = body; origin = 0 }
+-- a batch of a message, whose buffers stand in its body, by the addresses of its nodes and buffers
+abbrev source_by : List ℕ → RecordBatch → List ℕ → Source
+source_by metadata vectors body =
+    record { metadata = metadata; vectors = vectors; version = V5; is_little_endian = true; room = body; origin = 0 }
 
--- the version says nothing of such a column
-version_aside : (version : Version) (metadata : List ℕ) (vectors : RecordBatch) (body : List ℕ) (n b : ℕ)
-    → int32_slots (source_by version metadata vectors body) n b ≡ int32_slots (source_by V5 metadata vectors body) n b
-unfolding fixed_slots validity_in buffer_at
-version_aside version metadata vectors body n b = refl
+-- the same by their lists
+abbrev listed_by : Version → List FieldNode → List Buffer → List ℕ → format.Source
+listed_by version nodes buffers body =
+    record { nodes = nodes; buffers = buffers; version = version; is_little_endian = true; room = body; origin = 0 }
 
-columns_are_int32 : (layout : Layout) (standing : List Dictionary) (version : Version) (metadata : List ℕ) (vectors : RecordBatch) (body : List ℕ)
-    (k : ℕ)
-    (rest : List Field) → All IsInt32Field layout.fields → k + length rest ≡ length layout.fields → All IsInt32Field rest
-    → columns_from layout standing (source_by version metadata vectors body) k rest
-    ≡ int32_columns (source_by V5 metadata vectors body) k (length rest)
-columns_are_int32 layout standing version metadata vectors body k [] all counted firsts = refl
-columns_are_int32 layout standing version metadata vectors body k (field ∷ rest) all counted firsts =
+columns_are_int32 : (layout : Layout) (standing : List Dictionary) (version : Version) (metadata : List ℕ) (vectors : RecordBatch)
+    (nodes : List FieldNode) (buffers : List Buffer) (body : List ℕ) (k : ℕ) (rest : List Field)
+    → structs_in as_node metadata vectors.nodes ≡ Some nodes → structs_in as_buffer metadata vectors.buffers ≡ Some buffers
+    → IsInside metadata vectors.buffers → All IsInt32Field layout.fields → k + length rest ≡ length layout.fields → All IsInt32Field rest
+    → columns_from layout standing (listed_by version nodes buffers body) k rest ≡ int32_columns (source_by metadata vectors body) k (length rest)
+columns_are_int32 layout standing version metadata vectors nodes buffers body k [] nodes_are buffers_are inside all counted firsts = refl
+columns_are_int32 layout standing version metadata vectors nodes buffers body k (field ∷ rest) nodes_are buffers_are inside all counted firsts =
+    let place : Place = column_place layout standing (listed_by version nodes buffers body) None k in
     let n : node_number layout.fields k ≡ k = node_numbers layout.fields k all (omega arith) in
     let b : buffer_number version layout.fields k ≡ 2 * k = buffer_numbers version layout.fields k all (omega arith) in
     let others =
-    columns_are_int32 layout standing version metadata vectors body (k + 1) rest all (omega arith) (All-tail IsInt32Field field rest firsts) in
-    let here = slots_of_int32 (source_by version metadata vectors body) standing k (2 * k) (ids_at layout.below k)
-    ∙ version_aside version metadata vectors body k (2 * k) in
-    rw ((All-head IsInt32Field field rest firsts).0, n, b, here, others) refl
+    columns_are_int32 layout standing version metadata vectors nodes buffers body (k + 1) rest nodes_are buffers_are inside all (omega arith)
+    (All-tail IsInt32Field field rest firsts) in
+    let here : slots_in field.data_type place ≡ int32_slots (source_by metadata vectors body) k (2 * k) =
+    ap (λ t. slots_in t place) ((All-head IsInt32Field field rest firsts).0) ∙ slots_of_int32 place
+    ∙ slots_by_address standing place.ids version metadata vectors nodes buffers body place.node place.buffer nodes_are buffers_are inside
+    ∙ ap (λ i. int32_slots (source_by metadata vectors body) i place.buffer) n
+    ∙ ap (λ i. int32_slots (source_by metadata vectors body) k i) b in
+    rw (here, others) refl
 
 -- what is made of a message's batch, part by part
-source_parts : {B : Type 0} (version : Version) (metadata : List ℕ) (header : Header) (table : flat.Table) (body : List ℕ) (f : Source → Option B)
+source_parts : {B : Type 0} (version : Version) (metadata : List ℕ) (header : Header) (table : flat.Table) (body : List ℕ)
+    (f : format.Source → Option B)
     → (source_in true (stream_entry version (record { metadata = metadata; header = header; body = body })) table >>= f)
     ≡ (record_batch_in metadata table >>= (λ vectors. guard (not vectors.is_compressed) >>= (λ _. lengths_sum metadata vectors.buffers >>= (λ sum.
-    guard (nat_le sum (length body)) >>= (λ _. f (source_by version metadata vectors body))))))
+    guard (nat_le sum (length body)) >>= (λ _. structs_in as_node metadata vectors.nodes >>= (λ nodes.
+    structs_in as_buffer metadata vectors.buffers >>= (λ buffers. f (listed_by version nodes buffers body))))))))
 unfolding source_in
 source_parts version metadata header table body f =
     bind_assoc {A = RecordBatch} (record_batch_in metadata table) _ f ∙
@@ -127,7 +134,29 @@ source_parts version metadata header table body f =
     bind_same {A = Bool} (guard (not vectors.is_compressed)) _ _ (λ is_plain.
     bind_assoc {A = ℕ} (lengths_sum metadata vectors.buffers) _ f ∙
     bind_same {A = ℕ} (lengths_sum metadata vectors.buffers) _ _ (λ sum.
-    bind_assoc {A = Bool} (guard (nat_le sum (length body))) _ f)))
+    bind_assoc {A = Bool} (guard (nat_le sum (length body))) _ f ∙
+    bind_same {A = Bool} (guard (nat_le sum (length body))) _ _ (λ fits.
+    bind_assoc {A = List FieldNode} (structs_in as_node metadata vectors.nodes) _ f ∙
+    bind_same {A = List FieldNode} (structs_in as_node metadata vectors.nodes) _ _ (λ nodes.
+    bind_assoc {A = List Buffer} (structs_in as_buffer metadata vectors.buffers) _ f)))))
+
+-- the nodes and buffers of a batch are in its message
+both_there : (layout : Layout) (version : Version) (metadata : List ℕ) (table : flat.Table) (body : List ℕ) (vectors : RecordBatch)
+    → All IsInt32Field layout.fields → record_batch_in metadata table ≡ Some vectors
+    → (structs_in as_node metadata vectors.nodes >>= (λ nodes. structs_in as_buffer metadata vectors.buffers >>= (λ buffers.
+    agreeing (columns_from layout [] (listed_by version nodes buffers body) 0 layout.fields))))
+    ≡ agreeing (int32_columns (source_by metadata vectors body) 0 (length layout.fields))
+both_there layout version metadata table body vectors all is =
+    let inside = in_its_message metadata table vectors is in
+    let nodes = nodes_there metadata vectors.nodes inside.0 in
+    let buffers = buffers_there metadata vectors.buffers inside.1 in
+    rw (nodes.1, buffers.1)
+    (ap agreeing (columns_are_int32 layout [] version metadata vectors nodes.0 buffers.0 body 0 layout.fields nodes.1 buffers.1 inside.1 all (omega arith) all))
+
+-- what follows may be replaced where it is known what came before
+bind_known : {A B : Type 0} (r : Option A) (f g : A → Option B) → ((x : A) → r ≡ Some x → f x ≡ g x) → (r >>= f) ≡ (r >>= g)
+bind_known None f g h = refl
+bind_known (Some x) f g h = h x refl
 
 pub batch_is_int32 : (layout : Layout) (version : Version) (metadata : List ℕ) (header : Header) (table : flat.Table) (body : List ℕ)
     → All IsInt32Field layout.fields → layout.is_little_endian ≡ true
@@ -136,11 +165,11 @@ pub batch_is_int32 : (layout : Layout) (version : Version) (metadata : List ℕ)
 unfolding batch_in int32_batch
 batch_is_int32 layout version metadata header table body all little =
     rw (little) (source_parts version metadata header table body (λ source. agreeing (columns_from layout [] source 0 layout.fields)) ∙
-    bind_same {A = RecordBatch} (record_batch_in metadata table) _ _ (λ vectors.
+    bind_known {A = RecordBatch} (record_batch_in metadata table) _ _ (λ vectors is.
     bind_same {A = Bool} (guard (not vectors.is_compressed)) _ _ (λ is_plain.
     bind_same {A = ℕ} (lengths_sum metadata vectors.buffers) _ _ (λ sum.
     bind_same {A = Bool} (guard (nat_le sum (length body))) _ _ (λ fits.
-    ap agreeing (columns_are_int32 layout [] version metadata vectors body 0 layout.fields all (omega arith) all))))))
+    both_there layout version metadata table body vectors all is)))))
 
 -- ---- dictionaries: such a schema has none
 
@@ -159,7 +188,7 @@ unfolding dictionary_in
 no_dictionary layout entry table all =
     bind_none {A = DictionaryBatch} (dictionary_batch_in entry.metadata table) _ (λ batch.
     bind_none {A = Bool} (guard (not batch.is_delta)) _ (λ is_whole.
-    bind_none {A = Source} (source_in layout.is_little_endian entry batch.values) _ (λ source.
+    bind_none {A = format.Source} (source_in layout.is_little_endian entry batch.values) _ (λ source.
     rw (no_values_of layout.fields batch.id layout.below all) refl)))
 
 -- ---- messages, one after another

@@ -24,7 +24,8 @@ use Rattle.nested_arrays_columns.specs.Cells.{is_number_of, fits_step, fits_cell
 use Rattle.ipc_format.specs.Reading.{◌>>=◌}
 use Rattle.ipc_format.specs.Messages.{Pair, natural}
 use Rattle.ipc_format_grammar.specs.Columns as format
-use Rattle.ipc_format_grammar.specs.Columns.{Source, Validity, slot_by, slots_by, fixed_slots, have_length}
+use Rattle.ipc_format_grammar.specs.Columns.{Validity, slot_by, slots_by, have_length}
+use Rattle.tables_stream.specs.AddressedColumns.{Source, node_at, buffer_at, validity_in, fixed_slots}
 use Rattle.ipc_format_grammar.specs.Tables.{agree_in_length}
 use Rattle.ipc_format_grammar.specs.Values.{element_bytes, value_at}
 use Rattle.ipc_format_column_laws.specs.Batches.{fit_fields}
@@ -50,7 +51,7 @@ number_fits n = by_half (nat_lt n (2 ^ 31)) refl
     by_half false e = rw e (lt-ltb (2 ^ 32 - suc n) (2 ^ 31) (omega (arith, ltb-false n (2 ^ 31) e)))
 
 slot_fits : (validity : Validity) (values : List ℕ) (i : ℕ) → is_number_of kinds.Int32 (slot_by validity (value_at kinds.Int32 true values) i) ≡ true
-slot_fits validity values i = by_validity (format.is_valid_at validity i)
+slot_fits validity values i = by_validity (format.is_valid_in validity i)
   where
     by_validity : (is_valid : Bool)
         → is_number_of kinds.Int32 (if is_valid then value_at kinds.Int32 true values i else null) ≡ true
@@ -70,10 +71,10 @@ column_fits : (source : Source) (n b : ℕ) (column : List Slot) → source.is_l
     → list_all (is_number_of kinds.Int32) column ≡ true
 unfolding fixed_slots
 column_fits source n b column little e =
-    let node = came_of {A = Pair} (format.node_at source n) _ column e in
+    let node = came_of {A = Pair} (node_at source n) _ column e in
     let count = came_of {A = ℕ} (natural node.0.first) _ column node.2 in
-    let validity = came_of {A = Validity} (format.validity_in source node.0 b count.0) _ column count.2 in
-    let values = came_of {A = List ℕ} (format.buffer_at source (b + 1) (count.0 * 4)) _ column validity.2 in
+    let validity = came_of {A = Validity} (validity_in source node.0 b count.0) _ column count.2 in
+    let values = came_of {A = List ℕ} (buffer_at source (b + 1) (count.0 * 4)) _ column validity.2 in
     let same : slots_by validity.0 (value_at kinds.Int32 source.is_little_endian values.0) count.0 ≡ column = ap (or_none []) values.2 in
     let each = λ (order : Bool) (is : order ≡ true).
     subst (λ (o : Bool). list_all (is_number_of kinds.Int32) (slots_by validity.0 (value_at kinds.Int32 o values.0) count.0) ≡ true) (sym is)

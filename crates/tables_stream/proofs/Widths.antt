@@ -11,7 +11,7 @@ use Rattle.nested_arrays_columns.specs.Slots.{Slot}
 use Rattle.ipc_format.specs.Reading.{◌>>=◌, guard}
 use Rattle.ipc_format.specs.FlatBuffers as flat
 use Rattle.ipc_format.specs.Messages.{V5, Header, schema, dictionary_batch, record_batch, RecordBatch, record_batch_in, lengths_sum}
-use Rattle.ipc_format_grammar.specs.Columns.{Source}
+use Rattle.tables_stream.specs.AddressedColumns.{Source}
 use Rattle.ipc_format_grammar.specs.Tables.{agree_in_length}
 use Rattle.ipc_format_grammar.specs.Framing.{Framed, Next, nothing_whole, at_end, message_then, next_at}
 use Rattle.tables_stream.specs.Batches.{window_cells, rows_of_cells}

@@ -7,6 +7,7 @@ use Rattle.columnar_memory.specs.declared.Error.TheVariants as errors
 use Rattle.columnar_memory.specs.declared.PrimitiveType.TheVariants as kinds
 use Rattle.nested_arrays_columns.specs.Slots.{Slot, null, number}
 use Rattle.ipc_format_grammar.specs.Columns as format
+use Rattle.tables_stream.specs.AddressedColumns.{Source}
 use Rattle.ipc_format.specs.Messages.{V5}
 use Rattle.ipc_format_messages.specs.WholeMessages.{batch_parts_view}
 use Rattle.std.specs.Borrow.{Bor}
@@ -18,7 +19,7 @@ slot_of None = null
 slot_of (Some n) = number kinds.Int32 n
 
 -- a batch as the definition has it, little-endian
-abbrev pub batch_of : BatchBytes → format.Source
+abbrev pub batch_of : BatchBytes → Source
 batch_of bytes = record {
   metadata = bytes.metadata.now;
   vectors = batch_parts_view bytes.batch;

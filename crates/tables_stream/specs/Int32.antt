@@ -10,7 +10,7 @@ use Rattle.ipc_format.specs.FlatBuffers as flat
 use Rattle.ipc_format.specs.Messages as message
 use Rattle.ipc_format.specs.Messages.{Version, V5, record_batch_in, lengths_sum, version_in}
 use Rattle.ipc_format.specs.Schemas.{SchemaIn}
-use Rattle.ipc_format_grammar.specs.Columns as format
+use Rattle.tables_stream.specs.AddressedColumns.{Source}
 use Rattle.tables_stream.specs.Int32Values as int32
 use Rattle.ipc_format_grammar.specs.Framing as framing
 use Rattle.ipc_format.specs.Dictionaries.{Layout}
@@ -19,7 +19,7 @@ use Rattle.ipc_format.specs.Refusals.{first_messages}
 use Rattle.tables_stream.specs.Supported.{schema_found}
 
 -- n columns of 32-bit integers from column k on: each has one node and two buffers
-abbrev pub int32_columns : format.Source → ℕ → ℕ → Option (List (List Slot))
+abbrev pub int32_columns : Source → ℕ → ℕ → Option (List (List Slot))
 int32_columns batch k zero = Some []
 int32_columns batch k (suc n) = do
   column ← int32.int32_slots batch k (2 * k)

@@ -4,7 +4,8 @@ use Rattle.std.specs.Int.{w32}
 use Rattle.columnar_memory.specs.declared.PrimitiveType.TheVariants as kinds
 use Rattle.nested_arrays_columns.specs.Slots.{Slot}
 use Rattle.ipc_format_grammar.specs.Values.{signed_of, element_bytes, value_at}
-use Rattle.ipc_format_grammar.specs.Columns.{Source, Validity, slot_by, number_slots}
+use Rattle.ipc_format_grammar.specs.Columns.{Validity, slot_by}
+use Rattle.tables_stream.specs.AddressedColumns.{Source, number_slots}
 
 -- number i of some bytes
 abbrev pub int32_at : List ℕ → ℕ → ℤ

@@ -1,3 +1,4 @@
+pub mod AddressedColumns
 pub mod Refusals
 pub mod Int32Schemas
 pub mod Supported

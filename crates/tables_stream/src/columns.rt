@@ -3,7 +3,7 @@ ghost use Rattle.std.specs.Prelude.{◌≡◌, ◌+◌, ◌*◌, ◌/◌, ◌≤
 ghost use Rattle.std.specs.Option.{ForSome, option_copied, option_map};
 ghost use Rattle.columnar_memory.specs.Results.{OrOutOfMemory};
 ghost use Rattle.nested_arrays_columns.specs.Slots.{window};
-ghost use Rattle.ipc_format_grammar.specs.Columns as format;
+ghost use Rattle.tables_stream.specs.AddressedColumns as addressed;
 ghost use Rattle.tables_stream.specs.Int32Values as int32;
 ghost use Rattle.ipc_format_messages.specs.MessageViews.{node_view};
 ghost use Rattle.tables_stream.specs.Cells.{slot_of, batch_of, bits_of, Reads};
@@ -21,7 +21,7 @@ use std::result;
 ///
 /// - `OutOfSpec`: a node or buffer is missing, a length or offset is negative, or a buffer passes the body.
 /// - `OutOfMemory`: there was no memory for the cells.
-#[tactic(auto, unfolding(ipc_format_grammar::specs::Columns::fixed_slots, ipc_format_grammar::specs::Messages::struct_at))]
+#[tactic(auto, unfolding(crate::specs::AddressedColumns::fixed_slots, ipc_format_grammar::specs::Messages::struct_at))]
 pub fn int32_cells(alloc: Global, bytes: &BatchBytes<'_>, k: usize) -> Result<Column>
     ensures { Reads (map slot_of) result (int32.int32_slots (batch_of bytes.now) k (2 * k)) }
 {
@@ -47,7 +47,7 @@ pub fn int32_cells(alloc: Global, bytes: &BatchBytes<'_>, k: usize) -> Result<Co
 }
 
 /// The validity bitmap of a column's first `count` slots, buffer `k`: `Some(None)` where no slot is said to be null.
-#[tactic(auto, unfolding(ipc_format_grammar::specs::Columns::validity_in))]
+#[tactic(auto, unfolding(crate::specs::AddressedColumns::validity_in))]
 fn validity_of<'a>(
     bytes: &BatchBytes<'a>,
     node: &FieldNode,
@@ -55,7 +55,7 @@ fn validity_of<'a>(
     count: usize,
 ) -> Option<Option<&'a [u8]>>
     requires { count < 2 ^ 63 }
-    ensures value { option_map bits_of result ≡ format.validity_in (batch_of bytes.now) (node_view node.now) k count }
+    ensures value { option_map bits_of result ≡ addressed.validity_in (batch_of bytes.now) (node_view node.now) k count }
     ensures enough { IfSome result (λ validity. ForSome validity (λ bits. count ≤ 8 * length bits.now)) }
 {
     if node.null_count > 0 {
@@ -67,9 +67,9 @@ fn validity_of<'a>(
 }
 
 /// The first `needed` bytes of buffer `k`, which has to state at least so many, within the body.
-#[tactic(auto, unfolding(ipc_format_grammar::specs::Columns::buffer_at))]
+#[tactic(auto, unfolding(crate::specs::AddressedColumns::buffer_at))]
 fn taken<'a>(bytes: &BatchBytes<'a>, k: usize, needed: usize) -> Option<&'a [u8]>
-    ensures value { option_copied result ≡ format.buffer_at (batch_of bytes.now) k needed }
+    ensures value { option_copied result ≡ addressed.buffer_at (batch_of bytes.now) k needed }
     ensures size { IfSome result (λ part. length part.now ≡ needed) }
 {
     let buffer = bytes.buffer(k)?;

@@ -1,5 +1,5 @@
 use Rattle.std.proofs.Common.{rules}
-use Rattle.ipc_format_grammar.specs.Columns.{fixed_slots}
+use Rattle.tables_stream.specs.AddressedColumns.{fixed_slots}
 use Rattle.ipc_format_grammar.specs.Messages.{struct_at}
 use Rattle.tables_stream.proofs.Buffers.{too_long}
 use Rattle.tables_stream.proofs.columns.int32_cells.Goals as goal
