@@ -5,7 +5,6 @@ use Rattle.std.specs.Prelude.{nat_le, nat_lt, is_none, Option, Some, None, if◌
 use Rattle.std.specs.List.{list_all, list_any}
 use Rattle.std.specs.Int.{next_multiple_of}
 use Rattle.ipc_format_flatbuffers.specs.Reading.{◌>>=◌, guard}
-use Rattle.ipc_format_flatbuffers.specs.FlatBuffers as flat
 use Rattle.ipc_format_flatbuffers.specs.Objects.{laid}
 use Rattle.ipc_format_grammar.specs.Limits.{most_dictionaries}
 use Rattle.ipc_format_grammar.specs.Messages as message
@@ -18,7 +17,7 @@ use Rattle.ipc_format_grammar.specs.Files.{footer_in, entries_at, is_dictionary}
 use Rattle.ipc_format_grammar.specs.Tables.{layout_of}
 use Rattle.ipc_format_grammar.specs.Encoding.{joined}
 use Rattle.ipc_format_grammar.specs.GivenDictionaries.{Given}
-use Rattle.ipc_format_grammar.specs.WrittenMessages.{Written, fits_limit, end_mark}
+use Rattle.ipc_format_grammar.specs.WrittenMessages.{fits_limit, end_mark}
 use Rattle.ipc_format_grammar.specs.WrittenStreams.{Batch, Chunk, messages_after, bytes_of_messages, batches_written, belongs}
 use Rattle.ipc_format_grammar.specs.WrittenFiles.{Block, Blocks, batch_blocks, footer_object, is_footer, file_end, none_replaced, all_given}
 

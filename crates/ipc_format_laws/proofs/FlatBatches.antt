@@ -1,5 +1,5 @@
 -- Batches that belong to a schema of types whose slots take one size each have a column a field, all of one length, of cells of its type.
-use Rattle.std.proofs.Common.{◌≡◌, ℕ, true, false, Bool, ◌&&◌, List, [], ◌∷◌, length, map, refl, ap₂, subst, ◌∙◌}
+use Rattle.std.proofs.Common.{◌≡◌, ℕ, true, false, Bool, ◌&&◌, List, [], ◌∷◌, length, map, refl, subst}
 use Rattle.std.specs.Prelude.{◌==◌, not}
 use Rattle.std.specs.List.{list_all}
 use Rattle.columnar_memory.specs.declared.DataType.{DataType, map-DataType}
@@ -12,7 +12,6 @@ use Rattle.nested_arrays_columns.specs.OpenBatch.{is_within}
 use Rattle.nested_arrays_columns.specs.Slots.{Slot}
 use Rattle.ipc_format_grammar.specs.Columns.{have_length}
 use Rattle.ipc_format_grammar.specs.Encoding.{has_union}
-use Rattle.ipc_format_grammar.specs.Schemas.{IdsList}
 use Rattle.ipc_format_grammar.specs.Tables.{agree_in_length}
 use Rattle.ipc_format_grammar.specs.WrittenStreams.{type_step, is_of_type, are_slots_of, pass_each, are_equal}
 use Rattle.ipc_format_laws.proofs.SchemaParts.{both}

@@ -18,9 +18,9 @@ use Rattle.ipc_format_grammar.specs.Columns.{first_ids, other_ids, ids_below, ow
 use Rattle.ipc_format_grammar.specs.Encoding.{encode}
 use Rattle.ipc_format_grammar.specs.StoredEncoding.{encode_stored}
 use Rattle.ipc_format_grammar.specs.Ids.{is_id, are_ids, all_are_ids}
-use Rattle.ipc_format_grammar.specs.GivenDictionaries.{Given, Giver, id_or_0, given_by, given_fields, given_values, givers, give_step}
+use Rattle.ipc_format_grammar.specs.GivenDictionaries.{Given, Giver, id_or_0, given_by, given_fields, givers, give_step}
 use Rattle.ipc_format_grammar.specs.GivenDictionaries.{give_field_step, given_stored, given_each}
-use Rattle.ipc_format_grammar.specs.WrittenStreams.{Batch, Chunk, slot_columns, stored_columns, batch_of, given_of_slots, given_of_stored}
+use Rattle.ipc_format_grammar.specs.WrittenStreams.{Chunk, slot_columns, stored_columns, batch_of, given_of_slots, given_of_stored}
 use Rattle.ipc_format_grammar.specs.WrittenStreams.{batch_of_slots, batch_of_stored}
 use Rattle.ipc_format_laws.proofs.SchemaParts.{both}
 use Rattle.ipc_format_laws.proofs.Room.{HasId, fits_signed}

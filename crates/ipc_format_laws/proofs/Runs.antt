@@ -1,7 +1,7 @@
 -- A run of a writer's calls has the messages of what is written of the chunks that were not refused.
-use Rattle.std.proofs.Common.{◌≡◌, ℕ, Bool, true, false, not, ◌&&◌, List, [], ◌∷◌, ◌++◌, map, refl, sym, ap, ap₂, subst, ◌∙◌, append_assoc}
-use Rattle.std.specs.Prelude.{Option, Some, None, if◌then◌else◌, is_none, ◌||◌}
-use Rattle.std.specs.List.{list_all, flat_map}
+use Rattle.std.proofs.Common.{◌≡◌, Bool, true, false, not, ◌&&◌, List, [], ◌∷◌, ◌++◌, refl, sym, ap, ap₂, subst, ◌∙◌, append_assoc}
+use Rattle.std.specs.Prelude.{Option, Some, None, if◌then◌else◌}
+use Rattle.std.specs.List.{list_all}
 use Rattle.std.proofs.lemmas.List.{append-nil}
 use Rattle.std.proofs.lemmas.List.Folds.{list_all-append}
 use Rattle.columnar_memory.specs.declared.Schema.{Schema}
@@ -11,7 +11,7 @@ use Rattle.ipc_format_grammar.specs.GivenDictionaries.{Given, agree, last_under,
 use Rattle.ipc_format_grammar.specs.WrittenMessages.{Written, fits_limit, schema_written}
 use Rattle.ipc_format_grammar.specs.WrittenStreams.{Batch, Chunk, batch_of, batches_written, belongs, is_written_with, batch_messages, messages_after}
 use Rattle.ipc_format_grammar.specs.WrittenStreams.{stream_messages, stream_bytes, written_stream}
-use Rattle.ipc_format_grammar.specs.WrittenFiles.{none_replaced, is_first_or_same, all_given, footer_bytes, is_footer, file_bytes, written_file}
+use Rattle.ipc_format_grammar.specs.WrittenFiles.{none_replaced, is_first_or_same, all_given, file_bytes, written_file}
 use Rattle.ipc_format_grammar.specs.WriterRuns.{Run, WriteBar, another_schema, another_dictionary, long_message, may_tell, write_bar, with_batch}
 use Rattle.ipc_format_grammar.specs.WriterRuns.{unless_barred, after_start, after_write, after_writes}
 use Rattle.ipc_format_laws.proofs.SchemaParts.{both}

@@ -1,7 +1,6 @@
 -- What a stream holds that was written of a schema and of batches (Arrow IPC, "IPC Streaming Format", "Dictionary Messages").
-use Rattle.std.specs.Prelude.{◌≡◌, ℕ, ◌<◌, ◌≤◌, ◌^◌, List, [], ◌∷◌, ◌++◌, length, map, true, Some, FitsSigned}
+use Rattle.std.specs.Prelude.{◌≡◌, ℕ, ◌≤◌, List, [], ◌∷◌, ◌++◌, length, map, true, Some}
 use Rattle.std.specs.List.{All}
-use Rattle.std.specs.Int.{w64}
 use Rattle.ipc_format_flatbuffers.specs.FlatBuffers.{Table}
 use Rattle.columnar_memory.specs.declared.Schema.{Schema}
 use Rattle.ipc_format_grammar.specs.Messages as grammar
@@ -15,8 +14,8 @@ use Rattle.ipc_format_grammar.specs.Encoding.{joined}
 use Rattle.ipc_format_grammar.specs.GivenDictionaries.{Given, to_write, written_after}
 use Rattle.ipc_format_grammar.specs.WrittenMessages.{Written, buffer_places, record_message, dictionary_message}
 use Rattle.ipc_format_grammar.specs.WrittenStreams.{Batch, Chunk, batches_written, stream_messages, written_stream}
-use Rattle.ipc_format_laws.specs.BatchMessages.{AreSigned, IsRecordBatch, IsDictionaryBatch}
-use Rattle.ipc_format_laws.specs.Schemas.{HasTexts, FitIdsList, ids_read}
+use Rattle.ipc_format_laws.specs.BatchMessages.{IsRecordBatch, IsDictionaryBatch}
+use Rattle.ipc_format_laws.specs.Schemas.{HasTexts, ids_read}
 use Rattle.ipc_format_laws.specs.Messages.{as_written, all_written}
 
 -- a message that is read is the one that was written, with a header of a kind, whose table has something
