@@ -13,7 +13,10 @@ mod spelling;
 mod stream_laws;
 
 pub use choice_laws::choices_are_of_the_whole;
-pub use column_laws::{flat_batches_read_back, flat_columns_read_back, schemas_that_are_read_have_texts, whole_batches_read_back, whole_columns_read_back};
+pub use column_laws::{
+    flat_batches_read_back, flat_columns_read_back, schemas_that_are_read_have_texts,
+    whole_batches_read_back, whole_columns_read_back,
+};
 pub use count_laws::{
     a_written_batch_has_the_counts_of_its_fields, a_written_column_has_the_counts_of_its_type,
     one_more_field_adds_its_counts,
@@ -27,6 +30,11 @@ pub use id_laws::{default_ids_count_in_pre_order, default_ids_fit};
 pub use normal_form_laws::{
     a_normal_form_is_its_own, a_normal_form_is_valid, a_normal_form_is_written_where_the_schema_is,
 };
-pub use round_trip::{dictionary_batches_read_back, footers_read_back, record_batches_read_back, schemas_read_back};
+pub use round_trip::{
+    dictionary_batches_read_back, footers_read_back, record_batches_read_back, schemas_read_back,
+};
 pub use spelling::{laid_reads_back, spelled_reads};
-pub use stream_laws::{messages_read_back, no_dictionaries_given, runs_stand_for_their_messages, streams_read_back, tables_read_back};
+pub use stream_laws::{
+    messages_read_back, no_dictionaries_given, runs_stand_for_their_messages, streams_read_back,
+    tables_read_back,
+};
