@@ -43,6 +43,7 @@ fn whole_text(text: &Option<Text>)
     }
 }
 
+// match table: an arm for each type that has texts or types below it.
 #[cycle(wholeness)]
 fn whole_type(data_type: &DataType)
     ensures { type_has_texts data_type.now ≡ true }

@@ -150,7 +150,8 @@ fixed_lists_read size field encoder fits_item below_fits reader null_fits reads 
     let taken : taken_of (limit_times at.limit size) (length joined) ≡ length joined =
     subst (λ m. taken_of (limit_times at.limit size) m ≡ m) count (times_taken at.limit (length slots) size whole) in
     let values : reader (first_below at 1 (limit_times at.limit size)) ≡ Some joined =
-    reads joined (first_below at 1 (limit_times at.limit size)) all (joined_passes fits fits_item (fixed_items_of size) (fixed_items size fits_item null_fits) slots fit) below version holds
+    reads joined (first_below at 1 (limit_times at.limit size)) all
+    (joined_passes fits fits_item (fixed_items_of size) (fixed_items size fits_item null_fits) slots fit) below version holds
     (record {
       nodes = part_front item.nodes [] (part_next (node_of slots) (item.nodes ++ []) stands.nodes);
       buffers = part_front item.buffers [] (part_next (validity_bytes slots) (item.buffers ++ []) stands.buffers);

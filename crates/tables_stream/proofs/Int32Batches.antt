@@ -151,7 +151,8 @@ both_there layout version metadata table body vectors all is =
     let nodes = nodes_there metadata vectors.nodes inside.0 in
     let buffers = buffers_there metadata vectors.buffers inside.1 in
     rw (nodes.1, buffers.1)
-    (ap agreeing (columns_are_int32 layout [] version metadata vectors nodes.0 buffers.0 body 0 layout.fields nodes.1 buffers.1 inside.1 all (omega arith) all))
+    (ap agreeing (columns_are_int32 layout [] version metadata vectors nodes.0 buffers.0 body 0 layout.fields nodes.1 buffers.1
+    inside.1 all (omega arith) all))
 
 -- what follows may be replaced where it is known what came before
 bind_known : {A B : Type 0} (r : Option A) (f g : A → Option B) → ((x : A) → r ≡ Some x → f x ≡ g x) → (r >>= f) ≡ (r >>= g)
