@@ -1,11 +1,8 @@
 //! A data type is let go by `drop`, a call: at the end of a scope each variant of it is let go in turn, which costs much more to prove.
 use crate::cases::hash_of;
-use columnar_memory_types::{Boxed, Items, Metadata, Text};
 use columnar_memory_types::{
-    DataType, EXTENSION_METADATA, EXTENSION_NAME, Field, Schema, get_extension,
-};
-use columnar_memory_types::{
-    IntegerType, IntervalUnit, PhysicalType, PrimitiveType, TimeUnit, UnionMode,
+    Boxed, DataType, EXTENSION_METADATA, EXTENSION_NAME, Field, IntegerType, IntervalUnit, Items,
+    Metadata, PhysicalType, PrimitiveType, Schema, Text, TimeUnit, UnionMode, get_extension,
 };
 use std::alloc::{AllocError, Global};
 use std::test::Fail;
