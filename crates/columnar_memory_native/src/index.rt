@@ -5,8 +5,8 @@ ghost use Rattle.columnar_memory_native.specs.Numbers.{one};
 ghost use Rattle.columnar_memory_native.specs.Ranges.{integers};
 ghost use Rattle.columnar_memory_native.specs.Natural.{IsNumber, IsNumberOf, IsValueOf};
 
-use crate::range::IndexRange;
 use crate::NativeType;
+use crate::range::IndexRange;
 use num_traits::CheckedAdd;
 
 /// An integer that can number items, as a key or an offset does. `value` is its integer, and
