@@ -4,8 +4,8 @@ ghost use Rattle.columnar_memory_bitmap.specs.bits.Words.{word_at};
 ghost use Rattle.columnar_memory_kernels.specs.Kernels.{IsWordwise, AnswersOne, AnswersTwo};
 
 use crate::write::{bits_of_word, write_word};
-use columnar_memory_bitmap::{Bitmap, MutableBitmap};
 use columnar_memory_bitmap::bits::{BitChunk, load_word};
+use columnar_memory_bitmap::{Bitmap, MutableBitmap};
 
 /// Writes the answers of a function to the words of some bits over them.
 fn assign_one<T: BitChunk, F: Fn(T) -> T>(bytes: &mut [u8], len: usize, op: F)
