@@ -1,5 +1,5 @@
 //! The law of slices.
-ghost use Rattle.columnar_memory_bitmap.specs.SliceLaws.{BitSlicesJoin};
+ghost use Rattle.columnar_memory_bitmap.specs.BitSliceLaws.{BitSlicesJoin};
 
 /// A slice of a slice of a bitmap is one slice, at the sum of the places.
 #[tactic(auto, using(crate::proofs::BitSlices::ranges_join))]

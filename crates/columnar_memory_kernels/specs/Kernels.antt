@@ -1,5 +1,6 @@
 -- Kernels: a function of words on the words of lists of booleans (Arrow columnar format, "Validity bitmaps").
-use Rattle.std.specs.Prelude.{◌≡◌, ℕ, ◌+◌, ◌<◌, ◌≤◌, Bool, List, length, take, drop, slice_index}
+use Rattle.std.specs.Prelude.{◌≡◌, ℕ, ◌+◌, ◌^◌, ◌<◌, ◌≤◌, Bool, List, length, take, drop, slice_index}
+use Rattle.columnar_memory_bitmap.specs.bits.Bits.{bit}
 use Rattle.columnar_memory_bitmap.specs.bits.Words.{word, words_for, words_bits}
 
 -- The booleans are those of words of w bits, cut to n: each word is an answer at its place.
@@ -34,3 +35,12 @@ part bits first count = word (take count (drop first bits))
 -- a function of a first bit and a count takes each part of n bits that is no longer than a word
 abbrev pub TakesParts : (ℕ → ℕ → Type 0) → ℕ → Type 0
 TakesParts takes n = (first count : ℕ) → count ≤ 64 → first + count ≤ n → takes first count
+
+-- each answer to a word has at each bit what a table gives of the bit there
+abbrev pub TurnsBits : (Bool → Bool) → (ℕ → ℕ → Type 0) → Type 0
+TurnsBits table answers = (word answer i : ℕ) → word < 2 ^ 64 → answers word answer → i < 64 → bit answer i ≡ table (bit word i)
+
+-- the same of two words
+abbrev pub CombinesBits : (Bool → Bool → Bool) → (ℕ → ℕ → ℕ → Type 0) → Type 0
+CombinesBits table answers = (left right answer i : ℕ) → left < 2 ^ 64 → right < 2 ^ 64 → answers left right answer → i < 64
+    → bit answer i ≡ table (bit left i) (bit right i)

@@ -1,9 +1,9 @@
-ghost use Rattle.std.specs.Prelude.{◌≡◌, ◌+◌, ◌≤◌, ◌&&◌, ◌||◌, length};
+ghost use Rattle.std.specs.Prelude.{◌≡◌, ◌+◌, ◌≤◌, ◌&&◌, ◌||◌, Bool, length, map};
 ghost use Rattle.columnar_memory_bitmap.specs.bits.Words.{word_at};
 ghost use Rattle.columnar_memory_bitmap.specs.Operators as operator;
 ghost use Rattle.columnar_memory_bitmap.specs.Operators.{pairwise};
 ghost use Rattle.columnar_memory_bitmap.specs.Results.{OrOutOfMemory};
-ghost use Rattle.columnar_memory_kernels.specs.Kernels.{IsWordwise, part};
+ghost use Rattle.columnar_memory_kernels.specs.Kernels.{CombinesBits, IsWordwise, TurnsBits, part};
 
 use crate::words::{BitWords, answered_words};
 use columnar_memory_bitmap::Bitmap;
@@ -17,7 +17,8 @@ use std::alloc::Global;
 /// `OutOfMemory`.
 pub fn unary<F: Fn(u64) -> u64>(alloc: Global, lhs: &Bitmap, op: F) -> Result<Bitmap>
     requires { F.IsAlwaysCallable op }
-    ensures { OrOutOfMemory result (IsWordwise 64 (λ k answer. F.post op (word_at 64 lhs.now k) answer) (length lhs.now)) }
+    ensures words { OrOutOfMemory result (IsWordwise 64 (λ k answer. F.post op (word_at 64 lhs.now k) answer) (length lhs.now)) }
+    ensures bits { (table : Bool → Bool) → TurnsBits table (λ x answer. F.post op x answer) → OrOutOfMemory result (λ b. b ≡ map table lhs.now) }
 {
     let bits = BitWords::of(lhs);
     let answer = |first: usize, count: usize| -> u64
@@ -43,7 +44,9 @@ pub fn binary<F: Fn(u64, u64) -> u64>(
 ) -> Result<Bitmap>
     requires callable { F.IsAlwaysCallable op }
     requires lengths { length lhs.now ≡ length rhs.now }
-    ensures { OrOutOfMemory result (IsWordwise 64 (λ k answer. F.post op (word_at 64 lhs.now k) (word_at 64 rhs.now k) answer) (length lhs.now)) }
+    ensures words { OrOutOfMemory result (IsWordwise 64 (λ k answer. F.post op (word_at 64 lhs.now k) (word_at 64 rhs.now k) answer) (length lhs.now)) }
+    ensures bits { (table : Bool → Bool → Bool) → CombinesBits table (λ x y answer. F.post op x y answer) →
+        OrOutOfMemory result (λ b. b ≡ pairwise table lhs.now rhs.now) }
 {
     let left = BitWords::of(lhs);
     let right = BitWords::of(rhs);
