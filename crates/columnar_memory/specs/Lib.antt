@@ -35,3 +35,5 @@ pub use Rattle.columnar_memory_buffer.specs.SliceLaws
 pub use Rattle.columnar_memory_buffer.specs.Spans
 pub use Rattle.columnar_memory_buffer.specs.SpansEqual
 pub use Rattle.columnar_memory_buffer.specs.Window
+pub use Rattle.columnar_memory_buffer.specs.native.types.Texts
+pub use Rattle.columnar_memory_kernels.specs.bitmap.BitSliceLaws

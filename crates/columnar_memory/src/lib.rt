@@ -8,7 +8,8 @@ pub use columnar_memory_buffer::native::types::{
     UnionMode, get_extension,
 };
 pub use columnar_memory_buffer::native::{
-    Index, IndexRange, NativeType, Offset, Steps, days_ms, i256, months_days_ns,
+    Index, IndexRange, NativeType, Offset, Steps, be_bytes_of_their_value, days_ms, i256,
+    le_bytes_of_their_value, months_days_ns,
 };
 pub use columnar_memory_buffer::{
     Buffer, Bytes, IntoIter as BufferIntoIter, Offsets, OffsetsBuffer, OffsetsLengths,
@@ -21,6 +22,7 @@ pub use columnar_memory_kernels::bitmap::bits::{
 };
 pub use columnar_memory_kernels::bitmap::{
     BitGatherer, Bitmap, IntoIter as BitmapIntoIter, MutableBitmap, SlicesIterator,
+    a_slice_of_a_sliced_bitmap_is_one_slice,
 };
 pub use columnar_memory_kernels::{
     and, binary, binary_assign, or, quaternary, ternary, unary, unary_assign, xor,
