@@ -47,9 +47,11 @@ class OldFile:
         messages = messages_of(self.specs, groups, False, known)
         return file_behind(start, self.specs, self.schema.normal.metadata, blocks, messages, len(self.content))
 
-    def with_other_tail(self):
-        """The file with other bytes between its last block and its footer."""
-        return self.content[: self.end] + b"\xaa" * (self.footer_at - self.end) + self.content[max(self.footer_at, self.end) :]
+    def with_other_tails(self):
+        """The file with other bytes behind its last block, and its footer further behind, so that nothing stands where it stood."""
+        footer = self.content[max(self.footer_at, self.end) :]
+        for filler in (b"\xaa", b"\x55"):
+            yield self.content[: self.end] + filler * (max(self.footer_at - self.end, 0) + len(footer)) + footer
 
 
 def spec_of(column):

@@ -44,7 +44,8 @@ pub fn binary<F: Fn(u64, u64) -> u64>(
 ) -> Result<Bitmap>
     requires callable { F.IsAlwaysCallable op }
     requires lengths { length lhs.now ≡ length rhs.now }
-    ensures words { OrOutOfMemory result (IsWordwise 64 (λ k answer. F.post op (word_at 64 lhs.now k) (word_at 64 rhs.now k) answer) (length lhs.now)) }
+    ensures words { OrOutOfMemory result (IsWordwise 64 (λ k answer. F.post op (word_at 64 lhs.now k) (word_at 64 rhs.now k) answer)
+        (length lhs.now)) }
     ensures bits { (table : Bool → Bool → Bool) → CombinesBits table (λ x y answer. F.post op x y answer) →
         OrOutOfMemory result (λ b. b ≡ pairwise table lhs.now rhs.now) }
 {

@@ -6,6 +6,8 @@ mod bitmap;
 #[cfg(test)]
 mod bits;
 #[cfg(test)]
+mod booleans;
+#[cfg(test)]
 mod buffers;
 #[cfg(test)]
 mod cases;

@@ -1,0 +1,22 @@
+-- Bytes that are added behind others.
+use Rattle.std.proofs.Common.{◌≡◌, ◌∙◌, ℕ, ◌+◌, ◌<◌, List, [], ◌∷◌, ◌++◌, length, take, get_or, ap, sym}
+use Rattle.std.specs.List.{flat_map}
+use Rattle.std.proofs.lemmas.List.{take_more, flat_map_more}
+use Rattle.std.proofs.Math.Seq.{take-append_seam, take-length}
+use Rattle.ipc_format_column_bytes.specs.Appends.{BeginsWith}
+
+pub begins_with_itself : {A : Type 0} (old new : List A) → new ≡ old → BeginsWith old new
+begins_with_itself old new same = ap (λ (xs : List _). take (length old) xs) same ∙ take-length old
+
+pub begins : {A : Type 0} (old more new : List A) → new ≡ old ++ more → BeginsWith old new
+begins old more new same = ap (λ (xs : List _). take (length old) xs) same ∙ take-append_seam old more
+
+pub begins_behind : {A : Type 0} (old mid more new : List A) → mid ≡ old ++ more → new ≡ mid → BeginsWith old new
+begins_behind old mid more new so_far same = begins old more new (same ∙ so_far)
+
+-- the bytes of one thing more
+pub one_more : {X : Type 0} (f : X → List ℕ) (xs : List X) (i : ℕ) (x : X) (old mid new more : List ℕ) → i < length xs → x ≡ get_or xs i x
+    → mid ≡ old ++ flat_map f (take i xs) → new ≡ mid ++ more → more ≡ f x → new ≡ old ++ flat_map f (take (i + 1) xs)
+one_more {X} f xs i x old mid new more inside is so_far added same =
+    added ∙ (λ j. so_far j ++ same j) ∙ flat_map_more f old (take i xs) x
+    ∙ ap (λ (ys : List X). old ++ flat_map f ys) (ap (λ (y : X). take i xs ++ y ∷ []) is ∙ sym (take_more xs i x inside))

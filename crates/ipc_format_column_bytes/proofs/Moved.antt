@@ -1,0 +1,64 @@
+-- The bytes of offsets less the first one.
+use Rattle.std.proofs.Common.{◌≡◌, ◌∙◌, ℕ, suc, ◌+◌, ◌-◌, ◌≤◌, Bool, true, false, List, [], ◌∷◌, map, refl, sym, ap, subst, arith}
+use Rattle.std.specs.Prelude.{ℤ, pos, ◌≤ℤ◌, if◌then◌else◌, slice_index}
+use Rattle.std.specs.List.{flat_map, All}
+use Rattle.std.proofs.lemmas.Int.{ints}
+use Rattle.std.proofs.lemmas.List.Folds.{flat_map-map}
+use Rattle.std.proofs.lemmas.List.Elements.{All-cons, All-nil}
+use Rattle.ipc_format_messages.specs.columnar_memory.Numbers.{Numbers, one, bytes_of}
+use Rattle.ipc_format_messages.specs.columnar_memory.Spans.{Spans, AreOffsets, ends_from, number_of, offsets_of}
+use Rattle.ipc_format_messages.specs.columnar_memory.declared.PrimitiveType.{PrimitiveType}
+use Rattle.ipc_format_messages.specs.columnar_memory.declared.PrimitiveType.TheVariants as kinds
+use Rattle.ipc_format_messages.specs.grammar.StoredEncoding.{moved_bytes, ordered_bytes}
+use Rattle.ipc_format_column_bytes.specs.Numbers.{width_of}
+
+-- the bytes of an offset
+pub offset_is : (is_large little : Bool) (kind : PrimitiveType) (value : Numbers) (n : ℕ)
+    → kind ≡ (if is_large then kinds.Int64 else kinds.Int32) → value ≡ one (pos n)
+    → bytes_of kind little value ≡ ordered_bytes little (width_of is_large) n
+offset_is true true kind value n is_kind is = λ i. bytes_of (is_kind i) true (is i)
+offset_is true false kind value n is_kind is = λ i. bytes_of (is_kind i) false (is i)
+offset_is false true kind value n is_kind is = λ i. bytes_of (is_kind i) true (is i)
+offset_is false false kind value n is_kind is = λ i. bytes_of (is_kind i) false (is i)
+
+-- no offset is below the first one
+not_below : (first start : ℕ) (lengths : List ℕ) → first ≤ start → All (λ (n : ℕ). first ≤ n) (ends_from start lengths)
+not_below first start [] low = All-nil (λ (n : ℕ). first ≤ n)
+not_below first start (l ∷ lengths) low =
+    All-cons (λ (n : ℕ). first ≤ n) (start + l) (ends_from (start + l) lengths) (omega arith) (not_below first (start + l) lengths (omega arith))
+
+signed_all : (first : ℕ) (ns : List ℕ) → All (λ (n : ℕ). first ≤ n) ns → All (λ (z : ℤ). pos first ≤ℤ z) (map pos ns)
+signed_all first [] all = All-nil (λ (z : ℤ). pos first ≤ℤ z)
+signed_all first (n ∷ ns) all =
+    let here : first ≤ n = all 0 n (omega arith) in
+    All-cons (λ (z : ℤ). pos first ≤ℤ z) (pos n) (map pos ns) (omega (arith, ints, here))
+    (signed_all first ns (λ k d inside. all (suc k) d (omega arith)))
+
+unmapped : {T : Type 0} (value : T → ℤ) (first : ℕ) (xs : List T) → All (λ (z : ℤ). pos first ≤ℤ z) (map value xs)
+    → All (λ x. pos first ≤ℤ value x) xs
+unmapped value first [] all = All-nil (λ x. pos first ≤ℤ value x)
+unmapped value first (x ∷ xs) all =
+    All-cons (λ x. pos first ≤ℤ value x) x xs (all 0 (value x) (omega arith))
+    (unmapped value first xs (λ k d inside. all (suc k) d (omega arith)))
+
+-- a number that two integers are
+pub one_number : (z : ℤ) (m n : ℕ) → z ≡ pos m → z ≡ pos n → m ≡ n
+one_number z m n is_m is_n = ap number_of (sym is_m ∙ is_n)
+
+pub offsets_from_first : {T : Type 0} (value : T → ℤ) (xs : List T) (s : Spans) (first : ℕ) → AreOffsets value xs s → first ≡ s.start
+    → All (λ x. pos first ≤ℤ value x) xs
+offsets_from_first value xs s first are is =
+    let low : first ≤ s.start = omega (arith, is) in
+    unmapped value first xs (subst (λ (zs : List ℤ). All (λ (z : ℤ). pos first ≤ℤ z) zs) (sym are)
+    (signed_all first (offsets_of s) (All-cons (λ (n : ℕ). first ≤ n) s.start (ends_from s.start s.lengths) low
+    (not_below first s.start s.lengths low))))
+
+-- the bytes of all of them
+pub moved_are : {T : Type 0} (value : T → ℤ) (little is_large : Bool) (xs : List T) (s : Spans) (first : ℕ) → AreOffsets value xs s → first ≡ s.start
+    → flat_map (λ x. ordered_bytes little (width_of is_large) (number_of (value x) - first)) xs ≡ moved_bytes little (width_of is_large)
+    (offsets_of s)
+moved_are value little is_large xs s first are is =
+    let h : ℤ → List ℕ = λ z. ordered_bytes little (width_of is_large) (number_of z - first) in
+    sym (flat_map-map h value xs) ∙ ap (flat_map h) are ∙ flat_map-map h pos (offsets_of s)
+    ∙ ap (λ (f : ℕ). flat_map (λ n. ordered_bytes little (width_of is_large) (n - f)) (offsets_of s)) is
+    ∙ sym (flat_map-map (ordered_bytes little (width_of is_large)) (λ (n : ℕ). n - s.start) (offsets_of s))

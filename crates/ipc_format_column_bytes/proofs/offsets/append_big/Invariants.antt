@@ -1,0 +1,12 @@
+use Rattle.std.proofs.Common.{◌≡◌, ◌-◌, ◌++◌, take, false}
+use Rattle.std.specs.List.{flat_map}
+use Rattle.ipc_format_messages.specs.grammar.StoredEncoding.{ordered_bytes}
+use Rattle.ipc_format_messages.specs.columnar_memory.Spans.{number_of}
+use Rattle.ipc_format_column_bytes.specs.Numbers.{width_of}
+use Rattle.ipc_format_column_bytes.proofs.offsets.append_big.Given as goal
+
+-- the offsets before stand there
+abbrev pub invariant-loop-offset : goal.invariant-loop-offset
+invariant-loop-offset g l = l.to.items ≡
+    l.fn.to.items ++ flat_map (λ x. ordered_bytes false (width_of g.O.Offset.IS_LARGE) (number_of (g.O.Number.value x) - l.first)) (take
+    l.offset-index l.offsets)

@@ -1,0 +1,10 @@
+pub mod Appends
+pub mod Bodies
+pub mod Numbers
+pub mod WholeColumns
+pub use Rattle.ipc_format_messages.specs as messages
+pub use Rattle.ipc_format_messages.specs.columnar_memory
+pub use Rattle.ipc_format_messages.specs.flatbuffers
+pub use Rattle.ipc_format_messages.specs.columns
+pub use Rattle.ipc_format_messages.specs.grammar
+pub use Rattle.ipc_format_messages.specs.metadata

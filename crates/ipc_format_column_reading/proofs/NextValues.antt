@@ -1,0 +1,17 @@
+-- What the next buffer gives, by what its bytes are.
+use Rattle.std.proofs.Common.{◌≡◌, ◌∙◌, ◌*◌, ℕ, List, Bool, sym, ap}
+use Rattle.std.specs.Prelude.{Option, Some}
+use Rattle.ipc_format_streams.specs.columnar_memory.Numbers.{kind_size}
+use Rattle.ipc_format_streams.specs.columnar_memory.declared.PrimitiveType.{PrimitiveType}
+use Rattle.ipc_format_streams.specs.flatbuffers.Reading.{◌>>=◌}
+use Rattle.ipc_format_streams.specs.messages.declared.values.Buffer.{Buffer}
+use Rattle.ipc_format_column_reading.specs.Buffers.{next_values, next_window, values_in}
+
+-- the values of the bytes that are given
+pub values_given : (kind : PrimitiveType) (little : Bool) (buffers : List Buffer) (origin count size needed : ℕ) (room : List ℕ)
+    (given : Option (List ℕ)) → size ≡ kind_size kind → needed ≡ count * size → next_window buffers origin needed room ≡ given
+    → next_values kind little buffers origin count room ≡ (given >>= (λ bytes. Some (values_in kind little count bytes)))
+values_given kind little buffers origin count size needed room given sized enough is =
+    ap (λ (n : ℕ). next_window buffers origin n room >>= (λ bytes. Some (values_in kind little count bytes)))
+    (sym (enough ∙ ap (λ (n : ℕ). count * n) sized))
+    ∙ ap (λ (bytes : Option (List ℕ)). bytes >>= (λ bytes. Some (values_in kind little count bytes))) is

@@ -1,0 +1,20 @@
+//! Columns of booleans.
+ghost use Rattle.ipc_format_column_reading.specs.Queues.{Skips};
+
+use crate::queues::skip_own;
+use ipc_format_streams::columnar_memory::Result;
+use ipc_format_streams::messages::{Buffer, FieldNode};
+use std::collections::VecDeque;
+
+/// Passes over a column of booleans: a node and two buffers.
+///
+/// # Errors
+/// `OutOfSpec`: there are fewer. Each queue then holds an end of what it held.
+pub fn skip_boolean(
+    field_nodes: &mut VecDeque<FieldNode>,
+    buffers: &mut VecDeque<Buffer>,
+) -> Result<()>
+    ensures { Skips 1 2 field_nodes.old.items field_nodes.new.items buffers.old.items buffers.new.items result }
+{
+    skip_own(field_nodes, buffers, 2)
+}

@@ -1,0 +1,28 @@
+//! Columns of lists of one length.
+ghost use Rattle.ipc_format_streams.specs.columnar_memory.Layouts.{physical_type};
+ghost use Rattle.ipc_format_streams.specs.messages.MessageViews.{version_view};
+ghost use Rattle.ipc_format_column_reading.specs.Queues.{SkipsKind, is_fixed_size_list};
+
+use crate::deserialize::skip;
+use ipc_format_streams::columnar_memory::{DataType, Error, PhysicalType, Result};
+use ipc_format_streams::messages::{Buffer, FieldNode, MetadataVersion};
+use std::collections::VecDeque;
+
+/// Passes over a column of lists of one length, and the columns below it.
+///
+/// # Errors
+/// `OutOfSpec`: the type is another one, and the queues stay; or there are fewer nodes or buffers, and each queue holds an end of what it held.
+pub fn skip_fixed_size_list(
+    field_nodes: &mut VecDeque<FieldNode>,
+    data_type: &DataType,
+    buffers: &mut VecDeque<Buffer>,
+    version: MetadataVersion,
+) -> Result<()>
+    ensures { SkipsKind (is_fixed_size_list (physical_type data_type.now)) data_type.now (version_view version)
+        field_nodes.old.items field_nodes.new.items buffers.old.items buffers.new.items result }
+{
+    match data_type.to_physical_type() {
+        PhysicalType::FixedSizeList => skip(field_nodes, data_type, buffers, version),
+        _ => Err(Error::OutOfSpec("InvalidDataType")),
+    }
+}

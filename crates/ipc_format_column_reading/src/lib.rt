@@ -1,0 +1,38 @@
+//! Columns read from record batches (Arrow IPC, "RecordBatch message"; Arrow columnar format, "Buffer Listing for Each Layout"): nodes and
+//! buffers are queues, from whose fronts each column takes its own, and arrays are made of the buffers' bytes.
+#![tactic(auto)]
+
+mod binary;
+mod boolean;
+mod deserialize;
+mod dictionary;
+mod fixed_size_binary;
+mod fixed_size_list;
+mod list;
+mod map;
+mod null;
+mod primitive;
+mod queues;
+mod read_basic;
+mod room;
+mod struct_;
+mod union;
+mod utf8;
+
+pub use binary::skip_binary;
+pub use boolean::skip_boolean;
+pub use deserialize::skip;
+pub use dictionary::skip_dictionary;
+pub use fixed_size_binary::skip_fixed_size_binary;
+pub use fixed_size_list::skip_fixed_size_list;
+pub use ipc_format_streams as streams;
+pub use ipc_format_streams::{columnar_memory, columns, flatbuffers, grammar, messages, metadata};
+pub use list::skip_list;
+pub use map::skip_map;
+pub use null::skip_null;
+pub use primitive::skip_primitive;
+pub use read_basic::{read_bitmap, read_buffer, read_bytes, read_validity, slots_taken};
+pub use room::{InMemory, Room};
+pub use struct_::skip_struct;
+pub use union::skip_union;
+pub use utf8::skip_utf8;

@@ -1,0 +1,147 @@
+//! Where the buffers of batches stand: in memory, or on a device.
+ghost use Rattle.std.specs.Prelude.{◌≡◌, ◌+◌, length, OnOk};
+ghost use Rattle.std.specs.Option.{option_copied};
+ghost use Rattle.ipc_format_streams.specs.flatbuffers.Reading.{window_at};
+ghost use Rattle.ipc_format_column_reading.specs.Rooms.{FillsFrom, IsFault};
+
+use ipc_format_streams::Faults;
+use ipc_format_streams::columnar_memory::{Error, Result};
+use ipc_format_streams::flatbuffers::window;
+use std::io;
+use std::io::{ErrorKind, Read, Seek, SeekFrom};
+
+/// How many bytes are asked for at once of a device, beyond those that came.
+const PIECE: usize = 65536;
+
+/// Where the buffers of batches stand. Every device that reads, seeks and counts its failures is one, and so are bytes in memory.
+pub trait Room {
+    ghost use Rattle.ipc_format_column_reading.specs.Rooms.{Told};
+
+    // All the bytes, where they stand in memory, and how often the device has failed.
+    ghost told: { Self → Told };
+
+    /// All the bytes, where they stand in memory.
+    fn as_memory(&self) -> Option<&[u8]>
+        ensures { option_copied result ≡ (told self.now).bytes };
+
+    /// Puts `count` bytes in place of those that a vector holds: those from `origin + offset` on.
+    ///
+    /// # Errors
+    /// - `Io`: the device failed.
+    /// - `OutOfSpec`: the bytes end before, or the device refuses without a failure.
+    /// - `OutOfMemory`: the vector, or the device, found no memory. Memory is asked for by what came.
+    fn fill_from(
+        &mut self,
+        origin: u64,
+        offset: u64,
+        count: usize,
+        into: &mut Vec<u8>,
+    ) -> Result<()>
+        ensures { FillsFrom (told self.old) (told self.new) (origin + offset) count into.new.items result };
+}
+
+/// Bytes in memory.
+#[derive(Clone, Copy, Debug)]
+pub struct InMemory<'a> {
+    pub bytes: &'a [u8],
+}
+
+/// The `count` bytes from `origin + offset` on, where there are so many.
+pub fn window_from(bytes: &[u8], origin: u64, offset: u64, count: usize) -> Option<&[u8]>
+    ensures { option_copied result ≡ window_at bytes.now (origin + offset) count }
+{
+    let len = bytes.len();
+    let place = usize::try_from(origin.checked_add(offset)?).ok()?;
+    if place > len {
+        return None;
+    }
+    window(bytes, place, count)
+}
+
+impl<'a> Room for InMemory<'a> {
+    ghost use Rattle.std.specs.Prelude.{Some};
+
+    ghost told = { λ room. record { bytes = Some room.bytes.now; failures = 0 } };
+
+    fn as_memory(&self) -> Option<&[u8]> {
+        Some(self.bytes)
+    }
+
+    fn fill_from(
+        &mut self,
+        origin: u64,
+        offset: u64,
+        count: usize,
+        into: &mut Vec<u8>,
+    ) -> Result<()> {
+        let Some(part) = window_from(self.bytes, origin, offset, count) else {
+            return Err(Error::OutOfSpec("bytes that end before"));
+        };
+        into.clear();
+        into.extend_from_slice(part)?;
+        Ok(())
+    }
+}
+
+impl<R: Read + Seek + Faults> Room for R {
+    ghost use Rattle.std.specs.Prelude.{None};
+
+    ghost told = { λ device. record { bytes = None; failures = R.failures device } };
+
+    fn as_memory(&self) -> Option<&[u8]> {
+        None
+    }
+
+    fn fill_from(
+        &mut self,
+        origin: u64,
+        offset: u64,
+        count: usize,
+        into: &mut Vec<u8>,
+    ) -> Result<()> {
+        let before = self.faults();
+        let Some(place) = origin.checked_add(offset) else {
+            return Err(Error::OutOfSpec("a place past 64 bits"));
+        };
+        let filled = fill_in_pieces(self, place, count, into);
+        let after = self.faults();
+        match filled {
+            Ok(()) if before <= after => Ok(()),
+            Ok(()) => Err(Error::OutOfSpec("a count of failures that fell")),
+            Err(error) => Err(fault(error, before, after)),
+        }
+    }
+}
+
+/// The name of what a device answers that had failed `before` times before the call, and has failed `after` times since.
+fn fault(error: io::Error, before: u64, after: u64) -> Error
+    ensures { IsFault before after result }
+{
+    if before < after {
+        Error::Io(error)
+    } else if error.kind() == ErrorKind::OutOfMemory {
+        Error::OutOfMemory
+    } else {
+        Error::OutOfSpec("a read was refused")
+    }
+}
+
+/// Puts the `count` bytes from a place on in place of those that a vector holds, in pieces, so that memory is asked for by what came.
+fn fill_in_pieces<R: Read + Seek>(
+    device: &mut R,
+    place: u64,
+    count: usize,
+    into: &mut Vec<u8>,
+) -> io::Result<()>
+    ensures { OnOk result (length into.new.items ≡ count) }
+{
+    into.clear();
+    device.seek(SeekFrom::Start(place))?;
+    while into.len() < count {
+        let start = into.len();
+        let end = start + PIECE.min(count - start);
+        into.resize(end, 0)?;
+        device.read_exact(&mut into[start..])?;
+    }
+    Ok(())
+}

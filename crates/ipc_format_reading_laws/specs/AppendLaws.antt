@@ -1,0 +1,45 @@
+-- What a file reads as to which batches of stored columns were appended (Arrow IPC, "IPC File Format"; docs/FORMAT.md, "Appending").
+use Rattle.std.specs.Prelude.{◌≡◌, ℕ, ◌+◌, ◌<◌, ◌≤◌, ◌^◌, List, ◌++◌, length, take, Some}
+use Rattle.std.specs.List.{All}
+use Rattle.nested_arrays_columns.specs.Slots.{window}
+use Rattle.nested_arrays_columns.specs.StoredColumns.{Column}
+use Rattle.nested_arrays_columns.specs.Tables.{Table, rows_of_batches}
+use Rattle.ipc_format_grammar.specs.Dictionaries.{Entry}
+use Rattle.ipc_format_grammar.specs.Framing.{frame_at}
+use Rattle.ipc_format_grammar.specs.Files.{Block, Footer, footer_in}
+use Rattle.ipc_format_grammar.specs.Tables.{Contents, file, contents_of, layout_of, table_of}
+use Rattle.ipc_format_grammar.specs.Windows.{Window, entry_windows}
+use Rattle.ipc_format_grammar.specs.Limits.{most_dictionaries}
+use Rattle.ipc_format_grammar.specs.WrittenStreams.{batches_written}
+use Rattle.ipc_format_grammar.specs.WrittenFiles.{batch_blocks}
+use Rattle.ipc_format_grammar.specs.AppendedFiles.{Base, base_of, base_end, base_start, with_base, appended}
+use Rattle.ipc_format_reading_laws.specs.StoredTables.{stored_chunks, read_batches}
+
+-- the numbers of a schema's columns
+abbrev pub all_columns : Contents → List ℕ
+all_columns contents = window (λ k. k) 0 (length contents.schema.schema.fields)
+
+-- every byte that is taken of a file's messages stands before an end: their metadata, and the windows of all columns and dictionaries
+pub record StandsBefore (end : ℕ) (bytes : List ℕ) : Type 0 where
+  pub footer : Footer
+  pub has_footer : footer_in bytes ≡ Some footer
+  pub messages : All (λ (block : Block). frame_at (take end bytes) block.offset ≡ frame_at bytes block.offset)
+      (footer.dictionaries ++ footer.record_batches)
+  pub contents : Contents
+  pub holds : contents_of file bytes ≡ Some contents
+  pub windows : All (λ (entry : Entry). All (λ (w : Window). w.start + w.size ≤ end)
+      (entry_windows (layout_of contents.schema) (all_columns contents) entry)) contents.entries
+
+-- The new file has no more dictionaries than are read of one. Two fields may share a dictionary's id while those within its values have other
+-- ids: a file is read where the second field's inner dictionaries are missing, and a batch that is appended brings them.
+abbrev pub HasFewDictionaries : Base → List (List Column) → Type 0
+HasFewDictionaries base batches = length (with_base base (batch_blocks (base_start base) base.told
+    (batches_written base.found.schema base.found.ids (stored_chunks batches)))).dictionaries ≤ most_dictionaries
+
+-- A file to which batches were appended reads as the old table joined with their rows, where the old file reads, nothing of it is taken
+-- behind its last message, and the rows of both fit 64 bits; the new file has fewer than 2^63 bytes, and not too many dictionaries.
+abbrev pub AppendedFilesReadBack : Type 0
+AppendedFilesReadBack = (bytes new : List ℕ) (base : Base) (batches : List (List Column)) (table : Table) → base_of bytes ≡ Some base
+    → StandsBefore (base_end base) bytes → table_of file bytes ≡ Some table → appended bytes (stored_chunks batches) ≡ Some new
+    → HasFewDictionaries base batches → length new < 2 ^ 63 → length (table.rows ++ rows_of_batches (read_batches batches)) < 2 ^ 64
+    → table_of file new ≡ Some (record table { rows = table.rows ++ rows_of_batches (read_batches batches) })

@@ -1,0 +1,17 @@
+use Rattle.std.proofs.Common.{◌∙◌, ap}
+use Rattle.nested_arrays_parts.specs.flat.FlatColumns.{binary_column}
+use Rattle.nested_arrays_builder_parts.proofs.FrozenStrings.{is_binary, binary_frozen}
+use Rattle.nested_arrays_builder_parts.proofs.frozen.freeze_bytes.Goals as goal
+
+pub new-requires : goal.new-requires
+new-requires g c =
+    let parts = c.in_ok-parts.parts in
+    let is = c.in_ok-parts.ensures in
+    is_binary c.args.data_type c.args.strings parts.0 parts.1 c.args.validity is.0 is.1 c.requires.masked g.O.Offset.IS_LARGE c.requires.lies
+
+pub returns : goal.returns
+returns g c =
+    let parts = c.in_ok-parts.parts in
+    let is = c.in_ok-parts.ensures in
+    ap binary_column c.new.ensures
+    ∙ binary_frozen c.args.data_type c.args.strings parts.0 parts.1 c.args.validity is.0 is.1 c.requires.masked g.O.Offset.IS_LARGE

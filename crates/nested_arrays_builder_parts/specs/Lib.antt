@@ -1,0 +1,13 @@
+pub mod AnyNumbers
+pub mod CellParts
+pub mod Freezing
+pub mod Growing
+pub mod GrowingNodes
+pub mod KeptValues
+pub mod Marks
+pub mod NewValues
+pub mod Open
+pub mod Scalars
+pub mod Strings
+pub use Rattle.nested_arrays_parts.specs as arrays
+pub use Rattle.nested_arrays_growth.specs as growth

@@ -1,0 +1,7 @@
+//! Tests of what builders of nested arrays are made of, apart from its package since a package with tests is proved twice.
+#![tactic(auto)]
+
+#[cfg(test)]
+mod marks;
+#[cfg(test)]
+mod strings;

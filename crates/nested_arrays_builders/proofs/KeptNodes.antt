@@ -1,0 +1,34 @@
+-- Builders by the slots that they keep.
+use Rattle.std.proofs.Common.{◌≡◌, ◌∙◌, List, Bool, length, sym, ap, subst}
+use Rattle.std.proofs.lemmas.List.{length-map}
+use Rattle.columnar_memory.specs.declared.DataType.{DataType}
+use Rattle.nested_arrays_columns.specs.FreshColumns.{is_valid}
+use Rattle.nested_arrays_columns.specs.Slots.{Slot}
+use Rattle.nested_arrays_columns.specs.StoredColumns.{column_size, slots}
+use Rattle.nested_arrays_columns.proofs.FreshSlots.{fresh_slots}
+use Rattle.nested_arrays_builder_parts.specs.Open.{Open, opened, column_of}
+use Rattle.nested_arrays_builders.specs.KeptColumns.{column_kept}
+use Rattle.nested_arrays_builders.specs.Parts.{Parts, parts_column, IsKept}
+
+module _ (t : DataType) (marks : List Bool) (parts : Parts) (xs : List Slot) (kept : IsKept t marks parts xs) where
+  -- the slots are those that the column has
+  pub slots_kept : slots (parts_column t marks parts) ≡ xs
+  slots_kept = ap slots (column_kept t marks parts xs kept) ∙ fresh_slots t xs kept.can kept.fit
+
+  pub view_kept : opened t (slots (parts_column t marks parts)) ≡ opened t xs
+  view_kept = ap (opened t) slots_kept
+
+  pub kept_again : IsKept t marks parts (slots (parts_column t marks parts))
+  kept_again = subst (IsKept t marks parts) (sym slots_kept) kept
+
+  pub kept_length : length marks ≡ length xs
+  kept_length = ap length kept.marked ∙ length-map xs is_valid
+
+-- a builder by what is seen of it
+module _ (t : DataType) (marks : List Bool) (parts : Parts) (o : Open) (is : opened t (slots (parts_column t marks parts)) ≡ o)
+    (kept : IsKept t marks parts (slots (parts_column t marks parts))) where
+  pub own_kept : IsKept t marks parts o.slots
+  own_kept = subst (λ (o : Open). IsKept t marks parts o.slots) is kept
+
+  pub size_is : column_size (parts_column t marks parts) ≡ column_size (column_of o)
+  size_is = ap column_size (column_kept t marks parts (slots (parts_column t marks parts)) kept) ∙ ap (λ (o : Open). column_size (column_of o)) is

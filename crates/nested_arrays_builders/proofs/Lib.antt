@@ -1,0 +1,5 @@
+pub mod CutParts
+pub mod FirstSpans
+pub mod KeptNodes
+pub mod MoreFits
+pub mod MoreParts

@@ -1,0 +1,101 @@
+-- Builders with one more slot, and the sizes of what stands below them.
+use Rattle.std.proofs.Common.{◌≡◌, ◌∙◌, ℕ, suc, ◌+◌, List, [], ◌∷◌, ◌++◌, length, Bool, true, refl, sym, ap, arith, subst}
+use Rattle.columnar_memory.specs.declared.DataType.{DataType}
+use Rattle.columnar_memory.specs.declared.DataType.TheOpen as layer
+use Rattle.columnar_memory.specs.declared.Field.{Field}
+use Rattle.columnar_memory.specs.Spans.{Spans, extended}
+use Rattle.nested_arrays_columns.specs.Children.{items_of, fixed_items_of, joined_items, joined_fixed_items}
+use Rattle.nested_arrays_columns.specs.FreshColumns.{is_valid}
+use Rattle.nested_arrays_columns.specs.OpenBatch.{fits}
+use Rattle.nested_arrays_columns.specs.Slots.{Slot}
+use Rattle.nested_arrays_columns.specs.StoredColumns.{column_size, type_layer}
+use Rattle.nested_arrays_columns.proofs.FreshLengths.{Layer}
+use Rattle.nested_arrays_growth.specs.OpenParts.{slots_of_fields, fields_of_slot, pushed_each}
+use Rattle.nested_arrays_growth.proofs.Fields.{fields_count, fields_one_more}
+use Rattle.nested_arrays_growth.proofs.LayerParts.{fresh_list, fresh_large_list, fresh_fixed_list}
+use Rattle.nested_arrays_growth.proofs.Masks.{marks_one_more}
+use Rattle.nested_arrays_growth.proofs.Pieces.{item_spans_one_more, joined_one_more}
+use Rattle.nested_arrays_builder_parts.specs.Open.{Open, opened}
+use Rattle.nested_arrays_builders.specs.Parts.{Parts, no_parts, listed, sized, of_fields, more_parts, opened_each, with_each, with_slots, type_size}
+use Rattle.nested_arrays_builders.specs.Parts.{HoldsParts, IsKept}
+
+-- ---- one more slot
+
+pub with_opened : (us : List Field) (columns : List (List Slot)) (ss : List Slot)
+    → with_each (opened_each us columns) ss ≡ opened_each us (pushed_each columns ss)
+with_opened [] columns ss = refl
+with_opened (u ∷ us) [] ss = refl
+with_opened (u ∷ us) (column ∷ columns) [] = refl
+with_opened (u ∷ us) (column ∷ columns) (s ∷ ss) = ap (λ rest. opened u.data_type (column ++ s ∷ []) ∷ rest) (with_opened us columns ss)
+
+pub opened_count : (us : List Field) (columns : List (List Slot)) → length columns ≡ length us → length (opened_each us columns) ≡ length us
+opened_count [] columns e = refl
+opened_count (u ∷ us) [] e = absurd (omega (arith, e))
+opened_count (u ∷ us) (column ∷ columns) e = ap suc (opened_count us columns (omega (arith, e)))
+
+list_more : (child : Open) (item : DataType) (xs : List Slot) (s : Slot) → child ≡ opened item (joined_items xs)
+    → with_slots child (items_of s) ≡ opened item (joined_items (xs ++ s ∷ []))
+list_more child item xs s is =
+    ap (λ (o : Open). with_slots o (items_of s)) is ∙ ap (opened item) (sym (joined_one_more items_of xs s))
+
+held_more : (x : Layer) (parts : Parts) (xs : List Slot) (s : Slot) → HoldsParts x parts xs → HoldsParts x (more_parts parts s) (xs ++ s ∷ [])
+held_more layer.Null no_parts xs s held = tt
+held_more (layer.List item) (listed large spans child) xs s held = (
+  held.0,
+  ap (λ (o : Spans). extended o (length (items_of s) ∷ [])) held.1 ∙ sym (item_spans_one_more xs s),
+  list_more child item.data_type xs s held.2,
+)
+held_more (layer.LargeList item) (listed large spans child) xs s held = (
+  held.0,
+  ap (λ (o : Spans). extended o (length (items_of s) ∷ [])) held.1 ∙ sym (item_spans_one_more xs s),
+  list_more child item.data_type xs s held.2,
+)
+held_more (layer.FixedSizeList item size) (sized own child) xs s held = (
+  held.0,
+  ap (λ (o : Open). with_slots o (fixed_items_of own s)) held.1
+      ∙ ap (λ m. opened item.data_type (joined_fixed_items size xs ++ fixed_items_of m s)) held.0
+      ∙ ap (opened item.data_type) (sym (joined_one_more (fixed_items_of size) xs s)),
+)
+held_more (layer.Struct us) (of_fields children) xs s held =
+    let columns = slots_of_fields (length us) xs in
+    let many : length children ≡ length us = ap length held ∙ opened_count us columns (fields_count (length us) xs) in
+    (λ j. with_each (held j) (fields_of_slot (many j) s)) ∙ with_opened us columns (fields_of_slot (length us) s)
+    ∙ ap (opened_each us) (sym (fields_one_more (length us) xs s))
+held_more _ _ xs s held = absurd held
+
+-- where one more slot fits it is kept with its mark and its parts
+pub kept_more : (t : DataType) (marks : List Bool) (parts : Parts) (xs : List Slot) (s : Slot) → IsKept t marks parts xs
+    → fits t (xs ++ s ∷ []) ≡ true → IsKept t (marks ++ is_valid s ∷ []) (more_parts parts s) (xs ++ s ∷ [])
+kept_more t marks parts xs s kept fit = record {
+  can = kept.can;
+  fit = fit;
+  marked = ap (λ ms. ms ++ is_valid s ∷ []) kept.marked ∙ sym (marks_one_more xs s);
+  held = held_more (type_layer t) parts xs s kept.held;
+}
+
+-- ---- sizes
+
+list_size : (t : DataType) (x : Layer) (large : Bool) (spans : Spans) (child : Open) (xs : List Slot) → type_layer t ≡ x
+    → HoldsParts x (listed large spans child) xs → type_size t ≡ type_size child.data_type + 1
+list_size t (layer.List item) large spans child xs is held =
+    ap column_size (fresh_list t item is []) ∙ ap (λ (o : Open). type_size o.data_type + 1) (sym held.2)
+list_size t (layer.LargeList item) large spans child xs is held =
+    ap column_size (fresh_large_list t item is []) ∙ ap (λ (o : Open). type_size o.data_type + 1) (sym held.2)
+list_size t _ large spans child xs is held = absurd held
+
+fixed_size : (t : DataType) (x : Layer) (size : ℕ) (child : Open) (xs : List Slot) → type_layer t ≡ x → HoldsParts x (sized size child) xs
+    → type_size t ≡ type_size child.data_type + 1
+fixed_size t (layer.FixedSizeList item own) size child xs is held =
+    ap column_size (fresh_fixed_list t item own is []) ∙ ap (λ (o : Open). type_size o.data_type + 1) (sym held.1)
+fixed_size t _ size child xs is held = absurd held
+
+-- the items of lists have a type of one column less
+module _ (t : DataType) (marks : List Bool) (parts : Parts) (xs : List Slot) (kept : IsKept t marks parts xs) where
+  pub list_is_larger : (large : Bool) (spans : Spans) (child : Open) → parts ≡ listed large spans child
+      → type_size t ≡ type_size child.data_type + 1
+  list_is_larger large spans child is =
+      list_size t (type_layer t) large spans child xs refl (subst (λ parts. HoldsParts (type_layer t) parts xs) is kept.held)
+
+  pub fixed_is_larger : (size : ℕ) (child : Open) → parts ≡ sized size child → type_size t ≡ type_size child.data_type + 1
+  fixed_is_larger size child is =
+      fixed_size t (type_layer t) size child xs refl (subst (λ parts. HoldsParts (type_layer t) parts xs) is kept.held)

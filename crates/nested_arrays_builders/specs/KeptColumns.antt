@@ -1,0 +1,49 @@
+-- The column of parts that hold some slots is the one that stores them.
+use Rattle.std.proofs.Common.{◌≡◌, ◌∙◌, List, [], ◌∷◌, Bool, length, map, refl, sym, ap}
+use Rattle.std.proofs.lemmas.List.{length-map}
+use Rattle.columnar_memory.specs.declared.DataType.{DataType}
+use Rattle.columnar_memory.specs.declared.DataType.TheOpen as layer
+use Rattle.columnar_memory.specs.declared.Field.{Field}
+use Rattle.columnar_memory.specs.Spans.{offsets_of}
+use Rattle.nested_arrays_columns.specs.FreshColumns.{is_valid, mask_of, fresh}
+use Rattle.nested_arrays_columns.specs.Rows.{fresh_columns}
+use Rattle.nested_arrays_columns.specs.Slots.{Slot}
+use Rattle.nested_arrays_columns.specs.StoredColumns.{nulls, lists, fixed_lists, records, in_columns, type_layer}
+use Rattle.nested_arrays_columns.proofs.FreshLengths.{Layer}
+use Rattle.nested_arrays_growth.specs.OpenParts.{marks_of, mask_from, slots_of_fields}
+use Rattle.nested_arrays_growth.proofs.LayerParts.{fresh_nulls, fresh_list, fresh_large_list, fresh_fixed_list, fresh_struct}
+use Rattle.nested_arrays_growth.proofs.Masks.{mask_is}
+use Rattle.nested_arrays_growth.proofs.Pieces.{item_spans_are}
+use Rattle.nested_arrays_builder_parts.specs.Open.{column_of}
+use Rattle.nested_arrays_builders.specs.Parts.{Parts, no_parts, listed, sized, of_fields, parts_column, opened_each, HoldsParts, IsKept}
+
+columns_each : (us : List Field) (columns : List (List Slot)) → map column_of (opened_each us columns) ≡ fresh_columns us columns
+columns_each [] columns = refl
+columns_each (u ∷ us) [] = refl
+columns_each (u ∷ us) (column ∷ columns) = ap (λ rest. fresh u.data_type column ∷ rest) (columns_each us columns)
+
+count_is : (marks : List Bool) (xs : List Slot) → marks ≡ marks_of xs → length marks ≡ length xs
+count_is marks xs marked = ap length marked ∙ length-map xs is_valid
+
+masked : (marks : List Bool) (xs : List Slot) → marks ≡ marks_of xs → mask_from marks ≡ mask_of xs
+masked marks xs marked = ap mask_from marked ∙ sym (mask_is xs)
+
+column_of_parts : (t : DataType) (x : Layer) (marks : List Bool) (parts : Parts) (xs : List Slot) → type_layer t ≡ x → marks ≡ marks_of xs
+    → HoldsParts x parts xs → parts_column t marks parts ≡ fresh t xs
+column_of_parts t layer.Null marks no_parts xs is marked held = ap (nulls t) (count_is marks xs marked) ∙ sym (fresh_nulls t is xs)
+column_of_parts t (layer.List item) marks (listed large spans child) xs is marked held =
+    let offsets = ap offsets_of held.1 ∙ item_spans_are xs in
+    (λ j. lists t (masked marks xs marked j) (offsets j) (column_of (held.2 j))) ∙ sym (fresh_list t item is xs)
+column_of_parts t (layer.LargeList item) marks (listed large spans child) xs is marked held =
+    let offsets = ap offsets_of held.1 ∙ item_spans_are xs in
+    (λ j. lists t (masked marks xs marked j) (offsets j) (column_of (held.2 j))) ∙ sym (fresh_large_list t item is xs)
+column_of_parts t (layer.FixedSizeList item size) marks (sized own child) xs is marked held =
+    (λ j. fixed_lists t (masked marks xs marked j) (held.0 j) (column_of (held.1 j))) ∙ sym (fresh_fixed_list t item size is xs)
+column_of_parts t (layer.Struct us) marks (of_fields children) xs is marked held =
+    let columns = ap (map column_of) held ∙ columns_each us (slots_of_fields (length us) xs) in
+    (λ j. records t (masked marks xs marked j) (count_is marks xs marked j) (in_columns (columns j))) ∙ sym (fresh_struct t us is xs)
+column_of_parts t _ marks _ xs is marked held = absurd held
+
+pub column_kept : (t : DataType) (marks : List Bool) (parts : Parts) (xs : List Slot) → IsKept t marks parts xs
+    → parts_column t marks parts ≡ fresh t xs
+column_kept t marks parts xs kept = column_of_parts t (type_layer t) marks parts xs refl kept.marked kept.held

@@ -1,0 +1,5 @@
+pub mod KeptColumns
+pub mod Nodes
+pub mod Parts
+pub mod Sizes
+pub mod Widths

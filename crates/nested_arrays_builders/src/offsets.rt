@@ -1,0 +1,65 @@
+//! Offsets of lists that grow.
+ghost use Rattle.std.specs.Prelude.{◌≡◌, ◌<◌, ◌≤◌, length};
+ghost use Rattle.columnar_memory.specs.Spans.{first_spans, last_of, shortened};
+ghost use Rattle.nested_arrays_builders.specs.Widths.{is_large, spans_in, AddsEmpty};
+
+use columnar_memory::{Index, Offset, Offsets, Result};
+
+/// The offsets of lists, of 32 or of 64 bits.
+#[derive(Drop)]
+pub enum MutableListOffsets {
+    Small(Offsets<i32>),
+    Large(Offsets<i64>),
+}
+
+impl MutableListOffsets {
+    /// Adds an empty list behind the others, or changes nothing.
+    ///
+    /// # Errors
+    /// `OutOfMemory`: the offset found no memory.
+    pub fn push_empty(&mut self) -> Result<()>
+        ensures { AddsEmpty self.old self.new result }
+    {
+        match self {
+            MutableListOffsets::Small(offsets) => offsets.extend_constant(1),
+            MutableListOffsets::Large(offsets) => offsets.extend_constant(1),
+        }
+    }
+
+    /// Keeps the first `len` lists alone, and answers where the last of them ends.
+    pub fn truncate(&mut self, len: usize) -> usize
+        requires { len ≤ length (spans_in self.old).lengths }
+        ensures spans { spans_in self.new ≡ first_spans (spans_in self.old) len }
+        ensures width { is_large self.new ≡ is_large self.old }
+        ensures end { result ≡ last_of (spans_in self.new) }
+    {
+        match self {
+            MutableListOffsets::Small(offsets) => keep_spans(offsets, len),
+            MutableListOffsets::Large(offsets) => keep_spans(offsets, len),
+        }
+    }
+}
+
+/// Takes the last span off.
+fn drop_span<O: Offset>(offsets: &mut Offsets<O>)
+    requires { 0 < length offsets.old.lengths }
+    ensures { offsets.new ≡ shortened offsets.old }
+{
+    match offsets.pop() {
+        Some(_) => {}
+        None => {}
+    }
+}
+
+/// Keeps the first spans alone, and answers where the last of them ends.
+#[tactic(auto, using(crate::proofs::FirstSpans::first_again, crate::proofs::FirstSpans::first_all))]
+fn keep_spans<O: Offset>(offsets: &mut Offsets<O>, len: usize) -> usize
+    requires { len ≤ length offsets.old.lengths }
+    ensures first { offsets.new ≡ first_spans offsets.old len }
+    ensures end { result ≡ last_of offsets.new }
+{
+    'keep: while offsets.len_proxy() > len {
+        drop_span(offsets);
+    }
+    offsets.last().to_usize()
+}

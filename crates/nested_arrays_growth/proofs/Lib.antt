@@ -1,0 +1,13 @@
+pub mod Below
+pub mod Fields
+pub mod FirstOnes
+pub mod Fits
+pub mod Laws
+pub mod LayerParts
+pub mod LayersLaid
+pub mod Limits
+pub mod Masks
+pub mod OneMore
+pub mod Pieces
+pub mod TypeSteps
+pub mod Values

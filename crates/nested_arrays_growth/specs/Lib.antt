@@ -1,0 +1,8 @@
+pub mod CutLaws
+pub mod GrowthLaws
+pub mod LayerLaws
+pub mod OpenParts
+pub mod TypeLayouts
+pub mod ValueLaws
+pub use Rattle.nested_arrays_columns.specs as columns
+pub use Rattle.columnar_memory.specs as columnar_memory
