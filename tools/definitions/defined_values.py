@@ -212,6 +212,7 @@ class Defined:
         self.default_ids, self.seal = find(GRAMMAR, "default_ids"), find(GRAMMAR, "sealed")
         self.base, self.appended = find(GRAMMAR, "base_of"), find(GRAMMAR, "appended")
         self.append_bar, self.write_bar = find(GRAMMAR, "append_bar"), find(GRAMMAR, "write_bar")
+        self.few_dictionaries = find(GRAMMAR, "has_few_dictionaries")
         self.start, self.writes = find(GRAMMAR, "after_start"), find(GRAMMAR, "after_writes")
         self.is_written_with, self.footer = find(GRAMMAR, "is_written_with"), find(GRAMMAR, "footer_in")
         self.message_bytes = find(GRAMMAR, "bytes_of_messages")
@@ -377,6 +378,11 @@ class Defined:
         footer = called(self.footer, content)[0]
         bar = called(self.append_bar, is_little_endian, len(content), footer.f_dictionaries, footer.f_record_batches)
         return None if bar is None else str(bar[0][0])
+
+    def has_few_dictionaries(self, count):
+        """Whether a file may have so many dictionary messages when batches are appended to it."""
+        block = record_of(offset=8, metadata_length=8, body_length=0)
+        return called(self.few_dictionaries, record_of(dictionaries=[block] * count, record_batches=[]))
 
     # ---- stored columns
 

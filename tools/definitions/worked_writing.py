@@ -301,6 +301,8 @@ def not_appended(defined):
     other = of_slots(defined, [A])
     yield "a batch of another schema appended", defined.defined_appended(FILE_OF_ONE_BATCH, [other]), None
     yield "something appended to no file", defined.defined_appended(b"ARROW1", []), None
+    for count, answer in ((65536, True), (65537, False)):
+        yield "a file that would have %d dictionaries" % count, defined.has_few_dictionaries(count), answer
 
 
 # ---- the list

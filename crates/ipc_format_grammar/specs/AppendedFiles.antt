@@ -19,7 +19,8 @@ use Rattle.ipc_format_grammar.specs.Encoding.{joined}
 use Rattle.ipc_format_grammar.specs.GivenDictionaries.{Given}
 use Rattle.ipc_format_grammar.specs.WrittenMessages.{fits_limit, end_mark}
 use Rattle.ipc_format_grammar.specs.WrittenStreams.{Batch, Chunk, messages_after, bytes_of_messages, batches_written, belongs}
-use Rattle.ipc_format_grammar.specs.WrittenFiles.{Block, Blocks, batch_blocks, footer_object, is_footer, file_end, none_replaced, all_given}
+use Rattle.ipc_format_grammar.specs.WrittenFiles.{Block, Blocks, batch_blocks, footer_object, is_footer, file_end, fits_file_limit}
+use Rattle.ipc_format_grammar.specs.WrittenFiles.{none_replaced, all_given}
 
 -- ---- the file as it was
 
@@ -130,10 +131,17 @@ with_base base new = record {
   record_batches = base.record_batches ++ new.record_batches;
 }
 
+-- the file's own blocks, and those of the new batches
+abbrev pub appended_blocks : Base → List Batch → Blocks
+appended_blocks base batches = with_base base (batch_blocks (base_start base) base.told batches)
+
+-- no more dictionaries than are read of a file
+abbrev pub has_few_dictionaries : Blocks → Bool
+has_few_dictionaries blocks = nat_le (length blocks.dictionaries) most_dictionaries
+
 -- the new footer: the file's own schema and ids, its blocks, and those of the new batches
 unfoldable pub appended_footer : Base → List Batch → List ℕ
-appended_footer base batches =
-    laid (footer_object base.found.schema base.found.ids (with_base base (batch_blocks (base_start base) base.told batches)))
+appended_footer base batches = laid (footer_object base.found.schema base.found.ids (appended_blocks base batches))
 
 -- everything up to the end mark
 unfoldable pub appended_messages : Base → List ℕ → List Batch → List ℕ
@@ -149,13 +157,15 @@ appended_bytes base bytes batches =
     let behind = file_end (appended_footer base batches) in
     before ++ padding_to (length bytes) before behind ++ behind
 
--- A file with batches appended: nothing where none may be appended, a batch doesn't belong to the file's schema, a dictionary is replaced, or
--- a message or the footer is too long.
+-- A file with batches appended: nothing where none may be appended, a batch doesn't belong to the file's schema, a dictionary is replaced, the
+-- file would have more dictionaries than are read of one, or a message, the footer or the file would be too long.
 unfoldable pub appended : List ℕ → List Chunk → Option (List ℕ)
 appended bytes chunks = do
   base ← base_of bytes
   _ ← guard (list_all (belongs base.found.schema base.found.ids) chunks)
   _ ← guard (none_replaced base.told (all_given (batches_written base.found.schema base.found.ids chunks)))
   _ ← guard (list_all fits_limit (messages_after base.told (batches_written base.found.schema base.found.ids chunks)))
+  _ ← guard (has_few_dictionaries (appended_blocks base (batches_written base.found.schema base.found.ids chunks)))
   _ ← guard (is_footer (appended_footer base (batches_written base.found.schema base.found.ids chunks)))
+  _ ← guard (fits_file_limit (appended_bytes base bytes (batches_written base.found.schema base.found.ids chunks)))
   Some (appended_bytes base bytes (batches_written base.found.schema base.found.ids chunks))

@@ -13,6 +13,10 @@ most_dictionaries = 65536
 abbrev pub most_batch_rows : ℕ
 most_batch_rows = 65536
 
+-- a file has fewer bytes than this, since the place of a message is written in its footer as a signed number of eight bytes
+abbrev pub file_limit : ℕ
+file_limit = 2 ^ 63
+
 -- each number of slots and of rows is below this, since it is written as a signed number of eight bytes
 abbrev pub length_limit : ℕ
 length_limit = 2 ^ 63

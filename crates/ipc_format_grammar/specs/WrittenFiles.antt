@@ -5,6 +5,7 @@ use Rattle.std.specs.Int.{w16, w32, w64, to_le_bytes}
 use Rattle.ipc_format_flatbuffers.specs.Reading.{◌>>=◌, guard}
 use Rattle.ipc_format_flatbuffers.specs.Objects.{Object, laid, table, elements, no_field, absent_then, number_then, refers_then}
 use Rattle.columnar_memory.specs.declared.Schema.{Schema}
+use Rattle.ipc_format_grammar.specs.Limits.{file_limit}
 use Rattle.ipc_format_grammar.specs.Schemas.{IdsList}
 use Rattle.ipc_format_grammar.specs.SchemaObjects.{schema_object}
 use Rattle.ipc_format_grammar.specs.Files.{file_mark}
@@ -89,6 +90,9 @@ unfoldable pub file_bytes : Schema → IdsList → List Batch → List ℕ
 file_bytes schema ids batches =
     file_start ++ stream_bytes schema ids batches ++ file_end (footer_bytes schema ids batches)
 
+abbrev pub fits_file_limit : List ℕ → Bool
+fits_file_limit bytes = nat_lt (length bytes) file_limit
+
 -- a dictionary that a file may hold: the first of its id, or the same
 abbrev pub is_first_or_same : List Given → Given → Bool
 is_first_or_same written given = is_none (last_under given.id written) || stands_for given (last_under given.id written)
@@ -102,7 +106,7 @@ abbrev pub all_given : List Batch → List Given
 all_given batches = flat_map (λ (batch : Batch). batch.given) batches
 
 -- A whole file: nothing where the schema isn't written or the ids are none of it, a batch doesn't belong to it, a dictionary is replaced, or
--- a message or the footer is too long.
+-- a message, the footer or the file is too long.
 unfoldable pub written_file : Schema → IdsList → List Chunk → Option (List ℕ)
 written_file schema ids chunks = do
   _ ← guard (is_written_with schema ids)
@@ -110,4 +114,5 @@ written_file schema ids chunks = do
   _ ← guard (none_replaced [] (all_given (batches_written schema ids chunks)))
   _ ← guard (list_all fits_limit (stream_messages schema ids (batches_written schema ids chunks)))
   _ ← guard (is_footer (footer_bytes schema ids (batches_written schema ids chunks)))
+  _ ← guard (fits_file_limit (file_bytes schema ids (batches_written schema ids chunks)))
   Some (file_bytes schema ids (batches_written schema ids chunks))

@@ -11,11 +11,11 @@ use Rattle.ipc_format_grammar.specs.GivenDictionaries.{Given, agree, last_under,
 use Rattle.ipc_format_grammar.specs.WrittenMessages.{Written, fits_limit, schema_written}
 use Rattle.ipc_format_grammar.specs.WrittenStreams.{Batch, Chunk, batch_of, batches_written, belongs, is_written_with, batch_messages, messages_after}
 use Rattle.ipc_format_grammar.specs.WrittenStreams.{stream_messages, stream_bytes, written_stream}
-use Rattle.ipc_format_grammar.specs.WrittenFiles.{none_replaced, is_first_or_same, all_given, file_bytes, written_file}
+use Rattle.ipc_format_grammar.specs.WrittenFiles.{none_replaced, is_first_or_same, all_given, fits_file_limit, file_bytes, written_file}
 use Rattle.ipc_format_grammar.specs.WriterRuns.{Run, WriteBar, another_schema, another_dictionary, long_message, may_tell, write_bar, with_batch}
 use Rattle.ipc_format_grammar.specs.WriterRuns.{unless_barred, after_start, after_write, after_writes}
 use Rattle.ipc_format_laws.proofs.SchemaParts.{both}
-use Rattle.ipc_format_laws.specs.Runs.{RunsAreStreams, RunsAreFiles}
+use Rattle.ipc_format_laws.specs.Runs.{run_file, RunsAreStreams, RunsAreFiles}
 use Rattle.ipc_format_laws.proofs.StreamReaders.{passed}
 
 -- ---- lists
@@ -191,12 +191,19 @@ runs_are_streams schema below first chunks e =
     let told : list_all (λ (batch : Batch). agree batch.given) batches ≡ true = stands.dictionaries in
     rw (stands.is, stands.belong, told, fit, sym stands.messages) refl
 
+run_file_is : (schema : Schema) (below : IdsList) (run : Run) → run.messages ≡ stream_messages schema below (batches_written schema below run.chunks)
+    → file_bytes schema below (batches_written schema below run.chunks) ≡ run_file schema below run
+unfolding file_bytes stream_bytes
+run_file_is schema below run e = rw (sym e) refl
+
 pub runs_are_files : RunsAreFiles
-unfolding written_file file_bytes stream_bytes
-runs_are_files schema below first chunks e footer =
+unfolding written_file
+runs_are_files schema below first chunks e footer short =
     let run = after_writes file schema below first chunks in
     let stands = after_all file schema below first chunks (begun file schema below first e) in
     let batches = batches_written schema below run.chunks in
     let fit = subst (λ (messages : List Written). list_all fits_limit messages ≡ true) stands.messages stands.fit in
     let told : none_replaced [] (all_given batches) ≡ true = stands.dictionaries in
-    rw (stands.is, stands.belong, told, fit, footer, sym stands.messages) refl
+    let same = run_file_is schema below run stands.messages in
+    let whole : fits_file_limit (file_bytes schema below batches) ≡ true = ap fits_file_limit same ∙ short in
+    rw (stands.is, stands.belong, told, fit, footer, whole) (ap Some same)

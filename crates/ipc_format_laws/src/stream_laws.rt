@@ -34,7 +34,7 @@ pub fn tables_read_back()
 {}
 
 /// A run of a writer's calls, start, writes and finish, stands for what is written of the chunks that were not refused: its messages, those
-/// of the dictionaries among them, are those of that stream, and of that file where its footer is within its limit.
+/// of the dictionaries among them, are those of that stream, and of that file where it and its footer are within their limits.
 pub fn runs_stand_for_their_messages()
     ensures streams { RunsAreStreams }
     ensures files { RunsAreFiles }

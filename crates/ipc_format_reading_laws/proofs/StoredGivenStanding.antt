@@ -114,11 +114,11 @@ none_before given written (other ∷ before) stand agree not_yet =
 
 -- ---- what is found under an id
 
-abbrev read_if : Option Given → Option Dictionary
+abbrev pub read_if : Option Given → Option Dictionary
 read_if None = None
 read_if (Some given) = Some (as_read given)
 
-standing_is : (id : ℤ) (written : List Given) → standing_for id (map as_read written) ≡ read_if (last_under id written)
+pub standing_is : (id : ℤ) (written : List Given) → standing_for id (map as_read written) ≡ read_if (last_under id written)
 standing_is id [] = refl
 standing_is id (given ∷ written) =
     by_if (int_eq id given.id) (standing_for id (map as_read written)) (last_under id written) (standing_is id written)

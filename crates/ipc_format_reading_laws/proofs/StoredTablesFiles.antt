@@ -13,7 +13,7 @@ use Rattle.columnar_memory.specs.declared.Schema.{Schema}
 use Rattle.nested_arrays_columns.specs.StoredColumns.{Column}
 use Rattle.ipc_format_grammar.specs.Schemas.{IdsList}
 use Rattle.ipc_format_grammar.specs.Writable.{is_writable, normalised, normalised_field}
-use Rattle.ipc_format_grammar.specs.Limits.{most_dictionaries}
+use Rattle.ipc_format_grammar.specs.Limits.{most_dictionaries, file_limit}
 use Rattle.ipc_format_grammar.specs.Dictionaries.{Entry, Layout}
 use Rattle.ipc_format_grammar.specs.Files as read
 use Rattle.ipc_format_grammar.specs.Files.{file_mark, is_dictionary, is_record_batch, entries_at, file_entries}
@@ -25,7 +25,7 @@ use Rattle.ipc_format_grammar.specs.WrittenStreams.{Batch, Chunk, stored_columns
 use Rattle.ipc_format_grammar.specs.WrittenStreams.{belongs, is_written_with, is_in_room, are_columns_of, are_equal, chunk_lengths, messages_after}
 use Rattle.ipc_format_grammar.specs.WrittenStreams.{stream_messages, stream_bytes, bytes_of_messages}
 use Rattle.ipc_format_grammar.specs.WrittenFiles.{Blocks, place_after, batch_blocks, file_start, footer_bytes, is_footer, file_end, file_bytes}
-use Rattle.ipc_format_grammar.specs.WrittenFiles.{none_replaced, all_given, written_file}
+use Rattle.ipc_format_grammar.specs.WrittenFiles.{fits_file_limit, none_replaced, all_given, written_file}
 use Rattle.ipc_format_laws.specs.Contents.{schema_read, Sent, dictionary, batch}
 use Rattle.ipc_format_laws.specs.Footers.{block_read, file_with, HasFooter}
 use Rattle.ipc_format_laws.specs.Schemas.{ids_read}
@@ -194,12 +194,13 @@ record WasAsked (schema : Schema) (below : IdsList) (batches : List (List Column
   fit : list_all fits_limit (messages_after [] (map (batch_of_stored below) batches)) ≡ true
   footer : is_footer (footer_bytes schema below (map (batch_of_stored below) batches)) ≡ true
   bytes_are : file_bytes schema below (map (batch_of_stored below) batches) ≡ bytes
+  short : length bytes < 2 ^ 63
 
 asked_with : (schema : Schema) (below : IdsList) (batches : List (List Column)) (all : List Batch) (bytes : List ℕ)
     → batches_written schema below (stored_chunks batches) ≡ all → written_file schema below (stored_chunks batches) ≡ Some bytes
     → (is_written_with schema below ≡ true) × (list_all (belongs schema below) (stored_chunks batches) ≡ true)
     × (none_replaced [] (all_given all) ≡ true) × (list_all fits_limit (stream_messages schema below all) ≡ true)
-    × (is_footer (footer_bytes schema below all) ≡ true) × (file_bytes schema below all ≡ bytes)
+    × (is_footer (footer_bytes schema below all) ≡ true) × (fits_file_limit bytes ≡ true) × (file_bytes schema below all ≡ bytes)
 unfolding written_file
 asked_with schema below batches all bytes same e =
     let chunks = stored_chunks batches in
@@ -209,12 +210,13 @@ asked_with schema below batches all bytes same e =
     let once = passed (none_replaced [] (all_given written)) _ bytes belong.1 in
     let fit = passed (list_all fits_limit (stream_messages schema below written)) _ bytes once.1 in
     let footer = passed (is_footer (footer_bytes schema below written)) _ bytes fit.1 in
-    let whole : file_bytes schema below written ≡ bytes = same_Some (file_bytes schema below written) bytes footer.1 in
+    let short = passed (fits_file_limit (file_bytes schema below written)) _ bytes footer.1 in
+    let whole : file_bytes schema below written ≡ bytes = same_Some (file_bytes schema below written) bytes short.1 in
     subst (λ (them : List Batch).
     (is_written_with schema below ≡ true) × (list_all (belongs schema below) (stored_chunks batches) ≡ true)
     × (none_replaced [] (all_given them) ≡ true) × (list_all fits_limit (stream_messages schema below them) ≡ true)
-    × (is_footer (footer_bytes schema below them) ≡ true) × (file_bytes schema below them ≡ bytes)) same
-    (asked.0, belong.0, once.0, fit.0, footer.0, whole)
+    × (is_footer (footer_bytes schema below them) ≡ true) × (fits_file_limit bytes ≡ true) × (file_bytes schema below them ≡ bytes)) same
+    (asked.0, belong.0, once.0, fit.0, footer.0, subst (λ (them : List ℕ). fits_file_limit them ≡ true) whole short.0, whole)
 
 was_asked : (schema : Schema) (below : IdsList) (batches : List (List Column)) (bytes : List ℕ)
     → written_file schema below (stored_chunks batches) ≡ Some bytes → WasAsked schema below batches bytes
@@ -228,7 +230,8 @@ was_asked schema below batches bytes e =
       once = parts.2;
       fit = (and_parts (fits_limit (schema_written schema below)) (list_all fits_limit (messages_after [] all)) parts.3).1;
       footer = parts.4;
-      bytes_are = parts.5;
+      short = ltb-true (length bytes) file_limit parts.5;
+      bytes_are = parts.6;
     }
 
 -- the entries at the blocks of a footer
@@ -289,7 +292,7 @@ file_found stored bytes schema below (first ∷ batches) place its pairs few blo
 
 pub stored_files : StoredColumnsReadBack → StoredFilesReadBack
 unfolding footer_bytes
-stored_files stored schema below batches bytes e texts short small =
+stored_files stored schema below batches bytes e texts small =
     let was = was_asked schema below batches bytes e in
     let asked = asked_of schema below was.is in
     let its_ids : all_are_ids below ≡ true = (and_parts (is_writable schema && ids_fit_fields schema.fields below) (all_are_ids below) was.is).1 in
@@ -299,7 +302,7 @@ stored_files stored schema below batches bytes e texts short small =
     let place = place_after (length file_start) (schema_written schema below) in
     let stands : Stands bytes place (bytes_of_messages (messages_after [] all)) =
     subst (λ (them : List ℕ). Stands them place (bytes_of_messages (messages_after [] all))) was.bytes_are (messages_stand schema below all) in
-    let blocks = blocks_stand all [] place (rooms schema below batches its_ids was.belong few) was.fit short stands in
+    let blocks = blocks_stand all [] place (rooms schema below batches its_ids was.belong few) was.fit was.short stands in
     let pairs : AgreePairs (given_of_all below batches) =
     subst AgreePairs (given_all below batches) (none_replaced_agree [] (all_given all) was.once) in
     let found = file_found stored bytes schema below batches place its pairs

@@ -9,10 +9,7 @@ use Rattle.ipc_format_grammar.specs.Framing.{frame_at}
 use Rattle.ipc_format_grammar.specs.Files.{Block, Footer, footer_in}
 use Rattle.ipc_format_grammar.specs.Tables.{Contents, file, contents_of, layout_of, table_of}
 use Rattle.ipc_format_grammar.specs.Windows.{Window, entry_windows}
-use Rattle.ipc_format_grammar.specs.Limits.{most_dictionaries}
-use Rattle.ipc_format_grammar.specs.WrittenStreams.{batches_written}
-use Rattle.ipc_format_grammar.specs.WrittenFiles.{batch_blocks}
-use Rattle.ipc_format_grammar.specs.AppendedFiles.{Base, base_of, base_end, base_start, with_base, appended}
+use Rattle.ipc_format_grammar.specs.AppendedFiles.{Base, base_of, base_end, appended}
 use Rattle.ipc_format_reading_laws.specs.StoredTables.{stored_chunks, read_batches}
 
 -- the numbers of a schema's columns
@@ -30,16 +27,10 @@ pub record StandsBefore (end : ℕ) (bytes : List ℕ) : Type 0 where
   pub windows : All (λ (entry : Entry). All (λ (w : Window). w.start + w.size ≤ end)
       (entry_windows (layout_of contents.schema) (all_columns contents) entry)) contents.entries
 
--- The new file has no more dictionaries than are read of one. Two fields may share a dictionary's id while those within its values have other
--- ids: a file is read where the second field's inner dictionaries are missing, and a batch that is appended brings them.
-abbrev pub HasFewDictionaries : Base → List (List Column) → Type 0
-HasFewDictionaries base batches = length (with_base base (batch_blocks (base_start base) base.told
-    (batches_written base.found.schema base.found.ids (stored_chunks batches)))).dictionaries ≤ most_dictionaries
-
 -- A file to which batches were appended reads as the old table joined with their rows, where the old file reads, nothing of it is taken
--- behind its last message, and the rows of both fit 64 bits; the new file has fewer than 2^63 bytes, and not too many dictionaries.
+-- behind its last message, and the rows of both fit 64 bits.
 abbrev pub AppendedFilesReadBack : Type 0
 AppendedFilesReadBack = (bytes new : List ℕ) (base : Base) (batches : List (List Column)) (table : Table) → base_of bytes ≡ Some base
     → StandsBefore (base_end base) bytes → table_of file bytes ≡ Some table → appended bytes (stored_chunks batches) ≡ Some new
-    → HasFewDictionaries base batches → length new < 2 ^ 63 → length (table.rows ++ rows_of_batches (read_batches batches)) < 2 ^ 64
+    → length (table.rows ++ rows_of_batches (read_batches batches)) < 2 ^ 64
     → table_of file new ≡ Some (record table { rows = table.rows ++ rows_of_batches (read_batches batches) })

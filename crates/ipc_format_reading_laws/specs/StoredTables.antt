@@ -36,8 +36,8 @@ StoredStreamsReadBack = (schema : Schema) (below : IdsList) (batches : List (Lis
     → written_stream schema below (stored_chunks batches) ≡ Some bytes → HasTexts schema
     → length (rows_of_batches (read_batches batches)) < 2 ^ 64 → HoldsBatches stream (bytes ++ behind) schema (read_batches batches)
 
--- The same of a file of fewer than 2^63 bytes: where a message begins is written in its footer as a signed number of eight bytes.
+-- the same of a file
 abbrev pub StoredFilesReadBack : Type 0
 StoredFilesReadBack = (schema : Schema) (below : IdsList) (batches : List (List Column)) (bytes : List ℕ)
-    → written_file schema below (stored_chunks batches) ≡ Some bytes → HasTexts schema → length bytes < 2 ^ 63
+    → written_file schema below (stored_chunks batches) ≡ Some bytes → HasTexts schema
     → length (rows_of_batches (read_batches batches)) < 2 ^ 64 → HoldsBatches file bytes schema (read_batches batches)

@@ -18,8 +18,7 @@ pub fn stored_streams_read_back()
     ensures { StoredStreamsReadBack }
 {}
 
-/// The same of a file, whose dictionaries are never replaced, where it has fewer than 2^63 bytes: the place of a message is written in its
-/// footer as a signed number of eight bytes (Arrow IPC, "IPC File Format").
+/// The same of a file, whose dictionaries are never replaced (Arrow IPC, "IPC File Format").
 pub fn stored_files_read_back()
     ensures { StoredFilesReadBack }
 {}
