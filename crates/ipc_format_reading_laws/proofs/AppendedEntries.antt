@@ -113,7 +113,7 @@ entries_more is_of_kind bytes cut others (block ∷ blocks) entries same e =
 
 -- ---- the bytes of windows
 
-abbrev IsBefore : ℕ → Window → Type 0
+abbrev pub IsBefore : ℕ → Window → Type 0
 IsBefore end w = w.start + w.size ≤ end
 
 -- windows before an end hold the same bytes

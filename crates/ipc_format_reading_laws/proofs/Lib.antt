@@ -60,3 +60,9 @@ pub mod AppendedIds
 pub mod AppendedEntries
 pub mod AppendedBlocks
 pub mod AppendedFooters
+pub mod AppendedBase
+pub mod AppendedNormal
+pub mod AppendedStanding
+pub mod AppendedReads
+pub mod AppendedOld
+pub mod AppendedTables

@@ -53,7 +53,7 @@ use Rattle.ipc_format_reading_laws.proofs.StoredTablesStreams.{layout_with, hold
 abbrev all_sent : List Given → List Batch → List Sent
 all_sent given batches = map dictionary given ++ map batch batches
 
-batches_sent : (batches : List Batch) (columns : List Entry) → AreEach (λ (b : Batch). IsSent (batch b)) batches columns
+pub batches_sent : (batches : List Batch) (columns : List Entry) → AreEach (λ (b : Batch). IsSent (batch b)) batches columns
     → AreEach IsSent (map batch batches) columns
 batches_sent [] [] are = tt
 batches_sent [] (entry ∷ columns) are = absurd are
@@ -83,7 +83,7 @@ few_written written (next ∷ given) =
 
 module _ (stored : StoredColumnsReadBack) (layout : Layout) (us : List Field) (little : layout.is_little_endian ≡ true)
     (fields : layout.fields ≡ map normalised_field us) where
-  columns_sent : (written : List Given) (batches : List (List Column)) (entries : List Entry) → Each (IsBatch us layout.below) batches
+  pub columns_sent : (written : List Given) (batches : List (List Column)) (entries : List Entry) → Each (IsBatch us layout.below) batches
       → Each (λ (cs : List Column). Each (StandsIn written) (given_of_stored layout.below cs)) batches
       → AreEach IsSent (map batch (map (batch_of_stored layout.below) batches)) entries
       → batches_of layout (map as_read written) entries ≡ Some (read_batches batches)
@@ -167,7 +167,7 @@ messages_stand schema below batches =
 
 -- ---- rooms
 
-rooms : (schema : Schema) (below : IdsList) (batches : List (List Column)) → all_are_ids below ≡ true
+pub rooms : (schema : Schema) (below : IdsList) (batches : List (List Column)) → all_are_ids below ≡ true
     → list_all (belongs schema below) (stored_chunks batches) ≡ true
     → All (λ (b : Batch). length b.given ≤ most_dictionaries) (map (batch_of_stored below) batches)
     → All HasRoomForColumns (map (batch_of_stored below) batches)
@@ -235,7 +235,7 @@ was_asked schema below batches bytes e =
     }
 
 -- the entries at the blocks of a footer
-entries_found : (bytes : List ℕ) (dictionaries record_batches : List read.Block) (values columns : List Entry)
+pub entries_found : (bytes : List ℕ) (dictionaries record_batches : List read.Block) (values columns : List Entry)
     → length dictionaries ≤ most_dictionaries → entries_at is_dictionary bytes dictionaries ≡ Some values
     → entries_at is_record_batch bytes record_batches ≡ Some columns → (columns ≡ [] → ⊥)
     → file_entries bytes dictionaries record_batches ≡ Some (values ++ columns)
@@ -245,7 +245,7 @@ entries_found bytes dictionaries (block ∷ blocks) values columns few found the
     rw (enough, found, they) refl
 
 -- the bytes have a footer, whose blocks are those of the messages
-contents_found : (bytes footer : List ℕ) (schema : Schema) (below : IdsList) (blocks : Blocks) (entries : List Entry)
+pub contents_found : (bytes footer : List ℕ) (schema : Schema) (below : IdsList) (blocks : Blocks) (entries : List Entry)
     → HasFooter bytes footer (normalised schema) (ids_read schema below) blocks
     → file_entries bytes (map block_read blocks.dictionaries) (map block_read blocks.record_batches) ≡ Some entries
     → contents_of file bytes ≡ Some (record { schema = schema_read schema below; entries = entries })
