@@ -239,7 +239,8 @@ pub body_short : (bytes head metadata rest : List ℕ) (size : ℕ) → bytes �
 body_short bytes head metadata rest size same some frame e few =
     let found = came_of {A = Message} (message_in metadata) _ size e in
     let place = length head + length metadata in
-    let past : length bytes < place + size = omega (arith, few, ap length same ∙ length-append head (metadata ++ rest), length-append metadata rest) in
+    let past : length bytes < place + size =
+    omega (arith, few, ap length same ∙ length-append head (metadata ++ rest), length-append metadata rest) in
     next_is bytes head metadata rest same some frame
     ∙ bind_none (framed bytes metadata place) _ (bind_is (message_in metadata) _ found.0 found.1
     ∙ framed_short bytes metadata place size found.0.header found.0.body_length found.2 (omega (arith, few)) past)

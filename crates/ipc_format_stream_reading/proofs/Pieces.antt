@@ -23,7 +23,8 @@ put_length : (xs buf : List ℕ) (filled : ℕ) → filled ≤ length xs → len
     → length (put_mid filled (length xs - filled) xs buf) ≡ length xs
 put_length xs buf filled within size =
     let after = post_of filled (length xs - filled) xs in
-    let rest : length after ≡ (length xs - filled) - (length xs - filled) = length-drop (length xs - filled) (drop filled xs) ∙ ap (λ n. n - (length xs - filled)) (length-drop filled xs) in
+    let rest : length after ≡ (length xs - filled) - (length xs - filled) =
+    length-drop (length xs - filled) (drop filled xs) ∙ ap (λ n. n - (length xs - filled)) (length-drop filled xs) in
     omega (arith, length-append (take filled xs) (buf ++ after), length-append buf after, length-take-le filled xs within, rest, size)
 
 pub reads_behind : {E : Type 0} (left left_after : Option (List ℕ)) (xs buf : List ℕ) (filled : ℕ) (result : Result ℕ E) → filled ≤ length xs

@@ -111,6 +111,8 @@ told_behind left left_after head more (negsuc n) (Err (errors.OutOfSpec text)) e
     ap (λ xs. frame_at xs 0) whole ∙ stated_behind more behind.0 (negsuc n) filled.1 first second
 told_behind left left_after head more stated (Err _) e filled second is = absurd is
 
+pub ruleset sizes = (first_there, second_there, told_at_once, told_behind)
+
 -- ---- messages
 
 -- some bytes stand before what is left of a device
@@ -279,5 +281,7 @@ pub came_whole : (left between behind last left_after : Option (List ℕ)) (held
     → none ≡ [] → TakesNext (prepend_known held left) (prepend_known none left_after) metadata body (Ok incoming.Message)
 came_whole left between behind last left_after held head more metadata body none size filled told some taken body_taken e =
     subst (λ (new : Option (List ℕ)). TakesNext (prepend_known held left) new metadata body (Ok incoming.Message)) (prepend_none none left_after e)
-    (comes (prepend_known held left) behind last left_after more metadata body size (headed left between behind held head more size filled told) told.1
-    taken.0 taken.1 some body_taken.0 body_taken.1)
+    (comes (prepend_known held left) behind last left_after more metadata body size
+    (headed left between behind held head more size filled told) told.1 taken.0 taken.1 some body_taken.0 body_taken.1)
+
+pub ruleset answers = (refused_size, ended_there)

@@ -62,7 +62,7 @@ impl<R: Read> MessageReader<R> {
     /// - `OutOfSpec`: the bytes break a rule of the format.
     /// - `Io`: the device refused.
     /// - `OutOfMemory`: there was no memory for what came.
-    #[tactic(auto, using(crate::proofs::Told::waiting, crate::proofs::Told::refused_size, crate::proofs::Told::refused_metadata, crate::proofs::Told::refused_body, crate::proofs::Told::ended_there, crate::proofs::Told::came_whole))]
+    #[tactic(auto, using(crate::proofs::Told::answers))]
     pub fn next(&mut self, metadata: &mut Vec<u8>, body: &mut Vec<u8>) -> Result<Incoming>
         ensures { TakesNext self.old self.new metadata.new.items body.new.items result }
     {
@@ -99,7 +99,7 @@ fn size_of(stated: i32) -> Result<usize>
 ///
 /// # Errors
 /// `OutOfSpec`: there are fewer bytes, or the number is negative.
-#[tactic(auto, using(crate::proofs::Told::first_there, crate::proofs::Told::second_there, crate::proofs::Told::told_at_once, crate::proofs::Told::told_missing, crate::proofs::Told::told_behind))]
+#[tactic(auto, using(crate::proofs::Told::sizes))]
 fn size_behind<R: Read>(reader: &mut R, head: &mut Vec<u8>) -> Result<usize>
     requires { length head.old.items ≡ 4 }
     ensures { TellsSize (R.remaining reader.old) (R.remaining reader.new) head.old.items head.new.items result }

@@ -17,14 +17,15 @@ const PREFIX: usize = 8;
 /// With its prefix a message's metadata has at most so many bytes.
 const MOST_METADATA: usize = 2_147_483_640;
 
-/// The metadata of a message is a whole number of so many bytes, and so is each buffer of its body.
+/// The metadata of a message is a whole number of so many bytes.
 const METADATA_ALIGNMENT: usize = 8;
 
+/// So is its body.
 const BODY_ALIGNMENT: usize = 64;
 
 const ZEROS: [u8; 64] = [0; 64];
 
-/// A message that is encoded and not yet written.
+/// An encoded message.
 #[derive(Debug, Drop)]
 pub struct EncodedData {
     /// The metadata of the message.
