@@ -1,6 +1,5 @@
 -- Arrays of one length, as the columns of a batch of rows (Arrow IPC, "RecordBatch message").
-use Rattle.std.specs.Prelude.{◌≡◌, ℕ, List, [], ◌∷◌, Result, Ok, Err}
-use Rattle.std.specs.List.{All}
+use Rattle.std.specs.Prelude.{◌≡◌, ℕ, List, [], ◌∷◌, slice_get, Some, Result, Ok, Err}
 use Rattle.columnar_memory.specs.declared.Error.{Error}
 use Rattle.columnar_memory.specs.declared.Error.TheVariants.{InvalidArgumentError}
 use Rattle.nested_arrays.specs.StoredColumns.{Column, column_len}
@@ -12,7 +11,7 @@ rows_of column (array ∷ arrays) = column_len (column array)
 
 -- each array has so many slots
 abbrev pub HaveLength : {A : Type 0} → (A → Column) → ℕ → List A → Type 0
-HaveLength column count arrays = All (λ array. column_len (column array) ≡ count) arrays
+HaveLength {A} column count arrays = (k : ℕ) (array : A) → slice_get arrays k ≡ Some array → column_len (column array) ≡ count
 
 -- all arrays are as long as the first
 abbrev pub AreAsLong : {A : Type 0} → (A → Column) → List A → Type 0
