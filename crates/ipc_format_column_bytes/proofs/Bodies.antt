@@ -1,14 +1,14 @@
 -- Parts of columns that are written one behind the other.
-use Rattle.std.proofs.Common.{◌≡◌, ◌∙◌, ℕ, ◌+◌, ◌-◌, ◌*◌, ◌%◌, ◌≤◌, ◌<◌, Bool, true, false, List, [], ◌∷◌, ◌++◌, length, map, take, drop, min}
-use Rattle.std.proofs.Common.{refl, sym, ap, arith, inl, inr, ◌⊎◌, ◌||◌, ◌^◌, subst, replicate}
+use Rattle.std.proofs.Common.{◌≡◌, ◌∙◌, ℕ, ◌+◌, ◌-◌, ◌%◌, ◌≤◌, ◌<◌, Bool, true, false, List, [], ◌∷◌, ◌++◌, length, map, take, drop}
+use Rattle.std.proofs.Common.{refl, sym, ap, arith, inl, inr, ◌||◌, ◌^◌, subst, replicate}
 use Rattle.std.specs.Prelude.{ℤ, pos, Option, Result, Ok, Err, nat_le, FitsSigned}
 use Rattle.std.specs.Int.{w64, cast_signed, next_multiple_of}
-use Rattle.std.specs.List.{list_any, flat_map}
+use Rattle.std.specs.List.{list_any}
 use Rattle.std.proofs.lemmas.Bool.{cases_lt, le-leb}
 use Rattle.std.proofs.lemmas.Grind.{flat_map-append}
 use Rattle.std.proofs.lemmas.Int.{to_z-of_z}
-use Rattle.std.proofs.lemmas.List.{append_assoc, append-nil, drop-replicate, length-append, length-drop, length-take, length-take-le, map-append}
-use Rattle.std.proofs.lemmas.List.{take-append-drop, take-replicate, take-take}
+use Rattle.std.proofs.lemmas.List.{append_assoc, append-nil, drop-replicate, length-append, length-drop, length-take-le, map-append}
+use Rattle.std.proofs.lemmas.List.{take-append-drop, take-replicate}
 use Rattle.std.proofs.lemmas.List.Folds.{list_any-append}
 use Rattle.std.proofs.Math.Seq.{take-append_seam, drop-append_seam, take-length}
 use Rattle.ipc_format_messages.specs.columnar_memory.Error.{IsOutOfMemory}

@@ -1,5 +1,5 @@
 -- What ranges of flat arrays are written as.
-use Rattle.std.proofs.Common.{◌≡◌, ◌∙◌, ℕ, zero, suc, ◌+◌, ◌-◌, ◌≤◌, Bool, true, false, List, [], ◌∷◌, length, map, take, drop, sum, get_or}
+use Rattle.std.proofs.Common.{◌≡◌, ◌∙◌, ℕ, ◌+◌, ◌-◌, ◌≤◌, Bool, true, false, List, [], ◌∷◌, length, map, take, drop, sum, get_or}
 use Rattle.std.proofs.Common.{refl, sym, ap, arith, subst}
 use Rattle.std.specs.Int.{Width}
 use Rattle.std.specs.List.{flat_map}
@@ -19,11 +19,10 @@ use Rattle.ipc_format_messages.specs.columnar_memory.declared.DataType.{DataType
 use Rattle.ipc_format_messages.specs.columnar_memory.declared.PrimitiveType.{PrimitiveType}
 use Rattle.ipc_format_messages.specs.columnar_memory.declared.PrimitiveType.TheVariants as kinds
 use Rattle.ipc_format_messages.specs.columns.Slots.{number, pair, triple}
-use Rattle.ipc_format_messages.specs.columns.StoredColumns.{Stored, flat, bits, numbers, pairs, triples, texts, byte_strings}
+use Rattle.ipc_format_messages.specs.columns.StoredColumns.{Stored, flat, bits, texts, byte_strings}
 use Rattle.ipc_format_messages.specs.columns.StoredColumns.{column_len, cut_list, cut_mask, cut_stored, stored_len, type_layer}
 use Rattle.ipc_format_messages.specs.grammar.Buffers.{bitmap_bytes}
-use Rattle.ipc_format_messages.specs.grammar.Encoding.{Encoded}
-use Rattle.ipc_format_messages.specs.grammar.StoredEncoding.{between_offsets, encode_range, encode_stored, last_offset, mask_bytes, moved_bytes}
+use Rattle.ipc_format_messages.specs.grammar.StoredEncoding.{between_offsets, encode_range, last_offset, mask_bytes, moved_bytes}
 use Rattle.ipc_format_messages.specs.grammar.StoredEncoding.{node_over, offset_width, ordered_value, stored_buffers}
 use Rattle.ipc_format_messages.proofs.columnar_memory_lemmas.buffer_lemmas.Runs.{length-ends_from, offset_at-all, offset_at-le-last_of, sum-cons}
 use Rattle.ipc_format_messages.proofs.columnar_memory_lemmas.buffer_lemmas.Slices.{offset_at-spans_between}

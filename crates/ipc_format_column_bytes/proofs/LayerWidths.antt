@@ -1,5 +1,5 @@
 -- How wide offsets are, by how arrays of a type lie in memory.
-use Rattle.std.proofs.Common.{◌≡◌, ◌∙◌, Bool, true, false, refl, sym, ap, subst}
+use Rattle.std.proofs.Common.{◌≡◌, ◌∙◌, false, refl, sym, ap, subst}
 use Rattle.std.specs.Int.{Width, w32, w64}
 use Rattle.ipc_format_messages.specs.columnar_memory.Layouts.{physical_type}
 use Rattle.ipc_format_messages.specs.columnar_memory.declared.DataType.{DataType}

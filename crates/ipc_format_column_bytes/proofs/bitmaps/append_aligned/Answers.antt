@@ -1,6 +1,4 @@
-use Rattle.std.proofs.Common.{◌/◌, ◌%◌, ◌*◌, ◌∙◌, List, ℕ, arith, refl, subst}
-use Rattle.ipc_format_messages.specs.grammar.Buffers.{bitmap_bytes}
-use Rattle.ipc_format_messages.specs.columnar_memory.Bits.{bits_of}
+use Rattle.std.proofs.Common.{◌/◌, ◌%◌, List, ℕ, arith, refl, subst}
 use Rattle.ipc_format_column_bytes.specs.Appends.{Appends}
 use Rattle.ipc_format_column_bytes.proofs.Added.{appends_then}
 use Rattle.ipc_format_column_bytes.proofs.Packed.{aligned_bytes, packed_whole}

@@ -1,4 +1,4 @@
-use Rattle.std.proofs.Common.{◌≡◌, ◌+◌, ◌≤◌, [], ◌∷◌, ap, length, refl, arith}
+use Rattle.std.proofs.Common.{◌+◌, ◌≤◌, [], ◌∷◌, ap, length, refl, arith}
 use Rattle.std.specs.Prelude.{slice_range}
 use Rattle.ipc_format_messages.specs.columnar_memory.Spans.{offset_at, offsets_of}
 use Rattle.ipc_format_messages.specs.columns.StoredColumns.{cut_list}
