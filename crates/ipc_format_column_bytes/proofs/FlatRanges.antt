@@ -27,7 +27,8 @@ use Rattle.ipc_format_messages.specs.grammar.StoredEncoding.{node_over, offset_w
 use Rattle.ipc_format_messages.proofs.columnar_memory_lemmas.buffer_lemmas.Runs.{length-ends_from, offset_at-all, offset_at-le-last_of, sum-cons}
 use Rattle.ipc_format_messages.proofs.columnar_memory_lemmas.buffer_lemmas.Slices.{offset_at-spans_between}
 use Rattle.ipc_format_column_bytes.specs.Bodies.{both, of_buffers, of_slots}
-use Rattle.ipc_format_column_bytes.specs.FlatColumns.{binary_column, boolean_column, pair_of, primitive_column, stored_numbers, text_column, triple_of}
+use Rattle.ipc_format_column_bytes.specs.FlatColumns.{binary_column, boolean_column, pair_of, primitive_column}
+use Rattle.ipc_format_column_bytes.specs.FlatColumns.{stored_numbers, text_column, triple_of}
 use Rattle.ipc_format_column_bytes.specs.Numbers.{value_bytes, width_of}
 use Rattle.ipc_format_column_bytes.proofs.LayerWidths.{layout_width, width_is}
 use Rattle.ipc_format_column_bytes.proofs.Moved.{cut_offsets}

@@ -52,4 +52,5 @@ returns-else-is_little_endian g c =
     (moved_part g.O.Number.value false g.O.Offset.IS_LARGE _ c.as_slice.result.now c.args.offsets.now c.offset_at-start.result c.args.first
     c.args.count c.as_slice.ensures c.requires refl c.offset_at-start.ensures
     ∙ ap (λ little. moved_bytes little wide taken) (sym c.if-is_little_endian.false))
-    (subst (λ (old : List ℕ). Appends c.append_big.result old c.append_big.new.to.items (bytes_of false)) c.in_ok-reserve.ensures.items c.append_big.ensures)
+    (subst (λ (old : List ℕ). Appends c.append_big.result old c.append_big.new.to.items (bytes_of false)) c.in_ok-reserve.ensures.items
+    c.append_big.ensures)
