@@ -1,28 +1,31 @@
 -- Parts of columns that are written one behind the other.
-use Rattle.std.proofs.Common.{◌≡◌, ◌∙◌, ℕ, ◌+◌, ◌-◌, ◌*◌, ◌%◌, ◌≤◌, ◌<◌, Bool, true, false, List, [], ◌∷◌, ◌++◌, length, map, take, drop, min}
-use Rattle.std.proofs.Common.{refl, sym, ap, arith, inl, inr, ◌⊎◌, ◌||◌, ◌^◌, subst, replicate}
-use Rattle.std.specs.Prelude.{ℤ, pos, Result, Ok, Err, nat_le, FitsSigned}
+use Rattle.std.proofs.Common.{◌≡◌, ◌∙◌, ℕ, ◌+◌, ◌-◌, ◌%◌, ◌≤◌, ◌<◌, Bool, true, false, List, [], ◌∷◌, ◌++◌, length, map, take, drop}
+use Rattle.std.proofs.Common.{refl, sym, ap, arith, inl, inr, ◌||◌, ◌^◌, subst, replicate}
+use Rattle.std.specs.Prelude.{ℤ, pos, Option, Result, Ok, Err, nat_le, FitsSigned}
 use Rattle.std.specs.Int.{w64, cast_signed, next_multiple_of}
-use Rattle.std.specs.List.{list_any, flat_map}
+use Rattle.std.specs.List.{list_any}
 use Rattle.std.proofs.lemmas.Bool.{cases_lt, le-leb}
 use Rattle.std.proofs.lemmas.Grind.{flat_map-append}
 use Rattle.std.proofs.lemmas.Int.{to_z-of_z}
-use Rattle.std.proofs.lemmas.List.{append_assoc, append-nil, drop-replicate, length-append, length-drop, length-take, length-take-le, map-append}
-use Rattle.std.proofs.lemmas.List.{take-append-drop, take-replicate, take-take}
+use Rattle.std.proofs.lemmas.List.{append_assoc, append-nil, drop-replicate, length-append, length-drop, length-take-le, map-append}
+use Rattle.std.proofs.lemmas.List.{take-append-drop, take-replicate}
 use Rattle.std.proofs.lemmas.List.Folds.{list_any-append}
 use Rattle.std.proofs.Math.Seq.{take-append_seam, drop-append_seam, take-length}
 use Rattle.ipc_format_messages.specs.columnar_memory.Error.{IsOutOfMemory}
 use Rattle.ipc_format_messages.specs.columnar_memory.declared.Error.{Error}
 use Rattle.ipc_format_messages.specs.columnar_memory.declared.Error.TheVariants.{Overflow, OutOfMemory}
 use Rattle.ipc_format_messages.specs.grammar.Encoding.{Encoded}
+use Rattle.ipc_format_messages.specs.grammar.StoredEncoding.{mask_bytes, mask_nulls}
 use Rattle.ipc_format_messages.specs.grammar.WrittenMessages.{body_bytes, buffer_places, padded_buffer}
 use Rattle.ipc_format_messages.specs.declared.FieldNode.{FieldNode}
 use Rattle.ipc_format_messages.specs.declared.Buffer.{Buffer}
 use Rattle.ipc_format_messages.specs.columns.StoredColumns.{place_of}
 use Rattle.ipc_format_column_bytes.specs.Appends.{BeginsWith}
+use Rattle.ipc_format_column_bytes.proofs.Added.{begins_through}
+use Rattle.ipc_format_column_bytes.specs.declared.body.Body.{Body}
 use Rattle.ipc_format_column_bytes.specs.declared.body.Lengths.{Lengths}
 use Rattle.ipc_format_column_bytes.specs.Bodies.{Parts, Adds, BeginsWithParts, EndsBuffer, GivesBack, IsRefused, IsTooLong, Settles}
-use Rattle.ipc_format_column_bytes.specs.Bodies.{both, firsts, is_long_node, of_buffers, of_node, parts}
+use Rattle.ipc_format_column_bytes.specs.Bodies.{both, firsts, is_long_node, of_buffers, of_node, of_slots, parts, parts_of}
 use Rattle.ipc_format_column_bytes.specs.Bodies.{signed_limit, stated_buffer, stated_node, with_column}
 
 -- ---- lists of buffers
@@ -96,12 +99,6 @@ right_refused _ o a b refused = absurd refused
 
 -- ---- beginnings
 
-begins_through : {A : Type 0} (old mid new : List A) → BeginsWith old mid → BeginsWith mid new → BeginsWith old new
-begins_through {A} old mid new first second =
-    let size : min (length old) (length mid) ≡ length old = sym (length-take (length old) mid) ∙ ap (λ (xs : List A). length xs) first in
-    let within : length old ≤ length mid = omega arith in
-    sym (take-take (length old) (length mid) new within) ∙ ap (λ (xs : List A). take (length old) xs) second ∙ first
-
 pub parts_through : (p q s : Parts) → BeginsWithParts p q → BeginsWithParts q s → BeginsWithParts p s
 parts_through p q s first second = record {
   nodes = begins_through p.nodes q.nodes s.nodes first.nodes second.nodes;
@@ -135,6 +132,22 @@ adds_then (Err e) nodes buffers bytes o q s a b is refused =
     let p : Parts = record { nodes = nodes; buffers = buffers; bytes = bytes; offset = pos o } in
     let here : Adds (Err e) (with_column p a) s b = subst (λ (parts : Parts). Adds (Err e) parts s b) is refused in
     (right_refused e o a b here.0, parts_through p (with_column p a) s (column_begins p a) here.1)
+
+-- the same of what makes a whole
+pub added_then : (r : Result (Unit {0}) Error) (p : Body) (q s : Parts) (a b whole : Encoded) → q ≡ with_column (parts_of p) a → Adds r q s b
+    → both a b ≡ whole → Adds r (parts_of p) s whole
+added_then r p q s a b whole is added same =
+    subst (λ (e : Encoded). Adds r (parts_of p) s e) same (adds_then r p.nodes.items p.buffers.items p.bytes.items p.offset q s a b is added)
+
+pub refused_first : (e : Error) (p : Body) (s : Parts) (a b whole : Encoded) → Adds (Err e) (parts_of p) s a → both a b ≡ whole
+    → Adds (Err e) (parts_of p) s whole
+refused_first e p s a b whole refused same =
+    subst (λ (e' : Encoded). Adds (Err e) (parts_of p) s e') same (adds_refused e (parts_of p) s a b refused)
+
+-- the node of slots and the buffer of their marks
+pub slots_added : (n nulls : ℕ) (mask : Option (List Bool)) → nulls ≡ mask_nulls mask
+    → both (of_node n nulls) (of_buffers (mask_bytes mask ∷ [])) ≡ of_slots n mask
+slots_added n nulls mask is = λ i. record { nodes = (n, is i) ∷ []; buffers = mask_bytes mask ∷ [] }
 
 -- ---- nodes and buffers alone
 

@@ -9,7 +9,7 @@ use Rattle.ipc_format_messages.specs.columns.StoredColumns.{nulls, flat, lists, 
 use Rattle.ipc_format_messages.specs.columns.StoredColumns.{cut_list, cut_mask, cut_stored, column_len, cut, cut_each, type_layer}
 use Rattle.ipc_format_messages.proofs.columns_lemmas.Windows.{cut_list-cut_list}
 use Rattle.ipc_format_messages.proofs.columns_lemmas.CutLengths.{column_len-cut}
-use Rattle.ipc_format_messages.specs.grammar.Encoding.{Encoded, column_over}
+use Rattle.ipc_format_messages.specs.grammar.Encoding.{column_over}
 use Rattle.ipc_format_messages.specs.grammar.StoredEncoding.{encode_range, encode_ranges, encode_wholes, encode_stored, integer_bytes, key_bytes}
 use Rattle.ipc_format_messages.specs.grammar.StoredEncoding.{last_offset, mask_bytes, moved_bytes, node_over, offset_width, stored_buffers}
 

@@ -3,6 +3,8 @@ pub mod Values
 pub mod Moved
 pub mod Packed
 pub mod CutEncodings
+pub mod FlatRanges
+pub mod LayerWidths
 pub mod WholeColumns
 pub mod Bodies
 pub use Rattle.ipc_format_messages.proofs as messages_lemmas

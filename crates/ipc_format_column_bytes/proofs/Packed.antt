@@ -1,17 +1,21 @@
 -- Packed bits as the bytes of a bitmap.
-use Rattle.std.proofs.Common.{◌≡◌, ◌∙◌, ℕ, zero, suc, ◌+◌, ◌-◌, ◌*◌, ◌/◌, ◌%◌, ◌^◌, ◌≤◌, ◌<◌, Bool, true, false, List, [], ◌∷◌, ◌++◌}
-use Rattle.std.proofs.Common.{length, take, drop, get_or, replicate, refl, sym, ap, ap₂, arith, if◌then◌else◌, inl, inr, ◌⊎◌}
+use Rattle.std.proofs.Common.{◌≡◌, ◌∙◌, ℕ, zero, suc, ◌+◌, ◌-◌, ◌*◌, ◌/◌, ◌%◌, ◌≤◌, ◌<◌, Bool, false, List, [], ◌∷◌, ◌++◌}
+use Rattle.std.proofs.Common.{length, take, drop, get_or, replicate, refl, sym, ap, ap₂, arith, if◌then◌else◌, inl, inr}
 use Rattle.std.specs.Int as number
 use Rattle.std.proofs.lemmas.Bool.{cases_lt}
-use Rattle.std.proofs.lemmas.List.{take_all, drop_all}
+use Rattle.std.specs.Prelude.{slice_range}
+use Rattle.std.proofs.lemmas.List.{drop-append-le, drop_all, length-append, length-drop, length-take-le, take-append-le, take_all}
 use Rattle.std.proofs.Math.Seq.{take-append_seam, drop-append_seam}
 use Rattle.ipc_format_messages.specs.columnar_memory.Bits.{IsPacked, bit_at, bits_of, bytes_for}
 use Rattle.ipc_format_messages.specs.columnar_memory.Windows.{window}
 use Rattle.ipc_format_messages.specs.columnar_memory.Words.{word}
-use Rattle.ipc_format_messages.proofs.columnar_memory_lemmas.bits_lemmas.Appends.{bit_at_behind}
+use Rattle.ipc_format_messages.proofs.columnar_memory_lemmas.bits_lemmas.Appends.{bit_at_behind, bit_at_beyond}
 use Rattle.ipc_format_messages.proofs.columnar_memory_lemmas.bits_lemmas.Words.{word_of_bytes}
 use Rattle.ipc_format_messages.proofs.columnar_memory_lemmas.bits_lemmas.Bits.{digit_first}
 use Rattle.ipc_format_messages.proofs.columnar_memory_lemmas.bits_lemmas.Windows.{length_window, window_append, window_same}
+use Rattle.ipc_format_messages.proofs.columnar_memory_lemmas.bitmap_lemmas.Lists.{slice_range-window}
+use Rattle.ipc_format_messages.proofs.columnar_memory_lemmas.bitmap_lemmas.Places.{bits_of-range, bits_of-take}
+use Rattle.ipc_format_messages.specs.columns.StoredColumns.{cut_list}
 use Rattle.ipc_format_messages.specs.grammar.Buffers.{bits_by, bitmap_by, bitmap_bytes}
 
 word_of_bits : (bits : List Bool) → bits_by (λ (b : Bool). b) bits ≡ word bits
@@ -107,3 +111,64 @@ pub packed_bytes : (bytes : List ℕ) (len : ℕ) → ((k : ℕ) → get_or byte
 packed_bytes bytes len small packed =
     let count : length (bits_of bytes 0 len) ≡ len = length_window (bit_at bytes) 0 len in
     packed_from bytes len (length (bits_of bytes 0 len)) small packed.counted packed.zeros (omega arith)
+
+-- enough bytes are enough
+bitmap_enough : (m k : ℕ) (xs : List Bool) → length xs ≤ m → length xs ≤ k → bitmap_by (λ (b : Bool). b) m xs ≡ bitmap_by (λ (b : Bool). b) k xs
+bitmap_enough m k [] few less = no_bits m ∙ sym (no_bits k)
+bitmap_enough zero k (x ∷ xs) few less = absurd (omega arith)
+bitmap_enough (suc m) zero (x ∷ xs) few less = absurd (omega arith)
+bitmap_enough (suc m) (suc k) (x ∷ xs) few less =
+    let size : length (drop 8 (x ∷ xs)) ≡ length (x ∷ xs) - 8 = length-drop 8 (x ∷ xs) in
+    ap (λ (bytes : List ℕ). bits_by (λ (b : Bool). b) (take 8 (x ∷ xs)) ∷ bytes)
+    (bitmap_enough m k (drop 8 (x ∷ xs)) (omega arith) (omega arith))
+
+-- the bytes of a whole number of bytes of bits, and those of the bits behind them
+bitmap_joined : (n most : ℕ) (xs ys : List Bool) → length xs ≡ 8 * n → length xs + length ys ≤ most
+    → bitmap_by (λ (b : Bool). b) most (xs ++ ys) ≡ bitmap_bytes xs ++ bitmap_bytes ys
+bitmap_joined zero most [] ys whole fits = bitmap_enough most (length ys) ys (omega arith) (omega arith)
+bitmap_joined zero most (x ∷ xs) ys whole fits = absurd (omega arith)
+bitmap_joined (suc n) most [] ys whole fits = absurd (omega arith)
+bitmap_joined (suc n) zero (x ∷ xs) ys whole fits = absurd (omega arith)
+bitmap_joined (suc n) (suc most) (x ∷ xs) ys whole fits =
+    let size : length (drop 8 (x ∷ xs)) ≡ length (x ∷ xs) - 8 = length-drop 8 (x ∷ xs) in
+    let eight : 8 ≤ length (x ∷ xs) = omega arith in
+    let front : take 8 ((x ∷ xs) ++ ys) ≡ take 8 (x ∷ xs) = take-append-le 8 (x ∷ xs) ys eight in
+    let behind : drop 8 ((x ∷ xs) ++ ys) ≡ drop 8 (x ∷ xs) ++ ys = drop-append-le 8 (x ∷ xs) ys eight in
+    let rest = bitmap_joined n most (drop 8 (x ∷ xs)) ys (omega arith) (omega arith) in
+    let own : bitmap_bytes (drop 8 (x ∷ xs)) ≡ bitmap_by (λ (b : Bool). b) (length xs) (drop 8 (x ∷ xs)) =
+    bitmap_enough (length (drop 8 (x ∷ xs))) (length xs) (drop 8 (x ∷ xs)) (omega arith) (omega arith) in
+    ap₂ (λ (n : ℕ) (more : List ℕ). n ∷ more) (ap (bits_by (λ (b : Bool). b)) front)
+    (ap (bitmap_by (λ (b : Bool). b) most) behind ∙ rest ∙ ap (λ (bytes : List ℕ). bytes ++ bitmap_bytes ys) own)
+
+-- the first bytes, which have no spare bits
+pub packed_whole : (front bytes : List ℕ) (whole : ℕ) → front ≡ take whole bytes → whole ≤ length bytes → IsPacked front (8 * whole)
+packed_whole front bytes whole is within =
+    let size : length front ≡ whole = ap (λ (xs : List ℕ). length xs) is ∙ length-take-le whole bytes within in
+    record { counted = omega arith; zeros = λ (i : ℕ) (past : 8 * whole ≤ i). bit_at_beyond front i (omega arith) }
+
+-- the bytes of the first bits: of those that fill bytes, and of those behind them
+pub aligned_bytes : (front bytes : List ℕ) (whole rest count : ℕ) → front ≡ take whole bytes → 8 * whole + rest ≡ count
+    → bitmap_bytes (bits_of front 0 (8 * whole)) ++ bitmap_bytes (bits_of bytes (8 * whole) rest) ≡ bitmap_bytes (bits_of bytes 0 count)
+aligned_bytes front bytes whole rest count is all =
+    let xs : List Bool = bits_of bytes 0 (8 * whole) in
+    let ys : List Bool = bits_of bytes (0 + 8 * whole) rest in
+    let many : length xs ≡ 8 * whole = length_window (bit_at bytes) 0 (8 * whole) in
+    let first : bits_of front 0 (8 * whole) ≡ xs =
+    ap (λ (part : List ℕ). bits_of part 0 (8 * whole)) is ∙ bits_of-take bytes whole (8 * whole) (omega arith) in
+    let second : bits_of bytes (8 * whole) rest ≡ ys = ap (λ (k : ℕ). bits_of bytes k rest) (omega arith) in
+    let both : xs ++ ys ≡ bits_of bytes 0 count = sym (window_append (bit_at bytes) 0 (8 * whole) rest) ∙ ap (bits_of bytes 0) all in
+    ap₂ (λ (a b : List Bool). bitmap_bytes a ++ bitmap_bytes b) first second
+    ∙ sym (bitmap_joined whole (length (xs ++ ys)) xs ys many (omega (arith, length-append xs ys)))
+    ∙ ap bitmap_bytes both
+
+-- the bits from a whole byte on are the first bits of the bytes from there on
+pub bits_behind : (part bytes : List ℕ) (first count : ℕ) → part ≡ slice_range bytes (first / 8) (length bytes) → first % 8 ≡ 0
+    → first + count ≤ 8 * length bytes → bits_of part 0 count ≡ bits_of bytes first count
+bits_behind part bytes first count is aligned within =
+    ap₂ (λ (xs : List ℕ) (k : ℕ). bits_of xs k count) is (sym aligned) ∙ bits_of-range bytes first count (length bytes) within
+
+-- a part of some bits of bytes
+pub part_of_bits : (bits : List Bool) (bytes : List ℕ) (start len first count : ℕ) → bits_of bytes start len ≡ bits → first + count ≤ len
+    → bits_of bytes (start + first) count ≡ cut_list bits first count
+part_of_bits bits bytes start len first count is within =
+    sym (slice_range-window (bit_at bytes) start len first count within) ∙ ap (λ (xs : List Bool). cut_list xs first count) is

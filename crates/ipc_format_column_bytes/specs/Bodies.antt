@@ -1,11 +1,12 @@
 -- What columns are written to, and what it is with a column behind it (Arrow IPC, "RecordBatch message").
 use Rattle.std.specs.Prelude.{◌≡◌, ◌⊎◌, ℕ, ◌+◌, ◌≤◌, ◌^◌, ◌||◌, ℤ, pos, ◌+ℤ◌, Bool, true, List, [], ◌∷◌, ◌++◌, length, map, nat_le, take, drop}
-use Rattle.std.specs.Prelude.{Result, Ok, Err}
+use Rattle.std.specs.Prelude.{Option, Result, Ok, Err}
 use Rattle.std.specs.List.{list_any}
 use Rattle.ipc_format_messages.specs.columnar_memory.declared.Error.{Error}
 use Rattle.ipc_format_messages.specs.columnar_memory.declared.Error.TheVariants.{Overflow, OutOfMemory}
 use Rattle.ipc_format_messages.specs.columns.StoredColumns.{place_of}
 use Rattle.ipc_format_messages.specs.grammar.Encoding.{Encoded}
+use Rattle.ipc_format_messages.specs.grammar.StoredEncoding.{mask_bytes, node_over}
 use Rattle.ipc_format_messages.specs.grammar.WrittenMessages.{body_bytes, buffer_places}
 use Rattle.ipc_format_messages.specs.declared.FieldNode.{FieldNode}
 use Rattle.ipc_format_messages.specs.declared.Buffer.{Buffer}
@@ -76,6 +77,10 @@ of_node slots nulls = record { nodes = (slots, nulls) ∷ []; buffers = [] }
 
 abbrev pub of_buffers : List (List ℕ) → Encoded
 of_buffers buffers = record { nodes = []; buffers = buffers }
+
+-- the node of slots under a mask, and the buffer of its marks
+abbrev pub of_slots : ℕ → Option (List Bool) → Encoded
+of_slots n mask = record { nodes = node_over n mask ∷ []; buffers = mask_bytes mask ∷ [] }
 
 -- a part of a column, and another behind it
 abbrev pub both : Encoded → Encoded → Encoded

@@ -1,5 +1,6 @@
 pub mod Appends
 pub mod Bodies
+pub mod FlatColumns
 pub mod Numbers
 pub mod WholeColumns
 pub use Rattle.ipc_format_messages.specs as messages

@@ -1,12 +1,14 @@
 //! What columns are written to.
 ghost use Rattle.std.specs.List.{flat_map};
+ghost use Rattle.std.specs.Option.{ForSome};
 ghost use Rattle.std.specs.Prelude.{◌≡◌, ◌+◌, ◌-◌, ◌%◌, ◌≤◌, ◌≤ℤ◌, [], ◌∷◌, length, option_copied, pos, replicate, Some};
 ghost use Rattle.ipc_format_column_bytes.specs.Appends.{Appends};
-ghost use Rattle.ipc_format_column_bytes.specs.Bodies.{Adds, EndsBuffer, GivesBack, of_buffers, of_node, parts, parts_of};
+ghost use Rattle.ipc_format_column_bytes.specs.Bodies.{Adds, EndsBuffer, GivesBack, of_buffers, of_node, of_slots, parts, parts_of};
 ghost use Rattle.ipc_format_column_bytes.specs.Numbers.{value_bytes, width_of};
 ghost use Rattle.ipc_format_messages.specs.columnar_memory.Spans.{offsets_of};
+ghost use Rattle.ipc_format_messages.specs.columns.StoredColumns.{cut_list, cut_mask};
 ghost use Rattle.ipc_format_messages.specs.grammar.Buffers.{bitmap_bytes};
-ghost use Rattle.ipc_format_messages.specs.grammar.StoredEncoding.{mask_bytes, moved_bytes};
+ghost use Rattle.ipc_format_messages.specs.grammar.StoredEncoding.{mask_bytes, mask_nulls, moved_bytes};
 
 use crate::bitmaps::append_bitmap;
 use crate::numbers::append_numbers;
@@ -48,6 +50,17 @@ fn pad(to: &mut Vec<u8>, start: usize) -> Result<()>
     }
     to.extend_from_slice(&ZEROS[past..])?;
     Ok(())
+}
+
+/// How many of the `count` slots from slot `first` on a mask says are null.
+fn nulls_in(validity: Option<&Bitmap>, first: usize, count: usize) -> usize
+    requires { ForSome (option_copied validity) (λ mask. first + count ≤ length mask) }
+    ensures { result ≡ mask_nulls (cut_mask (option_copied validity.entry) first count) }
+{
+    match validity {
+        Some(mask) => mask.null_count_range(first, count),
+        None => 0,
+    }
 }
 
 impl Body {
@@ -93,34 +106,53 @@ impl Body {
         self.end_buffer(start)
     }
 
-    /// Adds a buffer of bits.
-    pub fn add_bits(&mut self, bits: &Bitmap) -> Result<()>
-        ensures { Adds result (parts_of self.old) (parts_of self.new) (of_buffers (bitmap_bytes bits.now ∷ [])) }
+    /// Adds a buffer of the `count` bits from bit `first` on.
+    pub fn add_bits(&mut self, bits: &Bitmap, first: usize, count: usize) -> Result<()>
+        requires { first + count ≤ length bits.now }
+        ensures { Adds result (parts_of self.old) (parts_of self.new) (of_buffers (bitmap_bytes (cut_list bits.now first count) ∷ [])) }
     {
         let start = self.bytes.len();
-        append_bitmap(&mut self.bytes, bits)?;
+        append_bitmap(&mut self.bytes, bits, first, count)?;
         self.end_buffer(start)
     }
 
-    /// Adds the buffer of a mask, which has no bytes where no slot is null.
-    pub fn add_validity(&mut self, validity: Option<&Bitmap>) -> Result<()>
-        ensures { Adds result (parts_of self.old) (parts_of self.new) (of_buffers (mask_bytes (option_copied validity.entry) ∷ [])) }
+    /// Adds the buffer of the marks of the `count` slots from slot `first` on, which has no bytes where none of them is null.
+    pub fn add_validity(
+        &mut self,
+        validity: Option<&Bitmap>,
+        first: usize,
+        count: usize,
+    ) -> Result<()>
+        requires { ForSome (option_copied validity) (λ mask. first + count ≤ length mask) }
+        ensures { Adds result (parts_of self.old) (parts_of self.new)
+            (of_buffers (mask_bytes (cut_mask (option_copied validity.entry) first count) ∷ [])) }
     {
         match validity {
-            Some(mask) => self.add_mask(mask),
+            Some(mask) => self.add_marks(mask, first, count),
             None => self.add_bytes(&[]),
         }
     }
 
     /// The same of a mask that is there.
-    fn add_mask(&mut self, mask: &Bitmap) -> Result<()>
-        ensures { Adds result (parts_of self.old) (parts_of self.new) (of_buffers (mask_bytes (Some mask.now) ∷ [])) }
+    fn add_marks(&mut self, mask: &Bitmap, first: usize, count: usize) -> Result<()>
+        requires { first + count ≤ length mask.now }
+        ensures { Adds result (parts_of self.old) (parts_of self.new)
+            (of_buffers (mask_bytes (Some (cut_list mask.now first count)) ∷ [])) }
     {
-        if mask.unset_bits() > 0 {
-            self.add_bits(mask)
+        if mask.null_count_range(first, count) > 0 {
+            self.add_bits(mask, first, count)
         } else {
             self.add_bytes(&[])
         }
+    }
+
+    /// Adds the node and the marks of the `count` slots from slot `first` on.
+    pub fn add_slots(&mut self, validity: Option<&Bitmap>, first: usize, count: usize) -> Result<()>
+        requires { ForSome (option_copied validity) (λ mask. first + count ≤ length mask) }
+        ensures { Adds result (parts_of self.old) (parts_of self.new) (of_slots count (cut_mask (option_copied validity.entry) first count)) }
+    {
+        self.add_node(count, nulls_in(validity, first, count))?;
+        self.add_validity(validity, first, count)
     }
 
     /// Adds a buffer of numbers, each by itself in the byte order.
@@ -133,17 +165,20 @@ impl Body {
         self.end_buffer(start)
     }
 
-    /// Adds a buffer of offsets less the first one, each by itself in the byte order.
+    /// Adds a buffer of the offsets of the `count` spans from span `first` on, less the first one, each by itself in the byte order.
     pub fn add_offsets<O: Offset>(
         &mut self,
         offsets: &OffsetsBuffer<O>,
+        first: usize,
+        count: usize,
         is_little_endian: bool,
     ) -> Result<()>
+        requires { first + count ≤ length offsets.now.lengths }
         ensures { Adds result (parts_of self.old) (parts_of self.new)
-            (of_buffers (moved_bytes is_little_endian (width_of O.IS_LARGE) (offsets_of offsets.now) ∷ [])) }
+            (of_buffers (moved_bytes is_little_endian (width_of O.IS_LARGE) (cut_list (offsets_of offsets.now) first (count + 1)) ∷ [])) }
     {
         let start = self.bytes.len();
-        append_offsets(&mut self.bytes, offsets, is_little_endian)?;
+        append_offsets(&mut self.bytes, offsets, first, count, is_little_endian)?;
         self.end_buffer(start)
     }
 }
@@ -165,7 +200,10 @@ impl Body {
         offset: i64,
     ) -> Body
         requires { pos 0 ≤ℤ offset }
-        ensures { parts_of result ≡ parts nodes.old.items buffers.old.items bytes.old.items offset }
+        ensures taken { parts_of result ≡ parts nodes.old.items buffers.old.items bytes.old.items offset }
+        ensures nodes_left { nodes.new.items ≡ [] }
+        ensures buffers_left { buffers.new.items ≡ [] }
+        ensures bytes_left { bytes.new.items ≡ [] }
     {
         let alloc = *bytes.allocator();
         Body {

@@ -1,15 +1,26 @@
 //! The bytes of offsets (Arrow columnar format, "Variable-size Binary Layout").
 ghost use Rattle.std.specs.List.{flat_map, All};
-ghost use Rattle.std.specs.Prelude.{◌-◌, ◌≤ℤ◌, pos, true, false};
+ghost use Rattle.std.specs.Prelude.{◌≡◌, ◌+◌, ◌-◌, ◌≤◌, ◌≤ℤ◌, length, pos, true, false};
 ghost use Rattle.ipc_format_column_bytes.specs.Appends.{Appends};
 ghost use Rattle.ipc_format_column_bytes.specs.Numbers.{width_of};
+ghost use Rattle.ipc_format_messages.specs.columns.StoredColumns.{cut_list};
 ghost use Rattle.ipc_format_messages.specs.grammar.StoredEncoding.{moved_bytes, ordered_bytes};
-ghost use Rattle.ipc_format_messages.specs.columnar_memory.Spans.{number_of, offsets_of};
+ghost use Rattle.ipc_format_messages.specs.columnar_memory.Spans.{number_of, offset_at, offsets_of};
 
 use ipc_format_messages::columnar_memory::{Error, Offset, OffsetsBuffer, Result};
 use std::convert::AsSlice;
 
-/// Adds the bytes of offsets less the first one behind some bytes, each offset by itself in the byte order.
+/// Where the span of a place begins; at the number of spans, where the last one ends.
+pub fn offset_at<O: Offset>(offsets: &OffsetsBuffer<O>, place: usize) -> usize
+    requires { place ≤ length offsets.now.lengths }
+    ensures { result ≡ offset_at offsets.now place }
+{
+    let _all = offsets.len();
+    offsets.as_slice()[place].to_usize()
+}
+
+/// Adds the bytes of the offsets of the `count` spans from span `first` on, less the first one, behind some bytes, each offset by itself in
+/// the byte order.
 ///
 /// # Errors
 /// `OutOfMemory`: the bytes found no memory. Some of them may stand there.
@@ -17,19 +28,25 @@ use std::convert::AsSlice;
 pub fn append_offsets<O: Offset>(
     to: &mut Vec<u8>,
     offsets: &OffsetsBuffer<O>,
+    first: usize,
+    count: usize,
     is_little_endian: bool,
 ) -> Result<()>
-    ensures { Appends result to.old.items to.new.items (moved_bytes is_little_endian (width_of O.IS_LARGE) (offsets_of offsets.now)) }
+    requires { first + count ≤ length offsets.now.lengths }
+    ensures { Appends result to.old.items to.new.items
+        (moved_bytes is_little_endian (width_of O.IS_LARGE) (cut_list (offsets_of offsets.now) first (count + 1))) }
 {
-    let Some(size) = offsets.len().checked_mul(O::SIZE) else {
+    let start = offset_at(offsets, first);
+    let _all = offsets.len();
+    let part = &offsets.as_slice()[first..first + count + 1];
+    let Some(size) = part.len().checked_mul(O::SIZE) else {
         return Err(Error::OutOfMemory);
     };
     to.reserve(size)?;
-    let first = offsets.first().to_usize();
     if is_little_endian {
-        append_little(to, offsets.as_slice(), first)
+        append_little(to, part, start)
     } else {
-        append_big(to, offsets.as_slice(), first)
+        append_big(to, part, start)
     }
 }
 

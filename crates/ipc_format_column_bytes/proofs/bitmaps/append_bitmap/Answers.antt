@@ -1,13 +1,13 @@
-use Rattle.std.proofs.Common.{◌≡◌, ◌∙◌, ◌++◌, ap, List, Bool, ℕ, subst}
+use Rattle.std.proofs.Common.{List, Bool, arith, subst}
 use Rattle.ipc_format_messages.specs.grammar.Buffers.{bitmap_bytes}
-use Rattle.ipc_format_messages.specs.columnar_memory.Bits.{bits_of}
 use Rattle.ipc_format_column_bytes.specs.Appends.{Appends}
+use Rattle.ipc_format_column_bytes.proofs.Packed.{part_of_bits}
 use Rattle.ipc_format_column_bytes.proofs.bitmaps.append_bitmap.Goals as goal
 
 pub returns : goal.returns
 returns c =
-    let same : bits_of c.as_slice.result.now 0 c.len.result ≡ c.args.bits.now =
-    ap (λ (n : ℕ). bits_of c.as_slice.result.now 0 n) c.len.ensures ∙ c.as_slice.ensures.bits ∙ c.in_ok-extend_from_bitmap.ensures
-    ∙ ap (λ (front : List Bool). front ++ c.args.bits.now) c.new-packed.ensures in
-    subst (λ (bits : List Bool). Appends c.append_packed.result c.args.to.now.items c.append_packed.new.to.items (bitmap_bytes bits)) same
-    c.append_packed.ensures
+    subst (λ (bits : List Bool). Appends c.append_bits.result c.args.to.now.items c.append_bits.new.to.items (bitmap_bytes bits))
+    (part_of_bits c.args.bits.now c.as_slice-start.result.0.now c.as_slice-start.result.1 c.as_slice-start.result.2
+    c.args.first c.args.count c.as_slice-start.ensures.bits
+    (omega (arith, c.as_slice-start.ensures.len, c.requires)))
+    c.append_bits.ensures
