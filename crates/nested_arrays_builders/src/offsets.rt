@@ -1,7 +1,7 @@
 //! Offsets of lists that grow.
 ghost use Rattle.std.specs.Prelude.{◌≡◌, ◌<◌, ◌≤◌, length};
 ghost use Rattle.columnar_memory.specs.Spans.{first_spans, last_of, shortened};
-ghost use Rattle.nested_arrays_builders.specs.Widths.{is_large, spans_in, AddsEmpty};
+ghost use Rattle.nested_arrays_builders.specs.Widths.{is_large, spans_in, AddsSpan};
 
 use columnar_memory::{Index, Offset, Offsets, Result};
 
@@ -13,16 +13,17 @@ pub enum MutableListOffsets {
 }
 
 impl MutableListOffsets {
-    /// Adds an empty list behind the others, or changes nothing.
+    /// Adds a list of so many items behind the others, or changes nothing.
     ///
     /// # Errors
+    /// `Overflow`: its items would end past the greatest offset.
     /// `OutOfMemory`: the offset found no memory.
-    pub fn push_empty(&mut self) -> Result<()>
-        ensures { AddsEmpty self.old self.new result }
+    pub fn try_push(&mut self, count: usize) -> Result<()>
+        ensures { AddsSpan self.old count self.new result }
     {
         match self {
-            MutableListOffsets::Small(offsets) => offsets.extend_constant(1),
-            MutableListOffsets::Large(offsets) => offsets.extend_constant(1),
+            MutableListOffsets::Small(offsets) => offsets.try_push(count),
+            MutableListOffsets::Large(offsets) => offsets.try_push(count),
         }
     }
 
