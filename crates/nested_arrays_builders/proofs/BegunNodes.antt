@@ -1,5 +1,6 @@
 -- Builders with children and without slots.
-use Rattle.std.proofs.Common.{inl, inr, ◌≡◌, ◌∙◌, ℕ, zero, suc, ◌+◌, ◌<◌, ◌≤◌, List, [], ◌∷◌, ◌++◌, length, take, get_or, Bool, true, false, refl, sym, ap, subst, arith}
+use Rattle.std.proofs.Common.{inl, inr, ◌≡◌, ◌∙◌, ℕ, zero, suc, ◌+◌, ◌<◌, ◌≤◌, List, [], ◌∷◌, ◌++◌, length, take}
+use Rattle.std.proofs.Common.{get_or, Bool, true, false, refl, sym, ap, subst, arith}
 use Rattle.std.specs.Prelude.{◌&&◌, ◌⊎◌, ◌==◌, nat_le}
 use Rattle.std.proofs.lemmas.Bool.{and_from, le-leb}
 use Rattle.std.proofs.lemmas.List.{take_more}
@@ -121,13 +122,22 @@ module _ (us : List Field) (k : ℕ) (u : Field) (lt : k < length us) (is : u �
 
   pub one_more_can : are_buildable (take k us) ≡ true → is_buildable u.data_type ≡ true → are_buildable (take (k + 1) us) ≡ true
   one_more_can all can = list_all_more (λ (v : Field). is_buildable v.data_type) us k u lt
-      ∙ and_from (are_buildable (take k us)) (is_buildable (get_or us k u).data_type) all (ap (λ (v : Field). is_buildable v.data_type) (sym is) ∙ can)
+      ∙ and_from (are_buildable (take k us)) (is_buildable (get_or us k u).data_type) all
+      (ap (λ (v : Field). is_buildable v.data_type) (sym is) ∙ can)
 
   -- where one can't be begun not all can
   pub one_refused : (e : Error) → IsNoBuilder u.data_type e
       → IsOutOfMemory e ⊎ (IsNotYetImplemented e × (are_unbuilt us ≡ true)) ⊎ (IsInvalidArgument e × (are_buildable us ≡ false))
   one_refused e (inl out) = inl out
   one_refused e (inr (inl not_yet)) =
-      inr (inl (not_yet.0, list_any_at (λ (v : Field). is_unbuilt v.data_type) us k u lt (ap (λ (v : Field). is_unbuilt v.data_type) (sym is) ∙ not_yet.1)))
+      inr (inl (
+        not_yet.0,
+        list_any_at (λ (v : Field). is_unbuilt v.data_type) us k u lt
+            (ap (λ (v : Field). is_unbuilt v.data_type) (sym is) ∙ not_yet.1),
+      ))
   one_refused e (inr (inr other)) =
-      inr (inr (other.0, list_all_at (λ (v : Field). is_buildable v.data_type) us k u lt (ap (λ (v : Field). is_buildable v.data_type) (sym is) ∙ other.1)))
+      inr (inr (
+        other.0,
+        list_all_at (λ (v : Field). is_buildable v.data_type) us k u lt
+            (ap (λ (v : Field). is_buildable v.data_type) (sym is) ∙ other.1),
+      ))

@@ -1,5 +1,6 @@
 -- The slots of cells that hold others.
-use Rattle.std.proofs.Common.{inl, inr, ◌≡◌, ◌∙◌, ℕ, zero, suc, ◌<◌, List, [], ◌∷◌, length, map, get_or, Bool, true, false, refl, sym, ap, subst, arith}
+use Rattle.std.proofs.Common.{inl, inr, ◌≡◌, ◌∙◌, ℕ, zero, suc, ◌<◌, List, [], ◌∷◌, length, map, get_or}
+use Rattle.std.proofs.Common.{Bool, true, false, refl, sym, ap, subst, arith}
 use Rattle.std.specs.Prelude.{◌&&◌, ◌==◌, replicate}
 use Rattle.std.specs.List.{list_all}
 use Rattle.std.proofs.lemmas.Bool.{cases_Bool, eqb-true, false≢true}
@@ -39,7 +40,8 @@ pub record_slot : (cells : List AnyScalar) → scalar_slot (variant.Record cells
 unfolding roll-AnyScalar denote.Hole.Carrier.roll
 record_slot cells = slot_roll (layer.Record cells) ∙ ap fields (slots_of_cells cells)
 
-pub slot_in : (cells : List AnyScalar) (k : ℕ) (d : AnyScalar) → k < length cells → get_or (map scalar_slot cells) k null ≡ scalar_slot (get_or cells k d)
+pub slot_in : (cells : List AnyScalar) (k : ℕ) (d : AnyScalar) → k < length cells
+    → get_or (map scalar_slot cells) k null ≡ scalar_slot (get_or cells k d)
 slot_in [] k d lt = absurd (omega arith)
 slot_in (cell ∷ cells) zero d lt = refl
 slot_in (cell ∷ cells) (suc k) d lt = slot_in cells k d (omega (arith, lt))
@@ -127,7 +129,8 @@ no_list_roll x other h = absurd (false≢true (sym (ap is_list (slot_roll x)) �
 pub no_list : (cell : AnyScalar) → ((cells : List AnyScalar) → cell ≡ variant.List cells → ⊥) → is_list (scalar_slot cell) ≡ true
     → scalar_slot cell ≡ null
 no_list cell other h =
-    let P : AnyScalar → Type 0 = λ c. ((cells : List AnyScalar) → c ≡ variant.List cells → ⊥) → is_list (scalar_slot c) ≡ true → scalar_slot c ≡ null in
+    let P : AnyScalar → Type 0 = λ c. ((cells : List AnyScalar) → c ≡ variant.List cells → ⊥) → is_list (scalar_slot c) ≡ true
+    → scalar_slot c ≡ null in
     subst P (roll-out-AnyScalar cell) (no_list_roll (out-AnyScalar cell)) other h
 
 no_record_roll : (n : ℕ) (x : layer.AnyScalar-F AnyScalar) → ((cells : List AnyScalar) → roll-AnyScalar x ≡ variant.Record cells → ⊥)

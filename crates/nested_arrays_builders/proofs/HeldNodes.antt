@@ -7,7 +7,8 @@ use Rattle.nested_arrays_columns.specs.Slots.{Slot}
 use Rattle.nested_arrays_columns.specs.StoredColumns.{slots}
 use Rattle.nested_arrays_builder_parts.specs.Open.{Open, opened, first_slots, IsPushed}
 use Rattle.nested_arrays_builders.specs.Nodes.{held_of, parts_of}
-use Rattle.nested_arrays_builders.specs.Parts.{seen, parts_column, parts_size, type_size, first_parts, takes_slot, AddsSlot, HoldsCount, IsHeld, IsKept}
+use Rattle.nested_arrays_builders.specs.Parts.{seen, parts_column, parts_size, type_size, first_parts, takes_slot}
+use Rattle.nested_arrays_builders.specs.Parts.{AddsSlot, HoldsCount, IsHeld, IsKept}
 use Rattle.nested_arrays_builders.specs.TypeSizes.{parts_are_smaller}
 use Rattle.nested_arrays_builders.specs.declared.any.Head.{Head}
 use Rattle.nested_arrays_builders.specs.declared.any.MutableChildren.{MutableChildren}

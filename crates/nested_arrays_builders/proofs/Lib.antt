@@ -10,5 +10,6 @@ pub mod MoreParts
 pub mod PushedFields
 pub mod PushedItems
 pub mod PushedNodes
+pub mod SameNodes
 pub mod TakenSlots
 pub mod Unbuilt

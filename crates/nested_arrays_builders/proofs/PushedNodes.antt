@@ -56,7 +56,8 @@ module _ (t : DataType) (marks : List Bool) (parts : Parts) (kept : IsKept t mar
 
   no_more_fits : (length marks ≡ most_slots) ⊎ (has_room parts s ≡ false) → fits t (own ++ s ∷ []) ≡ false
   no_more_fits (inl many) = fits_more t marks parts own s kept
-      ∙ second_fails (is_formed parts s) (nat_le (length own + 1) most_slots) (has_room parts s) (above_most (length own) most_slots (sym count ∙ many))
+      ∙ second_fails (is_formed parts s) (nat_le (length own + 1) most_slots) (has_room parts s)
+      (above_most (length own) most_slots (sym count ∙ many))
   no_more_fits (inr full) = fits_more t marks parts own s kept
       ∙ third_fails (is_formed parts s) (nat_le (length own + 1) most_slots) (has_room parts s) full
 

@@ -20,7 +20,8 @@ list_size t item is = ap column_size (fresh_list t item is [])
 pub large_list_size : (t : DataType) (item : Field) → type_layer t ≡ layer.LargeList item → type_size t ≡ type_size item.data_type + 1
 large_list_size t item is = ap column_size (fresh_large_list t item is [])
 
-pub fixed_list_size : (t : DataType) (item : Field) (size : ℕ) → type_layer t ≡ layer.FixedSizeList item size → type_size t ≡ type_size item.data_type + 1
+pub fixed_list_size : (t : DataType) (item : Field) (size : ℕ) → type_layer t ≡ layer.FixedSizeList item size
+    → type_size t ≡ type_size item.data_type + 1
 fixed_list_size t item size is = ap column_size (fresh_fixed_list t item size is [])
 
 each_size : (us : List Field) (xs : List Slot) (a : ℕ) → columns_size (in_columns (fresh_columns us (window (field_slots []) a (length us))))

@@ -1,6 +1,7 @@
 //! Builders of any type.
-ghost use Rattle.std.specs.Prelude.{◌≡◌, ◌≤◌, length, true};
-ghost use Rattle.nested_arrays_columns.specs.Cells.{fits_cell};
+ghost use Rattle.std.specs.Prelude.{◌≡◌, ◌<◌, ◌≤◌, length, not, slice_index_or, true, IfErr};
+ghost use Rattle.columnar_memory.specs.Error.{IsOutOfMemory};
+ghost use Rattle.nested_arrays_columns.specs.Cells.{fits_cell, is_null};
 ghost use Rattle.nested_arrays_columns.specs.Slots.{null};
 ghost use Rattle.nested_arrays_builder_parts.specs.Open.{first_slots, IsPushed, IsWithin};
 ghost use Rattle.nested_arrays_builder_parts.specs.Scalars.{scalar_slot};
@@ -10,6 +11,7 @@ ghost use Rattle.nested_arrays_builders.specs.Parts.{seen, IsHeld};
 use crate::children::{push_nested, truncate_nested};
 use crate::fitting::is_cell_of;
 use crate::offsets::MutableListOffsets;
+use crate::room::{reserve_nested, shrink_nested};
 use columnar_memory::{DataType, Error, Result};
 use nested_arrays_builder_parts::{AnyScalar, FlatBuilder, Marks};
 use std::marker::Model;
@@ -78,6 +80,15 @@ impl AnyMutableArray {
         AnyMutableArray { node }
     }
 
+    /// The node of a builder.
+    pub fn into_node(self) -> MutableNode
+        ensures seen { seen (held_of result) ≡ self }
+        ensures held { IsHeld (held_of result) }
+    {
+        let AnyMutableArray { node } = self;
+        node
+    }
+
     /// How many slots there are.
     #[tactic(auto, using(crate::proofs::KeptNodes::kept_length))]
     pub fn len(&self) -> usize
@@ -109,6 +120,45 @@ impl AnyMutableArray {
         match &self.node {
             MutableNode::Flat(builder) => builder.whole(),
             MutableNode::Nested(_, _) => {}
+        }
+    }
+
+    /// Whether the slot at a place has a value.
+    pub fn is_valid(&self, i: usize) -> bool
+        requires { i < length self.now.slots }
+        ensures { result ≡ not (is_null (slice_index_or self.now.slots i null)) }
+    {
+        match &self.node {
+            MutableNode::Flat(builder) => builder.is_valid(i),
+            MutableNode::Nested(head, _) => head.marks.is_valid(i),
+        }
+    }
+
+    /// Makes room for some more slots: marks, offsets and values, but for items of lists of any length.
+    ///
+    /// # Errors
+    /// `OutOfMemory`: the room found no memory.
+    #[cycle(reserving)]
+    pub fn reserve(&mut self, additional: usize) -> Result<()>
+        ensures same { self.new ≡ self.old }
+        ensures error { IfErr result IsOutOfMemory }
+    {
+        match &mut self.node {
+            MutableNode::Flat(builder) => builder.reserve(additional),
+            MutableNode::Nested(head, children) => {
+                reserve_nested(&mut head.marks, children, additional)
+            }
+        }
+    }
+
+    /// Gives back memory that no slot needs, as far as the allocator takes it.
+    #[cycle(shrinking)]
+    pub fn shrink_to_fit(&mut self)
+        ensures { self.new ≡ self.old }
+    {
+        match &mut self.node {
+            MutableNode::Flat(builder) => builder.shrink_to_fit(),
+            MutableNode::Nested(head, children) => shrink_nested(&mut head.marks, children),
         }
     }
 

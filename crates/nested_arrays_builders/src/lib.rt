@@ -9,6 +9,7 @@ mod lists;
 mod new;
 mod offsets;
 mod records;
+mod room;
 
 pub use any::{AnyMutableArray, Head, MutableChildren, MutableNode};
 pub use fitting::is_cell_of;

@@ -105,7 +105,8 @@ fn add_list(
     mark: bool,
 ) -> Result<()>
     requires { length (spans_in offsets.old).lengths ≡ length marks.old }
-    ensures { AddsList marks.old (is_large offsets.old) (spans_in offsets.old) count mark marks.new (is_large offsets.new) (spans_in offsets.new) result }
+    ensures { AddsList marks.old (is_large offsets.old) (spans_in offsets.old) count mark marks.new (is_large offsets.new)
+        (spans_in offsets.new) result }
 {
     let held = marks.len();
     offsets.try_push(count)?;

@@ -1,5 +1,6 @@
 //! Offsets of lists that grow.
-ghost use Rattle.std.specs.Prelude.{◌≡◌, ◌<◌, ◌≤◌, length};
+ghost use Rattle.std.specs.Prelude.{◌≡◌, ◌<◌, ◌≤◌, length, IfErr};
+ghost use Rattle.columnar_memory.specs.Error.{IsOutOfMemory};
 ghost use Rattle.columnar_memory.specs.Spans.{first_spans, last_of, shortened};
 ghost use Rattle.nested_arrays_builders.specs.Widths.{is_large, spans_in, AddsSpan};
 
@@ -24,6 +25,32 @@ impl MutableListOffsets {
         match self {
             MutableListOffsets::Small(offsets) => offsets.try_push(count),
             MutableListOffsets::Large(offsets) => offsets.try_push(count),
+        }
+    }
+
+    /// Makes room for some more lists.
+    ///
+    /// # Errors
+    /// `OutOfMemory`: the room found no memory.
+    pub fn reserve(&mut self, additional: usize) -> Result<()>
+        ensures width { is_large self.new ≡ is_large self.old }
+        ensures spans { spans_in self.new ≡ spans_in self.old }
+        ensures error { IfErr result IsOutOfMemory }
+    {
+        match self {
+            MutableListOffsets::Small(offsets) => offsets.reserve(additional),
+            MutableListOffsets::Large(offsets) => offsets.reserve(additional),
+        }
+    }
+
+    /// Gives back memory that no offset needs, as far as the allocator takes it.
+    pub fn shrink_to_fit(&mut self)
+        ensures width { is_large self.new ≡ is_large self.old }
+        ensures spans { spans_in self.new ≡ spans_in self.old }
+    {
+        match self {
+            MutableListOffsets::Small(offsets) => offsets.shrink_to_fit(),
+            MutableListOffsets::Large(offsets) => offsets.shrink_to_fit(),
         }
     }
 

@@ -11,7 +11,8 @@ use Rattle.nested_arrays_builders.specs.TypeSizes.{list_size, large_list_size, f
 use Rattle.nested_arrays_builders.proofs.BegunNodes.{begun_list, begun_large_list, begun_sized, begun_struct, empty_struct_fails}
 use Rattle.nested_arrays_builders.proofs.BegunNodes.{one_field, one_more_begun, one_more_can, one_refused, sized_fails, some_of, struct_refused}
 use Rattle.nested_arrays_builders.proofs.BegunNodes.{unsized_fails}
-use Rattle.nested_arrays_builders.proofs.Unbuilt.{at_list, at_large_list, at_fixed_list, at_struct, no_map, no_union, no_dictionary, no_half, no_single}
+use Rattle.nested_arrays_builders.proofs.Unbuilt.{at_list, at_large_list, at_fixed_list, at_struct, no_map, no_union}
+use Rattle.nested_arrays_builders.proofs.Unbuilt.{no_dictionary, no_half, no_single}
 use Rattle.nested_arrays_builders.proofs.Unbuilt.{no_double, others_are_plain, refused_as, unbuilt_list, unbuilt_large_list, unbuilt_fixed_list}
 use Rattle.nested_arrays_builders.proofs.+beginning.Goals as goal
 

@@ -9,7 +9,8 @@ use Rattle.nested_arrays_builder_parts.specs.Scalars.{scalar_slot}
 use Rattle.nested_arrays_builders.specs.Parts.{is_fitting, of_fields, type_size, types_size, with_each, IsShort, IsShortOfEach}
 use Rattle.nested_arrays_builders.proofs.AddedSlots.{record_refused}
 use Rattle.nested_arrays_builders.proofs.CutParts.{one_child}
-use Rattle.nested_arrays_builders.proofs.HeldNodes.{leaf_held, leaf_pushed, nested_size, nested_count, nested_takes, nested_push_held, nested_push_seen}
+use Rattle.nested_arrays_builders.proofs.HeldNodes.{leaf_held, leaf_pushed, nested_size, nested_count}
+use Rattle.nested_arrays_builders.proofs.HeldNodes.{nested_takes, nested_push_held, nested_push_seen}
 use Rattle.nested_arrays_builders.proofs.PushedFields.{all_fit, each_count, each_of_them, field_at, field_fits, fields_many, fits_there}
 use Rattle.nested_arrays_builders.proofs.PushedFields.{is_short_of_each, long_enough, more_of, next, none_each, none_more_each, one_more_each}
 use Rattle.nested_arrays_builders.proofs.PushedFields.{taken_back_each}
