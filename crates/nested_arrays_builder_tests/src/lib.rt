@@ -5,3 +5,5 @@
 mod marks;
 #[cfg(test)]
 mod strings;
+#[cfg(test)]
+mod any;
