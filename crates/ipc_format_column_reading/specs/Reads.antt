@@ -59,21 +59,23 @@ abbrev pub next_offsets : Bool → Bool → List Buffer → ℕ → ℕ → List
 next_offsets is_large is_little_endian buffers taken origin room =
     offsets_in (offset_width is_large) (source_of [] buffers is_little_endian room origin) 0 taken
 
--- what a column of byte strings or of texts is read into: which of its slots are valid, its offsets, and the bytes that they divide
+-- what a column of byte strings or of texts is read into: how many slots are taken, which of them are valid, their offsets, and the bytes
+-- that these divide
 pub record Strings : Type 0 where
+  pub taken : ℕ
   pub validity : Option (List Bool)
   pub offsets : List ℕ
   pub bytes : List ℕ
 
-abbrev pub strings_of : Option (List Bool) → List ℕ → List ℕ → Strings
-strings_of validity offsets bytes = record { validity = validity; offsets = offsets; bytes = bytes }
+abbrev pub strings_of : ℕ → Option (List Bool) → List ℕ → List ℕ → Strings
+strings_of taken validity offsets bytes = record { taken = taken; validity = validity; offsets = offsets; bytes = bytes }
 
 abbrev pub next_strings : Bool → List FieldNode → Option ℕ → List Buffer → Bool → ℕ → List ℕ → Option Strings
 next_strings is_large nodes limit buffers is_little_endian origin room = do
   marked ← next_marked nodes limit buffers origin room
   offsets ← next_offsets is_large is_little_endian (drop 1 buffers) marked.0 origin room
   bytes ← next_window (drop 2 buffers) origin (last_of offsets) room
-  Some (strings_of marked.1 offsets bytes)
+  Some (strings_of marked.0 marked.1 offsets bytes)
 
 -- What is read of a column of a type, where it is of the reader's kind: the array has the type, and its slots are those that the format
 -- gives. So many nodes and so many buffers come off the fronts of the queues. A type of another kind is refused, and nothing is taken.

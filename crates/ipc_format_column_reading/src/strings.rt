@@ -40,7 +40,7 @@ pub fn read_strings<O: Offset, R: Room>(
     scratch: &mut Vec<u8>,
 ) -> Result<Strings<O>>
     ensures read { ReadsAs (is_some compression.entry) (R.told reader.old) (R.told reader.new)
-        (λ parts. strings_of parts.validity (offsets_of parts.offsets) parts.values)
+        (λ parts. strings_of (length parts.offsets.lengths) parts.validity (offsets_of parts.offsets) parts.values)
         (next_strings O.IS_LARGE field_nodes.old.items limit buffers.old.items is_little_endian block_offset) result }
     ensures nodes { TakesOff 1 field_nodes.old.items field_nodes.new.items result }
     ensures buffers { TakesOff 3 buffers.old.items buffers.new.items result }
