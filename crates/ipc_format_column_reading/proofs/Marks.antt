@@ -14,7 +14,7 @@ use Rattle.ipc_format_streams.specs.grammar.Values.{bit_at}
 use Rattle.ipc_format_streams.specs.messages.declared.values.Buffer.{Buffer}
 use Rattle.ipc_format_streams.specs.messages.declared.values.FieldNode.{FieldNode}
 use Rattle.ipc_format_streams.proofs.columnar_memory_lemmas.bitmap_lemmas.Lists.{get_or-window, window_same}
-use Rattle.ipc_format_column_reading.specs.Buffers.{source_of, buffer_of, node_of, taken_in, next_bits, next_validity, next_window}
+use Rattle.ipc_format_column_reading.specs.Buffers.{source_of, buffer_of, taken_in, next_bits, next_window}
 use Rattle.ipc_format_column_reading.specs.Reads.{front, next_marked, next_offsets, offset_width}
 use Rattle.ipc_format_column_reading.proofs.Readings.{through, through_two}
 
@@ -39,7 +39,7 @@ bits_given (Some bytes) taken = refl
 
 validity_given : (nodes : List FieldNode) (buffers : List Buffer) (little : Bool) (origin taken : ℕ) (room : List ℕ) (has_nulls : Bool)
     → ((slice_get (map buffer_of buffers) 0 >>= (λ _. if has_nulls then
-          (buffer_at (source_of nodes buffers little room origin) 0 ((taken + 7) / 8) >>= (λ bits. Some (bitmap bits))) else Some all_valid))
+    (buffer_at (source_of nodes buffers little room origin) 0 ((taken + 7) / 8) >>= (λ bits. Some (bitmap bits))) else Some all_valid))
     >>= (λ validity. Some (marks_of (marked taken validity))))
     ≡ ((slice_get buffers 0 >>= (λ _. if has_nulls then (next_bits buffers origin taken room >>= (λ bits. Some (Some bits))) else Some None))
     >>= (λ mask. Some (taken, mask)))
@@ -65,9 +65,9 @@ marked_given [] buffers little limit origin room = refl
 marked_given (n ∷ ns) buffers little limit origin room =
     by_taken (taken_in limit n)
     (λ taken. slice_get (map buffer_of buffers) 0 >>= (λ _. if int_lt (pos 0) n.null_count then
-        (buffer_at (source_of (n ∷ ns) buffers little room origin) 0 ((taken + 7) / 8) >>= (λ bits. Some (bitmap bits))) else Some all_valid))
+    (buffer_at (source_of (n ∷ ns) buffers little room origin) 0 ((taken + 7) / 8) >>= (λ bits. Some (bitmap bits))) else Some all_valid))
     (λ taken. slice_get buffers 0 >>= (λ _. if int_lt (pos 0) n.null_count then
-        (next_bits buffers origin taken room >>= (λ bits. Some (Some bits))) else Some None))
+    (next_bits buffers origin taken room >>= (λ bits. Some (Some bits))) else Some None))
     (λ taken. validity_given (n ∷ ns) buffers little origin taken room (int_lt (pos 0) n.null_count))
 
 -- what is made of the marks

@@ -1,6 +1,6 @@
 -- The slots of columns of numbers and of booleans, by what is read of them.
-use Rattle.std.proofs.Common.{◌≡◌, ◌∙◌, ◌+◌, ◌*◌, ◌/◌, ◌<◌, ℕ, List, [], ◌∷◌, Bool, true, false, length, map, drop, get_or, refl, sym, ap, arith}
-use Rattle.std.specs.Prelude.{Option, Some, None, pos}
+use Rattle.std.proofs.Common.{◌≡◌, ◌∙◌, ◌+◌, ◌*◌, ◌/◌, ◌<◌, ℕ, List, Bool, true, false, length, drop, get_or, refl, sym, ap, arith}
+use Rattle.std.specs.Prelude.{Option, Some, pos}
 use Rattle.std.proofs.lemmas.List.{get_or-map, length-map}
 use Rattle.ipc_format_streams.specs.columnar_memory.Bits as memory
 use Rattle.ipc_format_streams.specs.columnar_memory.Bits.{bits_of}
@@ -13,9 +13,9 @@ use Rattle.ipc_format_streams.specs.columnar_memory.declared.PhysicalType.TheVar
 use Rattle.ipc_format_streams.specs.columnar_memory.declared.PrimitiveType.{PrimitiveType}
 use Rattle.ipc_format_streams.specs.columnar_memory.declared.PrimitiveType.TheVariants as kinds
 use Rattle.ipc_format_streams.specs.columns.Slots.{Slot, number, pair, triple, truth}
-use Rattle.ipc_format_streams.specs.columns.StoredColumns.{Stored, flat, bits, stored_at, stored_len, slots, pair_slot, triple_slot}
+use Rattle.ipc_format_streams.specs.columns.StoredColumns.{flat, bits, stored_at, stored_len, slots, pair_slot, triple_slot}
 use Rattle.ipc_format_streams.specs.flatbuffers.Reading.{◌>>=◌}
-use Rattle.ipc_format_streams.specs.grammar.Columns.{Marked, Validity, buffer_at, fixed_slots, slots_by}
+use Rattle.ipc_format_streams.specs.grammar.Columns.{Marked, buffer_at, fixed_slots, slots_by}
 use Rattle.ipc_format_streams.specs.grammar.Values.{bit_at, element_bytes, kind_size, value_of, value_at}
 use Rattle.ipc_format_streams.specs.messages.declared.values.Buffer.{Buffer}
 use Rattle.ipc_format_streams.specs.messages.declared.values.FieldNode.{FieldNode}
@@ -23,7 +23,7 @@ use Rattle.ipc_format_streams.proofs.columnar_memory_lemmas.bitmap_lemmas.Lists.
 use Rattle.ipc_format_column_reading.specs.Buffers.{source_of, next_bits, next_values, next_window, values_in}
 use Rattle.ipc_format_column_reading.specs.FlatColumns.{pair_of, triple_of, stored_numbers}
 use Rattle.ipc_format_column_reading.specs.Reads.{front_slots, next_marked}
-use Rattle.ipc_format_column_reading.proofs.Marks.{mask_of, marks_of, front_made, later_window, column_made}
+use Rattle.ipc_format_column_reading.proofs.Marks.{marks_of, front_made, later_window, column_made}
 use Rattle.ipc_format_column_reading.proofs.Readings.{through}
 use Rattle.ipc_format_column_reading.proofs.Types.{numbers_read, truths_read}
 

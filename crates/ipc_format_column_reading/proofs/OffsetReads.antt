@@ -1,11 +1,14 @@
 -- Offsets, by the numbers that are read.
-use Rattle.std.proofs.Common.{◌≡◌, ◌∙◌, ◌+◌, ◌*◌, ◌<◌, ◌≤◌, ℕ, zero, suc, ℤ, pos, negsuc, List, [], ◌∷◌, Bool, true, false, length, map, drop}
-use Rattle.std.proofs.Common.{refl, sym, ap, subst, arith}
-use Rattle.std.specs.Prelude.{Option, Some, None, ◌⊎◌, ◌&&◌, ◌==◌, nat_le, nat_lt, slice_get, if◌then◌else◌}
-use Rattle.std.specs.Int.{Width, w32, w64, byte_len}
-use Rattle.std.proofs.lemmas.Bool.{cases_Bool, le-leb}
+use Rattle.std.proofs.Common.{◌≡◌, ◌∙◌, ◌+◌, ◌*◌, ◌<◌, ◌≤◌, ℕ, ℤ, pos, negsuc, List, [], ◌∷◌, Bool, true, false, length, map, drop}
+use Rattle.std.proofs.Common.{refl, sym, ap, arith}
+use Rattle.std.specs.Prelude.{Option, Some, None, Result, Ok, Err, IfOk, MatchResult, ◌⊎◌, ◌&&◌, ◌==◌, nat_le, nat_lt, if◌then◌else◌}
+use Rattle.std.specs.Int.{byte_len}
+use Rattle.std.proofs.lemmas.Bool.{and_parts, cases_Bool, le-leb}
 use Rattle.std.proofs.lemmas.Bool.Decides.{nat_tests}
 use mathlib.Core.Logic.{inl, inr}
+use Rattle.ipc_format_streams.specs.columnar_memory.Error.{IsOutOfMemory}
+use Rattle.ipc_format_streams.specs.columnar_memory.Growth.{IsChecked}
+use Rattle.ipc_format_streams.specs.columnar_memory.declared.Error.{Error}
 use Rattle.ipc_format_streams.specs.columnar_memory.Numbers.{Numbers, first_number, one, kind_size, numbers_in}
 use Rattle.ipc_format_streams.specs.columnar_memory.Spans.{Spans, AreOffsets, IsWhole, NeverFalls, ends_from, offsets_of, no_spans}
 use Rattle.ipc_format_streams.specs.columnar_memory.Windows.{window}
@@ -17,9 +20,12 @@ use Rattle.ipc_format_streams.specs.grammar.Messages.{natural}
 use Rattle.ipc_format_streams.specs.grammar.Values.{element_bytes, signed_of}
 use Rattle.ipc_format_streams.specs.messages.declared.values.Buffer.{Buffer}
 use Rattle.ipc_format_streams.proofs.columnar_memory_lemmas.bits_lemmas.Windows.{map_window}
-use Rattle.ipc_format_column_reading.specs.Buffers.{buffer_of, next_values, next_window, values_in, source_of}
+use Rattle.ipc_format_streams.proofs.columnar_memory_lemmas.buffer_lemmas.Runs.{length-AreOffsets}
+use Rattle.ipc_format_column_reading.specs.Buffers.{next_values, values_in, source_of}
 use Rattle.ipc_format_column_reading.specs.Reads.{is_below, next_offsets, offset_width, states_less}
-use Rattle.ipc_format_column_reading.proofs.Readings.{through}
+use Rattle.ipc_format_column_reading.specs.Queues.{TakesOff}
+use Rattle.ipc_format_column_reading.specs.Rooms.{Told, ForBytes, ReadsAs}
+use Rattle.ipc_format_column_reading.proofs.Readings.{made_none, out_of_memory, out_of_spec, reads_made, through}
 
 -- the kind of offsets
 abbrev pub offset_kind : Bool → PrimitiveType
@@ -132,13 +138,13 @@ rising_step value least x xs (pos n) is later =
     >>= (λ _. rising offset (map value xs) >>= (λ others. Some (offset ∷ others))))) is in
     elim (cases_Bool (nat_le least n)) [
       | inl rises ↦ elim (later n) [
-          | inl none ↦ inl (first ∙ ap (λ (test : Bool). guard test
-          >>= (λ _. rising n (map value xs) >>= (λ others. Some (n ∷ others)))) rises
-          ∙ ap (λ (found : Option (List ℕ)). found >>= (λ others. Some (n ∷ others))) none)
-          | inr never ↦ inr (n, is, leb-le least n rises, never)
-        ]
+        | inl none ↦ inl (first ∙ ap (λ (test : Bool). guard test
+            >>= (λ _. rising n (map value xs) >>= (λ others. Some (n ∷ others)))) rises
+            ∙ ap (λ (found : Option (List ℕ)). found >>= (λ others. Some (n ∷ others))) none)
+        | inr never ↦ inr (n, is, leb-le least n rises, never)
+      ]
       | inr falls ↦ inl (first ∙ ap (λ (test : Bool). guard test
-      >>= (λ _. rising n (map value xs) >>= (λ others. Some (n ∷ others)))) falls)
+          >>= (λ _. rising n (map value xs) >>= (λ others. Some (n ∷ others)))) falls)
     ]
   where
     leb-le : (n m : ℕ) → nat_le n m ≡ true → n ≤ m
@@ -156,3 +162,66 @@ no_spans_made numbers value law xs some broken =
       | inl none ↦ ap (rising 0) (first_numbers numbers value law xs) ∙ none
       | inr never ↦ absurd (broken (some, never))
     ]
+
+-- ---- what the call answers
+
+pub offsets_whole : (is_large little : Bool) (kind : PrimitiveType) (buffers : List Buffer) (taken origin size : ℕ) → size ≡ kind_size kind
+    → kind ≡ offset_kind is_large → ((taken == 0) && states_less buffers size) ≡ false → (room : List ℕ)
+    → next_offsets is_large little buffers taken origin room ≡ (next_values kind little buffers origin (taken + 1) room >>= offsets_made)
+offsets_whole is_large little kind buffers taken origin size sized is looked room =
+    offsets_given is_large little buffers taken origin size room (sized ∙ ap kind_size is ∙ offset_size is_large) looked
+    ∙ ap (λ (k : PrimitiveType). next_values k little buffers origin (taken + 1) room >>= offsets_made) (sym is)
+
+pub offsets_read : {T : Type 0} (numbers : T → Numbers) (value : T → ℤ) → ((x : T) → numbers x ≡ one (value x)) → (is_compressed : Bool)
+    (old new : Told) (given : List ℕ → Option (List Numbers)) (whole : List ℕ → Option (List ℕ)) (xs : List T) (taken : ℕ)
+    (r : Result Spans Error) → ((room : List ℕ) → whole room ≡ (given room >>= offsets_made)) → length xs ≡ taken + 1
+    → ReadsAs is_compressed old new (map numbers) given (Ok xs) → IsChecked value xs r → ReadsAs is_compressed old new offsets_of whole r
+offsets_read numbers value law is_compressed old new given whole xs taken (Ok s) is counted before checked =
+    reads_made is_compressed old new (map numbers) given xs offsets_of (λ found room. offsets_made found) whole s is before
+    (λ room. spans_made numbers value law xs s checked)
+offsets_read numbers value law is_compressed old new given whole xs taken (Err error) is counted before checked =
+    let some : 0 < length xs = omega arith in
+    out_of_spec old new (ForBytes old (λ room. whole room ≡ None)) is_compressed error checked.0 before.0
+    (made_none is_compressed old new (map numbers) given xs (λ found room. offsets_made found) whole is before
+    (λ room. no_spans_made numbers value law xs some checked.1))
+
+pub offsets_sized : {T : Type 0} (value : T → ℤ) (xs : List T) (taken : ℕ) (r : Result Spans Error) → length xs ≡ taken + 1
+    → IsChecked value xs r → IfOk r (λ offsets. length offsets.lengths ≡ taken)
+offsets_sized value xs taken (Ok s) counted checked = omega (arith, length-AreOffsets value xs s checked)
+offsets_sized value xs taken (Err error) counted checked = tt
+
+pub short_read : (is_compressed : Bool) (told : Told) (whole : List ℕ → Option (List ℕ)) (r : Result Spans Error) → is_compressed ≡ false
+    → ((room : List ℕ) → whole room ≡ Some (0 ∷ [])) → MatchResult r (λ offsets. offsets ≡ no_spans) IsOutOfMemory
+    → ReadsAs is_compressed told told offsets_of whole r
+short_read is_compressed told whole (Ok s) plain is made =
+    let same : told.failures ≤ told.failures = omega arith in
+    (plain, (refl, same), λ room all. is room ∙ ap (λ (offsets : Spans). Some (offsets_of offsets)) (sym made))
+short_read is_compressed told whole (Err error) plain is made =
+    out_of_memory told told (ForBytes told (λ room. whole room ≡ None)) is_compressed error made plain
+
+-- a buffer that is there comes off
+pub short_taken : {X : Type 0} (buffers after : List Buffer) (taken size : ℕ) (r : Result X Error)
+    → ((taken == 0) && states_less buffers size) ≡ true → after ≡ drop 1 buffers → TakesOff 1 buffers after r
+short_taken [] after taken size r short off = absurd (unlike (taken == 0) short)
+  where
+    unlike : (b : Bool) → (b && false) ≡ true → ⊥
+    unlike true h = cc
+    unlike false h = cc
+short_taken (b ∷ bs) after taken size (Ok x) short off =
+    let some : 1 ≤ length (b ∷ bs) = omega arith in
+    (some, off)
+short_taken (b ∷ bs) after taken size (Err error) short off = (1, off)
+
+both_parts : (a b : Bool) → (a && b) ≡ true → (a ≡ true) × (b ≡ true)
+both_parts a b h = and_parts a b h
+
+-- no slots, and a short buffer
+pub short_whole : (is_large little : Bool) (kind : PrimitiveType) (buffers : List Buffer) (taken origin size : ℕ) → size ≡ kind_size kind
+    → kind ≡ offset_kind is_large → ((taken == 0) && states_less buffers size) ≡ true → (room : List ℕ)
+    → next_offsets is_large little buffers taken origin room ≡ Some (0 ∷ [])
+short_whole is_large little kind buffers taken origin size sized is short room =
+    let parts = both_parts (taken == 0) (states_less buffers size) short in
+    short_offsets is_large little buffers taken origin size room (sized ∙ ap kind_size is ∙ offset_size is_large) (eqb-eq taken parts.0) parts.1
+  where
+    eqb-eq : (n : ℕ) → (n == 0) ≡ true → n ≡ 0
+    eqb-eq n h = grind (arith, nat_tests)

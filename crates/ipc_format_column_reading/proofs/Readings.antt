@@ -1,9 +1,11 @@
 -- Reads one after another.
-use Rattle.std.proofs.Common.{◌≡◌, ◌∙◌, ◌<◌, ◌≤◌, ℕ, List, Bool, false, refl, sym, ap, arith}
+use Rattle.std.proofs.Common.{◌≡◌, ◌∙◌, ◌<◌, ◌≤◌, ℕ, List, Bool, false, refl, ap, arith}
 use Rattle.std.specs.Prelude.{Option, Some, None, Result, Ok, Err}
+use Rattle.ipc_format_streams.specs.columnar_memory.Error.{IsOutOfMemory, IsOutOfSpec}
 use Rattle.ipc_format_streams.specs.columnar_memory.declared.Error.{Error}
 use Rattle.ipc_format_streams.specs.columnar_memory.declared.Error.TheVariants as errors
 use Rattle.ipc_format_streams.specs.flatbuffers.Reading.{◌>>=◌}
+use Rattle.ipc_format_column_reading.specs.Queues.{TakesOff}
 use Rattle.ipc_format_column_reading.specs.Rooms.{Told, Stays, ForBytes, IsRefusal, ReadsAs}
 use Rattle.ipc_format_column_reading.proofs.NextBuffers.{refusal_for}
 
@@ -69,6 +71,36 @@ pub made_none : {A X Y : Type 0} (is_compressed : Bool) (old new : Told) (first 
     → ForBytes old (λ room. whole room ≡ None)
 made_none is_compressed old new first given a next whole is before none room told =
     is room ∙ ap (λ (found : Option _). found >>= (λ x. next x room)) (before.2 room told) ∙ none room
+
+-- ---- refusals of calls that are told nothing of a room
+
+pub out_of_spec : (old new : Told) (Cause : Type 0) (is_compressed : Bool) (error : Error) → IsOutOfSpec error → is_compressed ≡ false → Cause
+    → IsRefusal is_compressed old new Cause error
+out_of_spec old new Cause is_compressed (errors.OutOfSpec what) is plain cause = (plain, cause)
+out_of_spec old new Cause is_compressed (errors.NotYetImplemented what) is plain cause = absurd is
+out_of_spec old new Cause is_compressed (errors.Io what) is plain cause = absurd is
+out_of_spec old new Cause is_compressed errors.OutOfMemory is plain cause = absurd is
+out_of_spec old new Cause is_compressed (errors.InvalidArgumentError what) is plain cause = absurd is
+out_of_spec old new Cause is_compressed (errors.ExternalFormat what) is plain cause = absurd is
+out_of_spec old new Cause is_compressed (errors.External from what) is plain cause = absurd is
+out_of_spec old new Cause is_compressed errors.Overflow is plain cause = absurd is
+
+pub out_of_memory : (old new : Told) (Cause : Type 0) (is_compressed : Bool) (error : Error) → IsOutOfMemory error → is_compressed ≡ false
+    → IsRefusal is_compressed old new Cause error
+out_of_memory old new Cause is_compressed errors.OutOfMemory is plain = plain
+out_of_memory old new Cause is_compressed (errors.OutOfSpec what) is plain = absurd is
+out_of_memory old new Cause is_compressed (errors.NotYetImplemented what) is plain = absurd is
+out_of_memory old new Cause is_compressed (errors.Io what) is plain = absurd is
+out_of_memory old new Cause is_compressed (errors.InvalidArgumentError what) is plain = absurd is
+out_of_memory old new Cause is_compressed (errors.ExternalFormat what) is plain = absurd is
+out_of_memory old new Cause is_compressed (errors.External from what) is plain = absurd is
+out_of_memory old new Cause is_compressed errors.Overflow is plain = absurd is
+
+-- ---- what comes off the queues, whatever is made of it
+
+pub takes_any : {A X Y : Type 0} (n : ℕ) (old new : List A) (x : X) (r : Result Y Error) → TakesOff n old new (Ok x) → TakesOff n old new r
+takes_any n old new x (Ok y) taken = taken
+takes_any n old new x (Err error) taken = (n, taken.1)
 
 -- ---- nothing, or what there is, taken further
 

@@ -1,15 +1,14 @@
 -- The slots of columns of byte strings and of texts, by what is read of them.
 use Rattle.std.proofs.Common.{◌≡◌, ◌∙◌, ◌+◌, ◌-◌, ◌<◌, ◌≤◌, ℕ, zero, suc, List, [], ◌∷◌, Bool, true, false, length, drop, take, get_or, sum}
-use Rattle.std.proofs.Common.{refl, sym, ap, subst, arith}
-use Rattle.std.specs.Prelude.{Option, Some, None, slice_get, slice_index, slice_range, if◌then◌else◌}
-use Rattle.std.specs.Int.{Width, w32, w64}
+use Rattle.std.proofs.Common.{refl, sym, ap, arith}
+use Rattle.std.specs.Prelude.{Option, Some, None, slice_get, slice_range}
 use Rattle.std.specs.List.{list_all}
-use Rattle.std.specs.Str.{IsUtf8, is_utf8}
-use Rattle.std.proofs.lemmas.Bool.{and_parts, and_from, cases_Bool, both_ways}
+use Rattle.std.specs.Str.{is_utf8}
+use Rattle.std.proofs.lemmas.Bool.{and_parts, and_from, cases_Bool}
 use Rattle.std.proofs.lemmas.Str.{is_utf8-from_IsUtf8, IsUtf8-from_is_utf8}
 use mathlib.Core.Logic.{inl, inr}
 use Rattle.flat_arrays.specs.ByteStrings.{ByteStrings, cut_by, len_of, values_of}
-use Rattle.flat_arrays.specs.Fits.{Fits, IsText, binary_layout, text_layout}
+use Rattle.flat_arrays.specs.Fits.{binary_layout, text_layout}
 use Rattle.flat_arrays.specs.Texts.{AllTexts}
 use Rattle.flat_arrays.proofs.bytes_lemmas.Places.{value_between}
 use Rattle.ipc_format_streams.specs.columnar_memory.Layouts.{physical_type}
@@ -17,17 +16,16 @@ use Rattle.ipc_format_streams.specs.columnar_memory.Spans.{Spans, ends_from, off
 use Rattle.ipc_format_streams.specs.columnar_memory.Windows.{window}
 use Rattle.ipc_format_streams.specs.columnar_memory.declared.DataType.{DataType}
 use Rattle.ipc_format_streams.specs.columns.Slots.{Slot, text, bytes}
-use Rattle.ipc_format_streams.specs.columns.StoredColumns.{Column, unless_null, slots}
+use Rattle.ipc_format_streams.specs.columns.StoredColumns.{unless_null, slots}
 use Rattle.ipc_format_streams.specs.flatbuffers.Reading.{◌>>=◌, guard}
-use Rattle.ipc_format_streams.specs.grammar.Columns.{Marked, Validity, buffer_at, offsets_in, byte_slots, slots_by, piece_at, last_of}
+use Rattle.ipc_format_streams.specs.grammar.Columns.{Marked, buffer_at, offsets_in, byte_slots, slots_by, piece_at, last_of}
 use Rattle.ipc_format_streams.specs.messages.declared.values.Buffer.{Buffer}
 use Rattle.ipc_format_streams.specs.messages.declared.values.FieldNode.{FieldNode}
-use Rattle.ipc_format_streams.proofs.columnar_memory_lemmas.bitmap_lemmas.Lists.{length-window, window_same}
 use Rattle.ipc_format_streams.proofs.columnar_memory_lemmas.buffer_lemmas.Runs.{length-ends_from, sum-cons}
 use Rattle.ipc_format_column_reading.specs.Buffers.{source_of, next_window}
 use Rattle.ipc_format_column_reading.specs.FlatColumns.{binary_column, text_column}
 use Rattle.ipc_format_column_reading.specs.Reads.{Strings, strings_of, front, front_slots, next_marked, next_offsets, next_strings, offset_width}
-use Rattle.ipc_format_column_reading.proofs.Marks.{mask_of, marks_of, front_made, later_window, later_offsets, slots_same}
+use Rattle.ipc_format_column_reading.proofs.Marks.{mask_of, front_made, later_window, later_offsets, slots_same}
 use Rattle.ipc_format_column_reading.proofs.Readings.{through_two}
 use Rattle.ipc_format_column_reading.proofs.Types.{binaries_read, large_binaries_read, texts_read, large_texts_read}
 
@@ -197,7 +195,8 @@ passing_are_texts (x ∷ xs) passed =
 
 pub text_made : (a : ByteStrings) → AllTexts (values_of a) → strings_made is_utf8 text (parts_of a) ≡ Some (slots (text_column a))
 text_made a all =
-    ap (λ (test : Bool). guard test >>= (λ _. Some (string_slots text (parts_of a)))) (ap (list_all is_utf8) (pieces_are a) ∙ texts_pass (values_of a) all)
+    ap (λ (test : Bool). guard test >>= (λ _. Some (string_slots text (parts_of a)))) (ap (list_all is_utf8) (pieces_are a) ∙ texts_pass
+    (values_of a) all)
     ∙ ap Some (text_slots_are a)
 
 -- where some value is not UTF-8, there are no slots

@@ -1,6 +1,5 @@
 -- How a type whose arrays lie flat in memory is read, by its layout.
-use Rattle.std.proofs.Common.{◌≡◌, map, refl, subst, Option}
-use Rattle.std.specs.Prelude.{List}
+use Rattle.std.proofs.Common.{◌≡◌, map, refl, subst}
 use Rattle.std.specs.Int.{w32, w64}
 use Rattle.ipc_format_streams.specs.columnar_memory.Layouts.{physical_type, physical_step}
 use Rattle.ipc_format_streams.specs.columnar_memory.declared.DataType.{DataType, map-DataType}

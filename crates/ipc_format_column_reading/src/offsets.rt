@@ -1,5 +1,5 @@
 //! The offsets of byte strings and of lists.
-ghost use Rattle.std.specs.Prelude.{◌≡◌, ◌<◌, ◌^◌, is_some, IfOk, length};
+ghost use Rattle.std.specs.Prelude.{◌≡◌, ◌<◌, ◌^◌, ◌==◌, ◌&&◌, is_some, IfOk, length};
 ghost use Rattle.ipc_format_streams.specs.columnar_memory.Spans.{offsets_of};
 ghost use Rattle.ipc_format_column_reading.specs.Queues.{TakesOff};
 ghost use Rattle.ipc_format_column_reading.specs.Reads.{next_offsets, states_less};
@@ -26,6 +26,13 @@ fn states_less(buffers: &VecDeque<ipc::Buffer>, size: usize) -> bool
     }
 }
 
+/// Whether there are no slots, and a buffer of their offsets that is shorter than one offset.
+fn has_no_offset(taken: usize, buffers: &VecDeque<ipc::Buffer>, size: usize) -> bool
+    ensures { result ≡ ((taken == 0) && states_less buffers.now.items size) }
+{
+    taken == 0 && states_less(buffers, size)
+}
+
 /// One offset more than there are slots, from the next buffer. Where no slot is taken and the buffer is shorter than one offset, it is not
 /// looked at, and the offset is 0.
 ///
@@ -50,7 +57,7 @@ pub fn read_offsets<O: Offset, R: Room>(
     if compression.is_some() {
         return Err(Error::NotYetImplemented("compressed buffers"));
     }
-    if taken == 0 && states_less(buffers, O::SIZE) {
+    if has_no_offset(taken, buffers, O::SIZE) {
         let _passed = buffers.pop_front();
         return OffsetsBuffer::new(alloc);
     }

@@ -18,6 +18,14 @@ use ipc_format_streams::messages::{BodyCompressionRef, Buffer, FieldNode};
 use std::alloc::Global;
 use std::collections::VecDeque;
 
+/// Hands to a proof that the values of a type are no floats. It changes nothing.
+fn has_numbers<T: NativeType>()
+    ensures { IsNative T.PRIMITIVE (zeros T.PRIMITIVE) }
+{
+    let zero = T::default();
+    let _bytes = zero.to_le_bytes();
+}
+
 /// Reads a column of values of one width: a node and two buffers.
 ///
 /// # Errors
@@ -43,6 +51,7 @@ pub fn read_primitive<T: NativeType, R: Room>(
         (front_slots data_type field_nodes.old.items buffers.old.items is_little_endian limit block_offset)
         1 2 field_nodes.old.items field_nodes.new.items buffers.old.items buffers.new.items result }
 {
+    has_numbers::<T>();
     if !data_type.to_physical_type().eq_primitive(T::PRIMITIVE) {
         return Err(Error::OutOfSpec("InvalidDataType"));
     }
