@@ -1,5 +1,5 @@
 use columnar_memory::Error;
-use flat_arrays::{PrimitiveArray, Utf8Array};
+use nested_arrays::flat_arrays::{PrimitiveArray, Utf8Array};
 use nested_arrays::{AnyArray, AnyPrimitive, FlatArray};
 use std::alloc::Global;
 use std::test::Fail;
