@@ -12,7 +12,8 @@ use Rattle.nested_arrays_builders.specs.Parts.{listed, sized, of_fields, parts_c
 use Rattle.nested_arrays_builders.specs.Widths.{is_large, spans_in}
 use Rattle.nested_arrays_builders.proofs.CutParts.{one_child}
 use Rattle.nested_arrays_builders.proofs.HeldNodes.{nested_size}
-use Rattle.nested_arrays_builder_arrays.proofs.KeptArrays.{answered_as, nested_column, nested_kept, kept_below, list_is, list_sound, list_lies, sized_is}
+use Rattle.nested_arrays_builder_arrays.proofs.KeptArrays.{answered_as, nested_column, nested_kept, kept_below, list_is}
+use Rattle.nested_arrays_builder_arrays.proofs.KeptArrays.{list_sound, list_lies, sized_is}
 use Rattle.nested_arrays_builder_arrays.proofs.KeptArrays.{sized_sound, record_is, record_sound, record_long}
 use Rattle.nested_arrays_builder_arrays.proofs.frozen.+freezing.Goals as goal
 
