@@ -5,5 +5,3 @@
 mod marks;
 #[cfg(test)]
 mod strings;
-#[cfg(test)]
-mod any;
