@@ -3,6 +3,14 @@ pub mod NestedCounts
 pub mod NextBuffers
 pub mod Decoding
 pub mod NextValues
+pub mod Readings
+pub mod Types
+pub mod Marks
+pub mod NumberColumns
+pub mod StringColumns
+pub mod OffsetReads
+pub mod ColumnReads
+pub mod TextReads
 pub use Rattle.ipc_format_streams.proofs as streams_lemmas
 pub use Rattle.ipc_format_streams.proofs.columnar_memory_lemmas
 pub use Rattle.ipc_format_streams.proofs.flatbuffers_lemmas

@@ -1,6 +1,8 @@
 pub mod Queues
 pub mod Rooms
 pub mod Buffers
+pub mod FlatColumns
+pub mod Reads
 pub use Rattle.ipc_format_streams.specs as streams
 pub use Rattle.ipc_format_streams.specs.columnar_memory
 pub use Rattle.ipc_format_streams.specs.flatbuffers

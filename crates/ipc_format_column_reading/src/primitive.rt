@@ -1,10 +1,83 @@
 //! Columns of values of one width.
+ghost use Rattle.std.specs.Prelude.{◌≡◌, is_some};
+ghost use Rattle.ipc_format_streams.specs.columnar_memory.Layouts.{physical_type};
+ghost use Rattle.ipc_format_streams.specs.columnar_memory.Numbers.{IsNative, zeros};
+ghost use Rattle.ipc_format_streams.specs.columnar_memory.declared.PhysicalType.TheVariants as layouts;
+ghost use Rattle.ipc_format_column_reading.specs.FlatColumns.{primitive_column};
 ghost use Rattle.ipc_format_column_reading.specs.Queues.{Skips};
+ghost use Rattle.ipc_format_column_reading.specs.Reads.{ReadsColumn, front_slots};
 
+use crate::marked::read_marked;
 use crate::queues::skip_own;
-use ipc_format_streams::columnar_memory::Result;
-use ipc_format_streams::messages::{Buffer, FieldNode};
+use crate::read_basic::read_buffer;
+use crate::room::Room;
+use flat_arrays::PrimitiveArray;
+use ipc_format_streams::columnar_memory::{DataType, Error, NativeType, Result};
+use ipc_format_streams::messages as ipc;
+use ipc_format_streams::messages::{BodyCompressionRef, Buffer, FieldNode};
+use std::alloc::Global;
 use std::collections::VecDeque;
+
+/// Hands to a proof that the values of a type are no floats. It changes nothing.
+fn has_numbers<T: NativeType>()
+    ensures { IsNative T.PRIMITIVE (zeros T.PRIMITIVE) }
+{
+    let zero = T::default();
+    let _bytes = zero.to_le_bytes();
+}
+
+/// Reads a column of values of one width: a node and two buffers.
+///
+/// # Errors
+/// - `OutOfSpec`: the type is of another kind, and the queues stay; or there is no node or too few buffers, a length or an offset is
+///   negative, or a buffer states or has fewer bytes than are taken.
+/// - `NotYetImplemented`: the buffers are compressed.
+/// - `Io`: the device failed.
+/// - `OutOfMemory`: there was no memory for the values, or for what the device reads.
+pub fn read_primitive<T: NativeType, R: Room>(
+    alloc: Global,
+    field_nodes: &mut VecDeque<FieldNode>,
+    data_type: DataType,
+    buffers: &mut VecDeque<ipc::Buffer>,
+    reader: &mut R,
+    block_offset: u64,
+    is_little_endian: bool,
+    compression: Option<BodyCompressionRef<'_>>,
+    limit: Option<usize>,
+    scratch: &mut Vec<u8>,
+) -> Result<PrimitiveArray<T>>
+    ensures { ReadsColumn (physical_type data_type ≡ layouts.Primitive T.PRIMITIVE) (is_some compression.entry)
+        (R.told reader.old) (R.told reader.new) (primitive_column T.PRIMITIVE T.numbers) data_type
+        (front_slots data_type field_nodes.old.items buffers.old.items is_little_endian limit block_offset)
+        1 2 field_nodes.old.items field_nodes.new.items buffers.old.items buffers.new.items result }
+{
+    has_numbers::<T>();
+    if !data_type.to_physical_type().eq_primitive(T::PRIMITIVE) {
+        return Err(Error::OutOfSpec("InvalidDataType"));
+    }
+    let marked = read_marked(
+        alloc,
+        field_nodes,
+        buffers,
+        reader,
+        block_offset,
+        is_little_endian,
+        compression,
+        limit,
+        scratch,
+    )?;
+    let values = read_buffer::<T, R>(
+        alloc,
+        buffers,
+        marked.taken,
+        reader,
+        block_offset,
+        is_little_endian,
+        compression,
+        scratch,
+    )?;
+    Ok(PrimitiveArray::new(data_type, values, marked.validity))
+}
 
 /// Passes over a column of values of one width: a node and two buffers.
 ///

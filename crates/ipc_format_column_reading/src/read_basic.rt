@@ -1,6 +1,7 @@
 //! The buffers of a column: their bytes as values, as bits, as bytes.
 ghost use Rattle.std.specs.Prelude.{◌≡◌, ◌+◌, ◌*◌, ◌/◌, ◌<◌, ◌^◌, [], length, drop, map, is_some, vec_items, IfOk, IfSome, Some};
-ghost use Rattle.std.specs.Option.{option_map};
+ghost use Rattle.std.specs.Option.{ForSome, option_map};
+ghost use Rattle.flat_arrays.specs.Flat.{IsMaskOf};
 ghost use Rattle.ipc_format_streams.specs.columnar_memory.Error.{IsOutOfMemory};
 ghost use Rattle.ipc_format_column_reading.specs.Queues.{TakesOff};
 ghost use Rattle.ipc_format_column_reading.specs.Buffers.{next_bits, next_stated, next_validity, next_values, next_window, taken_in, values_in};
@@ -85,6 +86,7 @@ pub fn read_bitmap<R: Room>(
     ensures read { ReadsAs (is_some compression.entry) (R.told reader.old) (R.told reader.new) (λ bits. bits)
         (next_bits buffers.old.items block_offset count) result }
     ensures taken { TakesOff 1 buffers.old.items buffers.new.items result }
+    ensures size { IfOk result (λ bits. length bits ≡ count) }
 {
     let needed = bytes_for(count);
     let bytes = match read_bytes(alloc, buffers, needed, reader, block_offset, compression) {
@@ -99,7 +101,8 @@ pub fn read_bitmap<R: Room>(
 
 /// How many slots are taken of a column: as many as its node has, and no more than the limit. None where the node's number is negative.
 pub fn slots_taken(node: FieldNode, limit: Option<usize>) -> Option<usize>
-    ensures { result ≡ taken_in limit node }
+    ensures value { result ≡ taken_in limit node }
+    ensures small { IfSome result (λ taken. taken < 2 ^ 63) }
 {
     let count = usize::try_from(node.length).ok()?;
     match limit {
@@ -126,6 +129,7 @@ pub fn read_validity<R: Room>(
     ensures read { ReadsAs (is_some compression.entry) (R.told reader.old) (R.told reader.new) (λ validity. validity)
         (next_validity field_node limit buffers.old.items block_offset) result }
     ensures taken { TakesOff 1 buffers.old.items buffers.new.items result }
+    ensures size { IfOk result (λ validity. ForSome (taken_in limit field_node) (λ taken. IsMaskOf taken validity)) }
 {
     if compression.is_some() {
         return Err(Error::NotYetImplemented("compressed buffers"));
@@ -212,6 +216,7 @@ pub fn read_buffer<T: NativeType, R: Room>(
     ensures read { ReadsAs (is_some compression.entry) (R.told reader.old) (R.told reader.new) (map T.numbers)
         (next_values T.PRIMITIVE is_little_endian buffers.old.items block_offset count) result }
     ensures taken { TakesOff 1 buffers.old.items buffers.new.items result }
+    ensures size { IfOk result (λ values. length values ≡ count) }
 {
     if compression.is_some() {
         return Err(Error::NotYetImplemented("compressed buffers"));

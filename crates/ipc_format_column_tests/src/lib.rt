@@ -9,6 +9,8 @@ mod cases;
 #[cfg(test)]
 mod devices;
 #[cfg(test)]
+mod flat;
+#[cfg(test)]
 mod skipping;
 #[cfg(test)]
 mod writing;

@@ -1,12 +1,10 @@
 pub use Rattle.nested_arrays_nulls.specs.columns.Cells
 pub use Rattle.nested_arrays_nulls.specs.columns.Children
-pub use Rattle.nested_arrays_nulls.specs.columns.ColumnCodes
 pub use Rattle.nested_arrays_nulls.specs.columns.ColumnLaws
 pub use Rattle.nested_arrays_nulls.specs.columns.Kinds
 pub use Rattle.nested_arrays_nulls.specs.columns.OpenBatch
 pub use Rattle.nested_arrays_nulls.specs.columns.SameSlots
 pub use Rattle.nested_arrays_nulls.specs.columns.Sealing
-pub use Rattle.nested_arrays_nulls.specs.columns.SlotCodes
 pub use Rattle.nested_arrays_nulls.specs.columns.SlotLaws
 pub use Rattle.nested_arrays_nulls.specs.columns.SlotNodes
 pub use Rattle.nested_arrays_nulls.specs.columns.Slots
@@ -20,7 +18,6 @@ pub use Rattle.nested_arrays_nulls.specs.flat.ColumnTypes
 pub use Rattle.nested_arrays_nulls.specs.flat.FixedSizeItems
 pub use Rattle.nested_arrays_nulls.specs.flat.FlatColumns
 pub use Rattle.nested_arrays_nulls.specs.flat.Primitives
-pub use Rattle.nested_arrays_nulls.specs.flat.SameArrays
 pub use Rattle.nested_arrays_nulls.specs.flat.Taken
 pub use Rattle.nested_arrays_nulls.specs.parts.Childless
 pub use Rattle.nested_arrays_nulls.specs.parts.FlatLayouts
@@ -37,7 +34,6 @@ pub use Rattle.nested_arrays_nulls.specs.arrays.Lengths
 pub use Rattle.nested_arrays_nulls.specs.arrays.NamedValues
 pub use Rattle.nested_arrays_nulls.specs.arrays.Parts
 pub use Rattle.nested_arrays_nulls.specs.arrays.Places
-pub use Rattle.nested_arrays_nulls.specs.arrays.Sizes
 pub use Rattle.nested_arrays_nulls.specs.arrays.UnionFields
 pub use Rattle.nested_arrays_nulls.specs.arrays.Variants
 pub use Rattle.nested_arrays_nulls.specs.generic.Dictionaries

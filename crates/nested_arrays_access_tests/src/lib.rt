@@ -11,8 +11,6 @@ mod flat;
 #[cfg(test)]
 mod generic;
 #[cfg(test)]
-mod kinds;
-#[cfg(test)]
 mod masks;
 #[cfg(test)]
 mod nested;

@@ -4,9 +4,9 @@ use Rattle.std.proofs.lemmas.List.{length-map}
 use Rattle.columnar_memory.specs.declared.DataType.{DataType}
 use Rattle.nested_arrays_columns.specs.FreshColumns.{is_valid}
 use Rattle.nested_arrays_columns.specs.Slots.{Slot}
-use Rattle.nested_arrays_columns.specs.StoredColumns.{column_size, slots}
+use Rattle.nested_arrays_columns.specs.StoredColumns.{slots}
 use Rattle.nested_arrays_columns.proofs.FreshSlots.{fresh_slots}
-use Rattle.nested_arrays_builder_parts.specs.Open.{Open, opened, column_of}
+use Rattle.nested_arrays_builder_parts.specs.Open.{Open, opened}
 use Rattle.nested_arrays_builders.specs.KeptColumns.{column_kept}
 use Rattle.nested_arrays_builders.specs.Parts.{Parts, parts_column, IsKept}
 
@@ -29,6 +29,3 @@ module _ (t : DataType) (marks : List Bool) (parts : Parts) (o : Open) (is : ope
     (kept : IsKept t marks parts (slots (parts_column t marks parts))) where
   pub own_kept : IsKept t marks parts o.slots
   own_kept = subst (λ (o : Open). IsKept t marks parts o.slots) is kept
-
-  pub size_is : column_size (parts_column t marks parts) ≡ column_size (column_of o)
-  size_is = ap column_size (column_kept t marks parts (slots (parts_column t marks parts)) kept) ∙ ap (λ (o : Open). column_size (column_of o)) is

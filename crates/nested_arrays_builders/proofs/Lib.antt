@@ -1,5 +1,15 @@
+pub mod AddedSlots
+pub mod BegunNodes
+pub mod CellItems
 pub mod CutParts
 pub mod FirstSpans
+pub mod HeldNodes
 pub mod KeptNodes
 pub mod MoreFits
 pub mod MoreParts
+pub mod PushedFields
+pub mod PushedItems
+pub mod PushedNodes
+pub mod SameNodes
+pub mod TakenSlots
+pub mod Unbuilt

@@ -5,7 +5,6 @@ use Rattle.std.specs.List.{list_all}
 use Rattle.columnar_memory.specs.declared.DataType.{DataType}
 use Rattle.columnar_memory.specs.declared.DataType.TheOpen as layer
 use Rattle.columnar_memory.specs.declared.Field.{Field}
-use Rattle.nested_arrays_columns.specs.Cells.{is_null}
 use Rattle.nested_arrays_columns.specs.Children.{items_of, fixed_items_of, joined_items}
 use Rattle.nested_arrays_columns.specs.Kinds.{most_slots}
 use Rattle.nested_arrays_columns.specs.OpenBatch.{fits}
@@ -15,16 +14,12 @@ use Rattle.nested_arrays_columns.specs.StoredColumns.{type_layer}
 use Rattle.nested_arrays_columns.proofs.FreshLengths.{Layer}
 use Rattle.nested_arrays_growth.specs.OpenParts.{is_list, is_list_sized, is_record_sized, slots_of_fields, fields_of_slot, pushed_each}
 use Rattle.nested_arrays_growth.proofs.Fields.{fields_count}
-use Rattle.nested_arrays_growth.proofs.OneMore.{nulls_fit_one_more, list_fits_one_more, large_list_fits_one_more, fixed_list_fits_one_more}
+use Rattle.nested_arrays_growth.proofs.OneMore.{list_fits_one_more, large_list_fits_one_more, fixed_list_fits_one_more}
 use Rattle.nested_arrays_growth.proofs.OneMore.{struct_fits_one_more}
 use Rattle.nested_arrays_builder_parts.specs.Open.{Open, opened}
-use Rattle.nested_arrays_builders.specs.Parts.{Parts, no_parts, listed, sized, of_fields, opened_each, with_each, with_slots, is_formed, most_end}
+use Rattle.nested_arrays_builders.specs.Parts.{Parts, listed, sized, of_fields, opened_each, with_each, with_slots, is_formed, most_end}
 use Rattle.nested_arrays_builders.specs.Parts.{is_fitting, has_room, HoldsParts, IsKept}
 use Rattle.nested_arrays_builders.proofs.MoreParts.{with_opened, opened_count}
-
-and_true : (b : Bool) → b ≡ (b && true)
-and_true true = refl
-and_true false = refl
 
 and_join : (a b c d : Bool) → (a && b && c && d) ≡ (a && b && (c && d))
 and_join true true c d = refl
@@ -50,8 +45,6 @@ list_room item large own child xs s width is =
 
 fits_layer : (t : DataType) (x : Layer) (parts : Parts) (xs : List Slot) (s : Slot) → type_layer t ≡ x → HoldsParts x parts xs → fits t xs ≡ true
     → fits t (xs ++ s ∷ []) ≡ (is_formed parts s && nat_le (length xs + 1) most_slots && has_room parts s)
-fits_layer t layer.Null no_parts xs s is held fit =
-    nulls_fit_one_more t is xs s fit ∙ and_true (is_null s && nat_le (length xs + 1) most_slots)
 fits_layer t (layer.List item) (listed large spans child) xs s is held fit =
     list_fits_one_more t item is xs s fit ∙ list_room item.data_type false large child xs s held.0 held.2
 fits_layer t (layer.LargeList item) (listed large spans child) xs s is held fit =

@@ -1,5 +1,5 @@
--- Builders with one more slot, and the sizes of what stands below them.
-use Rattle.std.proofs.Common.{◌≡◌, ◌∙◌, ℕ, suc, ◌+◌, List, [], ◌∷◌, ◌++◌, length, Bool, true, refl, sym, ap, arith, subst}
+-- Builders with one more slot.
+use Rattle.std.proofs.Common.{◌≡◌, ◌∙◌, suc, List, [], ◌∷◌, ◌++◌, length, Bool, true, refl, sym, ap, arith}
 use Rattle.columnar_memory.specs.declared.DataType.{DataType}
 use Rattle.columnar_memory.specs.declared.DataType.TheOpen as layer
 use Rattle.columnar_memory.specs.declared.Field.{Field}
@@ -8,15 +8,14 @@ use Rattle.nested_arrays_columns.specs.Children.{items_of, fixed_items_of, joine
 use Rattle.nested_arrays_columns.specs.FreshColumns.{is_valid}
 use Rattle.nested_arrays_columns.specs.OpenBatch.{fits}
 use Rattle.nested_arrays_columns.specs.Slots.{Slot}
-use Rattle.nested_arrays_columns.specs.StoredColumns.{column_size, type_layer}
+use Rattle.nested_arrays_columns.specs.StoredColumns.{type_layer}
 use Rattle.nested_arrays_columns.proofs.FreshLengths.{Layer}
 use Rattle.nested_arrays_growth.specs.OpenParts.{slots_of_fields, fields_of_slot, pushed_each}
 use Rattle.nested_arrays_growth.proofs.Fields.{fields_count, fields_one_more}
-use Rattle.nested_arrays_growth.proofs.LayerParts.{fresh_list, fresh_large_list, fresh_fixed_list}
 use Rattle.nested_arrays_growth.proofs.Masks.{marks_one_more}
 use Rattle.nested_arrays_growth.proofs.Pieces.{item_spans_one_more, joined_one_more}
 use Rattle.nested_arrays_builder_parts.specs.Open.{Open, opened}
-use Rattle.nested_arrays_builders.specs.Parts.{Parts, no_parts, listed, sized, of_fields, more_parts, opened_each, with_each, with_slots, type_size}
+use Rattle.nested_arrays_builders.specs.Parts.{Parts, listed, sized, of_fields, more_parts, opened_each, with_each, with_slots}
 use Rattle.nested_arrays_builders.specs.Parts.{HoldsParts, IsKept}
 
 -- ---- one more slot
@@ -39,7 +38,6 @@ list_more child item xs s is =
     ap (λ (o : Open). with_slots o (items_of s)) is ∙ ap (opened item) (sym (joined_one_more items_of xs s))
 
 held_more : (x : Layer) (parts : Parts) (xs : List Slot) (s : Slot) → HoldsParts x parts xs → HoldsParts x (more_parts parts s) (xs ++ s ∷ [])
-held_more layer.Null no_parts xs s held = tt
 held_more (layer.List item) (listed large spans child) xs s held = (
   held.0,
   ap (λ (o : Spans). extended o (length (items_of s) ∷ [])) held.1 ∙ sym (item_spans_one_more xs s),
@@ -72,30 +70,3 @@ kept_more t marks parts xs s kept fit = record {
   marked = ap (λ ms. ms ++ is_valid s ∷ []) kept.marked ∙ sym (marks_one_more xs s);
   held = held_more (type_layer t) parts xs s kept.held;
 }
-
--- ---- sizes
-
-list_size : (t : DataType) (x : Layer) (large : Bool) (spans : Spans) (child : Open) (xs : List Slot) → type_layer t ≡ x
-    → HoldsParts x (listed large spans child) xs → type_size t ≡ type_size child.data_type + 1
-list_size t (layer.List item) large spans child xs is held =
-    ap column_size (fresh_list t item is []) ∙ ap (λ (o : Open). type_size o.data_type + 1) (sym held.2)
-list_size t (layer.LargeList item) large spans child xs is held =
-    ap column_size (fresh_large_list t item is []) ∙ ap (λ (o : Open). type_size o.data_type + 1) (sym held.2)
-list_size t _ large spans child xs is held = absurd held
-
-fixed_size : (t : DataType) (x : Layer) (size : ℕ) (child : Open) (xs : List Slot) → type_layer t ≡ x → HoldsParts x (sized size child) xs
-    → type_size t ≡ type_size child.data_type + 1
-fixed_size t (layer.FixedSizeList item own) size child xs is held =
-    ap column_size (fresh_fixed_list t item own is []) ∙ ap (λ (o : Open). type_size o.data_type + 1) (sym held.1)
-fixed_size t _ size child xs is held = absurd held
-
--- the items of lists have a type of one column less
-module _ (t : DataType) (marks : List Bool) (parts : Parts) (xs : List Slot) (kept : IsKept t marks parts xs) where
-  pub list_is_larger : (large : Bool) (spans : Spans) (child : Open) → parts ≡ listed large spans child
-      → type_size t ≡ type_size child.data_type + 1
-  list_is_larger large spans child is =
-      list_size t (type_layer t) large spans child xs refl (subst (λ parts. HoldsParts (type_layer t) parts xs) is kept.held)
-
-  pub fixed_is_larger : (size : ℕ) (child : Open) → parts ≡ sized size child → type_size t ≡ type_size child.data_type + 1
-  fixed_is_larger size child is =
-      fixed_size t (type_layer t) size child xs refl (subst (λ parts. HoldsParts (type_layer t) parts xs) is kept.held)

@@ -8,14 +8,14 @@ use Rattle.columnar_memory.specs.Spans.{offsets_of}
 use Rattle.nested_arrays_columns.specs.FreshColumns.{is_valid, mask_of, fresh}
 use Rattle.nested_arrays_columns.specs.Rows.{fresh_columns}
 use Rattle.nested_arrays_columns.specs.Slots.{Slot}
-use Rattle.nested_arrays_columns.specs.StoredColumns.{nulls, lists, fixed_lists, records, in_columns, type_layer}
+use Rattle.nested_arrays_columns.specs.StoredColumns.{lists, fixed_lists, records, in_columns, type_layer}
 use Rattle.nested_arrays_columns.proofs.FreshLengths.{Layer}
 use Rattle.nested_arrays_growth.specs.OpenParts.{marks_of, mask_from, slots_of_fields}
-use Rattle.nested_arrays_growth.proofs.LayerParts.{fresh_nulls, fresh_list, fresh_large_list, fresh_fixed_list, fresh_struct}
+use Rattle.nested_arrays_growth.proofs.LayerParts.{fresh_list, fresh_large_list, fresh_fixed_list, fresh_struct}
 use Rattle.nested_arrays_growth.proofs.Masks.{mask_is}
 use Rattle.nested_arrays_growth.proofs.Pieces.{item_spans_are}
 use Rattle.nested_arrays_builder_parts.specs.Open.{column_of}
-use Rattle.nested_arrays_builders.specs.Parts.{Parts, no_parts, listed, sized, of_fields, parts_column, opened_each, HoldsParts, IsKept}
+use Rattle.nested_arrays_builders.specs.Parts.{Parts, listed, sized, of_fields, parts_column, opened_each, HoldsParts, IsKept}
 
 columns_each : (us : List Field) (columns : List (List Slot)) → map column_of (opened_each us columns) ≡ fresh_columns us columns
 columns_each [] columns = refl
@@ -30,7 +30,6 @@ masked marks xs marked = ap mask_from marked ∙ sym (mask_is xs)
 
 column_of_parts : (t : DataType) (x : Layer) (marks : List Bool) (parts : Parts) (xs : List Slot) → type_layer t ≡ x → marks ≡ marks_of xs
     → HoldsParts x parts xs → parts_column t marks parts ≡ fresh t xs
-column_of_parts t layer.Null marks no_parts xs is marked held = ap (nulls t) (count_is marks xs marked) ∙ sym (fresh_nulls t is xs)
 column_of_parts t (layer.List item) marks (listed large spans child) xs is marked held =
     let offsets = ap offsets_of held.1 ∙ item_spans_are xs in
     (λ j. lists t (masked marks xs marked j) (offsets j) (column_of (held.2 j))) ∙ sym (fresh_list t item is xs)

@@ -1,11 +1,16 @@
--- The parts that a node holds.
-use Rattle.nested_arrays_builders.specs.Parts.{Parts, no_parts, listed, sized, of_fields}
+-- What a node holds.
+use Rattle.nested_arrays_builders.specs.Parts.{Parts, listed, sized, of_fields, Held, leaf, nested}
 use Rattle.nested_arrays_builders.specs.Widths.{is_large, spans_in}
+use Rattle.nested_arrays_builders.specs.declared.any.MutableChildren.{MutableChildren}
+use Rattle.nested_arrays_builders.specs.declared.any.MutableChildren.TheVariants as below
 use Rattle.nested_arrays_builders.specs.declared.any.MutableNode.{MutableNode}
 use Rattle.nested_arrays_builders.specs.declared.any.MutableNode.TheVariants as variant
 
-abbrev pub parts_of : MutableNode → Parts
-parts_of variant.Null = no_parts
-parts_of (variant.List offsets child) = listed (is_large offsets) (spans_in offsets) child.value
-parts_of (variant.FixedSizeList size child) = sized size child.value
-parts_of (variant.Struct children) = of_fields children.items
+abbrev pub parts_of : MutableChildren → Parts
+parts_of (below.List offsets child) = listed (is_large offsets) (spans_in offsets) child.value
+parts_of (below.FixedSizeList size child) = sized size child.value
+parts_of (below.Struct children) = of_fields children.items
+
+abbrev pub held_of : MutableNode → Held
+held_of (variant.Flat builder) = leaf builder
+held_of (variant.Nested head children) = nested head.data_type head.marks (parts_of children)

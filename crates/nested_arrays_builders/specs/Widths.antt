@@ -1,8 +1,10 @@
 -- Offsets of lists that grow, of either width.
-use Rattle.std.specs.Prelude.{◌≡◌, Bool, true, false, [], ◌∷◌, Result, MatchResult}
+use Rattle.std.specs.Prelude.{◌≡◌, ◌⊎◌, ◌+◌, ◌<◌, ◌≤◌, ℕ, Bool, true, false, List, [], ◌∷◌, ◌++◌, length, Result, MatchResult}
 use Rattle.columnar_memory.specs.declared.Error.{Error}
-use Rattle.columnar_memory.specs.Error.{IsOutOfMemory}
-use Rattle.columnar_memory.specs.Spans.{Spans, extended}
+use Rattle.columnar_memory.specs.Error.{IsOutOfMemory, IsOverflow}
+use Rattle.columnar_memory.specs.Spans.{Spans, extended, last_of}
+use Rattle.nested_arrays_columns.specs.Kinds.{most_slots}
+use Rattle.nested_arrays_builders.specs.Parts.{most_end}
 use Rattle.nested_arrays_builders.specs.declared.offsets.MutableListOffsets.{MutableListOffsets}
 use Rattle.nested_arrays_builders.specs.declared.offsets.MutableListOffsets.TheVariants as width
 
@@ -14,7 +16,20 @@ abbrev pub is_large : MutableListOffsets → Bool
 is_large (width.Small offsets) = false
 is_large (width.Large offsets) = true
 
--- an empty list stands behind the others, or they are as they were: memory ran out
-abbrev pub AddsEmpty : {U : Type 0} → MutableListOffsets → MutableListOffsets → Result U Error → Type 0
-AddsEmpty old new r =
-    MatchResult r (λ _. (spans_in new ≡ extended (spans_in old) (0 ∷ [])) × (is_large new ≡ is_large old)) (λ e. (new ≡ old) × IsOutOfMemory e)
+-- a span stands behind the others, or they are as they were: it would end past the greatest offset, or memory ran out
+abbrev pub AddsSpan : {U : Type 0} → MutableListOffsets → ℕ → MutableListOffsets → Result U Error → Type 0
+AddsSpan old count new r =
+    MatchResult r
+    (λ _. (is_large new ≡ is_large old) × (spans_in new ≡ extended (spans_in old) (count ∷ []))
+    × (last_of (spans_in old) + count ≤ most_end (is_large old)))
+    (λ e. (is_large new ≡ is_large old) × (spans_in new ≡ spans_in old)
+    × (IsOutOfMemory e ⊎ (IsOverflow e × (most_end (is_large old) < last_of (spans_in old) + count))))
+
+-- the offset and the mark of a list stand behind the others, or they are as they were
+abbrev pub AddsList : {U : Type 0} → List Bool → Bool → Spans → ℕ → Bool → List Bool → Bool → Spans → Result U Error → Type 0
+AddsList marks large spans count mark new_marks new_large new_spans r =
+    MatchResult r
+    (λ _. (new_marks ≡ marks ++ mark ∷ []) × (new_large ≡ large) × (new_spans ≡ extended spans (count ∷ [])) × (length marks < most_slots)
+    × (last_of spans + count ≤ most_end large))
+    (λ e. (new_marks ≡ marks) × (new_large ≡ large) × (new_spans ≡ spans)
+    × (IsOutOfMemory e ⊎ (IsOverflow e × ((length marks ≡ most_slots) ⊎ (most_end large < last_of spans + count)))))

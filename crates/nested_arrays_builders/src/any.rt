@@ -1,21 +1,43 @@
 //! Builders of any type.
-ghost use Rattle.std.specs.Prelude.{◌≡◌, ◌≤◌, length};
-ghost use Rattle.nested_arrays_builder_parts.specs.Open.{first_slots, IsWithin};
+ghost use Rattle.std.specs.Prelude.{◌≡◌, ◌<◌, ◌≤◌, length, not, slice_index_or, true, IfErr};
+ghost use Rattle.columnar_memory.specs.Error.{IsOutOfMemory};
+ghost use Rattle.nested_arrays_columns.specs.Cells.{fits_cell, is_null};
+ghost use Rattle.nested_arrays_columns.specs.Slots.{null};
+ghost use Rattle.nested_arrays_builder_parts.specs.Open.{first_slots, IsPushed, IsWithin};
+ghost use Rattle.nested_arrays_builder_parts.specs.Scalars.{scalar_slot};
+ghost use Rattle.nested_arrays_builders.specs.Nodes.{held_of};
+ghost use Rattle.nested_arrays_builders.specs.Parts.{seen, IsHeld};
 
-use crate::children::truncate_each;
+use crate::children::{push_nested, truncate_nested};
+use crate::fitting::is_cell_of;
 use crate::offsets::MutableListOffsets;
-use columnar_memory::DataType;
-use nested_arrays_builder_parts::Marks;
+use crate::room::{reserve_nested, shrink_nested};
+use columnar_memory::{DataType, Error, Result};
+use nested_arrays_builder_parts::{AnyScalar, FlatBuilder, Marks};
 use std::marker::Model;
 
-/// What a builder holds beside its marks, by how its arrays lie in memory.
+/// The data type of a builder with children, and a mark for each slot.
+#[derive(Drop)]
+pub struct Head {
+    pub data_type: DataType,
+    pub marks: Marks,
+}
+
+/// The builders below one with children, by how its arrays lie in memory.
 #[cycle(builders)]
 #[derive(Drop)]
-pub enum MutableNode {
-    Null,
+pub enum MutableChildren {
     List(MutableListOffsets, Box<AnyMutableArray>),
     FixedSizeList(usize, Box<AnyMutableArray>),
     Struct(Vec<AnyMutableArray>),
+}
+
+/// A builder without children, or what one with children holds.
+#[cycle(builders)]
+#[derive(Drop)]
+pub enum MutableNode {
+    Flat(FlatBuilder),
+    Nested(Head, MutableChildren),
 }
 
 /// Slots of any type, one behind another. A contract sees the open column: the data type, and the slots that were pushed, which all fit.
@@ -24,54 +46,120 @@ pub enum MutableNode {
 #[cycle(builders)]
 #[derive(Drop)]
 pub struct AnyMutableArray {
-    data_type: DataType,
-    marks: Marks,
     node: MutableNode,
 }
 
 impl Model for AnyMutableArray {
-    ghost use Rattle.std.specs.Prelude.{◌+◌, ◌*◌};
-    ghost use Rattle.nested_arrays_columns.specs.StoredColumns.{column_size, slots};
-    ghost use Rattle.nested_arrays_builder_parts.specs.Open.{Open, open_code, column_of, opened};
+    ghost use Rattle.std.specs.Prelude.{◌*◌};
+    ghost use Rattle.nested_arrays_builder_parts.specs.Open.{Open, open_code};
 
     ghost Value = { Open };
 
     ghost coded = { open_code };
 
-    ghost use Rattle.nested_arrays_builders.specs.Nodes.{parts_of};
-    ghost use Rattle.nested_arrays_builders.specs.Parts.{parts_column, IsKept};
+    ghost use Rattle.nested_arrays_builders.specs.Nodes.{held_of};
+    ghost use Rattle.nested_arrays_builders.specs.Parts.{seen, type_size, IsHeld};
 
-    ghost view = { λ it. opened it.data_type (slots (parts_column it.data_type it.marks (parts_of it.node))) };
+    ghost view = { λ it. seen (held_of it.node) };
 
-    ghost invariant = { λ it. IsKept it.data_type it.marks (parts_of it.node) (slots (parts_column it.data_type it.marks (parts_of it.node))) };
+    ghost invariant = { λ it. IsHeld (held_of it.node) };
 
-    ghost size = { λ o. 2 * column_size (column_of o) + 1 };
+    ghost size = { λ o. 4 * type_size o.data_type };
 
     ghost use Rattle.nested_arrays_builders.specs.Sizes.{node_is_deep};
 
-    ghost size_decreases = { λ a h. node_is_deep a.data_type a.marks a.node h };
+    ghost size_decreases = { λ a h. node_is_deep a.node h };
 }
 
 impl AnyMutableArray {
+    /// A builder of a node.
+    pub(crate) fn of(node: MutableNode) -> Self
+        requires { IsHeld (held_of node) }
+        ensures { result ≡ seen (held_of node) }
+    {
+        AnyMutableArray { node }
+    }
+
+    /// The node of a builder.
+    pub fn into_node(self) -> MutableNode
+        ensures seen { seen (held_of result) ≡ self }
+        ensures held { IsHeld (held_of result) }
+    {
+        let AnyMutableArray { node } = self;
+        node
+    }
+
     /// How many slots there are.
     #[tactic(auto, using(crate::proofs::KeptNodes::kept_length))]
     pub fn len(&self) -> usize
         ensures { result ≡ length self.now.slots }
     {
-        self.marks.len()
+        match &self.node {
+            MutableNode::Flat(builder) => builder.len(),
+            MutableNode::Nested(head, _) => head.marks.len(),
+        }
+    }
+
+    pub fn is_empty(&self) -> bool {
+        self.len() == 0
     }
 
     pub fn data_type(&self) -> &DataType
         ensures { result.now ≡ self.now.data_type }
     {
-        &self.data_type
+        match &self.node {
+            MutableNode::Flat(builder) => builder.data_type(),
+            MutableNode::Nested(head, _) => &head.data_type,
+        }
     }
 
     /// Hands to a proof that the slots fit the type.
     pub fn whole(&self)
         ensures { IsWithin self.now }
     {
-        let _data_type = &self.data_type;
+        match &self.node {
+            MutableNode::Flat(builder) => builder.whole(),
+            MutableNode::Nested(_, _) => {}
+        }
+    }
+
+    /// Whether the slot at a place has a value.
+    pub fn is_valid(&self, i: usize) -> bool
+        requires { i < length self.now.slots }
+        ensures { result ≡ not (is_null (slice_index_or self.now.slots i null)) }
+    {
+        match &self.node {
+            MutableNode::Flat(builder) => builder.is_valid(i),
+            MutableNode::Nested(head, _) => head.marks.is_valid(i),
+        }
+    }
+
+    /// Makes room for some more slots: marks, offsets and values, but for items of lists of any length.
+    ///
+    /// # Errors
+    /// `OutOfMemory`: the room found no memory.
+    #[cycle(reserving)]
+    pub fn reserve(&mut self, additional: usize) -> Result<()>
+        ensures same { self.new ≡ self.old }
+        ensures error { IfErr result IsOutOfMemory }
+    {
+        match &mut self.node {
+            MutableNode::Flat(builder) => builder.reserve(additional),
+            MutableNode::Nested(head, children) => {
+                reserve_nested(&mut head.marks, children, additional)
+            }
+        }
+    }
+
+    /// Gives back memory that no slot needs, as far as the allocator takes it.
+    #[cycle(shrinking)]
+    pub fn shrink_to_fit(&mut self)
+        ensures { self.new ≡ self.old }
+    {
+        match &mut self.node {
+            MutableNode::Flat(builder) => builder.shrink_to_fit(),
+            MutableNode::Nested(head, children) => shrink_nested(&mut head.marks, children),
+        }
     }
 
     /// Keeps the first `len` slots alone.
@@ -81,17 +169,48 @@ impl AnyMutableArray {
         ensures { self.new ≡ first_slots self.old len }
     {
         match &mut self.node {
-            MutableNode::Null => {}
-            MutableNode::List(offsets, values) => {
-                let items = offsets.truncate(len);
-                values.truncate(items);
-            }
-            MutableNode::FixedSizeList(size, values) => {
-                let _held = values.len();
-                values.truncate(*size * len);
-            }
-            MutableNode::Struct(children) => truncate_each(children, len),
+            MutableNode::Flat(builder) => builder.truncate(len),
+            MutableNode::Nested(head, children) => truncate_nested(&mut head.marks, children, len),
         }
-        self.marks.truncate(len);
+    }
+
+    /// Pushes a cell that fits the type.
+    #[cycle(pushing)]
+    pub(crate) fn push(&mut self, cell: &AnyScalar) -> Result<()>
+        requires { fits_cell self.old.data_type (scalar_slot cell.now) ≡ true }
+        ensures { IsPushed self.old (scalar_slot cell.now) self.new result }
+    {
+        match &mut self.node {
+            MutableNode::Flat(builder) => builder.try_push(cell),
+            MutableNode::Nested(head, children) => push_nested(&mut head.marks, children, cell),
+        }
+    }
+
+    /// Pushes a cell.
+    ///
+    /// # Errors
+    /// `InvalidArgumentError`: the cell does not fit the type.
+    /// `Overflow`: the slots with this one are more than a column may have, at some depth, or their items or bytes than offsets may number.
+    /// `OutOfMemory`: the slot found no memory.
+    pub fn try_push_scalar(&mut self, cell: &AnyScalar) -> Result<()>
+        ensures { IsPushed self.old (scalar_slot cell.now) self.new result }
+    {
+        if !is_cell_of(self.data_type(), cell) {
+            return Err(Error::InvalidArgumentError(
+                "a cell of another type or size than the column's",
+            ));
+        }
+        self.push(cell)
+    }
+
+    /// Pushes a null.
+    ///
+    /// # Errors
+    /// `Overflow`: the slots with this one are more than a column may have, at some depth.
+    /// `OutOfMemory`: the slot found no memory.
+    pub fn push_null(&mut self) -> Result<()>
+        ensures { IsPushed self.old null self.new result }
+    {
+        self.try_push_scalar(&AnyScalar::Null)
     }
 }

@@ -3,7 +3,14 @@
 
 mod any;
 mod children;
+mod fitting;
+mod inside;
+mod lists;
+mod new;
 mod offsets;
+mod records;
+mod room;
 
-pub use any::{AnyMutableArray, MutableNode};
+pub use any::{AnyMutableArray, Head, MutableChildren, MutableNode};
+pub use fitting::is_cell_of;
 pub use offsets::MutableListOffsets;

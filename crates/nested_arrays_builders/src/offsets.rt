@@ -1,7 +1,8 @@
 //! Offsets of lists that grow.
-ghost use Rattle.std.specs.Prelude.{◌≡◌, ◌<◌, ◌≤◌, length};
+ghost use Rattle.std.specs.Prelude.{◌≡◌, ◌<◌, ◌≤◌, length, IfErr};
+ghost use Rattle.columnar_memory.specs.Error.{IsOutOfMemory};
 ghost use Rattle.columnar_memory.specs.Spans.{first_spans, last_of, shortened};
-ghost use Rattle.nested_arrays_builders.specs.Widths.{is_large, spans_in, AddsEmpty};
+ghost use Rattle.nested_arrays_builders.specs.Widths.{is_large, spans_in, AddsSpan};
 
 use columnar_memory::{Index, Offset, Offsets, Result};
 
@@ -13,16 +14,43 @@ pub enum MutableListOffsets {
 }
 
 impl MutableListOffsets {
-    /// Adds an empty list behind the others, or changes nothing.
+    /// Adds a list of so many items behind the others, or changes nothing.
     ///
     /// # Errors
+    /// `Overflow`: its items would end past the greatest offset.
     /// `OutOfMemory`: the offset found no memory.
-    pub fn push_empty(&mut self) -> Result<()>
-        ensures { AddsEmpty self.old self.new result }
+    pub fn try_push(&mut self, count: usize) -> Result<()>
+        ensures { AddsSpan self.old count self.new result }
     {
         match self {
-            MutableListOffsets::Small(offsets) => offsets.extend_constant(1),
-            MutableListOffsets::Large(offsets) => offsets.extend_constant(1),
+            MutableListOffsets::Small(offsets) => offsets.try_push(count),
+            MutableListOffsets::Large(offsets) => offsets.try_push(count),
+        }
+    }
+
+    /// Makes room for some more lists.
+    ///
+    /// # Errors
+    /// `OutOfMemory`: the room found no memory.
+    pub fn reserve(&mut self, additional: usize) -> Result<()>
+        ensures width { is_large self.new ≡ is_large self.old }
+        ensures spans { spans_in self.new ≡ spans_in self.old }
+        ensures error { IfErr result IsOutOfMemory }
+    {
+        match self {
+            MutableListOffsets::Small(offsets) => offsets.reserve(additional),
+            MutableListOffsets::Large(offsets) => offsets.reserve(additional),
+        }
+    }
+
+    /// Gives back memory that no offset needs, as far as the allocator takes it.
+    pub fn shrink_to_fit(&mut self)
+        ensures width { is_large self.new ≡ is_large self.old }
+        ensures spans { spans_in self.new ≡ spans_in self.old }
+    {
+        match self {
+            MutableListOffsets::Small(offsets) => offsets.shrink_to_fit(),
+            MutableListOffsets::Large(offsets) => offsets.shrink_to_fit(),
         }
     }
 

@@ -1,5 +1,5 @@
 use columnar_memory::{Bitmap, Boxed, Buffer, DataType, Error, IntegerType};
-use flat_arrays::{PrimitiveArray, Utf8Array};
+use nested_arrays::flat_arrays::{PrimitiveArray, Utf8Array};
 use nested_arrays::{AnyArray, DictionaryArray, FlatArray};
 use std::alloc::Global;
 use std::test::Fail;

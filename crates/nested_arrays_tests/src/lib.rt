@@ -9,6 +9,8 @@ mod fixed_sizes;
 #[cfg(test)]
 mod gathered;
 #[cfg(test)]
+mod kinds;
+#[cfg(test)]
 mod lists;
 #[cfg(test)]
 mod nulls;

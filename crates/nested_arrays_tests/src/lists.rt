@@ -1,5 +1,5 @@
 use columnar_memory::{Boxed, DataType, Error, Field, OffsetsBuffer, Text};
-use flat_arrays::PrimitiveArray;
+use nested_arrays::flat_arrays::PrimitiveArray;
 use nested_arrays::{AnyArray, AnyPrimitive, FixedSizeListArray, FlatArray, ListArray};
 use std::alloc::Global;
 use std::test::Fail;

@@ -1,5 +1,5 @@
 use columnar_memory::{Bitmap, Error};
-use flat_arrays::PrimitiveArray;
+use nested_arrays::flat_arrays::PrimitiveArray;
 use nested_arrays::{AnyPrimitive, PrimitiveKind};
 use std::alloc::{AllocError, Global};
 use std::test::Fail;

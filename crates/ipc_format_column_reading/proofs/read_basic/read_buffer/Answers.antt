@@ -4,7 +4,7 @@ use Rattle.std.specs.Prelude.{None, Some, is_some, map}
 use Rattle.ipc_format_streams.specs.flatbuffers.Reading.{window_at}
 use Rattle.ipc_format_column_reading.specs.Buffers.{next_stated, values_in}
 use Rattle.ipc_format_column_reading.proofs.NextBuffers.{window_stated}
-use Rattle.ipc_format_column_reading.proofs.NextValues.{values_given}
+use Rattle.ipc_format_column_reading.proofs.NextValues.{values_count, values_given}
 use Rattle.ipc_format_column_reading.proofs.read_basic.read_buffer.Goals as goal
 
 pub returns-in_default-window_from-clause-read : goal.returns-in_default-window_from-clause-read
@@ -56,3 +56,13 @@ returns-in-Some-buffer_of-clause-read g c =
           (window_stated buffers origin needed room offset stated is enough ∙ ap (λ (bytes : List ℕ). window_at bytes (origin + offset) needed) same
           ∙ some) ∙ ap Some (sym values),
     )
+
+pub returns-in-Some-buffer_of-clause-size : goal.returns-in-Some-buffer_of-clause-size
+returns-in-Some-buffer_of-clause-size g c =
+    values_count g.T.NativeType.numbers g.T.NativeType.PRIMITIVE c.args.is_little_endian c.args.count c.in-Some-window_from.part.now
+    c.in-Some-buffer_of.values c.in-Some-buffer_of.ensures
+
+pub returns-in-Some-buffer_of-2-clause-size : goal.returns-in-Some-buffer_of-2-clause-size
+returns-in-Some-buffer_of-2-clause-size g c =
+    values_count g.T.NativeType.numbers g.T.NativeType.PRIMITIVE c.args.is_little_endian c.args.count c.deref.result.now
+    c.in-Some-buffer_of-2.values c.in-Some-buffer_of-2.ensures

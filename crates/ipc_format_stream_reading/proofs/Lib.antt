@@ -1,0 +1,3 @@
+mod NextMessages
+mod Pieces
+mod Told

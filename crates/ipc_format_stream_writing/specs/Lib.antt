@@ -1,0 +1,2 @@
+pub mod EncodedMessages
+pub use Rattle.ipc_format_streams.specs as streams

@@ -1,0 +1,78 @@
+//! Room for what builders with children are to hold.
+ghost use Rattle.std.specs.Prelude.{◌≡◌, IfErr};
+ghost use Rattle.columnar_memory.specs.Error.{IsOutOfMemory};
+ghost use Rattle.nested_arrays_builders.specs.Nodes.{parts_of};
+
+use crate::any::{AnyMutableArray, MutableChildren};
+use columnar_memory::{Error, Result};
+use nested_arrays_builder_parts::Marks;
+
+/// Makes room for some more marks, and below for what so many slots bring, but for items of lists of any length.
+#[cycle(reserving)]
+pub(crate) fn reserve_nested(
+    marks: &mut Marks,
+    children: &mut MutableChildren,
+    additional: usize,
+) -> Result<()>
+    ensures marks { marks.new ≡ marks.old }
+    ensures parts { parts_of children.new ≡ parts_of children.old }
+    ensures error { IfErr result IsOutOfMemory }
+{
+    marks.reserve(additional)?;
+    reserve_below(children, additional)
+}
+
+/// Makes room below for what some more slots bring, but for items of lists of any length.
+#[cycle(reserving)]
+fn reserve_below(children: &mut MutableChildren, additional: usize) -> Result<()>
+    ensures parts { parts_of children.new ≡ parts_of children.old }
+    ensures error { IfErr result IsOutOfMemory }
+{
+    match children {
+        MutableChildren::List(offsets, _) => offsets.reserve(additional),
+        MutableChildren::FixedSizeList(size, values) => match size.checked_mul(additional) {
+            Some(count) => values.reserve(count),
+            None => Err(Error::OutOfMemory),
+        },
+        MutableChildren::Struct(fields) => reserve_each(fields, additional),
+    }
+}
+
+/// Makes room for some more slots of each.
+#[cycle(reserving)]
+fn reserve_each(children: &mut Vec<AnyMutableArray>, additional: usize) -> Result<()>
+    ensures same { children.new.items ≡ children.old.items }
+    ensures error { IfErr result IsOutOfMemory }
+{
+    for child in children.iter_mut() {
+        child.reserve(additional)?;
+    }
+    Ok(())
+}
+
+/// Gives back memory that no mark needs and nothing below.
+#[cycle(shrinking)]
+pub(crate) fn shrink_nested(marks: &mut Marks, children: &mut MutableChildren)
+    ensures marks { marks.new ≡ marks.old }
+    ensures parts { parts_of children.new ≡ parts_of children.old }
+{
+    match children {
+        MutableChildren::List(offsets, values) => {
+            offsets.shrink_to_fit();
+            values.shrink_to_fit();
+        }
+        MutableChildren::FixedSizeList(_, values) => values.shrink_to_fit(),
+        MutableChildren::Struct(fields) => shrink_each(fields),
+    }
+    marks.shrink_to_fit();
+}
+
+/// Gives back memory that no slot of any needs.
+#[cycle(shrinking)]
+fn shrink_each(children: &mut Vec<AnyMutableArray>)
+    ensures { children.new.items ≡ children.old.items }
+{
+    for child in children.iter_mut() {
+        child.shrink_to_fit();
+    }
+}
