@@ -1,0 +1,10 @@
+pub mod Begun
+pub mod Behind
+pub mod Children
+pub mod Fixed
+pub mod KeyBytes
+pub mod Passed
+pub mod Settled
+pub mod Unions
+pub mod Widths
+pub mod Within

@@ -1,0 +1,110 @@
+use Rattle.std.proofs.Common.{rules, ◌≡◌, ◌∷◌, ◌+◌, ap, subst, sym, List}
+use Rattle.nested_arrays.specs.AnyColumns.{column_of}
+use Rattle.nested_arrays.specs.Parts.{column_children}
+use Rattle.nested_arrays.specs.Places.{HaveRange}
+use Rattle.nested_arrays.specs.StoredColumns.{Column, Columns, column_size, columns_size, in_columns}
+use Rattle.nested_arrays.specs.declared.Node.TheVariants as nodes
+use Rattle.ipc_format_column_bytes.specs.Bodies.{parts_of}
+use Rattle.ipc_format_column_bytes.specs.grammar.Encoding.{joined}
+use Rattle.ipc_format_column_bytes.specs.grammar.StoredEncoding.{encode_range, encode_ranges}
+use Rattle.ipc_format_column_bytes.proofs.Bodies.{added_then}
+use Rattle.ipc_format_column_bytes.proofs.columns_lemmas.ColumnSizes.{sizes_count}
+use Rattle.ipc_format_column_writing.specs.Parts.{HaveParts, encode_part, encode_parts, items_column}
+use Rattle.ipc_format_column_writing.proofs.Begun.{range_then}
+use Rattle.ipc_format_column_writing.proofs.Children.{all_of, rest_of}
+use Rattle.ipc_format_column_writing.proofs.columns.+writing.Goals as goal
+
+pub write_children-write_children-requires : goal.write_children-write_children-requires
+write_children-write_children-requires t c =
+    let is : c.args.arrays.now ≡ c.in-Some.array.now ∷ c.in-Some.arrays.now = search rules in
+    let size : columns_size (in_columns c.args.arrays.now) ≡ column_size c.in-Some.array.now + columns_size (in_columns c.in-Some.arrays.now) =
+    ap (λ (xs : List Column). columns_size (in_columns xs)) is in
+    let some = sizes_count c.in-Some.array.now in (
+      search (rules, size, some),
+      rest_of c.args.arrays.now c.in-Some.arrays.now c.in-Some.array.now c.args.part is c.requires,
+    )
+
+pub write_children-returns : goal.write_children-returns
+write_children-returns t c =
+    let is : c.args.arrays.now ≡ c.in-Some.array.now ∷ c.in-Some.arrays.now = search rules in
+    let little = c.args.is_little_endian in
+    added_then c.write_children.result c.args.body.now (parts_of c.write_part.new.body) (parts_of c.write_children.new.body)
+    (encode_part little c.in-Some.array.now c.args.part) (joined (encode_parts little (in_columns c.in-Some.arrays.now) c.args.part))
+    (joined (encode_parts little (in_columns c.args.arrays.now) c.args.part)) c.in_ok-write_part.ensures c.write_children.ensures
+    (all_of little c.args.arrays.now c.in-Some.arrays.now c.in-Some.array.now c.args.part is)
+
+pub write_range-write_children-requires : goal.write_range-write_children-requires
+write_range-write_children-requires t c =
+    let size = ap column_size c.values-in-Struct.ensures in (
+      search (rules, size),
+      subst (λ (cs : Columns). HaveRange cs c.args.first c.args.count) (ap column_children c.values-in-Struct.ensures)
+          c.begin_structs.ensures.fields,
+    )
+
+pub write_range-write_children-requires-in-Union : goal.write_range-write_children-requires-in-Union
+write_range-write_children-requires-in-Union t c =
+    let size = ap column_size c.fields.ensures in (
+      search (rules, size),
+      subst (λ (cs : Columns). HaveParts cs c.in_ok-part-in-Union.part) (ap column_children c.fields.ensures) c.in_ok-part-in-Union.ensures.fields,
+    )
+
+pub write_range-returns-in_ok-start-in-List : goal.write_range-returns-in_ok-start-in-List
+write_range-returns-in_ok-start-in-List t c =
+    let little = c.args.is_little_endian in
+    let b : Column = column_of (nodes.List c.in-List.node) in
+    let same : c.args.array.now ≡ b = cc (ap column_of c.in-List.is) in
+    let child : c.deref.result.now ≡ c.in-List.node.values.value = search rules in
+    range_then c.write_range.result c.args.body.now (parts_of c.begin_lists.new.body) (parts_of c.write_range.new.body) little c.args.array.now b
+    c.args.first c.args.count (encode_range little c.in-List.node.values.value c.in_ok-start-in-List.start c.in_ok-start-in-List.len)
+    (encode_range little c.deref.result.now c.in_ok-start-in-List.start c.in_ok-start-in-List.len) same
+    (ap (λ (items : Column). encode_range little items c.in_ok-start-in-List.start c.in_ok-start-in-List.len) child)
+    c.in_ok-start-in-List.ensures.begun c.write_range.ensures
+
+pub write_range-returns-in_ok-start-in-FixedSizeList : goal.write_range-returns-in_ok-start-in-FixedSizeList
+write_range-returns-in_ok-start-in-FixedSizeList t c =
+    let little = c.args.is_little_endian in
+    let start = c.in_ok-start-in-FixedSizeList.start in
+    let len = c.in_ok-start-in-FixedSizeList.len in
+    let b : Column = c.in-FixedSizeList.array in
+    let same : c.args.array.now ≡ b = cc (ap column_of c.in-FixedSizeList.is) in
+    range_then c.write_range-in-FixedSizeList.result c.args.body.now (parts_of c.begin_fixed_lists.new.body)
+    (parts_of c.write_range-in-FixedSizeList.new.body) little c.args.array.now b c.args.first c.args.count
+    (encode_range little (items_column b) start len) (encode_range little c.values.result.now start len) same
+    (sym (ap (λ (a : Column). encode_range little (items_column a) start len) c.values.ensures))
+    c.in_ok-start-in-FixedSizeList.ensures.begun c.write_range-in-FixedSizeList.ensures
+
+pub write_range-returns-in_ok-begin_structs-in-Struct : goal.write_range-returns-in_ok-begin_structs-in-Struct
+write_range-returns-in_ok-begin_structs-in-Struct t c =
+    let little = c.args.is_little_endian in
+    let b : Column = c.in-Struct.array in
+    let same : c.args.array.now ≡ b = cc (ap column_of c.in-Struct.is) in
+    range_then c.write_children.result c.args.body.now (parts_of c.begin_structs.new.body) (parts_of c.write_children.new.body) little
+    c.args.array.now b c.args.first c.args.count (joined (encode_ranges little (column_children b) c.args.first c.args.count))
+    (joined (encode_ranges little (in_columns c.values-in-Struct.result.now) c.args.first c.args.count)) same
+    (sym (ap (λ (a : Column). joined (encode_ranges little (column_children a) c.args.first c.args.count)) c.values-in-Struct.ensures))
+    c.in_ok-begin_structs-in-Struct.ensures.begun c.write_children.ensures
+
+pub write_range-returns-in_ok-start-in-Map : goal.write_range-returns-in_ok-start-in-Map
+write_range-returns-in_ok-start-in-Map t c =
+    let little = c.args.is_little_endian in
+    let start = c.in_ok-start-in-Map.start in
+    let len = c.in_ok-start-in-Map.len in
+    let b : Column = c.in-Map.array in
+    let same : c.args.array.now ≡ b = cc (ap column_of c.in-Map.is) in
+    range_then c.write_range-in-Map.result c.args.body.now (parts_of c.begin_maps.new.body) (parts_of c.write_range-in-Map.new.body) little
+    c.args.array.now b c.args.first c.args.count (encode_range little (items_column b) start len)
+    (encode_range little c.field.result.now start len) same
+    (sym (ap (λ (a : Column). encode_range little (items_column a) start len) c.field.ensures)) c.in_ok-start-in-Map.ensures.begun
+    c.write_range-in-Map.ensures
+
+pub write_range-returns-in_ok-part-in-Union : goal.write_range-returns-in_ok-part-in-Union
+write_range-returns-in_ok-part-in-Union t c =
+    let little = c.args.is_little_endian in
+    let part = c.in_ok-part-in-Union.part in
+    let b : Column = c.in-Union.array in
+    let same : c.args.array.now ≡ b = cc (ap column_of c.in-Union.is) in
+    range_then c.write_children-in-Union.result c.args.body.now (parts_of c.begin_unions.new.body) (parts_of c.write_children-in-Union.new.body)
+    little c.args.array.now b c.args.first c.args.count (joined (encode_parts little (column_children b) part))
+    (joined (encode_parts little (in_columns c.fields.result.now) part)) same
+    (sym (ap (λ (a : Column). joined (encode_parts little (column_children a) part)) c.fields.ensures)) c.in_ok-part-in-Union.ensures.begun
+    c.write_children-in-Union.ensures

@@ -1,0 +1,12 @@
+use Rattle.std.proofs.Common.{◌+◌, ◌*◌}
+use Rattle.nested_arrays.specs.StoredColumns.{column_size, columns_size, in_columns}
+use Rattle.ipc_format_column_writing.proofs.columns.+writing.Given as goal
+
+abbrev pub decreases-write_range : goal.decreases-write_range
+decreases-write_range l = 3 * column_size l.array.now
+
+abbrev pub decreases-write_part : goal.decreases-write_part
+decreases-write_part l = 3 * column_size l.array.now + 1
+
+abbrev pub decreases-write_children : goal.decreases-write_children
+decreases-write_children l = 3 * columns_size (in_columns l.arrays.now) + 2

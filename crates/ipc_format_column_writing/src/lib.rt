@@ -1,0 +1,11 @@
+//! Columns as they are written into record batches (Arrow IPC, "RecordBatch message"), from arrays of any type.
+#![tactic(auto)]
+
+mod columns;
+mod flats;
+mod own;
+mod parts;
+mod serialize;
+
+pub use ipc_format_column_bytes as column_bytes;
+pub use serialize::{Compression, write, write_struct, write_union};
