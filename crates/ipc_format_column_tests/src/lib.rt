@@ -1,4 +1,4 @@
-//! Tests of columns that are passed over in record batches, and of their buffers, read and written. They stand here since a crate with tests
+//! Tests of columns that are passed over in record batches, and of their buffers that are read. They stand here since a crate with tests
 //! is proved twice.
 #![tactic(auto)]
 
@@ -9,8 +9,4 @@ mod cases;
 #[cfg(test)]
 mod devices;
 #[cfg(test)]
-mod flat;
-#[cfg(test)]
 mod skipping;
-#[cfg(test)]
-mod writing;

@@ -2,8 +2,6 @@
 #![tactic(auto)]
 
 #[cfg(test)]
-mod arriving;
-#[cfg(test)]
 mod laying;
 #[cfg(test)]
 mod messages;
