@@ -72,7 +72,7 @@ file_parts bytes dictionaries (block ∷ blocks) values all some found e =
     let columns = came_of {A = List Entry} (entries_at is_record_batch bytes (block ∷ blocks)) _ all behind in
     (columns.0, columns.1, same_value (values ++ columns.0) all columns.2)
 
-contents_are : (bytes : List ℕ) (base : Base) (is : IsBase bytes base) (contents : Contents) → contents_of file bytes ≡ Some contents
+pub contents_are : (bytes : List ℕ) (base : Base) (is : IsBase bytes base) (contents : Contents) → contents_of file bytes ≡ Some contents
     → (columns : List Entry) × (entries_at is_record_batch bytes is.footer.record_batches ≡ Some columns)
     × (record { schema = base.found; entries = is.entries ++ columns } ≡ contents)
 unfolding contents_of
@@ -88,12 +88,12 @@ abbrev Batches : Type 0
 Batches = List (List (List Slot))
 
 -- what the file's messages give under the dictionaries that stand
-record Gives (bytes : List ℕ) (base : Base) (is : IsBase bytes base) (table : Table) (contents : Contents) : Type 0 where
-  old : Batches
-  reads : batches_of (layout_of contents.schema) [] contents.entries ≡ Some old
-  whole : record { schema = normalised contents.schema.schema; rows = rows_of_batches old } ≡ table
+pub record Gives (bytes : List ℕ) (base : Base) (is : IsBase bytes base) (table : Table) (contents : Contents) : Type 0 where
+  pub old : Batches
+  pub reads : batches_of (layout_of contents.schema) [] contents.entries ≡ Some old
+  pub whole : record { schema = normalised contents.schema.schema; rows = rows_of_batches old } ≡ table
 
-gives : (bytes : List ℕ) (base : Base) (is : IsBase bytes base) (table : Table) → table_of file bytes ≡ Some table
+pub gives : (bytes : List ℕ) (base : Base) (is : IsBase bytes base) (table : Table) → table_of file bytes ≡ Some table
     → (contents : Contents) × (contents_of file bytes ≡ Some contents) × Gives bytes base is table contents
 unfolding table_of
 gives bytes base is table e =
@@ -122,7 +122,7 @@ pub record Old (bytes : List ℕ) (base : Base) (is : IsBase bytes base) (table 
   pub dictionaries_before : Each (ColumnsBefore (base_end base) (layout_of base.found)) is.entries
   pub batches_before : Each (ColumnsBefore (base_end base) (layout_of base.found)) columns
 
-count_same : (schema : Schema) → length schema.fields ≡ length (normalised schema).fields
+pub count_same : (schema : Schema) → length schema.fields ≡ length (normalised schema).fields
 unfolding normalised
 count_same schema = sym (length-map schema.fields _)
 

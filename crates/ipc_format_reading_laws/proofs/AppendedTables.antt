@@ -61,16 +61,16 @@ use Rattle.ipc_format_reading_laws.proofs.StoredTablesStreams.{layout_with, hold
 -- ---- what was asked
 
 -- what is asked of batches that are appended
-record WasAppended (bytes new : List ℕ) (base : Base) (batches : List (List Column)) (all : List Batch) : Type 0 where
-  belong : list_all (belongs base.found.schema base.found.ids) (stored_chunks batches) ≡ true
-  once : none_replaced base.told (all_given all) ≡ true
-  fit : list_all fits_limit (messages_after base.told all) ≡ true
-  few : length (appended_blocks base all).dictionaries ≤ most_dictionaries
-  footer : is_footer (appended_footer base all) ≡ true
-  short : length (appended_bytes base bytes all) < 2 ^ 63
-  bytes_are : appended_bytes base bytes all ≡ new
+pub record WasAppended (bytes new : List ℕ) (base : Base) (batches : List (List Column)) (all : List Batch) : Type 0 where
+  pub belong : list_all (belongs base.found.schema base.found.ids) (stored_chunks batches) ≡ true
+  pub once : none_replaced base.told (all_given all) ≡ true
+  pub fit : list_all fits_limit (messages_after base.told all) ≡ true
+  pub few : length (appended_blocks base all).dictionaries ≤ most_dictionaries
+  pub footer : is_footer (appended_footer base all) ≡ true
+  pub short : length (appended_bytes base bytes all) < 2 ^ 63
+  pub bytes_are : appended_bytes base bytes all ≡ new
 
-was_appended : (bytes new : List ℕ) (base : Base) (batches : List (List Column)) → base_of bytes ≡ Some base
+pub was_appended : (bytes new : List ℕ) (base : Base) (batches : List (List Column)) → base_of bytes ≡ Some base
     → appended bytes (stored_chunks batches) ≡ Some new
     → WasAppended bytes new base batches (map (batch_of_stored base.found.ids) batches)
 unfolding appended
@@ -180,15 +180,21 @@ not_none : (f : Entry → Entry) (xs ys : List Entry) → is_empty xs ≡ false 
 not_none f [] ys some none = absurd cc
 not_none f (x ∷ xs) ys some none = absurd cc
 
+-- a file's own blocks and new ones, as they are read
+pub blocks_joined : (own new : List Block) (old : List read.Block) → own ≡ map kept_block old
+    → map block_read (own ++ new) ≡ map again old ++ map block_read new
+blocks_joined own new old is =
+    map-append block_read own new
+    ∙ ap (λ (them : List read.Block). them ++ map block_read new) (ap (map block_read) is ∙ again_all old)
+
 -- the messages at a file's own blocks and at new ones
-joined_entries : (is_of_kind : Header → Bool) (bytes : List ℕ) (own new : List Block) (old : List read.Block) (first behind : List Entry)
+pub joined_entries : (is_of_kind : Header → Bool) (bytes : List ℕ) (own new : List Block) (old : List read.Block) (first behind : List Entry)
     → own ≡ map kept_block old → entries_at is_of_kind bytes (map again old) ≡ Some first
     → entries_at is_of_kind bytes (map block_read new) ≡ Some behind
     → entries_at is_of_kind bytes (map block_read (own ++ new)) ≡ Some (first ++ behind)
 joined_entries is_of_kind bytes own new old first behind is e found =
-    ap (entries_at is_of_kind bytes) (map-append block_read own new)
-    ∙ entries_join is_of_kind bytes (map block_read own) (map block_read new) first behind
-    (ap (entries_at is_of_kind bytes) (ap (map block_read) is ∙ again_all old) ∙ e) found
+    ap (entries_at is_of_kind bytes) (blocks_joined own new old is)
+    ∙ entries_join is_of_kind bytes (map again old) (map block_read new) first behind e found
 
 -- ---- schemas
 
@@ -217,21 +223,21 @@ fields_normal : (schema : Schema) → HasTexts schema → AreNormal (normalised 
 unfolding normalised
 fields_normal schema texts = ap (λ (s : Schema). s.fields) (normal_again schema texts)
 
-rows_join : (some others : List (List (List Slot))) → rows_of_batches (some ++ others) ≡ rows_of_batches some ++ rows_of_batches others
+pub rows_join : (some others : List (List (List Slot))) → rows_of_batches (some ++ others) ≡ rows_of_batches some ++ rows_of_batches others
 rows_join some others = flat_map-append batch_rows some others
 
 -- ---- the new file
 
 module _ (stored : StoredColumnsReadBack) (bytes : List ℕ) (base : Base) (is : IsBase bytes base) (table : Table) (old : Old bytes base is table)
     (batches : List (List Column)) where
-  abbrev all : List Batch
+  abbrev pub all : List Batch
   all = map (batch_of_stored base.found.ids) batches
 
   -- the new file's bytes: the old ones up to the end of the last message, and others
-  abbrev room : List ℕ
+  abbrev pub room : List ℕ
   room = take (base_end base) bytes ++ behind_base base bytes all
 
-  abbrev new_blocks : Blocks
+  abbrev pub new_blocks : Blocks
   new_blocks = batch_blocks (base_start base) base.told all
 
   abbrev layout : Layout
@@ -300,10 +306,18 @@ module _ (stored : StoredColumnsReadBack) (bytes : List ℕ) (base : Base) (is :
       appended_footers base bytes all is.footer is.has_footer is.inside long schema.writable schema.texts schema.all_ids fit_dictionaries
       fit_batches footer
 
-  new_holds : (new : List ℕ) → WasAppended bytes new base batches all
-      → length (rows_of_batches (old.batches ++ read_batches batches)) < 2 ^ 64
-      → HoldsBatches file room base.found.schema (old.batches ++ read_batches batches)
-  new_holds new was small =
+  -- what is known of the new file's parts
+  pub record NewParts : Type 0 where
+    pub size : length bytes ≤ length room
+    pub its : Each (IsBatch base.found.schema.fields base.found.ids) batches
+    pub once : none_replaced base.told (given_of_all base.found.ids batches) ≡ true
+    pub few : length (appended_blocks base all).dictionaries ≤ most_dictionaries
+    pub blocks : BlocksRead room new_blocks (all_written base.told all) all
+    pub has : HasFooter room (appended_footer base all) (normalised base.found.schema) (ids_read base.found.schema base.found.ids)
+        (appended_blocks base all)
+
+  pub new_parts : (new : List ℕ) → WasAppended bytes new base batches all → NewParts
+  new_parts new was =
       let schema = base.found.schema in
       let below = base.found.ids in
       let its_schema = read_schema bytes base is in
@@ -314,20 +328,29 @@ module _ (stored : StoredColumnsReadBack) (bytes : List ℕ) (base : Base) (is :
       subst (λ (them : List ℕ). BlocksRead them new_blocks (all_written base.told all) all) begins
       (blocks_stand all base.told (base_start base) (rooms schema below batches its_schema.all_ids was.belong few) was.fit was.short
       (new_messages_stand base bytes all is.inside)) in
-      let size : length bytes ≤ length room = omega (arith, not_shorter base bytes all, ap length begins) in
-      let once : none_replaced base.told (given_of_all below batches) ≡ true =
-      subst (λ (given : List Given). none_replaced base.told given ≡ true) (given_all below batches) was.once in
-      let given = entries_give its_schema.texts size its once was.few blocks in
-      let footer = appended_footer base all in
-      let has : HasFooter room footer (normalised schema) (ids_read schema below) (appended_blocks base all) =
-      subst (λ (them : List ℕ). HasFooter them footer (normalised schema) (ids_read schema below) (appended_blocks base all)) begins
-      (has_footer its_schema was.footer blocks) in
+      record {
+        size = omega (arith, not_shorter base bytes all, ap length begins);
+        its = its;
+        once = subst (λ (given : List Given). none_replaced base.told given ≡ true) (given_all below batches) was.once;
+        few = was.few;
+        blocks = blocks;
+        has = subst (λ (them : List ℕ). HasFooter them (appended_footer base all) (normalised schema) (ids_read schema below)
+            (appended_blocks base all)) begins (has_footer its_schema was.footer blocks);
+      }
+
+  pub new_holds : NewParts → length (rows_of_batches (old.batches ++ read_batches batches)) < 2 ^ 64
+      → HoldsBatches file room base.found.schema (old.batches ++ read_batches batches)
+  new_holds parts small =
+      let schema = base.found.schema in
+      let below = base.found.ids in
+      let its_schema = read_schema bytes base is in
+      let given = entries_give its_schema.texts parts.size parts.its parts.once parts.few parts.blocks in
       let reads : batches_of (layout_with (normalised schema) below) [] given.entries ≡ Some (old.batches ++ read_batches batches) =
       ap (λ (order : Bool). batches_of (record { fields = (normalised schema).fields; below = below; is_little_endian = order }) [] given.entries)
       (sym is.little) ∙ given.reads in
       holds_batches file room schema below given.entries (old.batches ++ read_batches batches) its_schema.texts
       (ids_are_read schema.fields below its_schema.fit) small
-      (contents_found room footer schema below (appended_blocks base all) given.entries has given.found) reads
+      (contents_found room (appended_footer base all) schema below (appended_blocks base all) given.entries parts.has given.found) reads
 
 -- ---- the law
 
@@ -342,7 +365,7 @@ appended_files stored bytes new base batches table e before its_table became sma
     let rows : rows_of_batches old.batches ≡ table.rows = ap (λ (t : Table). t.rows) old.whole in
     let few : length (rows_of_batches (old.batches ++ read_batches batches)) < 2 ^ 64 =
     subst (λ (them : List (List Slot)). length them < 2 ^ 64) (ap (λ (them : List (List Slot)). them ++ more) (sym rows) ∙ sym joins) small in
-    let holds = new_holds stored bytes base is table old batches new was few in
+    let holds = new_holds stored bytes base is table old batches (new_parts stored bytes base is table old batches new was) few in
     let whole : table_of file new
     ≡ Some (record { schema = normalised base.found.schema; rows = rows_of_batches (old.batches ++ read_batches batches) }) =
     subst (λ (room : List ℕ). table_of file room

@@ -66,3 +66,11 @@ pub mod AppendedStanding
 pub mod AppendedReads
 pub mod AppendedOld
 pub mod AppendedTables
+pub mod EndsBodies
+pub mod EndsBuffers
+pub mod EndsColumns
+pub mod EndsChildren
+pub mod EndsTypes
+pub mod EndsEntries
+pub mod EndsFiles
+pub mod GrownFiles

@@ -1,6 +1,6 @@
 -- What stands at the blocks of a file: its dictionaries and its batches, each message where it was written.
 use Rattle.std.proofs.Common.{◌≡◌, ◌∙◌, ℕ, zero, suc, ◌+◌, ◌<◌, ◌≤◌, ◌^◌, pos, List, [], ◌∷◌, ◌++◌, length, map, refl, sym, ap, subst}
-use Rattle.std.proofs.Common.{Bool, true, arith, length-append, append_assoc}
+use Rattle.std.proofs.Common.{Bool, true, arith, length-append, append_assoc, take}
 use Rattle.std.specs.Prelude.{ℤ, Option, Some, if◌then◌else◌, nat_lt, nat_le}
 use Rattle.std.specs.List.{All, list_all}
 use Rattle.std.specs.Int.{w8, w32, to_le_bytes}
@@ -18,7 +18,8 @@ use Rattle.ipc_format_grammar.specs.GivenDictionaries.{Given, last_under, stands
 use Rattle.ipc_format_grammar.specs.WrittenMessages.{Written, prefix_size, continuation_marker, message_bytes, most_metadata, body_limit, fits_limit}
 use Rattle.ipc_format_grammar.specs.WrittenMessages.{padded_buffer, buffer_places, body_bytes, record_message, dictionary_message}
 use Rattle.ipc_format_grammar.specs.WrittenStreams.{Batch, messages_after, bytes_of_messages}
-use Rattle.ipc_format_grammar.specs.WrittenFiles.{Blocks, block_of, place_after, with_record_batch, dictionary_blocks, batch_blocks}
+use Rattle.ipc_format_grammar.specs.WrittenFiles.{Block, Blocks, block_of, place_after, with_record_batch, dictionary_blocks, batch_blocks}
+use Rattle.ipc_format_grammar.specs.AppendedFiles.{block_end}
 use Rattle.ipc_format_laws.specs.BatchMessages.{AreSigned}
 use Rattle.ipc_format_laws.specs.Contents.{HasColumns, HasValues, dictionary, batch, batch_message}
 use Rattle.ipc_format_laws.specs.Footers.{FitsBlock, FitBlocks, block_read}
@@ -28,6 +29,8 @@ use Rattle.ipc_format_laws.proofs.LaterMessages.{has_room, ReadsBack}
 use Rattle.ipc_format_laws.proofs.Places.{Stands, front, back, ends_within, window_stands}
 use Rattle.ipc_format_laws.proofs.Room.{HasRoomForValues, HasRoomForColumns}
 use Rattle.ipc_format_laws.proofs.StreamReaders.{came_of}
+use Rattle.ipc_format_reading_laws.specs.StatedBodies.{HeaderEnds, EntryEnds}
+use Rattle.ipc_format_reading_laws.proofs.EndsBodies.{columns_state, values_state, cut_stands}
 use Rattle.ipc_format_reading_laws.proofs.StoredGivenLists.{AreEach, by_answer}
 use Rattle.ipc_format_reading_laws.proofs.StoredTablesEntries.{IsEntryOf, IsSent}
 
@@ -98,6 +101,10 @@ dictionary_reads_back given is fits =
 
 -- ---- one block
 
+-- a block's message and the buffers that it states end where the block does
+abbrev pub EndsWith : List ℕ → Block → Entry → Type 0
+EndsWith bytes block entry = EntryEnds (block_end block) bytes (block_read block) entry
+
 -- the message of a block
 record BlockReads (bytes : List ℕ) (is_of_kind : Header → Bool) (message : Written) (kind : Table → Header) (HasTable : Table → Type 0)
     (place : ℕ) : Type 0 where
@@ -105,12 +112,15 @@ record BlockReads (bytes : List ℕ) (is_of_kind : Header → Bool) (message : W
   entry : Entry
   read : entry_at is_of_kind bytes (block_read (block_of place message)) ≡ Some entry
   is : IsEntryOf message kind HasTable entry
+  ends : EndsWith bytes (block_of place message) entry
 
 block_reads : {bytes : List ℕ} {place : ℕ} (is_of_kind : Header → Bool) (message : Written) (kind : Table → Header) (HasTable : Table → Type 0)
-    → ((table : Table) → is_of_kind (kind table) ≡ true) → ReadsBack message kind HasTable → fits_limit message ≡ true
-    → length bytes < 2 ^ 63 → Stands bytes place (message_bytes message) → BlockReads bytes is_of_kind message kind HasTable place
+    → ((table : Table) → is_of_kind (kind table) ≡ true)
+    → ((table : Table) (origin : ℕ) → HasTable table → HeaderEnds (origin + length message.body) origin message.metadata (kind table))
+    → ReadsBack message kind HasTable → fits_limit message ≡ true → length bytes < 2 ^ 63 → Stands bytes place (message_bytes message)
+    → BlockReads bytes is_of_kind message kind HasTable place
 unfolding entry_at
-block_reads {bytes} {place} is_of_kind message kind HasTable of_kind found fits small s =
+block_reads {bytes} {place} is_of_kind message kind HasTable of_kind states found fits small s =
     let metadata = message.metadata in
     let room = has_room message fits in
     let limits = and_parts (nat_lt (length message.body) body_limit) (nat_le (prefix_size + length metadata) most_metadata) fits in
@@ -122,6 +132,9 @@ block_reads {bytes} {place} is_of_kind message kind HasTable of_kind found fits 
     back (continuation_marker ++ to_le_bytes w32 (length metadata)) (metadata ++ message.body) (place + 8) refl refl s in
     let next : ℕ = place + (prefix_size + length metadata) in
     let its_body : Stands bytes next message.body = back metadata message.body next refl (omega arith) behind in
+    let end : ℕ = block_end (block_of place message) in
+    let cut : Stands (take end bytes) place (message_bytes message) =
+    cut_stands end (omega (arith, length-append metadata message.body)) s in
     record {
       fit = record { offset_fits = omega (arith, ends_within behind); metadata_fits = omega (arith, short); body_fits = room.body };
       entry = record { metadata = metadata; header = kind found.header_at; version = V5; room = bytes; origin = next };
@@ -133,6 +146,12 @@ block_reads {bytes} {place} is_of_kind message kind HasTable of_kind found fits 
         table = found.header_at;
         header = refl;
         has_table = found.header;
+      };
+      ends = record {
+        metadata = metadata;
+        next = place + 8 + length metadata;
+        frame = frame_stands metadata message.body (has_metadata metadata _ found.message) room.metadata cut;
+        buffers = states found.header_at next found.header;
       };
     }
 
@@ -146,9 +165,11 @@ pub record BlocksRead (bytes : List ℕ) (blocks : Blocks) (given : List Given) 
   pub values : List Entry
   pub values_read : entries_at is_dictionary bytes (map block_read blocks.dictionaries) ≡ Some values
   pub are_values : AreEach (λ (g : Given). IsSent (dictionary g)) given values
+  pub values_end : AreEach (EndsWith bytes) blocks.dictionaries values
   pub columns : List Entry
   pub columns_read : entries_at is_record_batch bytes (map block_read blocks.record_batches) ≡ Some columns
   pub are_columns : AreEach (λ (b : Batch). IsSent (batch b)) batches columns
+  pub columns_end : AreEach (EndsWith bytes) blocks.record_batches columns
 
 -- the dictionaries that are written of batches
 abbrev pub all_written : List Given → List Batch → List Given
@@ -166,7 +187,8 @@ dictionaries_at {bytes} (next ∷ given) place rest others more batches all fit 
     let tests = and_parts (fits_limit message) (list_all fits_limit (map dictionary_message given)) fit in
     let behind = bytes_of_messages (map dictionary_message given ++ others) in
     let found = dictionary_reads_back next (All-head HasRoomForValues next given all) tests.0 in
-    let here = block_reads is_dictionary message grammar.dictionary_batch (HasValues next) (λ (table : Table). refl) found tests.0 small
+    let here = block_reads is_dictionary message grammar.dictionary_batch (HasValues next) (λ (table : Table). refl)
+    (values_state next) found tests.0 small
     (front (message_bytes message) behind refl s) in
     let later = dictionaries_at given (place_after place message) rest others more batches (All-tail HasRoomForValues next given all) tests.1 small
     (back (message_bytes message) behind (place_after place message) refl refl s) rest_reads in
@@ -177,9 +199,11 @@ dictionaries_at {bytes} (next ∷ given) place rest others more batches all fit 
       values = here.entry ∷ later.values;
       values_read = rw (here.read, later.values_read) refl;
       are_values = (here.is, later.are_values);
+      values_end = (here.ends, later.values_end);
       columns = later.columns;
       columns_read = later.columns_read;
       are_columns = later.are_columns;
+      columns_end = later.columns_end;
     }
 
 batch_at : {bytes : List ℕ} (next : Batch) (place : ℕ) (blocks : ℕ → Blocks) (others : List Written) (more : List Given)
@@ -192,6 +216,7 @@ batch_at {bytes} next place blocks others more batches has fit small s rest_read
     let message = batch_message next in
     let behind = bytes_of_messages others in
     let here = block_reads is_record_batch message grammar.record_batch (HasColumns next) (λ (table : Table). refl)
+    (columns_state next)
     (batch_reads_back next has fit) fit small (front (message_bytes message) behind refl s) in
     let later = rest_reads (place_after place message) (back (message_bytes message) behind (place_after place message) refl refl s) in
     record {
@@ -201,9 +226,11 @@ batch_at {bytes} next place blocks others more batches has fit small s rest_read
       values = later.values;
       values_read = later.values_read;
       are_values = later.are_values;
+      values_end = later.values_end;
       columns = here.entry ∷ later.columns;
       columns_read = rw (here.read, later.columns_read) refl;
       are_columns = (here.is, later.are_columns);
+      columns_end = (here.ends, later.columns_end);
     }
 
 -- the dictionaries that are written are among those that are brought
@@ -227,9 +254,11 @@ blocks_stand [] written place all fit small s = record {
   values = [];
   values_read = refl;
   are_values = tt;
+  values_end = tt;
   columns = [];
   columns_read = refl;
   are_columns = tt;
+  columns_end = tt;
 }
 blocks_stand {bytes} (next ∷ batches) written place all fit small s =
     let has = All-head HasRoomForColumns next batches all in

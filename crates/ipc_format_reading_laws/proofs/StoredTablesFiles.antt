@@ -28,7 +28,7 @@ use Rattle.ipc_format_grammar.specs.WrittenFiles.{Blocks, place_after, batch_blo
 use Rattle.ipc_format_grammar.specs.WrittenFiles.{fits_file_limit, none_replaced, all_given, written_file}
 use Rattle.ipc_format_laws.specs.Contents.{schema_read, Sent, dictionary, batch}
 use Rattle.ipc_format_laws.specs.Footers.{block_read, file_with, HasFooter}
-use Rattle.ipc_format_laws.specs.Schemas.{ids_read}
+use Rattle.ipc_format_laws.specs.Schemas.{HasTexts, ids_read}
 use Rattle.ipc_format_laws.proofs.Footers.{footers_read_back}
 use Rattle.ipc_format_laws.proofs.GivenIds.{batch_ids}
 use Rattle.ipc_format_laws.proofs.Places.{Stands, back}
@@ -42,7 +42,7 @@ use Rattle.ipc_format_reading_laws.proofs.StoredGivenLists.{Each, AreEach, by_an
 use Rattle.ipc_format_reading_laws.proofs.StoredGivenReady.{brought_of, given_brought_of, AgreePairs, pairs_front, pairs_back, ready_of, given_few}
 use Rattle.ipc_format_reading_laws.proofs.StoredGivenStanding.{as_read, StandsIn}
 use Rattle.ipc_format_reading_laws.proofs.StoredTablesBatches.{IsBatch}
-use Rattle.ipc_format_reading_laws.proofs.StoredTablesBelong.{asked_of, batches_same, are_batches, all_bring_few}
+use Rattle.ipc_format_reading_laws.proofs.StoredTablesBelong.{IsAsked, asked_of, batches_same, are_batches, all_bring_few}
 use Rattle.ipc_format_reading_laws.proofs.StoredTablesBlocks.{BlocksRead, all_written, blocks_stand}
 use Rattle.ipc_format_reading_laws.proofs.StoredTablesEntries.{IsSent}
 use Rattle.ipc_format_reading_laws.proofs.StoredTablesOnce.{none_replaced_agree, given_of_all, given_all, later_batches, agree_behind, none_more}
@@ -288,11 +288,23 @@ file_found stored bytes schema below (first ∷ batches) place its pairs few blo
       reads = reads.reads;
     }
 
--- ---- the law
+-- ---- the parts of a file that is written
 
-pub stored_files : StoredColumnsReadBack → StoredFilesReadBack
+-- what is known of a written file's parts
+pub record FileParts (schema : Schema) (below : IdsList) (batches : List (List Column)) (bytes : List ℕ) : Type 0 where
+  pub place : ℕ
+  pub asked : IsAsked schema below
+  pub its : Each (IsBatch schema.fields below) batches
+  pub once : none_replaced [] (all_given (map (batch_of_stored below) batches)) ≡ true
+  pub blocks : BlocksRead bytes (batch_blocks place [] (map (batch_of_stored below) batches))
+      (all_written [] (map (batch_of_stored below) batches)) (map (batch_of_stored below) batches)
+  pub footer : List ℕ
+  pub has : HasFooter bytes footer (normalised schema) (ids_read schema below) (batch_blocks place [] (map (batch_of_stored below) batches))
+
+pub file_parts : (schema : Schema) (below : IdsList) (batches : List (List Column)) (bytes : List ℕ)
+    → written_file schema below (stored_chunks batches) ≡ Some bytes → HasTexts schema → FileParts schema below batches bytes
 unfolding footer_bytes
-stored_files stored schema below batches bytes e texts small =
+file_parts schema below batches bytes e texts =
     let was = was_asked schema below batches bytes e in
     let asked = asked_of schema below was.is in
     let its_ids : all_are_ids below ≡ true = (and_parts (is_writable schema && ids_fit_fields schema.fields below) (all_are_ids below) was.is).1 in
@@ -303,10 +315,6 @@ stored_files stored schema below batches bytes e texts small =
     let stands : Stands bytes place (bytes_of_messages (messages_after [] all)) =
     subst (λ (them : List ℕ). Stands them place (bytes_of_messages (messages_after [] all))) was.bytes_are (messages_stand schema below all) in
     let blocks = blocks_stand all [] place (rooms schema below batches its_ids was.belong few) was.fit was.short stands in
-    let pairs : AgreePairs (given_of_all below batches) =
-    subst AgreePairs (given_all below batches) (none_replaced_agree [] (all_given all) was.once) in
-    let found = file_found stored bytes schema below batches place its pairs
-    (λ (cs : List Column) (is : IsBatch schema.fields below cs). given_few schema below cs asked.writable is.columns) blocks in
     let its_blocks = batch_blocks place [] all in
     let footer = footer_bytes schema below all in
     let short_footer : length footer < 2 ^ 31 = ltb-true (length footer) (2 ^ 31) was.footer in
@@ -314,8 +322,27 @@ stored_files stored schema below batches bytes e texts small =
     let has_footer : HasFooter (file_with stream footer) footer (normalised schema) (ids_read schema below) its_blocks =
     footers_read_back schema below its_blocks stream asked.writable texts (fit_ids_list below its_ids) blocks.fit_dictionaries blocks.fit_batches
     short_footer in
-    let has : HasFooter bytes footer (normalised schema) (ids_read schema below) its_blocks =
-    subst (λ (them : List ℕ). HasFooter them footer (normalised schema) (ids_read schema below) its_blocks)
-    (sym (file_is stream footer) ∙ whole_file schema below all ∙ was.bytes_are) has_footer in
-    holds_batches file bytes schema below found.entries (read_batches batches) texts (ids_are_read schema.fields below asked.fit) small
-    (contents_found bytes footer schema below its_blocks found.entries has found.found) found.reads
+    record {
+      place = place;
+      asked = asked;
+      its = its;
+      once = was.once;
+      blocks = blocks;
+      footer = footer;
+      has = subst (λ (them : List ℕ). HasFooter them footer (normalised schema) (ids_read schema below) its_blocks)
+          (sym (file_is stream footer) ∙ whole_file schema below all ∙ was.bytes_are) has_footer;
+    }
+
+-- ---- the law
+
+pub stored_files : StoredColumnsReadBack → StoredFilesReadBack
+stored_files stored schema below batches bytes e texts small =
+    let parts = file_parts schema below batches bytes e texts in
+    let all = map (batch_of_stored below) batches in
+    let its_blocks = batch_blocks parts.place [] all in
+    let pairs : AgreePairs (given_of_all below batches) =
+    subst AgreePairs (given_all below batches) (none_replaced_agree [] (all_given all) parts.once) in
+    let found = file_found stored bytes schema below batches parts.place parts.its pairs
+    (λ (cs : List Column) (is : IsBatch schema.fields below cs). given_few schema below cs parts.asked.writable is.columns) parts.blocks in
+    holds_batches file bytes schema below found.entries (read_batches batches) texts (ids_are_read schema.fields below parts.asked.fit) small
+    (contents_found bytes parts.footer schema below its_blocks found.entries parts.has found.found) found.reads

@@ -1,6 +1,8 @@
 -- What a file reads as to which batches of stored columns were appended (Arrow IPC, "IPC File Format"; docs/FORMAT.md, "Appending").
-use Rattle.std.specs.Prelude.{◌≡◌, ℕ, ◌+◌, ◌<◌, ◌≤◌, ◌^◌, List, ◌++◌, length, take, Some}
-use Rattle.std.specs.List.{All}
+use Rattle.std.specs.Prelude.{◌≡◌, ℕ, ◌+◌, ◌<◌, ◌≤◌, ◌^◌, List, [], ◌∷◌, ◌++◌, length, take, Option, Some}
+use Rattle.std.specs.List.{All, flat_map}
+use Rattle.columnar_memory.specs.declared.Schema.{Schema}
+use Rattle.ipc_format_flatbuffers.specs.Reading.{◌>>=◌}
 use Rattle.nested_arrays_columns.specs.Slots.{window}
 use Rattle.nested_arrays_columns.specs.StoredColumns.{Column}
 use Rattle.nested_arrays_columns.specs.Tables.{Table, rows_of_batches}
@@ -8,9 +10,13 @@ use Rattle.ipc_format_grammar.specs.Dictionaries.{Entry}
 use Rattle.ipc_format_grammar.specs.Framing.{frame_at}
 use Rattle.ipc_format_grammar.specs.Files.{Block, Footer, footer_in}
 use Rattle.ipc_format_grammar.specs.Tables.{Contents, file, contents_of, layout_of, table_of}
+use Rattle.ipc_format_grammar.specs.Schemas.{IdsList}
 use Rattle.ipc_format_grammar.specs.Windows.{Window, entry_windows}
+use Rattle.ipc_format_grammar.specs.WrittenFiles.{written_file}
 use Rattle.ipc_format_grammar.specs.AppendedFiles.{Base, base_of, base_end, appended}
-use Rattle.ipc_format_reading_laws.specs.StoredTables.{stored_chunks, read_batches}
+use Rattle.ipc_format_laws.specs.Schemas.{HasTexts}
+use Rattle.ipc_format_reading_laws.specs.StatedBodies.{MessagesEnd}
+use Rattle.ipc_format_reading_laws.specs.StoredTables.{stored_chunks, read_batches, HoldsBatches}
 
 -- the numbers of a schema's columns
 abbrev pub all_columns : Contents → List ℕ
@@ -34,3 +40,30 @@ AppendedFilesReadBack = (bytes new : List ℕ) (base : Base) (batches : List (Li
     → StandsBefore (base_end base) bytes → table_of file bytes ≡ Some table → appended bytes (stored_chunks batches) ≡ Some new
     → length (table.rows ++ rows_of_batches (read_batches batches)) < 2 ^ 64
     → table_of file new ≡ Some (record table { rows = table.rows ++ rows_of_batches (read_batches batches) })
+
+-- Where the messages of a file and the buffers that they state end before an end, as their metadata tells it, what is taken of the file
+-- stands before that end.
+abbrev pub StatedEndsAreEnough : Type 0
+StatedEndsAreEnough = (bytes : List ℕ) (base : Base) (table : Table) → base_of bytes ≡ Some base → table_of file bytes ≡ Some table
+    → MessagesEnd (base_end base) bytes → StandsBefore (base_end base) bytes
+
+-- ---- files that were written here
+
+-- a file to which batches were appended in turns, one after another
+unfoldable pub appended_in_turns : List ℕ → List (List (List Column)) → Option (List ℕ)
+appended_in_turns bytes [] = Some bytes
+appended_in_turns bytes (batches ∷ turns) = do
+  new ← appended bytes (stored_chunks batches)
+  appended_in_turns new turns
+
+-- the batches of some turns
+abbrev pub all_turns : List (List (List Column)) → List (List Column)
+all_turns turns = flat_map (λ (batches : List (List Column)). batches) turns
+
+-- A file that was written, and to which batches were then appended in any number of turns, holds the batches of all turns, one after another,
+-- where names and metadata are texts and the rows fit 64 bits.
+abbrev pub GrownFilesReadBack : Type 0
+GrownFilesReadBack = (schema : Schema) (below : IdsList) (batches : List (List Column)) (turns : List (List (List Column)))
+    (bytes new : List ℕ) → written_file schema below (stored_chunks batches) ≡ Some bytes → HasTexts schema
+    → appended_in_turns bytes turns ≡ Some new → length (rows_of_batches (read_batches (batches ++ all_turns turns))) < 2 ^ 64
+    → HoldsBatches file new schema (read_batches (batches ++ all_turns turns))

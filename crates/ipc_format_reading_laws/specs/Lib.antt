@@ -5,4 +5,5 @@ pub mod NormalColumns
 pub mod StoredTables
 pub mod SealLaws
 pub mod Fronts
+pub mod StatedBodies
 pub mod AppendLaws

@@ -13,7 +13,7 @@ mod normal_laws;
 mod seal_laws;
 mod table_laws;
 
-pub use append_laws::appended_files_read_back;
+pub use append_laws::{appended_files_read_back, grown_files_read_back, stated_ends_are_enough};
 pub use column_laws::stored_columns_read_back;
 pub use front_laws::{columns_have_parts, columns_read_at_fronts};
 pub use isolation_laws::choices_are_isolated;
