@@ -1,3 +1,4 @@
 mod NextMessages
 mod Pieces
 mod Told
+mod Starts

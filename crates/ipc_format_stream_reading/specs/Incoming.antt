@@ -1,5 +1,5 @@
 -- The messages of a stream whose bytes arrive piece by piece (Arrow IPC, "Encapsulated message format", "IPC Streaming Format").
-use Rattle.std.specs.Prelude.{◌≡◌, ◌⊎◌, ℕ, ◌<◌, ℤ, pos, List, ◌++◌, length, drop, Option, Some, None, Result, Ok, Err}
+use Rattle.std.specs.Prelude.{◌≡◌, ◌⊎◌, ℕ, ◌<◌, ℤ, pos, List, [], ◌++◌, length, drop, Option, Some, None, Result, Ok, Err}
 use Rattle.std.specs.Io.KnownBytes.{Consumes}
 use Rattle.ipc_format_streams.specs.flatbuffers.Reading.{◌>>=◌}
 use Rattle.ipc_format_streams.specs.columnar_memory.declared.Error.{Error}
@@ -32,6 +32,11 @@ TakesNext left left_after metadata body (Err (errors.OutOfSpec text)) = ForLeft 
 TakesNext left left_after metadata body (Err (errors.Io what)) = Unit {0}
 TakesNext left left_after metadata body (Err errors.OutOfMemory) = Unit {0}
 TakesNext left left_after metadata body (Err _) = ⊥
+
+-- what is held of the next message: fewer than four bytes, and where the call does not wait none
+abbrev pub Holds : List ℕ → Result Incoming Error → Type 0
+Holds held (Ok incoming.Waiting) = length held < 4
+Holds held _ = held ≡ []
 
 -- ---- the parts of a message, one after another
 

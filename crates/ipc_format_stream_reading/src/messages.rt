@@ -1,15 +1,13 @@
 //! The messages of a stream, one after another.
-ghost use Rattle.std.specs.Prelude.{◌≡◌, [], length};
+ghost use Rattle.std.specs.Prelude.{◌≡◌, ◌<◌, length};
 ghost use Rattle.std.specs.Io.KnownBytes.{prepend_known};
-ghost use Rattle.ipc_format_stream_reading.specs.Incoming.{body_size_in, IsSize, TakesBody, TakesMetadata, TakesNext, TellsSize};
+ghost use Rattle.ipc_format_stream_reading.specs.Incoming.{body_size_in, Holds, IsSize, TakesBody, TakesMetadata, TakesNext, TellsSize};
 
 use crate::arriving::fill;
 use ipc_format_streams::columnar_memory::{Error, Result};
 use ipc_format_streams::flatbuffers::i32_at;
 use ipc_format_streams::messages::{MessageHeaderRef, message_in};
-use std::alloc::Global;
 use std::io::Read;
-use std::marker::Model;
 use std::mem::replace;
 
 /// What comes next of a stream.
@@ -23,63 +21,40 @@ pub enum Incoming {
     Message,
 }
 
-/// Reads the messages of a stream from a device. A contract sees the bytes that are left, where the device's are known.
-#[derive(Drop)]
-pub struct MessageReader<R: Read> {
-    reader: R,
-    /// The first bytes of a message of which fewer than four came.
-    held: Vec<u8>,
-}
-
-impl<R: Read> Model for MessageReader<R> {
-    ghost use Rattle.std.specs.Prelude.{◌<◌, length, List, Option, ℕ};
-    ghost use Rattle.std.specs.Io.KnownBytes.{prepend_known};
-
-    ghost Value = { Option (List ℕ) };
-
-    ghost view = { λ it. prepend_known it.held.items (R.remaining it.reader) };
-
-    ghost invariant = { λ it. length it.held.items < 4 };
-}
-
-impl<R: Read> MessageReader<R> {
-    /// A reader of a device's messages.
-    pub fn new(alloc: Global, reader: R) -> Self
-        ensures { result ≡ prepend_known [] (R.remaining reader) }
-    {
-        MessageReader {
-            reader,
-            held: Vec::new(alloc),
-        }
+/// Takes the next message of a stream from a device: its metadata and its body stand in the vectors then, in place of what they held.
+///
+/// Where fewer than four bytes are left it waits: they are held, none of them is lost, and a later call goes on with them. After the end mark
+/// and after a refusal nothing more is to be read.
+///
+/// # Errors
+/// - `OutOfSpec`: the bytes break a rule of the format.
+/// - `Io`: the device refused.
+/// - `OutOfMemory`: there was no memory for what came.
+#[tactic(auto, using(crate::proofs::Told::answers))]
+pub fn next_message<R: Read>(
+    reader: &mut R,
+    held: &mut Vec<u8>,
+    metadata: &mut Vec<u8>,
+    body: &mut Vec<u8>,
+) -> Result<Incoming>
+    requires { length held.old.items < 4 }
+    ensures taken { TakesNext (prepend_known held.old.items (R.remaining reader.old)) (prepend_known held.new.items (R.remaining reader.new))
+        metadata.new.items body.new.items result }
+    ensures held { Holds held.new.items result }
+{
+    let alloc = *metadata.allocator();
+    let mut head = replace(held, Vec::new(alloc));
+    if !fill(reader, 4, &mut head)? {
+        *held = head;
+        return Ok(Incoming::Waiting);
     }
-
-    /// Takes the next message: its metadata and its body stand in the vectors then, in place of what they held.
-    ///
-    /// Where fewer than four bytes are left it waits: none of them is lost, and a later call goes on with them. After the end mark and after a
-    /// refusal nothing more is to be read.
-    ///
-    /// # Errors
-    /// - `OutOfSpec`: the bytes break a rule of the format.
-    /// - `Io`: the device refused.
-    /// - `OutOfMemory`: there was no memory for what came.
-    #[tactic(auto, using(crate::proofs::Told::answers))]
-    pub fn next(&mut self, metadata: &mut Vec<u8>, body: &mut Vec<u8>) -> Result<Incoming>
-        ensures { TakesNext self.old self.new metadata.new.items body.new.items result }
-    {
-        let alloc = *metadata.allocator();
-        let mut head = replace(&mut self.held, Vec::new(alloc));
-        if !fill(&mut self.reader, 4, &mut head)? {
-            self.held = head;
-            return Ok(Incoming::Waiting);
-        }
-        let size = match size_behind(&mut self.reader, &mut head)? {
-            0 => return Ok(Incoming::End),
-            size => size,
-        };
-        take_metadata(&mut self.reader, size, metadata)?;
-        take_body(&mut self.reader, metadata, body)?;
-        Ok(Incoming::Message)
-    }
+    let size = match size_behind(reader, &mut head)? {
+        0 => return Ok(Incoming::End),
+        size => size,
+    };
+    take_metadata(reader, size, metadata)?;
+    take_body(reader, metadata, body)?;
+    Ok(Incoming::Message)
 }
 
 /// A length that is stated.
