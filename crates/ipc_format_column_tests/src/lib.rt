@@ -1,7 +1,9 @@
-//! Tests of columns that are passed over in record batches, and of their buffers that are read. They stand here since a crate with tests
-//! is proved twice.
+//! Tests of columns that are passed over in record batches, of their buffers, read and written, and of messages as they arrive. They stand
+//! here since a crate with tests is proved twice.
 #![tactic(auto)]
 
+#[cfg(test)]
+mod arriving;
 #[cfg(test)]
 mod buffers;
 #[cfg(test)]
@@ -9,4 +11,8 @@ mod cases;
 #[cfg(test)]
 mod devices;
 #[cfg(test)]
+mod flat;
+#[cfg(test)]
 mod skipping;
+#[cfg(test)]
+mod writing;
