@@ -1,0 +1,4 @@
+pub mod CellLayers
+pub mod Looked
+pub mod Needs
+pub mod UsedValues

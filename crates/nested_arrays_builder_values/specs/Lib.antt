@@ -1,0 +1,4 @@
+pub mod Found
+pub mod Hashes
+pub mod Keyed
+pub mod Uses
