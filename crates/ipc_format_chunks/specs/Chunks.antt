@@ -1,8 +1,9 @@
 -- Arrays of one length, as the columns of a batch of rows (Arrow IPC, "RecordBatch message").
-use Rattle.std.specs.Prelude.{◌≡◌, ℕ, List, [], ◌∷◌, slice_get, Some, Result, Ok, Err}
+use Rattle.std.specs.Prelude.{◌≡◌, ℕ, Bool, List, [], ◌∷◌, slice_get, Some, Result, Ok, Err}
+use Rattle.std.specs.Bool.{Decides}
 use Rattle.columnar_memory.specs.declared.Error.{Error}
-use Rattle.columnar_memory.specs.declared.Error.TheVariants.{InvalidArgumentError}
-use Rattle.nested_arrays.specs.StoredColumns.{Column, column_len}
+use Rattle.columnar_memory.specs.Error.{IsInvalidArgument}
+use Rattle.nested_arrays.specs.StoredColumns.{Column, column_len, column_type, slots}
 
 -- how many rows some arrays have: as many as the first has slots, and without an array none
 abbrev pub rows_of : {A : Type 0} → (A → Column) → List A → ℕ
@@ -17,11 +18,22 @@ HaveLength {A} column count arrays = (k : ℕ) (array : A) → slice_get arrays 
 abbrev pub AreAsLong : {A : Type 0} → (A → Column) → List A → Type 0
 AreAsLong column arrays = HaveLength column (rows_of column arrays) arrays
 
-abbrev pub IsInvalidArgument : Error → Type 0
-IsInvalidArgument (InvalidArgumentError text) = Unit {0}
-IsInvalidArgument _ = ⊥
-
 -- arrays that are all as long as the first are the columns of a chunk; others are an invalid argument
 abbrev pub MakesChunk : {A : Type 0} → (A → Column) → List A → Result (List A) Error → Type 0
 MakesChunk column arrays (Ok chunk) = (chunk ≡ arrays) × AreAsLong column arrays
 MakesChunk column arrays (Err error) = IsInvalidArgument error × (AreAsLong column arrays → ⊥)
+
+-- two arrays have one data type and the same slots
+pub record AreSame (a b : Column) : Type 0 where
+  pub types : column_type a ≡ column_type b
+  pub same_slots : slots a ≡ slots b
+
+-- a test of two arrays tells whether they are the same
+abbrev pub TellsSame : {A : Type 0} → (A → Column) → (A → A → Bool) → Type 0
+TellsSame {A} column test = (x y : A) → Decides (test x y) (AreSame (column x) (column y))
+
+-- as many arrays, each the same as the other at its place
+abbrev pub AreSameEach : {A : Type 0} → (A → Column) → List A → List A → Type 0
+AreSameEach column [] [] = Unit {0}
+AreSameEach column (x ∷ xs) (y ∷ ys) = AreSame (column x) (column y) × AreSameEach column xs ys
+AreSameEach column _ _ = ⊥

@@ -7,7 +7,7 @@ use nested_arrays::columnar_memory::{Error, Result};
 use std::marker::Model;
 
 /// Arrays of one length: the columns of a batch of rows. A contract sees the arrays.
-#[derive(Drop)]
+#[derive(Debug, Drop)]
 pub struct Chunk<A: Array> {
     arrays: Vec<A>,
 }
@@ -82,6 +82,14 @@ impl<A: Array> Chunk<A> {
         &self.arrays
     }
 
+    /// The vector of the arrays.
+    pub(crate) fn vector(&self) -> &Vec<A>
+        ensures arrays { result.now.items ≡ self.now }
+        ensures lengths { AreAsLong A.column self.now }
+    {
+        &self.arrays
+    }
+
     /// How many rows there are: as many as the first array has slots, and without an array none.
     pub fn len(&self) -> usize
         ensures { result ≡ rows_of A.column self.now }
@@ -89,6 +97,7 @@ impl<A: Array> Chunk<A> {
         first_length(&self.arrays)
     }
 
+    /// Whether there are no rows.
     pub fn is_empty(&self) -> bool
         ensures { IsTrue result ↔ (rows_of A.column self.now ≡ 0) }
     {
@@ -116,5 +125,17 @@ impl<A: Array> From<Chunk<A>> for Vec<A> {
         ensures { result.items ≡ chunk }
     {
         chunk.into_arrays()
+    }
+}
+
+impl<A: Array> TryFrom<Vec<A>> for Chunk<A> {
+    type Error = Error;
+
+    ghost try_from_gives = { λ arrays result. MakesChunk A.column arrays.items result };
+
+    /// # Errors
+    /// As in `Chunk::try_new`.
+    fn try_from(arrays: Vec<A>) -> Result<Self> {
+        Chunk::try_new(arrays)
     }
 }

@@ -2,7 +2,11 @@
 #![tactic(auto)]
 
 mod chunk;
+mod clones;
+mod equality;
+mod walks;
 
 pub use chunk::Chunk;
+pub use clones::CloneArray;
 pub use nested_arrays;
 pub use nested_arrays::columnar_memory;
