@@ -1,0 +1,3 @@
+pub mod Stated
+pub mod Joined
+pub mod MessageLimits
