@@ -1,6 +1,8 @@
 //! Messages of a stream as their bytes arrive, and as they are written.
+ghost use Rattle.std.specs.Prelude.{◌<◌, length};
+
 use columnar_memory::Error;
-use ipc_format_stream_reading::{Incoming, MessageReader};
+use ipc_format_stream_reading::{Incoming, next_message};
 use ipc_format_stream_writing::{EncodedData, write_continuation, write_message};
 use std::alloc::Global;
 use std::io;
@@ -48,26 +50,29 @@ fn stream() -> [u8; 104] {
 /// What comes next, and how many bytes of metadata and of a body there are then.
 fn next_of<R: Read>(
     alloc: Global,
-    reader: &mut MessageReader<R>,
-) -> (Option<Incoming>, usize, usize) {
+    reader: &mut R,
+    held: &mut Vec<u8>,
+) -> (Option<Incoming>, usize, usize)
+    requires { length held.old.items < 4 }
+    ensures { length held.new.items < 4 }
+{
     let mut metadata = Vec::new(alloc);
     let mut body = Vec::new(alloc);
-    let found = reader.next(&mut metadata, &mut body).ok();
+    let found = next_message(reader, held, &mut metadata, &mut body).ok();
     (found, metadata.len(), body.len())
 }
 
 #[test]
 fn a_reader_waits_and_goes_on(rt: HostRuntime) -> Result<(), Fail> {
-    let device = Pausing {
+    let mut device = Pausing {
         bytes: stream(),
         place: 0,
         end: 3,
     };
-    let mut reader = MessageReader::new(rt.alloc(), device);
-    let first = next_of(rt.alloc(), &mut reader);
-    let second = next_of(rt.alloc(), &mut reader);
-    let third = next_of(rt.alloc(), &mut reader);
-    drop(reader);
+    let mut held = Vec::new(rt.alloc());
+    let first = next_of(rt.alloc(), &mut device, &mut held);
+    let second = next_of(rt.alloc(), &mut device, &mut held);
+    let third = next_of(rt.alloc(), &mut device, &mut held);
     assert_eq!(rt; first, (Some(Incoming::Waiting), 0, 0));
     assert_eq!(rt; second, (Some(Incoming::Message), 88, 0));
     assert_eq!(rt; third.0, Some(Incoming::End));
@@ -77,13 +82,12 @@ fn a_reader_waits_and_goes_on(rt: HostRuntime) -> Result<(), Fail> {
 #[test]
 fn metadata_that_is_cut_is_refused(rt: HostRuntime) -> Result<(), Fail> {
     let bytes = stream();
-    let mut reader = MessageReader::new(rt.alloc(), &bytes[..50]);
+    let mut rest = &bytes[..50];
+    let mut held = Vec::new(rt.alloc());
     let mut metadata = Vec::new(rt.alloc());
     let mut body = Vec::new(rt.alloc());
-    let is_refused = matches!(
-        reader.next(&mut metadata, &mut body),
-        Err(Error::OutOfSpec(_))
-    );
+    let answer = next_message(&mut rest, &mut held, &mut metadata, &mut body);
+    let is_refused = matches!(answer, Err(Error::OutOfSpec(_)));
     assert_eq!(rt; is_refused, true);
     Ok(())
 }
