@@ -6,7 +6,7 @@ use Rattle.std.specs.List.{list_all}
 use Rattle.std.proofs.Math.Nat.{mul_comm, mul-div_cancel_left}
 use Rattle.std.proofs.lemmas.Bool.{cases_Bool, eq-eqb, leb-true, lt-ltb, ltb-true, true≢false}
 use Rattle.std.proofs.lemmas.List.{length-drop, length-take-le}
-use Rattle.nested_arrays_flat.specs.flat_arrays.Flat.{IsMaskOf}
+use Rattle.flat_arrays.specs.Flat.{IsMaskOf}
 use Rattle.ipc_format_column_reading.specs.columnar_memory.Layouts.{physical_type}
 use Rattle.ipc_format_column_reading.specs.columnar_memory.declared.DataType.{DataType}
 use Rattle.ipc_format_column_reading.specs.columnar_memory.declared.Error.{Error}
@@ -34,9 +34,9 @@ use Rattle.ipc_format_column_reading.proofs.columns_lemmas.TypeLayers.{Layer, is
 use Rattle.ipc_format_array_reading.specs.ArrayReads.{Test, is_readable}
 use Rattle.ipc_format_array_reading.specs.TypedReads.{IsNeeded, ReadsNulls, StatesSmall, front_array}
 use Rattle.ipc_format_array_reading.proofs.Layers.{layer_plain, layer_reads, layer_tests, read_layer, test_layer}
-use Rattle.nested_arrays_flat.specs.Checked.{IsChecked}
-use Rattle.nested_arrays_flat.specs.FlatColumns.{byte_width, layer_width}
-use Rattle.nested_arrays_flat.proofs.FixedWidths.{fixed_parts, fixed_sound}
+use Rattle.nested_arrays.specs.Checked.{IsChecked}
+use Rattle.nested_arrays.specs.FlatColumns.{byte_width, layer_width}
+use Rattle.nested_arrays.proofs.flat_lemmas.FixedWidths.{fixed_parts, fixed_sound}
 
 -- nothing follows, whatever there is
 pub nothing_follows : {A B : Type 0} (r : Option A) (f : A → Option B) → ((x : A) → f x ≡ None) → (r >>= f) ≡ None

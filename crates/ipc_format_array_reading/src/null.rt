@@ -6,7 +6,7 @@ ghost use Rattle.ipc_format_array_reading.specs.TypedReads.{ReadsNulls};
 use ipc_format_column_reading::columnar_memory::{DataType, Error, PhysicalType, Result};
 use ipc_format_column_reading::messages::FieldNode;
 use ipc_format_column_reading::slots_taken;
-use nested_arrays_flat::NullArray;
+use nested_arrays::NullArray;
 use std::collections::VecDeque;
 
 /// Reads a column of nulls: a node, and no buffer.
