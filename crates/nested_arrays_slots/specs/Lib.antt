@@ -1,0 +1,1 @@
+pub use Rattle.nested_arrays_arrays.specs as arrays
