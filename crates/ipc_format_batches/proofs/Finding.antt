@@ -1,8 +1,9 @@
 -- The values of an id, layer by layer of a type.
-use Rattle.std.proofs.Common.{◌≡◌, ◌∙◌, ℕ, zero, suc, ◌+◌, ◌<◌, ◌≤◌, ℤ, List, [], ◌∷◌, drop, length, map, get_or, Bool, true, false, refl, sym, ap, subst, arith}
+use Rattle.std.proofs.Common.{◌≡◌, ◌∙◌, ℕ, zero, suc, ◌+◌, ◌<◌, ◌≤◌, ℤ, List, [], ◌∷◌, drop, length, map, get_or, Bool, true, false}
+use Rattle.std.proofs.Common.{refl, sym, ap, subst, arith, inl, inr}
 use Rattle.std.proofs.Math.Seq.{drop-cons}
 use Rattle.std.proofs.lemmas.List.{drop_all}
-use Rattle.std.specs.Prelude.{Option, Some, None}
+use Rattle.std.specs.Prelude.{◌⊎◌, Option, Some, None}
 use denote.Hole.Carrier
 use Rattle.ipc_format_messages.specs.columnar_memory.declared.DataType.{DataType, map-DataType}
 use Rattle.ipc_format_messages.specs.columnar_memory.declared.DataType.TheOpen as layer
@@ -161,6 +162,11 @@ none_below (layer.Struct fields) is id here = absurd (unlike is)
 none_below (layer.Union fields numbers mode) is id here = absurd (unlike is)
 none_below (layer.Dictionary key value is_ordered) is id here = absurd (unlike is)
 none_below (layer.Extension name inner more) is id here = absurd (unlike is)
+
+-- one of two things
+pub either : {A B C : Type 0} → A ⊎ B → (A → C) → (B → C) → C
+either (inl a) f g = f a
+either (inr b) f g = g b
 
 pub no_values : (t : DataType) (x : layer.DataType-F DataType Field) → t ≡ roll-DataType x → has_no_fields x ≡ true → (id : ℤ) (here : Ids)
     → None ≡ values_in t id here

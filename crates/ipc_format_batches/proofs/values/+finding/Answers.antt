@@ -1,4 +1,4 @@
-use Rattle.std.proofs.Common.{◌≡◌, ◌∙◌, ap, sym, refl, inl, inr, List, rules}
+use Rattle.std.proofs.Common.{◌≡◌, ◌∙◌, ap, sym, refl, List, rules}
 use denote.Hole.Carrier
 use Rattle.ipc_format_messages.specs.columnar_memory.declared.DataType.{DataType}
 use Rattle.ipc_format_messages.specs.columnar_memory.declared.DataType.TheOpen as layer
@@ -10,7 +10,8 @@ use Rattle.ipc_format_messages.specs.metadata.Views.{ids_views}
 use Rattle.std.specs.Option.{option_map}
 use Rattle.ipc_format_messages.specs.grammar.Schemas.{ids}
 use Rattle.ipc_format_batches.specs.Values.{ids_beside, values_or_within, values_view}
-use Rattle.ipc_format_batches.proofs.Finding.{in_dictionary, in_extension, in_list, in_large_list, in_fixed_list, in_map, in_struct, in_union, no_values}
+use Rattle.ipc_format_batches.proofs.Finding.{in_dictionary, in_extension, in_list, in_large_list, in_fixed_list, in_map}
+use Rattle.ipc_format_batches.proofs.Finding.{in_struct, in_union, no_values, either}
 use Rattle.ipc_format_batches.proofs.values.+finding.Goals as goal
 
 pub values_in_type-returns-in-Dictionary : goal.values_in_type-returns-in-Dictionary
@@ -51,7 +52,8 @@ values_in_type-returns-in-FixedSizeList t c =
     let id = c.args.id in
     let own = c.args.own in
     let below = ids_views c.args.below.now in
-    let said : option_map values_view c.values_in_field-in-FixedSizeList.result ≡ values_in c.get-in-FixedSizeList.result.now.data_type id (first_ids below) =
+    let said : option_map values_view c.values_in_field-in-FixedSizeList.result
+    ≡ values_in c.get-in-FixedSizeList.result.now.data_type id (first_ids below) =
     search rules in
     said
     ∙ ap (λ (item : Field). values_in item.data_type id (first_ids below)) c.get-in-FixedSizeList.ensures
@@ -108,108 +110,30 @@ values_in_type-returns-in-Null _ c =
     let t = c.args.data_type.now in
     let id = c.args.id in
     let here = ids_beside c.args.own c.args.below.now in
-    elim c.in-Null.is [
-      | inl e ↦ no_values t layer.Null e refl id here
-      | inr h1 ↦
-          elim h1 [
-            | inl e ↦ no_values t layer.Boolean e refl id here
-            | inr h2 ↦
-                elim h2 [
-                  | inl e ↦ no_values t layer.Int8 e refl id here
-                  | inr h3 ↦
-                      elim h3 [
-                        | inl e ↦ no_values t layer.Int16 e refl id here
-                        | inr h4 ↦
-                            elim h4 [
-                              | inl e ↦ no_values t layer.Int32 e refl id here
-                              | inr h5 ↦
-                                  elim h5 [
-                                    | inl e ↦ no_values t layer.Int64 e refl id here
-                                    | inr h6 ↦
-                                        elim h6 [
-                                          | inl e ↦ no_values t layer.UInt8 e refl id here
-                                          | inr h7 ↦
-                                              elim h7 [
-                                                | inl e ↦ no_values t layer.UInt16 e refl id here
-                                                | inr h8 ↦
-                                                    elim h8 [
-                                                      | inl e ↦ no_values t layer.UInt32 e refl id here
-                                                      | inr h9 ↦
-                                                          elim h9 [
-                                                            | inl e ↦ no_values t layer.UInt64 e refl id here
-                                                            | inr h10 ↦
-                                                                elim h10 [
-                                                                  | inl e ↦ no_values t layer.Float16 e refl id here
-                                                                  | inr h11 ↦
-                                                                      elim h11 [
-                                                                        | inl e ↦ no_values t layer.Float32 e refl id here
-                                                                        | inr h12 ↦
-                                                                            elim h12 [
-                                                                              | inl e ↦ no_values t layer.Float64 e refl id here
-                                                                              | inr h13 ↦
-                                                                                  elim h13 [
-                                                                                    | inl e ↦ no_values t (layer.Timestamp e.0 e.1) e.2 refl id here
-                                                                                    | inr h14 ↦
-                                                                                        elim h14 [
-                                                                                          | inl e ↦ no_values t layer.Date32 e refl id here
-                                                                                          | inr h15 ↦
-                                                                                              elim h15 [
-                                                                                                | inl e ↦ no_values t layer.Date64 e refl id here
-                                                                                                | inr h16 ↦
-                                                                                                    elim h16 [
-                                                                                                      | inl e ↦ no_values t (layer.Time32 e.0) e.1 refl id here
-                                                                                                      | inr h17 ↦
-                                                                                                          elim h17 [
-                                                                                                            | inl e ↦ no_values t (layer.Time64 e.0) e.1 refl id here
-                                                                                                            | inr h18 ↦
-                                                                                                                elim h18 [
-                                                                                                                  | inl e ↦ no_values t (layer.Duration e.0) e.1 refl id here
-                                                                                                                  | inr h19 ↦
-                                                                                                                      elim h19 [
-                                                                                                                        | inl e ↦ no_values t (layer.Interval e.0) e.1 refl id here
-                                                                                                                        | inr h20 ↦
-                                                                                                                            elim h20 [
-                                                                                                                              | inl e ↦ no_values t (layer.Decimal e.0 e.1) e.2 refl id here
-                                                                                                                              | inr h21 ↦
-                                                                                                                                  elim h21 [
-                                                                                                                                    | inl e ↦ no_values t (layer.Decimal256 e.0 e.1) e.2 refl id here
-                                                                                                                                    | inr h22 ↦
-                                                                                                                                        elim h22 [
-                                                                                                                                          | inl e ↦ no_values t layer.Binary e refl id here
-                                                                                                                                          | inr h23 ↦
-                                                                                                                                              elim h23 [
-                                                                                                                                                | inl e ↦ no_values t layer.LargeBinary e refl id here
-                                                                                                                                                | inr h24 ↦
-                                                                                                                                                    elim h24 [
-                                                                                                                                                      | inl e ↦ no_values t layer.Utf8 e refl id here
-                                                                                                                                                      | inr h25 ↦
-                                                                                                                                                          elim h25 [
-                                                                                                                                                            | inl e ↦ no_values t layer.LargeUtf8 e refl id here
-                                                                                                                                                            | inr h26 ↦
-                                                                                                                                                                no_values t (layer.FixedSizeBinary h26.0) h26.1 refl id here
-                                                                                                                                                          ]
-                                                                                                                                                    ]
-                                                                                                                                              ]
-                                                                                                                                        ]
-                                                                                                                                  ]
-                                                                                                                            ]
-                                                                                                                      ]
-                                                                                                                ]
-                                                                                                          ]
-                                                                                                    ]
-                                                                                              ]
-                                                                                        ]
-                                                                                  ]
-                                                                            ]
-                                                                      ]
-                                                                ]
-                                                          ]
-                                                    ]
-                                              ]
-                                        ]
-                                  ]
-                            ]
-                      ]
-                ]
-          ]
-    ]
+    either c.in-Null.is (λ e. no_values t layer.Null e refl id here) (λ h.
+    either h (λ e. no_values t layer.Boolean e refl id here) (λ h.
+    either h (λ e. no_values t layer.Int8 e refl id here) (λ h.
+    either h (λ e. no_values t layer.Int16 e refl id here) (λ h.
+    either h (λ e. no_values t layer.Int32 e refl id here) (λ h.
+    either h (λ e. no_values t layer.Int64 e refl id here) (λ h.
+    either h (λ e. no_values t layer.UInt8 e refl id here) (λ h.
+    either h (λ e. no_values t layer.UInt16 e refl id here) (λ h.
+    either h (λ e. no_values t layer.UInt32 e refl id here) (λ h.
+    either h (λ e. no_values t layer.UInt64 e refl id here) (λ h.
+    either h (λ e. no_values t layer.Float16 e refl id here) (λ h.
+    either h (λ e. no_values t layer.Float32 e refl id here) (λ h.
+    either h (λ e. no_values t layer.Float64 e refl id here) (λ h.
+    either h (λ e. no_values t (layer.Timestamp e.0 e.1) e.2 refl id here) (λ h.
+    either h (λ e. no_values t layer.Date32 e refl id here) (λ h.
+    either h (λ e. no_values t layer.Date64 e refl id here) (λ h.
+    either h (λ e. no_values t (layer.Time32 e.0) e.1 refl id here) (λ h.
+    either h (λ e. no_values t (layer.Time64 e.0) e.1 refl id here) (λ h.
+    either h (λ e. no_values t (layer.Duration e.0) e.1 refl id here) (λ h.
+    either h (λ e. no_values t (layer.Interval e.0) e.1 refl id here) (λ h.
+    either h (λ e. no_values t (layer.Decimal e.0 e.1) e.2 refl id here) (λ h.
+    either h (λ e. no_values t (layer.Decimal256 e.0 e.1) e.2 refl id here) (λ h.
+    either h (λ e. no_values t layer.Binary e refl id here) (λ h.
+    either h (λ e. no_values t layer.LargeBinary e refl id here) (λ h.
+    either h (λ e. no_values t layer.Utf8 e refl id here) (λ h.
+    either h (λ e. no_values t layer.LargeUtf8 e refl id here)
+    (λ e. no_values t (layer.FixedSizeBinary e.0) e.1 refl id here))))))))))))))))))))))))))
