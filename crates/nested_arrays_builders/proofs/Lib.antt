@@ -1,10 +1,12 @@
 pub mod AddedSlots
 pub mod BegunNodes
+pub mod Builders
 pub mod CellItems
 pub mod CutParts
 pub mod FirstSpans
 pub mod HeldNodes
 pub mod KeptNodes
+pub mod KeyedNodes
 pub mod MoreFits
 pub mod MoreParts
 pub mod PushedFields
@@ -13,6 +15,7 @@ pub mod PushedNodes
 pub mod SameNodes
 pub mod TakenSlots
 pub mod Unbuilt
+pub mod UsedValues
 pub use Rattle.nested_arrays_builder_parts.proofs as parts_lemmas
 pub use Rattle.nested_arrays_builder_parts.proofs.growth_lemmas
 pub use Rattle.nested_arrays_builder_parts.proofs.arrays_lemmas.columns_lemmas

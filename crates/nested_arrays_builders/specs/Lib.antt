@@ -1,9 +1,11 @@
 pub mod Begun
 pub mod KeptColumns
+pub mod Keyed
 pub mod Nodes
 pub mod Parts
 pub mod Sizes
 pub mod TypeSizes
+pub mod Uses
 pub mod Widths
 pub use Rattle.nested_arrays_builder_parts.specs as parts
 pub use Rattle.nested_arrays_builder_parts.specs.growth

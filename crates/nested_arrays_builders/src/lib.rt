@@ -3,8 +3,10 @@
 
 mod any;
 mod children;
+mod dictionaries;
 mod fitting;
 mod inside;
+mod keys;
 mod lists;
 mod new;
 mod offsets;
@@ -13,6 +15,7 @@ mod room;
 
 pub use any::{AnyMutableArray, Head, MutableChildren, MutableNode};
 pub use fitting::is_cell_of;
+pub use keys::MutableKeys;
 pub use nested_arrays_builder_parts as parts;
 pub use nested_arrays_builder_parts::{arrays, columnar_memory};
 pub use offsets::MutableListOffsets;

@@ -1,0 +1,22 @@
+-- What the slots of a dictionary need of its values.
+use Rattle.std.specs.Prelude.{ℕ, zero, suc, max, List, [], ◌∷◌, map}
+use Rattle.nested_arrays_builder_parts.specs.arrays.columns.FreshColumns.{is_valid, key_among}
+use Rattle.nested_arrays_builder_parts.specs.arrays.columns.Slots.{Slot}
+use Rattle.nested_arrays_builder_parts.specs.growth.OpenParts.{used_by}
+
+-- how many of some values a slot needs: one more than its key, and none under a null
+abbrev pub use_among : List Slot → Slot → ℕ
+use_among values slot = used_by (is_valid slot) (key_among values slot)
+
+abbrev pub uses_among : List Slot → List Slot → List ℕ
+uses_among values slots = map (use_among values) slots
+
+-- the key of a slot that needs so many; 0 where it needs none
+abbrev pub key_of : ℕ → ℕ
+key_of zero = 0
+key_of (suc key) = key
+
+-- the greatest of some numbers, or 0
+abbrev pub greatest : List ℕ → ℕ
+greatest [] = 0
+greatest (n ∷ ns) = max n (greatest ns)

@@ -1,0 +1,103 @@
+//! What a dictionary that grows holds beside its values.
+ghost use Rattle.std.specs.Prelude.{◌≡◌, ◌≤◌, ◌||◌, length, map, take, true};
+ghost use Rattle.nested_arrays_builder_parts.specs.arrays.columns.Kinds.{most_values};
+ghost use Rattle.nested_arrays_builder_parts.specs.arrays.columns.SameSlots.{are_distinct};
+ghost use Rattle.nested_arrays_builder_parts.specs.Scalars.{scalar_slot};
+ghost use Rattle.nested_arrays_builders.specs.Keyed.{AddsUse, IsLearnt, IsNeeded};
+ghost use Rattle.nested_arrays_builders.specs.Uses.{greatest};
+
+use nested_arrays_builder_parts::columnar_memory::{Error, IntegerType, Result};
+use nested_arrays_builder_parts::{AnyScalar, Marks};
+use nested_arrays_builder_values::CellMap;
+
+/// What a dictionary that grows holds beside its values.
+#[derive(Drop)]
+pub struct MutableKeys {
+    /// The type of its keys.
+    pub key: IntegerType,
+    /// How many of the values each slot needs: one more than its key, and none under a null.
+    pub uses: Vec<usize>,
+    /// The values as cells, by which they are found.
+    pub known: CellMap,
+}
+
+/// How many values keys of a type tell apart.
+pub(crate) fn most_values_of(key: IntegerType) -> usize
+    ensures { result ≡ most_values key }
+{
+    match key {
+        IntegerType::Int8 => 128,
+        IntegerType::Int16 => 32_768,
+        IntegerType::Int32 => 2_147_483_648,
+        IntegerType::Int64 => 9_223_372_036_854_775_807,
+        IntegerType::UInt8 => 256,
+        IntegerType::UInt16 => 65_536,
+        IntegerType::UInt32 => 4_294_967_296,
+        IntegerType::UInt64 => 9_223_372_036_854_775_807,
+    }
+}
+
+/// How many of the values a cell needs, if it is a null or one of them.
+pub(crate) fn needed(known: &CellMap, cell: &AnyScalar) -> Option<usize>
+    requires { are_distinct known.now ≡ true }
+    ensures { IsNeeded known.now (scalar_slot cell.now) result }
+{
+    if cell.is_null() {
+        return Some(0);
+    }
+    let _count = known.len();
+    match known.find(cell) {
+        Some(place) => Some(place + 1),
+        None => None,
+    }
+}
+
+/// Adds a value by which it is found, where the keys tell one more apart.
+pub(crate) fn learn(most: usize, known: &mut CellMap, cell: &AnyScalar) -> Result<()>
+    ensures { IsLearnt most known.old (scalar_slot cell.now) known.new result }
+{
+    if known.len() >= most {
+        return Err(Error::Overflow);
+    }
+    Ok(known.push(cell)?)
+}
+
+/// Adds the mark of a slot and what it needs.
+pub(crate) fn add_use(
+    marks: &mut Marks,
+    uses: &mut Vec<usize>,
+    mark: bool,
+    need: usize,
+) -> Result<()>
+    ensures { AddsUse marks.old uses.old.items mark need marks.new uses.new.items result }
+{
+    uses.push(need)?;
+    match marks.push(mark) {
+        Ok(()) => Ok(()),
+        Err(error) => {
+            uses.pop();
+            Err(error)
+        }
+    }
+}
+
+/// Keeps what the first `len` slots need, and answers how many values this is.
+pub(crate) fn keep_uses(uses: &mut Vec<usize>, len: usize) -> usize
+    requires { len ≤ length uses.old.items }
+    ensures first { uses.new.items ≡ take len uses.old.items }
+    ensures need { result ≡ greatest (take len uses.old.items) }
+{
+    uses.truncate(len);
+    greatest_of(uses.as_slice())
+}
+
+/// The greatest of some numbers, or 0.
+fn greatest_of(numbers: &[usize]) -> usize
+    ensures { result ≡ greatest numbers.now }
+{
+    let mut most = 0;
+    for number in numbers {
+        most = most.max(*number);
+    }
+    most
+}
