@@ -25,7 +25,7 @@ fn push(builder: &mut AnyMutableArray, alloc: Global, letters: &str) -> Result<(
     builder.try_push_scalar(&cell)
 }
 
-/// How many slots and values a dictionary has, and the value that its last slot names.
+/// How many slots and values a dictionary has.
 fn shape(array: &AnyArray) -> Option<(usize, usize)> {
     match &array.node {
         Node::Dictionary(node) => Some((node.keys.len(), node.values.len())),
@@ -60,6 +60,84 @@ fn a_cut_drops_values(rt: HostRuntime) -> Result<(), Fail> {
     assert!(rt; builder.is_empty());
     push(&mut builder, rt.alloc(), "a")?;
     assert_eq!(rt; taken(&mut builder, rt.alloc())?, Some((1, 1)));
+    drop(builder);
+    Ok(())
+}
+
+/// Pushes the numbers below a count as texts.
+fn fill(builder: &mut AnyMutableArray, alloc: Global, count: u32) -> Result<(), Error> {
+    for n in 0..count {
+        let name = format!(in alloc; "{n}")?;
+        push(builder, alloc, name.as_str())?;
+    }
+    Ok(())
+}
+
+#[test]
+fn a_key_past_its_type_is_refused(rt: HostRuntime) -> Result<(), Fail> {
+    let mut builder = AnyMutableArray::new(rt.alloc(), &texts(rt.alloc())?)?;
+    fill(&mut builder, rt.alloc(), 128)?;
+    assert!(rt; matches!(push(&mut builder, rt.alloc(), "128"), Err(Error::Overflow)));
+    push(&mut builder, rt.alloc(), "0")?;
+    assert_eq!(rt; taken(&mut builder, rt.alloc())?, Some((129, 128)));
+    drop(builder);
+    Ok(())
+}
+
+/// Structs of a dictionary of texts and a list of two numbers.
+fn pair_type(alloc: Global) -> Result<DataType, Error> {
+    let number = Field::new(alloc, Text::from_str(alloc, "item")?, DataType::Int32, true);
+    let item = Boxed::new(alloc, number)?;
+    let mut fields = Items::new(alloc);
+    let name = Text::from_str(alloc, "name")?;
+    fields.push(Field::new(alloc, name, texts(alloc)?, true))?;
+    let two = Text::from_str(alloc, "two")?;
+    fields.push(Field::new(alloc, two, DataType::FixedSizeList(item, 2), true))?;
+    Ok(DataType::Struct(fields))
+}
+
+/// A record of a text and a second cell.
+fn record(alloc: Global, letters: &str, second: AnyScalar) -> Result<AnyScalar, Error> {
+    let mut cells = Items::new(alloc);
+    cells.push(text(alloc, letters)?)?;
+    cells.push(second)?;
+    Ok(AnyScalar::Record(cells))
+}
+
+/// A list of one number.
+fn one_number(alloc: Global) -> Result<AnyScalar, Error> {
+    let mut items = Items::new(alloc);
+    items.push(AnyScalar::Int32(1))?;
+    Ok(AnyScalar::List(items))
+}
+
+/// How many slots and values the dictionary has that is the first field.
+fn first_field(array: &AnyArray) -> Option<(usize, usize)> {
+    match &array.node {
+        Node::Struct(records) => match records.values().get(0) {
+            Some(field) => shape(field),
+            None => None,
+        },
+        _ => None,
+    }
+}
+
+#[test]
+fn a_refused_record_leaves_no_value(rt: HostRuntime) -> Result<(), Fail> {
+    let alloc = rt.alloc();
+    let mut builder = AnyMutableArray::new(alloc, &pair_type(alloc)?)?;
+    let short = record(alloc, "z", one_number(alloc)?)?;
+    assert!(rt;
+        matches!(
+            builder.try_push_scalar(&short),
+            Err(Error::InvalidArgumentError(_))
+        )
+    );
+    let null = record(alloc, "y", AnyScalar::Null)?;
+    builder.try_push_scalar(&null)?;
+    let array = as_box(&mut builder, alloc)?;
+    assert_eq!(rt; first_field(&array), Some((1, 1)));
+    drop(array);
     drop(builder);
     Ok(())
 }

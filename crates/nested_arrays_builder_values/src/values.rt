@@ -19,7 +19,7 @@ pub struct CellMap {
 }
 
 impl Model for CellMap {
-    ghost use Rattle.std.specs.Prelude.{List, map};
+    ghost use Rattle.std.specs.Prelude.{◌≡◌, List, map};
     ghost use Rattle.std.specs.Coded.{coded_list};
     ghost use Rattle.nested_arrays_builder_parts.specs.arrays.columns.SlotCodes.{slot_code};
     ghost use Rattle.nested_arrays_builder_parts.specs.arrays.columns.Slots.{Slot};

@@ -38,6 +38,7 @@ pub(crate) fn most_values_of(key: IntegerType) -> usize
 }
 
 /// How many of the values a cell needs, if it is a null or one of them.
+#[tactic(auto, using(crate::proofs::KeyedNodes::null_needs, crate::proofs::KeyedNodes::value_needs))]
 pub(crate) fn needed(known: &CellMap, cell: &AnyScalar) -> Option<usize>
     requires { are_distinct known.now ≡ true }
     ensures { IsNeeded known.now (scalar_slot cell.now) result }
@@ -92,6 +93,7 @@ pub(crate) fn keep_uses(uses: &mut Vec<usize>, len: usize) -> usize
 }
 
 /// The greatest of some numbers, or 0.
+#[tactic(auto, using(crate::proofs::KeyedNodes::greatest_more))]
 fn greatest_of(numbers: &[usize]) -> usize
     ensures { result ≡ greatest numbers.now }
 {
