@@ -36,10 +36,10 @@ use Rattle.nested_arrays_builders.specs.declared.any.Head.{Head}
 use Rattle.nested_arrays_builders.specs.declared.any.MutableChildren.{MutableChildren}
 use Rattle.nested_arrays_builders.specs.declared.any.MutableNode.{MutableNode}
 use Rattle.nested_arrays_builders.specs.declared.any.MutableNode.TheVariants as variant
-use Rattle.nested_arrays_builders.specs.Uses.{greatest, key_of}
+use Rattle.nested_arrays_builders.specs.values.Uses.{greatest, key_of}
 use Rattle.nested_arrays_builders.proofs.CutParts.{kept_count}
 use Rattle.nested_arrays_builders.proofs.MoreParts.{opened_count}
-use Rattle.nested_arrays_builders.proofs.UsedValues.{all_used}
+use Rattle.nested_arrays_builders.proofs.values_lemmas.UsedValues.{all_used}
 use Rattle.nested_arrays_builder_arrays.specs.Layouts.{lists_layout}
 
 pub kept_sound : (t : DataType) (marks : List Bool) (parts : Parts) (xs : List Slot) → IsKept t marks parts xs

@@ -2,7 +2,7 @@
 use Rattle.std.proofs.Common.{◌≡◌, ◌∙◌, ℕ, ℤ, pos, zero, suc, ◌+◌, ◌-◌, ◌<◌, ◌≤◌, List, [], ◌∷◌, ◌++◌, length, map, take, get_or, refl, sym, ap, arith}
 use Rattle.std.proofs.lemmas.List.{length-map, map-append, take_more}
 use Rattle.nested_arrays_builders.specs.columnar_memory.Numbers.{Numbers, one, first_number}
-use Rattle.nested_arrays_builders.specs.Uses.{greatest, key_of}
+use Rattle.nested_arrays_builders.specs.values.Uses.{greatest, key_of}
 
 each_below : (ns : List ℕ) (i d : ℕ) → i < length ns → get_or ns i d ≤ greatest ns
 each_below [] i d lt = absurd (omega arith)

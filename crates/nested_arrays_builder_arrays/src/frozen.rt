@@ -7,7 +7,7 @@ ghost use Rattle.nested_arrays_builders.specs.columnar_memory.declared.PhysicalT
 ghost use Rattle.nested_arrays_builders.specs.columns.Kinds.{most_values};
 ghost use Rattle.nested_arrays_builders.specs.columns.SoundColumns.{is_sound};
 ghost use Rattle.nested_arrays_arrays.specs.parts.Keys.{keyed, AreKeysOf};
-ghost use Rattle.nested_arrays_builders.specs.Uses.{greatest, key_of};
+ghost use Rattle.nested_arrays_builders.specs.values.Uses.{greatest, key_of};
 ghost use Rattle.nested_arrays_builders.specs.columns.StoredColumns.{dictionary, fixed_lists, in_columns, lists, records, slots};
 ghost use Rattle.nested_arrays_arrays.specs.Lengths.{size_of, struct_len};
 ghost use Rattle.nested_arrays_arrays.specs.parts.Widths as frozen;
@@ -25,8 +25,9 @@ use nested_arrays_arrays::{
     AnyArray, DictionaryNode, FixedSizeListArray, ListNode, Node, StructArray,
 };
 use nested_arrays_builders::columnar_memory::{Bitmap, DataType, Result};
+use nested_arrays_builders::values::MutableKeys;
 use nested_arrays_builders::{
-    AnyMutableArray, Head, MutableChildren, MutableKeys, MutableListOffsets, MutableNode,
+    AnyMutableArray, Head, MutableChildren, MutableListOffsets, MutableNode,
 };
 use std::alloc::Global;
 

@@ -8,7 +8,7 @@ ghost use Rattle.nested_arrays_builders.specs.columns.SoundColumns.{mask_fits};
 ghost use Rattle.nested_arrays_builders.specs.columns.StoredColumns.{flat, numbers};
 ghost use Rattle.nested_arrays_arrays.specs.parts.Keys.{kind_of_keys};
 ghost use Rattle.nested_arrays_arrays.specs.flat.FlatColumns.{stored_numbers};
-ghost use Rattle.nested_arrays_builders.specs.Uses.{greatest, key_of};
+ghost use Rattle.nested_arrays_builders.specs.values.Uses.{greatest, key_of};
 
 use nested_arrays_arrays::flat::{AnyPrimitive, PrimitiveKind};
 use nested_arrays_arrays::flat_arrays::PrimitiveArray;

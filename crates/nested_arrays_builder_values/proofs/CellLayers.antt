@@ -100,6 +100,7 @@ is_empty (slot_then y ys) = false
 
 mutual
   unfolding roll-AnyScalar denote.Hole.Carrier.roll
+
   back_of : (s : Slot) (x : layer.AnyScalar-F AnyScalar) → scalar_slot (roll-AnyScalar x) ≡ s → back s ≡ roll-AnyScalar x
   back_of s layer.Null e = ap back (sym e ∙ slot_roll layer.Null)
   back_of s (layer.Boolean b) e = ap back (sym e ∙ slot_roll (layer.Boolean b))

@@ -1,3 +1,4 @@
 pub mod CellLayers
 pub mod Looked
-pub use Rattle.nested_arrays_builder_parts.proofs as parts_lemmas
+pub mod Needs
+pub mod UsedValues

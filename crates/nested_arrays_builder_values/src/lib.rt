@@ -1,10 +1,13 @@
-//! The values of a dictionary that grows, as cells: copied, told apart and found by their hashes.
+//! What a dictionary that grows is made of: its values as cells, which are copied, told apart and found by their hashes, and what its slots
+//! need of them.
 #![tactic(auto)]
 
 mod cells;
 mod hashes;
+mod keys;
 mod values;
 
 pub use cells::{copy_of_cell, same_cell};
 pub use hashes::hash_of;
+pub use keys::{MutableKeys, add_use, keep_uses, learn, most_values_of, needed};
 pub use values::CellMap;

@@ -26,8 +26,8 @@ use Rattle.nested_arrays_builder_parts.proofs.growth_lemmas.Values.{values_disti
 use Rattle.nested_arrays_builder_parts.specs.Open.{Open, opened, first_slots}
 use Rattle.nested_arrays_builders.specs.Parts.{Parts, keyed, listed, sized, of_fields, parts_column, first_parts, opened_each, type_size, types_size}
 use Rattle.nested_arrays_builders.specs.Parts.{HoldsCount, HoldsKeys, HoldsParts, IsKept}
-use Rattle.nested_arrays_builders.specs.Uses.{greatest, use_among, uses_among}
-use Rattle.nested_arrays_builders.proofs.UsedValues.{all_used, uses_first, values_first_used}
+use Rattle.nested_arrays_builder_values.specs.Uses.{greatest, use_among, uses_among}
+use Rattle.nested_arrays_builder_values.proofs.UsedValues.{all_used, uses_first, values_first_used}
 use Rattle.nested_arrays_builders.proofs.KeptNodes.{view_kept, kept_again, kept_length}
 
 -- ---- lengths

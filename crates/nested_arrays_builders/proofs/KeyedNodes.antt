@@ -14,44 +14,12 @@ use Rattle.nested_arrays_builder_parts.specs.arrays.columns.OpenBatch.{fits}
 use Rattle.nested_arrays_builder_parts.specs.arrays.columns.SameSlots.{are_distinct, is_among, same_slot}
 use Rattle.nested_arrays_builder_parts.specs.arrays.columns.Slots.{Slot, null}
 use Rattle.nested_arrays_builder_parts.specs.growth.OpenParts.{grown_values, used_by}
-use Rattle.nested_arrays_builder_parts.proofs.growth_lemmas.Values.{among_at, key_at, key_new}
+use Rattle.nested_arrays_builder_parts.proofs.growth_lemmas.Values.{key_new}
 use Rattle.nested_arrays_builder_parts.specs.Open.{Open, opened, first_slots, with_slot, IsRefusal}
-use Rattle.nested_arrays_builders.specs.Keyed.{has_value_room, AddsUse}
+use Rattle.nested_arrays_builder_values.specs.Keyed.{AddsUse}
+use Rattle.nested_arrays_builders.specs.Keyed.{has_value_room}
 use Rattle.nested_arrays_builders.specs.Parts.{keyed, has_room, more_parts, AddsSlot}
-use Rattle.nested_arrays_builders.specs.Uses.{greatest, use_among}
-
--- ---- what a slot needs
-
-pub null_needs : (values : List Slot) (s : Slot) → is_null s ≡ true
-    → (0 ≡ use_among values s) × ((is_null s || is_among s values) ≡ true)
-null_needs values s none =
-    (sym (ap (λ b. used_by (not b) (key_among values s)) none), or_left (is_null s) (is_among s values) none)
-
-pub value_needs : (values : List Slot) (s : Slot) (k : ℕ) → are_distinct values ≡ true → is_null s ≡ false → k < length values
-    → same_slot s (get_or values k null) ≡ true → (k + 1 ≡ use_among values s) × ((is_null s || is_among s values) ≡ true)
-value_needs values s k apart some lt same =
-    let key : key_among values s ≡ k = key_at s values k null apart some lt same in
-    let next : k + 1 ≡ suc k = omega arith in (
-      next ∙ ap suc (sym key) ∙ sym (ap (λ b. used_by (not b) (key_among values s)) some),
-      or_right (is_null s) (is_among s values) (among_at s values k null lt same),
-    )
-
--- ---- the greatest
-
-pub greatest_more : (ns : List ℕ) (i d : ℕ) → i < length ns → greatest (take (i + 1) ns) ≡ max (greatest (take i ns)) (get_or ns i d)
-greatest_more ns i d lt = ap greatest (take_more ns i d lt) ∙ behind (take i ns) (get_or ns i d)
-  where
-    gather : (a b c : ℕ) → max a (max b c) ≡ max (max a b) c
-    gather a b c = omega arith
-
-    behind : (ns : List ℕ) (n : ℕ) → greatest (ns ++ n ∷ []) ≡ max (greatest ns) n
-    behind [] n = omega arith
-    behind (m ∷ ns) n = ap (max m) (behind ns n) ∙ gather m (greatest ns) n
-
-pub greatest_first : (n : ℕ) (ns : List ℕ) → greatest (take n ns) ≤ greatest ns
-greatest_first zero ns = omega arith
-greatest_first (suc n) [] = omega arith
-greatest_first (suc n) (m ∷ ns) = omega (arith, greatest_first n ns)
+use Rattle.nested_arrays_builder_values.specs.Uses.{use_among}
 
 -- ---- a slot more
 

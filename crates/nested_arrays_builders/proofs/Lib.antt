@@ -15,7 +15,7 @@ pub mod PushedNodes
 pub mod SameNodes
 pub mod TakenSlots
 pub mod Unbuilt
-pub mod UsedValues
 pub use Rattle.nested_arrays_builder_parts.proofs as parts_lemmas
 pub use Rattle.nested_arrays_builder_parts.proofs.growth_lemmas
 pub use Rattle.nested_arrays_builder_parts.proofs.arrays_lemmas.columns_lemmas
+pub use Rattle.nested_arrays_builder_values.proofs as values_lemmas

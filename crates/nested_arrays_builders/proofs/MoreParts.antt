@@ -18,8 +18,8 @@ use Rattle.nested_arrays_builder_parts.proofs.growth_lemmas.Values.{values_grow}
 use Rattle.nested_arrays_builder_parts.specs.Open.{Open, opened}
 use Rattle.nested_arrays_builders.specs.Parts.{Parts, keyed, listed, sized, of_fields, more_parts, opened_each, with_each, with_slots}
 use Rattle.nested_arrays_builders.specs.Parts.{HoldsParts, IsKept}
-use Rattle.nested_arrays_builders.specs.Uses.{use_among}
-use Rattle.nested_arrays_builders.proofs.UsedValues.{uses_one_more}
+use Rattle.nested_arrays_builder_values.specs.Uses.{use_among}
+use Rattle.nested_arrays_builder_values.proofs.UsedValues.{uses_one_more}
 
 -- ---- one more slot
 

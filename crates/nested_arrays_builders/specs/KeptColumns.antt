@@ -18,7 +18,7 @@ use Rattle.nested_arrays_builder_parts.proofs.growth_lemmas.Masks.{mask_is}
 use Rattle.nested_arrays_builder_parts.proofs.growth_lemmas.Pieces.{item_spans_are}
 use Rattle.nested_arrays_builder_parts.specs.Open.{column_of}
 use Rattle.nested_arrays_builders.specs.Parts.{Parts, keyed, listed, sized, of_fields, parts_column, opened_each, HoldsParts, IsKept}
-use Rattle.nested_arrays_builders.specs.Uses.{key_of, use_among, uses_among}
+use Rattle.nested_arrays_builder_values.specs.Uses.{key_of, use_among, uses_among}
 
 columns_each : (us : List Field) (columns : List (List Slot)) → map column_of (opened_each us columns) ≡ fresh_columns us columns
 columns_each [] columns = refl

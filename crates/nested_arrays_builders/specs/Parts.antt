@@ -21,7 +21,7 @@ use Rattle.nested_arrays_builder_parts.specs.arrays.columns.StoredColumns.{Colum
 use Rattle.nested_arrays_builder_parts.specs.growth.OpenParts.{marks_of, mask_from, item_spans, slots_of_fields, fields_of_slot, is_list, is_list_sized}
 use Rattle.nested_arrays_builder_parts.specs.growth.OpenParts.{grown_values, is_record_sized}
 use Rattle.nested_arrays_builder_parts.specs.Open.{Open, opened, column_of, first_slots, with_slot, IsWithin}
-use Rattle.nested_arrays_builders.specs.Uses.{greatest, key_of, use_among, uses_among}
+use Rattle.nested_arrays_builder_values.specs.Uses.{greatest, key_of, use_among, uses_among}
 
 pub data Parts : Type 0 where
   -- lists: whether their offsets are large, the spans of their items, and these

@@ -10,11 +10,11 @@ ghost use Rattle.nested_arrays_builders.specs.Parts.{seen, IsHeld};
 
 use crate::children::{push_nested, truncate_nested};
 use crate::fitting::is_cell_of;
-use crate::keys::MutableKeys;
 use crate::offsets::MutableListOffsets;
 use crate::room::{reserve_nested, shrink_nested};
 use nested_arrays_builder_parts::columnar_memory::{DataType, Error, Result};
 use nested_arrays_builder_parts::{AnyScalar, FlatBuilder, Marks};
+use nested_arrays_builder_values::MutableKeys;
 use std::marker::Model;
 
 /// The data type of a builder with children, and a mark for each slot.

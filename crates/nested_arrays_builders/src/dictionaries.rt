@@ -6,13 +6,12 @@ ghost use Rattle.nested_arrays_builder_parts.specs.Open.{first_slots};
 ghost use Rattle.nested_arrays_builder_parts.specs.Scalars.{scalar_slot};
 ghost use Rattle.nested_arrays_builders.specs.Keyed.{AddsValue};
 ghost use Rattle.nested_arrays_builders.specs.Parts.{keyed, AddsSlot, HoldsKeys};
-ghost use Rattle.nested_arrays_builders.specs.Uses.{greatest};
+ghost use Rattle.nested_arrays_builder_values.specs.Uses.{greatest};
 
 use crate::any::AnyMutableArray;
-use crate::keys::{add_use, keep_uses, learn, most_values_of, needed};
 use nested_arrays_builder_parts::columnar_memory::{IntegerType, Result};
 use nested_arrays_builder_parts::{AnyScalar, Marks};
-use nested_arrays_builder_values::CellMap;
+use nested_arrays_builder_values::{CellMap, add_use, keep_uses, learn, most_values_of, needed};
 
 /// Keeps what the first `len` slots need, and the values that this is.
 #[cycle(truncating)]

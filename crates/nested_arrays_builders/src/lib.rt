@@ -6,7 +6,6 @@ mod children;
 mod dictionaries;
 mod fitting;
 mod inside;
-mod keys;
 mod lists;
 mod new;
 mod offsets;
@@ -15,7 +14,7 @@ mod room;
 
 pub use any::{AnyMutableArray, Head, MutableChildren, MutableNode};
 pub use fitting::is_cell_of;
-pub use keys::MutableKeys;
 pub use nested_arrays_builder_parts as parts;
 pub use nested_arrays_builder_parts::{arrays, columnar_memory};
+pub use nested_arrays_builder_values as values;
 pub use offsets::MutableListOffsets;

@@ -7,13 +7,12 @@ ghost use Rattle.nested_arrays_builders.specs.Nodes.{parts_of};
 ghost use Rattle.nested_arrays_builders.specs.Parts.{IsKept};
 
 use crate::any::{AnyMutableArray, Head, MutableChildren, MutableNode};
-use crate::keys::MutableKeys;
 use crate::offsets::MutableListOffsets;
 use nested_arrays_builder_parts::columnar_memory::{
     DataType, Error, Field, IntegerType, Offsets, Result,
 };
 use nested_arrays_builder_parts::{FlatBuilder, Marks};
-use nested_arrays_builder_values::CellMap;
+use nested_arrays_builder_values::{CellMap, MutableKeys};
 use std::alloc::Global;
 
 impl AnyMutableArray {

@@ -10,7 +10,7 @@ use Rattle.nested_arrays_builders.specs.parts.Marks.{mask_of_marks}
 use Rattle.nested_arrays_builders.specs.parts.Open.{Open, column_of}
 use Rattle.nested_arrays_builders.specs.Nodes.{parts_of}
 use Rattle.nested_arrays_builders.specs.Parts.{keyed, listed, sized, of_fields, parts_column, parts_size, type_size, types_size}
-use Rattle.nested_arrays_builders.specs.Uses.{key_of}
+use Rattle.nested_arrays_builders.specs.values.Uses.{key_of}
 use Rattle.nested_arrays_builders.specs.Widths.{is_large, spans_in}
 use Rattle.nested_arrays_builders.proofs.CutParts.{one_child}
 use Rattle.nested_arrays_builders.proofs.HeldNodes.{nested_size}

@@ -1,6 +1,6 @@
 use Rattle.std.proofs.Common.{◌≡◌, map, pos, take}
 use Rattle.nested_arrays_builders.specs.columnar_memory.Numbers.{one}
-use Rattle.nested_arrays_builders.specs.Uses.{key_of}
+use Rattle.nested_arrays_builders.specs.values.Uses.{key_of}
 use Rattle.nested_arrays_builder_arrays.proofs.keys.key_values.Given as goal
 
 -- the first keys

@@ -9,7 +9,7 @@ use Rattle.nested_arrays_builder_parts.specs.arrays.columns.Slots.{Slot}
 use Rattle.nested_arrays_builder_parts.specs.growth.OpenParts.{grown_values, keys_among, marks_of, used_by, values_used}
 use Rattle.nested_arrays_builder_parts.proofs.growth_lemmas.Masks.{marks_cut, marks_one_more}
 use Rattle.nested_arrays_builder_parts.proofs.growth_lemmas.Values.{keys_first, keys_one_more, used_by_first, values_cut, values_grow}
-use Rattle.nested_arrays_builders.specs.Uses.{greatest, use_among, uses_among}
+use Rattle.nested_arrays_builder_values.specs.Uses.{greatest, use_among, uses_among}
 
 -- ---- uses by marks and keys
 

@@ -1,14 +1,14 @@
 //! What a dictionary that grows holds beside its values.
-ghost use Rattle.std.specs.Prelude.{◌≡◌, ◌≤◌, ◌||◌, length, map, take, true};
+ghost use Rattle.std.specs.Prelude.{◌≡◌, ◌≤◌, ◌||◌, length, max, take, true};
 ghost use Rattle.nested_arrays_builder_parts.specs.arrays.columns.Kinds.{most_values};
 ghost use Rattle.nested_arrays_builder_parts.specs.arrays.columns.SameSlots.{are_distinct};
 ghost use Rattle.nested_arrays_builder_parts.specs.Scalars.{scalar_slot};
-ghost use Rattle.nested_arrays_builders.specs.Keyed.{AddsUse, IsLearnt, IsNeeded};
-ghost use Rattle.nested_arrays_builders.specs.Uses.{greatest};
+ghost use Rattle.nested_arrays_builder_values.specs.Keyed.{AddsUse, IsLearnt, IsNeeded};
+ghost use Rattle.nested_arrays_builder_values.specs.Uses.{greatest};
 
+use crate::values::CellMap;
 use nested_arrays_builder_parts::columnar_memory::{Error, IntegerType, Result};
 use nested_arrays_builder_parts::{AnyScalar, Marks};
-use nested_arrays_builder_values::CellMap;
 
 /// What a dictionary that grows holds beside its values.
 #[derive(Drop)]
@@ -22,7 +22,7 @@ pub struct MutableKeys {
 }
 
 /// How many values keys of a type tell apart.
-pub(crate) fn most_values_of(key: IntegerType) -> usize
+pub fn most_values_of(key: IntegerType) -> usize
     ensures { result ≡ most_values key }
 {
     match key {
@@ -38,8 +38,8 @@ pub(crate) fn most_values_of(key: IntegerType) -> usize
 }
 
 /// How many of the values a cell needs, if it is a null or one of them.
-#[tactic(auto, using(crate::proofs::KeyedNodes::null_needs, crate::proofs::KeyedNodes::value_needs))]
-pub(crate) fn needed(known: &CellMap, cell: &AnyScalar) -> Option<usize>
+#[tactic(auto, using(crate::proofs::Needs::null_needs, crate::proofs::Needs::value_needs))]
+pub fn needed(known: &CellMap, cell: &AnyScalar) -> Option<usize>
     requires { are_distinct known.now ≡ true }
     ensures { IsNeeded known.now (scalar_slot cell.now) result }
 {
@@ -54,7 +54,7 @@ pub(crate) fn needed(known: &CellMap, cell: &AnyScalar) -> Option<usize>
 }
 
 /// Adds a value by which it is found, where the keys tell one more apart.
-pub(crate) fn learn(most: usize, known: &mut CellMap, cell: &AnyScalar) -> Result<()>
+pub fn learn(most: usize, known: &mut CellMap, cell: &AnyScalar) -> Result<()>
     ensures { IsLearnt most known.old (scalar_slot cell.now) known.new result }
 {
     if known.len() >= most {
@@ -64,12 +64,7 @@ pub(crate) fn learn(most: usize, known: &mut CellMap, cell: &AnyScalar) -> Resul
 }
 
 /// Adds the mark of a slot and what it needs.
-pub(crate) fn add_use(
-    marks: &mut Marks,
-    uses: &mut Vec<usize>,
-    mark: bool,
-    need: usize,
-) -> Result<()>
+pub fn add_use(marks: &mut Marks, uses: &mut Vec<usize>, mark: bool, need: usize) -> Result<()>
     ensures { AddsUse marks.old uses.old.items mark need marks.new uses.new.items result }
 {
     uses.push(need)?;
@@ -83,7 +78,7 @@ pub(crate) fn add_use(
 }
 
 /// Keeps what the first `len` slots need, and answers how many values this is.
-pub(crate) fn keep_uses(uses: &mut Vec<usize>, len: usize) -> usize
+pub fn keep_uses(uses: &mut Vec<usize>, len: usize) -> usize
     requires { len ≤ length uses.old.items }
     ensures first { uses.new.items ≡ take len uses.old.items }
     ensures need { result ≡ greatest (take len uses.old.items) }
@@ -93,13 +88,20 @@ pub(crate) fn keep_uses(uses: &mut Vec<usize>, len: usize) -> usize
 }
 
 /// The greatest of some numbers, or 0.
-#[tactic(auto, using(crate::proofs::KeyedNodes::greatest_more))]
+#[tactic(auto, using(crate::proofs::Needs::greatest_more))]
 fn greatest_of(numbers: &[usize]) -> usize
     ensures { result ≡ greatest numbers.now }
 {
     let mut most = 0;
     for number in numbers {
-        most = most.max(*number);
+        most = larger(most, *number);
     }
     most
+}
+
+/// The larger of two numbers.
+fn larger(a: usize, b: usize) -> usize
+    ensures { result ≡ max a b }
+{
+    if a < b { b } else { a }
 }
