@@ -119,8 +119,11 @@ fn new_dictionary(
     requires { type_layer data_type.now ≡ layer.Dictionary key value.now is_ordered }
     ensures { IsBegun data_type.now result }
 {
-    if is_ordered || is_dictionary(value) {
-        return Err(Error::InvalidArgumentError("an ordered dictionary, or one in another"));
+    if is_ordered {
+        return Err(Error::InvalidArgumentError("an ordered dictionary"));
+    }
+    if is_dictionary(value) {
+        return Err(Error::InvalidArgumentError("a dictionary directly in another"));
     }
     let values = AnyMutableArray::new(alloc, value)?;
     let values = Box::new(alloc, values)?;

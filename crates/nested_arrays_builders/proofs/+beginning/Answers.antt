@@ -1,9 +1,10 @@
 use Rattle.std.proofs.Common.{rules, ◌≡◌, ◌∙◌, ◌≤◌, length, true, false, ap, sym, arith}
 use Rattle.std.specs.Prelude.{◌⊎◌}
-use Rattle.std.proofs.lemmas.Bool.{eqb-true}
+use Rattle.std.proofs.lemmas.Bool.{eqb-true, or_left, or_right}
 use Rattle.nested_arrays_builder_parts.specs.arrays.columnar_memory.declared.Field.{Field}
 use Rattle.nested_arrays_builder_parts.specs.arrays.columnar_memory.Error.{IsInvalidArgument, IsNotYetImplemented, IsOutOfMemory}
-use Rattle.nested_arrays_builders.specs.Begun.{are_unbuilt, fields_size, has_builder, have_builders, is_unbuilt, IsNoBuilder}
+use Rattle.nested_arrays_builder_parts.specs.arrays.columns.StoredColumns.{type_layer}
+use Rattle.nested_arrays_builders.specs.Begun.{are_unbuilt, fields_size, has_builder, have_builders, is_of_keys, is_unbuilt, IsNoBuilder}
 use Rattle.nested_arrays_builders.specs.Parts.{type_size}
 use Rattle.nested_arrays_builders.specs.TypeSizes.{dictionary_size, list_size, large_list_size, fixed_list_size, struct_is_larger}
 use Rattle.nested_arrays_builders.proofs.BegunNodes.{begun_dictionary, begun_list, begun_large_list, begun_sized, begun_struct, empty_struct_fails}
@@ -149,6 +150,20 @@ new::new_sized-of_children-requires t c =
     c.in_ok-values.ensures.1 c.args.size c.requires (omega (arith, c.if-size-eq0.false))
 
 -- ---- dictionaries
+
+pub new::new_dictionary-returns-then-is_ordered : goal.new::new_dictionary-returns-then-is_ordered
+new::new_dictionary-returns-then-is_ordered t c =
+    let none : has_builder c.args.data_type.now ≡ false =
+    misused c.args.data_type.now c.args.key c.args.value.now c.args.is_ordered c.requires
+    (or_left c.args.is_ordered (is_of_keys (type_layer c.args.value.now)) c.if-is_ordered.true) in
+    search (rules, none)
+
+pub new::new_dictionary-returns-then-is_dictionary : goal.new::new_dictionary-returns-then-is_dictionary
+new::new_dictionary-returns-then-is_dictionary t c =
+    let none : has_builder c.args.data_type.now ≡ false =
+    misused c.args.data_type.now c.args.key c.args.value.now c.args.is_ordered c.requires
+    (or_right c.args.is_ordered (is_of_keys (type_layer c.args.value.now)) (sym c.is_dictionary.ensures ∙ c.if-is_dictionary.true)) in
+    search (rules, none)
 
 pub new::new_dictionary-returns-in_err-values : goal.new::new_dictionary-returns-in_err-values
 new::new_dictionary-returns-in_err-values t c =
