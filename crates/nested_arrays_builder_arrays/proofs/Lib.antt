@@ -1,1 +1,2 @@
 pub mod KeptArrays
+pub mod KeptKeys

@@ -14,6 +14,7 @@ use crate::offsets::MutableListOffsets;
 use crate::room::{reserve_nested, shrink_nested};
 use nested_arrays_builder_parts::columnar_memory::{DataType, Error, Result};
 use nested_arrays_builder_parts::{AnyScalar, FlatBuilder, Marks};
+use nested_arrays_builder_values::MutableKeys;
 use std::marker::Model;
 
 /// The data type of a builder with children, and a mark for each slot.
@@ -30,6 +31,7 @@ pub enum MutableChildren {
     List(MutableListOffsets, Box<AnyMutableArray>),
     FixedSizeList(usize, Box<AnyMutableArray>),
     Struct(Vec<AnyMutableArray>),
+    Dictionary(MutableKeys, Box<AnyMutableArray>),
 }
 
 /// A builder without children, or what one with children holds.
@@ -136,7 +138,8 @@ impl AnyMutableArray {
         }
     }
 
-    /// Makes room for some more slots: marks, offsets and values, but for items of lists of any length.
+    /// Makes room for some more slots: marks, offsets and values, but for items of lists of any length and values of
+    /// dictionaries.
     ///
     /// # Errors
     /// `OutOfMemory`: the room found no memory.
