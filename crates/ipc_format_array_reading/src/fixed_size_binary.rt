@@ -8,9 +8,8 @@ ghost use Rattle.ipc_format_column_reading.specs.Reads.{ReadsColumn};
 ghost use Rattle.ipc_format_array_reading.specs.TypedReads.{IsNeeded, StatesSmall, front_array};
 
 use ipc_format_column_reading::columnar_memory::{Buffer, DataType, Error, PhysicalType, Result};
-use ipc_format_column_reading::messages as ipc;
 use ipc_format_column_reading::messages::{BodyCompressionRef, FieldNode};
-use ipc_format_column_reading::{Room, read_bytes, read_marked};
+use ipc_format_column_reading::{Room, messages as ipc, read_bytes, read_marked};
 use nested_arrays::FixedSizeBinaryArray;
 use std::alloc::Global;
 use std::collections::VecDeque;

@@ -36,11 +36,23 @@ fn buffers(alloc: Global, pairs: &[(i64, i64)]) -> Result<VecDeque<Buffer>, Fail
 fn nulls_are_as_many_as_the_node_says(rt: HostRuntime) -> Result<(), Fail> {
     let alloc = rt.alloc();
     let mut nodes = node(alloc, 3, 3)?;
-    let array = read_null(&mut nodes, DataType::Null, Some(2)).ok().ok_or("refused")?;
+    let array = read_null(&mut nodes, DataType::Null, Some(2))
+        .ok()
+        .ok_or("refused")?;
     assert_eq!(rt; (array.len(), nodes.len()), (2, 0));
-    assert!(rt; matches!(read_null(&mut nodes, DataType::Null, None), Err(Error::OutOfSpec(_))));
+    assert!(rt;
+        matches!(
+            read_null(&mut nodes, DataType::Null, None),
+            Err(Error::OutOfSpec(_))
+        )
+    );
     let mut nodes = node(alloc, 3, 3)?;
-    assert!(rt; matches!(read_null(&mut nodes, DataType::Int8, None), Err(Error::OutOfSpec(_))));
+    assert!(rt;
+        matches!(
+            read_null(&mut nodes, DataType::Int8, None),
+            Err(Error::OutOfSpec(_))
+        )
+    );
     assert_eq!(rt; nodes.len(), 1);
     Ok(())
 }

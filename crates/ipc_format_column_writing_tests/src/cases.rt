@@ -49,7 +49,10 @@ impl Written {
 
     /// Where the buffers begin, and how many bytes they state.
     pub(crate) fn buffers(&self, alloc: Global) -> Result<Vec<(i64, i64)>, Error> {
-        let buffers = self.buffers.iter().map(|buffer| (buffer.offset, buffer.length));
+        let buffers = self
+            .buffers
+            .iter()
+            .map(|buffer| (buffer.offset, buffer.length));
         Ok(buffers.collect(alloc)?)
     }
 }
@@ -65,8 +68,10 @@ pub(crate) fn numbers(alloc: Global, values: &[i32]) -> Result<AnyArray, Error> 
 /// Lists of the numbers 1 to 5 between the offsets 0, 2, 2, 3 and 5.
 pub(crate) fn lists(alloc: Global) -> Result<AnyArray, Error> {
     let item = Field::new(alloc, Text::from_str(alloc, "item")?, DataType::Int32, true);
-    let offsets: OffsetsBuffer<i32> =
-        OffsetsBuffer::try_from(Vec::from_slice(alloc, &[0i32, 2, 2, 3, 5])?)?;
+    let offsets: OffsetsBuffer<i32> = OffsetsBuffer::try_from(Vec::from_slice(
+        alloc,
+        &[0i32, 2, 2, 3, 5],
+    )?)?;
     let items = Box::new(alloc, numbers(alloc, &[1, 2, 3, 4, 5])?)?;
     let data_type = DataType::List(Boxed::new(alloc, item)?);
     Ok(AnyArray::from(ListArray::try_new(data_type, offsets, items, None)?))

@@ -23,8 +23,14 @@ fn a_cut_list_begins_with_the_offset_0(rt: HostRuntime) -> Result<(), Fail> {
     array.slice(2, 2);
     let found = written(alloc, &array, true)?;
     assert_eq!(rt; found.nodes(alloc)?.as_slice(), &[(2, 0), (3, 0)][..]);
-    assert_eq!(rt; &found.bytes[..12], &[0, 0, 0, 0, 1, 0, 0, 0, 3, 0, 0, 0][..]);
-    assert_eq!(rt; &found.bytes[64..76], &[3, 0, 0, 0, 4, 0, 0, 0, 5, 0, 0, 0][..]);
+    assert_eq!(rt;
+        &found.bytes[..12],
+        &[0, 0, 0, 0, 1, 0, 0, 0, 3, 0, 0, 0][..]
+    );
+    assert_eq!(rt;
+        &found.bytes[64..76],
+        &[3, 0, 0, 0, 4, 0, 0, 0, 5, 0, 0, 0][..]
+    );
     Ok(())
 }
 
@@ -35,7 +41,10 @@ fn a_cut_sparse_union_has_cut_children(rt: HostRuntime) -> Result<(), Fail> {
     array.slice(1, 1);
     let found = written(alloc, &array, false)?;
     assert_eq!(rt; found.nodes(alloc)?.as_slice(), &[(1, 0), (1, 0)][..]);
-    assert_eq!(rt; found.buffers(alloc)?.as_slice(), &[(0, 1), (64, 0), (64, 4)][..]);
+    assert_eq!(rt;
+        found.buffers(alloc)?.as_slice(),
+        &[(0, 1), (64, 0), (64, 4)][..]
+    );
     assert_eq!(rt; &found.bytes[64..68], &[0, 0, 0, 8][..]);
     Ok(())
 }

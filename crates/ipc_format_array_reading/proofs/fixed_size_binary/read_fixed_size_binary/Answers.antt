@@ -118,8 +118,8 @@ returns g c =
     let copied : values ≡ bytes.items = c.in_ok-values.ensures in
     let each : list_all is_byte values ≡ true = search rules in
     strings_made (is_some c.args.compression) (g.R.Room.told c.args.reader.now) (g.R.Room.told c.read_marked.new.reader)
-        (g.R.Room.told c.read_bytes.new.reader) t nodes c.read_marked.new.field_nodes.items c.args.limit buffers later
-        c.read_bytes.new.buffers.items c.args.is_little_endian c.args.block_offset marks needed bytes.items c.try_new.result kind counted
-        c.in_ok-marked.ensures.size c.in_ok-bytes.ensures.size (ap (list_all is_byte) (sym copied) ∙ each) c.in_ok-marked.ensures.read
-        c.in_ok-marked.ensures.nodes c.in_ok-marked.ensures.buffers c.in_ok-bytes.ensures.read c.in_ok-bytes.ensures.taken
-        (subst (λ xs. IsChecked (flat t marks.1 (fixed_bytes (byte_width t) xs)) c.try_new.result) copied c.try_new.ensures)
+    (g.R.Room.told c.read_bytes.new.reader) t nodes c.read_marked.new.field_nodes.items c.args.limit buffers later
+    c.read_bytes.new.buffers.items c.args.is_little_endian c.args.block_offset marks needed bytes.items c.try_new.result kind counted
+    c.in_ok-marked.ensures.size c.in_ok-bytes.ensures.size (ap (list_all is_byte) (sym copied) ∙ each) c.in_ok-marked.ensures.read
+    c.in_ok-marked.ensures.nodes c.in_ok-marked.ensures.buffers c.in_ok-bytes.ensures.read c.in_ok-bytes.ensures.taken
+    (subst (λ xs. IsChecked (flat t marks.1 (fixed_bytes (byte_width t) xs)) c.try_new.result) copied c.try_new.ensures)

@@ -26,9 +26,14 @@ returns-in_default-slots_taken c =
     let node = c.in-Some.field_node in
     let kind : physical_type t ≡ physical.Null = search rules in
     let there : slice_get nodes 0 ≡ Some node = search rules in
-    let none : taken_in c.args.limit node ≡ None = search rules in
-    (tt, inl (kind, nulls_at t nodes node c.args.limit kind there ∙ ap (λ r. r >>= (λ n. Some (slots (nulls t n)))) none,
-    (1, c.pop_front.ensures.rest)))
+    let none : taken_in c.args.limit node ≡ None = search rules in (
+      tt,
+      inl (
+        kind,
+        nulls_at t nodes node c.args.limit kind there ∙ ap (λ r. r >>= (λ n. Some (slots (nulls t n)))) none,
+        (1, c.pop_front.ensures.rest),
+      ),
+    )
 
 pub returns : goal.returns
 returns c =
