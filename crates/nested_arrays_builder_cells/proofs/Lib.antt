@@ -1,0 +1,6 @@
+pub mod CellPlaces
+pub mod HasCells
+pub mod ReadCells
+pub mod ReadSlots
+pub mod StoredNumbers
+pub mod StoredValues
