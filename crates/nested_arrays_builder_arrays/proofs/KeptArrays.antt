@@ -2,28 +2,28 @@
 use Rattle.std.proofs.Common.{◌≡◌, ◌∙◌, ◌<◌, ℕ, List, [], ◌∷◌, length, map, Bool, true, refl, sym, ap, subst, arith}
 use Rattle.std.specs.Prelude.{◌&&◌, ◌==◌, nat_le, Result}
 use Rattle.std.proofs.lemmas.Bool.{and_parts, eqb-true, leb-true}
-use Rattle.columnar_memory.specs.declared.DataType.{DataType}
-use Rattle.columnar_memory.specs.declared.DataType.TheOpen as layer
-use Rattle.columnar_memory.specs.declared.Field.{Field}
-use Rattle.columnar_memory.specs.declared.Error.{Error}
-use Rattle.columnar_memory.specs.Layouts.{physical_type}
-use Rattle.columnar_memory.specs.Results.{OrOutOfMemory}
-use Rattle.columnar_memory.specs.Spans.{Spans, offsets_of}
-use Rattle.nested_arrays_columns.specs.FreshLaws.{are_buildable, is_buildable}
-use Rattle.nested_arrays_columns.specs.Slots.{Slot}
-use Rattle.nested_arrays_columns.specs.SoundColumns.{is_sound, are_sound, have_len, has_field_types, mask_fits}
-use Rattle.nested_arrays_columns.specs.StoredColumns.{Column, column_len, fixed_lists, in_columns, lists, records, slots, type_layer}
-use Rattle.nested_arrays_columns.proofs.Conditions.{parts_of_4}
-use Rattle.nested_arrays_columns.proofs.FreshLengths.{Layer}
-use Rattle.nested_arrays_columns.proofs.FreshSound.{fresh_is_sound}
-use Rattle.nested_arrays_growth.specs.OpenParts.{mask_from, slots_of_fields}
-use Rattle.nested_arrays_growth.proofs.Below.{buildable_struct}
-use Rattle.nested_arrays_growth.proofs.Fields.{fields_count}
-use Rattle.nested_arrays_growth.proofs.Masks.{mask_by_count}
-use Rattle.nested_arrays_growth.proofs.TypeSteps.{layout_by_layer}
+use Rattle.nested_arrays_builders.specs.columnar_memory.declared.DataType.{DataType}
+use Rattle.nested_arrays_builders.specs.columnar_memory.declared.DataType.TheOpen as layer
+use Rattle.nested_arrays_builders.specs.columnar_memory.declared.Field.{Field}
+use Rattle.nested_arrays_builders.specs.columnar_memory.declared.Error.{Error}
+use Rattle.nested_arrays_builders.specs.columnar_memory.Layouts.{physical_type}
+use Rattle.nested_arrays_builders.specs.columnar_memory.Results.{OrOutOfMemory}
+use Rattle.nested_arrays_builders.specs.columnar_memory.Spans.{Spans, offsets_of}
+use Rattle.nested_arrays_builders.specs.columns.FreshLaws.{are_buildable, is_buildable}
+use Rattle.nested_arrays_builders.specs.columns.Slots.{Slot}
+use Rattle.nested_arrays_builders.specs.columns.SoundColumns.{is_sound, are_sound, have_len, has_field_types, mask_fits}
+use Rattle.nested_arrays_builders.specs.columns.StoredColumns.{Column, column_len, fixed_lists, in_columns, lists, records, slots, type_layer}
+use Rattle.nested_arrays_builders.proofs.columns_lemmas.Conditions.{parts_of_4}
+use Rattle.nested_arrays_builders.proofs.columns_lemmas.FreshLengths.{Layer}
+use Rattle.nested_arrays_builders.proofs.columns_lemmas.FreshSound.{fresh_is_sound}
+use Rattle.nested_arrays_builders.specs.growth.OpenParts.{mask_from, slots_of_fields}
+use Rattle.nested_arrays_builders.proofs.growth_lemmas.Below.{buildable_struct}
+use Rattle.nested_arrays_builders.proofs.growth_lemmas.Fields.{fields_count}
+use Rattle.nested_arrays_builders.proofs.growth_lemmas.Masks.{mask_by_count}
+use Rattle.nested_arrays_builders.proofs.growth_lemmas.TypeSteps.{layout_by_layer}
 use Rattle.nested_arrays_arrays.specs.Lengths.{size_of, layer_size, struct_len}
-use Rattle.nested_arrays_builder_parts.specs.Marks.{mask_of_marks}
-use Rattle.nested_arrays_builder_parts.specs.Open.{Open, column_of}
+use Rattle.nested_arrays_builders.specs.parts.Marks.{mask_of_marks}
+use Rattle.nested_arrays_builders.specs.parts.Open.{Open, column_of}
 use Rattle.nested_arrays_builders.specs.KeptColumns.{column_kept}
 use Rattle.nested_arrays_builders.specs.Nodes.{held_of, parts_of}
 use Rattle.nested_arrays_builders.specs.Parts.{Parts, listed, seen, sized, of_fields, parts_column, HoldsParts, IsHeld, IsKept}

@@ -1,7 +1,7 @@
 -- How lists lie in memory by the width of their offsets.
 use Rattle.std.specs.Prelude.{Bool, true, false}
-use Rattle.columnar_memory.specs.declared.PhysicalType.{PhysicalType}
-use Rattle.columnar_memory.specs.declared.PhysicalType.TheVariants as physical
+use Rattle.nested_arrays_builders.specs.columnar_memory.declared.PhysicalType.{PhysicalType}
+use Rattle.nested_arrays_builders.specs.columnar_memory.declared.PhysicalType.TheVariants as physical
 
 abbrev pub lists_layout : Bool → PhysicalType
 lists_layout true = physical.LargeList

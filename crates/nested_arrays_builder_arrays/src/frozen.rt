@@ -1,22 +1,22 @@
 //! Arrays of what builders hold, with no copy of values.
 ghost use Rattle.std.specs.Prelude.{◌≡◌, length, map, true};
-ghost use Rattle.columnar_memory.specs.Layouts.{physical_type};
-ghost use Rattle.columnar_memory.specs.Results.{OrOutOfMemory};
-ghost use Rattle.columnar_memory.specs.Spans.{offsets_of};
-ghost use Rattle.nested_arrays_columns.specs.SoundColumns.{is_sound};
-ghost use Rattle.nested_arrays_columns.specs.StoredColumns.{fixed_lists, in_columns, lists, records, slots};
+ghost use Rattle.nested_arrays_builders.specs.columnar_memory.Layouts.{physical_type};
+ghost use Rattle.nested_arrays_builders.specs.columnar_memory.Results.{OrOutOfMemory};
+ghost use Rattle.nested_arrays_builders.specs.columnar_memory.Spans.{offsets_of};
+ghost use Rattle.nested_arrays_builders.specs.columns.SoundColumns.{is_sound};
+ghost use Rattle.nested_arrays_builders.specs.columns.StoredColumns.{fixed_lists, in_columns, lists, records, slots};
 ghost use Rattle.nested_arrays_arrays.specs.Lengths.{size_of, struct_len};
 ghost use Rattle.nested_arrays_arrays.specs.parts.Widths as frozen;
-ghost use Rattle.nested_arrays_builder_parts.specs.Marks.{mask_of_marks};
-ghost use Rattle.nested_arrays_builder_parts.specs.Open.{column_of};
+ghost use Rattle.nested_arrays_builders.specs.parts.Marks.{mask_of_marks};
+ghost use Rattle.nested_arrays_builders.specs.parts.Open.{column_of};
 ghost use Rattle.nested_arrays_builders.specs.Nodes.{parts_of};
 ghost use Rattle.nested_arrays_builders.specs.Parts.{parts_column, IsKept};
 ghost use Rattle.nested_arrays_builders.specs.Widths.{is_large, spans_in};
 ghost use Rattle.nested_arrays_builder_arrays.specs.Layouts.{lists_layout};
 
-use columnar_memory::{Bitmap, DataType, Result};
 use nested_arrays_arrays::parts::ListOffsets;
 use nested_arrays_arrays::{AnyArray, FixedSizeListArray, ListNode, Node, StructArray};
+use nested_arrays_builders::columnar_memory::{Bitmap, DataType, Result};
 use nested_arrays_builders::{
     AnyMutableArray, Head, MutableChildren, MutableListOffsets, MutableNode,
 };

@@ -3,9 +3,9 @@ ghost use Rattle.std.specs.Prelude.{◌≡◌};
 ghost use Rattle.nested_arrays_builder_arrays.specs.Taken.{IsTaken};
 
 use crate::frozen::into_array;
-use columnar_memory::Result;
 use nested_arrays_arrays::AnyArray;
 use nested_arrays_builders::AnyMutableArray;
+use nested_arrays_builders::columnar_memory::{Error, Result};
 use std::alloc::Global;
 use std::mem;
 use std::rc::Rc;
@@ -19,9 +19,10 @@ pub fn as_array(builder: &mut AnyMutableArray, alloc: Global) -> Result<AnyArray
 {
     match AnyMutableArray::new(alloc, builder.data_type()) {
         Ok(fresh) => into_array(alloc, mem::replace(builder, fresh)),
-        Err(error) => {
+        // a builder of the type stands here, so there was no memory for another
+        Err(_) => {
             builder.truncate(0);
-            Err(error)
+            Err(Error::OutOfMemory)
         }
     }
 }

@@ -18,6 +18,9 @@ use Rattle.nested_arrays_arrays.specs.columns.StoredColumns.{slot_at, stored_len
 use Rattle.nested_arrays_arrays.specs.flat.ColumnMasks.{column_mask}
 use Rattle.nested_arrays_arrays.specs.parts.Forms.{bare, column_form}
 use Rattle.nested_arrays_arrays.specs.parts.Keys.{keyed, numbers_in}
+use Rattle.nested_arrays_arrays.specs.parts.Widths.{layout_of}
+use Rattle.nested_arrays_arrays.specs.parts.declared.offsets.ListOffsets.{ListOffsets}
+use Rattle.nested_arrays_arrays.specs.parts.declared.offsets.ListOffsets.TheVariants as width
 use Rattle.nested_arrays_arrays.specs.Places.{AreFields, AreItems}
 use Rattle.nested_arrays_arrays.proofs.KeyPlaces.{key_within}
 use Rattle.nested_arrays_arrays.proofs.SlotPlaces.{struct_fields}
@@ -59,6 +62,11 @@ list_cells t mask offsets child i start len sound other own =
       items = own;
       cell = ap (has_cell t) own.shown ∙ list_has t (column_type child) (window (slot_at child) start len) typed plain;
     }
+
+-- lists by offsets of either width do not lie in memory as maps
+pub no_map : (t : DataType) (offsets : ListOffsets) → physical_type t ≡ layout_of offsets → physical_type t ≡ physical.Map → ⊥
+no_map t (width.Small offsets) lies is = let both : physical.List ≡ physical.Map = sym lies ∙ is in cc
+no_map t (width.Large offsets) lies is = let both : physical.LargeList ≡ physical.Map = sym lies ∙ is in cc
 
 fixed_lists_cells : (t : DataType) (mask : Option (List Bool)) (size : ℕ) (child : Column) (i start len : ℕ)
     → is_sound (fixed_lists t mask size child) ≡ true → AreItems (fixed_lists t mask size child) i child start len

@@ -9,6 +9,7 @@ use Rattle.std.proofs.lemmas.List.Folds.{list_all-append, list_all_at}
 use Rattle.nested_arrays_arrays.proofs.columns_lemmas.Windows.{length-window}
 use Rattle.nested_arrays_arrays.specs.columns.Slots.{Slot, null, in_slots, slot_then, window}
 use Rattle.nested_arrays_arrays.specs.columns.StoredColumns.{Column, column_len, column_type, in_columns, slot_at, slots_at}
+use Rattle.nested_arrays_arrays.specs.Places.{HavePlace}
 use Rattle.nested_arrays_builder_cells.specs.ArrayCells.{has_cell_at}
 use Rattle.nested_arrays_builder_cells.proofs.ReadCells.{AreRead, AreReadEach}
 
@@ -86,3 +87,10 @@ module _ {C : Type 0} (slot_of : C → Slot) (columns : List Column) (i : ℕ) w
 pub one_of_each_is_none : (columns : List Column) (i k : ℕ) (column : Column) → k < length columns → column ≡ get_or columns k column
     → has_cell_at i column ≡ false → list_all (has_cell_at i) columns ≡ false
 one_of_each_is_none columns i k column lt there none = list_all_at (has_cell_at i) columns k column lt (ap (has_cell_at i) (sym there) ∙ none)
+
+-- a place of each of several columns is one of any of them
+pub place_in : (columns : List Column) (i k : ℕ) (d : Column) → HavePlace (in_columns columns) i → k < length columns
+    → i < column_len (get_or columns k d)
+place_in [] i k d h lt = absurd (omega arith)
+place_in (column ∷ columns) i zero d h lt = h.0
+place_in (column ∷ columns) i (suc k) d h lt = place_in columns i k d h.1 (omega (arith, lt))

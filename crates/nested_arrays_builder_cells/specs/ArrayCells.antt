@@ -1,14 +1,13 @@
 -- Which slots of arrays are cells, and what is answered where cells are read.
-use Rattle.std.specs.Prelude.{◌≡◌, ◌⊎◌, ℕ, Bool, true, false, List, map, Option, Result, MatchOption, MatchResult}
+use Rattle.std.specs.Prelude.{◌≡◌, ℕ, Bool, true, false, List, map, Option, Result, MatchOption, MatchResult}
 use Rattle.nested_arrays_arrays.specs.columnar_memory.declared.DataType.{DataType}
 use Rattle.nested_arrays_arrays.specs.columnar_memory.declared.DataType.TheOpen as layer
 use Rattle.nested_arrays_arrays.specs.columnar_memory.declared.DataType.TheFolds.{fold-DataType}
 use Rattle.nested_arrays_arrays.specs.columnar_memory.declared.Error.{Error}
-use Rattle.nested_arrays_arrays.specs.columnar_memory.Error.{IsInvalidArgument, IsOutOfMemory}
+use Rattle.nested_arrays_arrays.specs.columnar_memory.Error.{IsOutOfMemory}
 use Rattle.nested_arrays_arrays.specs.columns.Cells.{is_list_of, is_null, is_record_of}
 use Rattle.nested_arrays_arrays.specs.columns.Slots.{Slot}
 use Rattle.nested_arrays_arrays.specs.columns.StoredColumns.{Column, column_type, slot_at}
-use Rattle.nested_arrays_builder_parts.specs.Open.{Open, IsPushed}
 use Rattle.nested_arrays_builder_parts.specs.Scalars.{scalar_slot}
 use Rattle.nested_arrays_builder_parts.specs.declared.scalars.AnyScalar.{AnyScalar}
 
@@ -47,9 +46,3 @@ IsCellOf has slot r = MatchResult r (IsCell has slot) IsOutOfMemory
 -- the same of the slot at a place of a column
 abbrev pub IsCellAt : Column → ℕ → Result (Option AnyScalar) Error → Type 0
 IsCellAt column i r = IsCellOf (has_cell_at i column) (slot_at column i) r
-
--- The slot at a place of a column is pushed as its cell is. Where it is no cell it is refused as an argument, unless memory runs out, and the
--- open column is as it was.
-pub record PushesFrom {U : Type 0} (old : Open) (column : Column) (i : ℕ) (new : Open) (r : Result U Error) : Type 0 where
-  pub pushed : has_cell_at i column ≡ true → IsPushed old (slot_at column i) new r
-  pub refused : has_cell_at i column ≡ false → MatchResult r (λ _. ⊥) (λ e. (new ≡ old) × (IsOutOfMemory e ⊎ IsInvalidArgument e))

@@ -2,5 +2,4 @@ pub mod ArrayCells
 pub mod Inside
 pub mod Keys
 pub use Rattle.nested_arrays_arrays.specs as arrays
-pub use Rattle.nested_arrays_builder_parts.specs as builder_parts
-pub use Rattle.nested_arrays_builders.specs as builders
+pub use Rattle.nested_arrays_builder_parts.specs as parts

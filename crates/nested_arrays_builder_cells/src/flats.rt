@@ -30,7 +30,6 @@ fn bytes_cell(alloc: Global, value: &[u8]) -> Result<AnyScalar>
 }
 
 /// The cell of a truth value.
-#[tactic(auto, using(crate::proofs::StoredValues::truth_there))]
 fn truth_cell(array: &BooleanArray, i: usize) -> AnyScalar
     requires { i < column_len (boolean_column array.now) }
     ensures { scalar_slot result ≡ slot_at (bare (boolean_column array.now)) i }

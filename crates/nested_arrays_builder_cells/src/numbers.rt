@@ -15,7 +15,6 @@ use nested_arrays_arrays::flat_arrays::PrimitiveArray;
 use nested_arrays_builder_parts::{AnyNumber, AnyScalar};
 
 /// The number that is stored at a place, also where the slot is null.
-#[tactic(auto, using(nested_arrays_arrays::proofs::flat_lemmas::SoundFlats::primitive_len, crate::proofs::StoredNumbers::number_there))]
 fn value_at<T: NativeType>(array: &PrimitiveArray<T>, i: usize) -> T
     requires { i < column_len (primitive_column T.PRIMITIVE T.numbers array.now) }
     ensures { slot_at (bare (primitive_column T.PRIMITIVE T.numbers array.now)) i ≡ number_slot T.PRIMITIVE (T.numbers result) }

@@ -1,5 +1,5 @@
-//! Tests of slots of arrays that are pushed into builders, apart from their package since a package with tests is proved twice.
+//! Tests of cells of the slots of arrays, apart from their package since a package with tests is proved twice.
 #![tactic(auto)]
 
 #[cfg(test)]
-mod pushed;
+mod dictionaries;

@@ -1,10 +1,10 @@
 -- Records that are not added.
 use Rattle.std.proofs.Common.{inl, inr, ◌≡◌, List, length, Bool, false, ap}
 use Rattle.std.specs.Prelude.{◌⊎◌, Err}
-use Rattle.columnar_memory.specs.declared.Error.{Error}
-use Rattle.columnar_memory.specs.Error.{IsOutOfMemory, IsOverflow}
-use Rattle.nested_arrays_columns.specs.Kinds.{most_slots}
-use Rattle.nested_arrays_columns.specs.Slots.{Slot}
+use Rattle.nested_arrays_builder_parts.specs.arrays.columnar_memory.declared.Error.{Error}
+use Rattle.nested_arrays_builder_parts.specs.arrays.columnar_memory.Error.{IsOutOfMemory, IsOverflow}
+use Rattle.nested_arrays_builder_parts.specs.arrays.columns.Kinds.{most_slots}
+use Rattle.nested_arrays_builder_parts.specs.arrays.columns.Slots.{Slot}
 use Rattle.nested_arrays_builder_parts.specs.Marks.{TakesMark}
 use Rattle.nested_arrays_builder_parts.specs.Open.{Open}
 use Rattle.nested_arrays_builders.specs.Parts.{of_fields, has_room, AddsSlot}

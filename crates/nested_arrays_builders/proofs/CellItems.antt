@@ -6,12 +6,12 @@ use Rattle.std.specs.List.{list_all}
 use Rattle.std.proofs.lemmas.Bool.{cases_Bool, eqb-true, false≢true}
 use Rattle.std.proofs.lemmas.List.{length-map}
 use Rattle.std.proofs.lemmas.List.Folds.{list_all_at}
-use Rattle.nested_arrays_columns.specs.Cells.{fit_each, is_list_of, is_list_of_size, is_record_of}
-use Rattle.nested_arrays_columns.specs.Children.{field_of, fixed_items_of, items_of, slot_number}
-use Rattle.nested_arrays_columns.specs.Rows.{Cell, cell_slot, cell_slots}
-use Rattle.nested_arrays_columns.specs.Slots.{Slot, null, items, fields, in_slots, slot_list, slot_then}
-use Rattle.nested_arrays_growth.specs.OpenParts.{is_list, is_list_sized, is_record_sized}
-use Rattle.nested_arrays_growth.proofs.Pieces.{listed}
+use Rattle.nested_arrays_builder_parts.specs.arrays.columns.Cells.{fit_each, is_list_of, is_list_of_size, is_record_of}
+use Rattle.nested_arrays_builder_parts.specs.arrays.columns.Children.{field_of, fixed_items_of, items_of, slot_number}
+use Rattle.nested_arrays_builder_parts.specs.arrays.columns.Rows.{Cell, cell_slot, cell_slots}
+use Rattle.nested_arrays_builder_parts.specs.arrays.columns.Slots.{Slot, null, items, fields, in_slots, slot_list, slot_then}
+use Rattle.nested_arrays_builder_parts.specs.growth.OpenParts.{is_list, is_list_sized, is_record_sized}
+use Rattle.nested_arrays_builder_parts.proofs.growth_lemmas.Pieces.{listed}
 use Rattle.nested_arrays_builder_parts.specs.Scalars.{in_cells, cell_step, cell_of, scalar_slot}
 use Rattle.nested_arrays_builder_parts.specs.declared.scalars.AnyScalar.{AnyScalar, map-AnyScalar}
 use Rattle.nested_arrays_builder_parts.specs.declared.scalars.AnyScalar.TheFolds.{fold-roll-AnyScalar}

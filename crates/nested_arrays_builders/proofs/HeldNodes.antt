@@ -1,10 +1,10 @@
 -- Builders by their nodes: without children, or with.
 use Rattle.std.proofs.Common.{◌≡◌, ◌∙◌, ℕ, ◌+◌, ◌≤◌, List, Bool, length, take, sym, ap, subst}
 use Rattle.std.specs.Prelude.{true, Result}
-use Rattle.columnar_memory.specs.declared.Error.{Error}
-use Rattle.nested_arrays_columns.specs.Cells.{fits_cell}
-use Rattle.nested_arrays_columns.specs.Slots.{Slot}
-use Rattle.nested_arrays_columns.specs.StoredColumns.{slots}
+use Rattle.nested_arrays_builder_parts.specs.arrays.columnar_memory.declared.Error.{Error}
+use Rattle.nested_arrays_builder_parts.specs.arrays.columns.Cells.{fits_cell}
+use Rattle.nested_arrays_builder_parts.specs.arrays.columns.Slots.{Slot}
+use Rattle.nested_arrays_builder_parts.specs.arrays.columns.StoredColumns.{slots}
 use Rattle.nested_arrays_builder_parts.specs.Open.{Open, opened, first_slots, IsPushed}
 use Rattle.nested_arrays_builders.specs.Nodes.{held_of, parts_of}
 use Rattle.nested_arrays_builders.specs.Parts.{seen, parts_column, parts_size, type_size, first_parts, takes_slot}

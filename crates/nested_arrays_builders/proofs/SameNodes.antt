@@ -1,9 +1,9 @@
 -- Builders that stay as they were.
 use Rattle.std.proofs.Common.{◌≡◌, ◌∙◌, ℕ, List, Bool, get_or, sym, ap, subst}
 use Rattle.std.specs.Prelude.{Some, slice_get}
-use Rattle.nested_arrays_columns.specs.FreshColumns.{is_valid}
-use Rattle.nested_arrays_columns.specs.Slots.{null}
-use Rattle.nested_arrays_columns.specs.StoredColumns.{slots}
+use Rattle.nested_arrays_builder_parts.specs.arrays.columns.FreshColumns.{is_valid}
+use Rattle.nested_arrays_builder_parts.specs.arrays.columns.Slots.{null}
+use Rattle.nested_arrays_builder_parts.specs.arrays.columns.StoredColumns.{slots}
 use Rattle.nested_arrays_builder_parts.specs.Open.{Open, opened}
 use Rattle.nested_arrays_builder_parts.proofs.KeptSlots.{mark_is}
 use Rattle.nested_arrays_builders.specs.Nodes.{held_of, parts_of}

@@ -1,14 +1,14 @@
 -- Builders before any slot is pushed.
 use Rattle.std.specs.Prelude.{◌≡◌, ◌⊎◌, ◌+◌, ℕ, Bool, true, false, List, [], ◌∷◌, Result, MatchResult}
 use Rattle.std.specs.List.{list_any}
-use Rattle.columnar_memory.specs.declared.DataType.{DataType}
-use Rattle.columnar_memory.specs.declared.DataType.TheOpen as layer
-use Rattle.columnar_memory.specs.declared.DataType.TheFolds.{fold-DataType}
-use Rattle.columnar_memory.specs.declared.Error.{Error}
-use Rattle.columnar_memory.specs.declared.Field.{Field}
-use Rattle.columnar_memory.specs.Layouts.{physical_type}
-use Rattle.columnar_memory.specs.Error.{IsInvalidArgument, IsNotYetImplemented, IsOutOfMemory}
-use Rattle.nested_arrays_columns.specs.FreshLaws.{is_buildable, are_buildable}
+use Rattle.nested_arrays_builder_parts.specs.arrays.columnar_memory.declared.DataType.{DataType}
+use Rattle.nested_arrays_builder_parts.specs.arrays.columnar_memory.declared.DataType.TheOpen as layer
+use Rattle.nested_arrays_builder_parts.specs.arrays.columnar_memory.declared.DataType.TheFolds.{fold-DataType}
+use Rattle.nested_arrays_builder_parts.specs.arrays.columnar_memory.declared.Error.{Error}
+use Rattle.nested_arrays_builder_parts.specs.arrays.columnar_memory.declared.Field.{Field}
+use Rattle.nested_arrays_builder_parts.specs.arrays.columnar_memory.Layouts.{physical_type}
+use Rattle.nested_arrays_builder_parts.specs.arrays.columnar_memory.Error.{IsInvalidArgument, IsNotYetImplemented, IsOutOfMemory}
+use Rattle.nested_arrays_builder_parts.specs.arrays.columns.FreshLaws.{is_buildable, are_buildable}
 use Rattle.nested_arrays_builder_parts.specs.NewValues.{is_of_floats}
 use Rattle.nested_arrays_builder_parts.specs.Open.{Open, opened}
 use Rattle.nested_arrays_builder_parts.specs.arrays.Childless.{is_childless}

@@ -1,19 +1,19 @@
 -- The column of parts that hold some slots is the one that stores them.
 use Rattle.std.proofs.Common.{◌≡◌, ◌∙◌, List, [], ◌∷◌, Bool, length, map, refl, sym, ap}
 use Rattle.std.proofs.lemmas.List.{length-map}
-use Rattle.columnar_memory.specs.declared.DataType.{DataType}
-use Rattle.columnar_memory.specs.declared.DataType.TheOpen as layer
-use Rattle.columnar_memory.specs.declared.Field.{Field}
-use Rattle.columnar_memory.specs.Spans.{offsets_of}
-use Rattle.nested_arrays_columns.specs.FreshColumns.{is_valid, mask_of, fresh}
-use Rattle.nested_arrays_columns.specs.Rows.{fresh_columns}
-use Rattle.nested_arrays_columns.specs.Slots.{Slot}
-use Rattle.nested_arrays_columns.specs.StoredColumns.{lists, fixed_lists, records, in_columns, type_layer}
-use Rattle.nested_arrays_columns.proofs.FreshLengths.{Layer}
-use Rattle.nested_arrays_growth.specs.OpenParts.{marks_of, mask_from, slots_of_fields}
-use Rattle.nested_arrays_growth.proofs.LayerParts.{fresh_list, fresh_large_list, fresh_fixed_list, fresh_struct}
-use Rattle.nested_arrays_growth.proofs.Masks.{mask_is}
-use Rattle.nested_arrays_growth.proofs.Pieces.{item_spans_are}
+use Rattle.nested_arrays_builder_parts.specs.arrays.columnar_memory.declared.DataType.{DataType}
+use Rattle.nested_arrays_builder_parts.specs.arrays.columnar_memory.declared.DataType.TheOpen as layer
+use Rattle.nested_arrays_builder_parts.specs.arrays.columnar_memory.declared.Field.{Field}
+use Rattle.nested_arrays_builder_parts.specs.arrays.columnar_memory.Spans.{offsets_of}
+use Rattle.nested_arrays_builder_parts.specs.arrays.columns.FreshColumns.{is_valid, mask_of, fresh}
+use Rattle.nested_arrays_builder_parts.specs.arrays.columns.Rows.{fresh_columns}
+use Rattle.nested_arrays_builder_parts.specs.arrays.columns.Slots.{Slot}
+use Rattle.nested_arrays_builder_parts.specs.arrays.columns.StoredColumns.{lists, fixed_lists, records, in_columns, type_layer}
+use Rattle.nested_arrays_builder_parts.proofs.arrays_lemmas.columns_lemmas.FreshLengths.{Layer}
+use Rattle.nested_arrays_builder_parts.specs.growth.OpenParts.{marks_of, mask_from, slots_of_fields}
+use Rattle.nested_arrays_builder_parts.proofs.growth_lemmas.LayerParts.{fresh_list, fresh_large_list, fresh_fixed_list, fresh_struct}
+use Rattle.nested_arrays_builder_parts.proofs.growth_lemmas.Masks.{mask_is}
+use Rattle.nested_arrays_builder_parts.proofs.growth_lemmas.Pieces.{item_spans_are}
 use Rattle.nested_arrays_builder_parts.specs.Open.{column_of}
 use Rattle.nested_arrays_builders.specs.Parts.{Parts, listed, sized, of_fields, parts_column, opened_each, HoldsParts, IsKept}
 

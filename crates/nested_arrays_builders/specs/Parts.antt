@@ -2,22 +2,22 @@
 use Rattle.std.specs.Prelude.{◌≡◌, ◌⊎◌, ◌<◌, ℕ, ◌+◌, ◌*◌, ◌≤◌, ◌&&◌, nat_le, Bool, true, false, List, [], ◌∷◌, ◌++◌, length, map, take, All}
 use Rattle.std.specs.Prelude.{Result, MatchResult}
 use Rattle.std.specs.List.{list_all}
-use Rattle.columnar_memory.specs.declared.DataType.{DataType}
-use Rattle.columnar_memory.specs.declared.DataType.TheOpen as layer
-use Rattle.columnar_memory.specs.declared.Error.{Error}
-use Rattle.columnar_memory.specs.declared.Field.{Field}
-use Rattle.columnar_memory.specs.Error.{IsOutOfMemory, IsOverflow}
-use Rattle.columnar_memory.specs.Spans.{Spans, offsets_of, extended, first_spans, last_of}
-use Rattle.nested_arrays_columns.specs.Cells.{fits_cell, is_list_of, is_list_of_size, is_record_of}
-use Rattle.nested_arrays_columns.specs.Children.{items_of, fixed_items_of, joined_items, joined_fixed_items}
-use Rattle.nested_arrays_columns.specs.FreshColumns.{fresh, is_valid}
-use Rattle.nested_arrays_columns.specs.FreshLaws.{is_buildable}
-use Rattle.nested_arrays_columns.specs.Kinds.{most_slots}
-use Rattle.nested_arrays_columns.specs.OpenBatch.{most_short, most_long, fits}
-use Rattle.nested_arrays_columns.specs.Slots.{Slot}
-use Rattle.nested_arrays_columns.specs.StoredColumns.{Column, column_size, lists, fixed_lists, records, in_columns, slots, type_layer}
-use Rattle.nested_arrays_growth.specs.OpenParts.{marks_of, mask_from, item_spans, slots_of_fields, fields_of_slot, is_list, is_list_sized}
-use Rattle.nested_arrays_growth.specs.OpenParts.{is_record_sized}
+use Rattle.nested_arrays_builder_parts.specs.arrays.columnar_memory.declared.DataType.{DataType}
+use Rattle.nested_arrays_builder_parts.specs.arrays.columnar_memory.declared.DataType.TheOpen as layer
+use Rattle.nested_arrays_builder_parts.specs.arrays.columnar_memory.declared.Error.{Error}
+use Rattle.nested_arrays_builder_parts.specs.arrays.columnar_memory.declared.Field.{Field}
+use Rattle.nested_arrays_builder_parts.specs.arrays.columnar_memory.Error.{IsOutOfMemory, IsOverflow}
+use Rattle.nested_arrays_builder_parts.specs.arrays.columnar_memory.Spans.{Spans, offsets_of, extended, first_spans, last_of}
+use Rattle.nested_arrays_builder_parts.specs.arrays.columns.Cells.{fits_cell, is_list_of, is_list_of_size, is_record_of}
+use Rattle.nested_arrays_builder_parts.specs.arrays.columns.Children.{items_of, fixed_items_of, joined_items, joined_fixed_items}
+use Rattle.nested_arrays_builder_parts.specs.arrays.columns.FreshColumns.{fresh, is_valid}
+use Rattle.nested_arrays_builder_parts.specs.arrays.columns.FreshLaws.{is_buildable}
+use Rattle.nested_arrays_builder_parts.specs.arrays.columns.Kinds.{most_slots}
+use Rattle.nested_arrays_builder_parts.specs.arrays.columns.OpenBatch.{most_short, most_long, fits}
+use Rattle.nested_arrays_builder_parts.specs.arrays.columns.Slots.{Slot}
+use Rattle.nested_arrays_builder_parts.specs.arrays.columns.StoredColumns.{Column, column_size, lists, fixed_lists, records, in_columns, slots, type_layer}
+use Rattle.nested_arrays_builder_parts.specs.growth.OpenParts.{marks_of, mask_from, item_spans, slots_of_fields, fields_of_slot, is_list, is_list_sized}
+use Rattle.nested_arrays_builder_parts.specs.growth.OpenParts.{is_record_sized}
 use Rattle.nested_arrays_builder_parts.specs.Open.{Open, opened, column_of, first_slots, with_slot, IsWithin}
 
 pub data Parts : Type 0 where

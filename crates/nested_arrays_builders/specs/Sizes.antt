@@ -1,7 +1,7 @@
 -- Each child of a builder has a type of fewer columns than the builder.
 use Rattle.std.specs.Prelude.{◌+◌, ◌*◌, ◌≤◌, max, List, [], ◌∷◌}
 use Rattle.std.proofs.Common.{arith}
-use Rattle.nested_arrays_columns.specs.StoredColumns.{slots}
+use Rattle.nested_arrays_builder_parts.specs.arrays.columns.StoredColumns.{slots}
 use Rattle.nested_arrays_builder_parts.specs.Open.{Open}
 use Rattle.nested_arrays_builders.specs.Nodes.{held_of, parts_of}
 use Rattle.nested_arrays_builders.specs.Parts.{seen, parts_column, parts_size, type_size, types_size, IsHeld}

@@ -1,15 +1,15 @@
 -- The types below a builder have fewer columns than its own.
 use Rattle.std.proofs.Common.{◌≡◌, ◌∙◌, ℕ, ◌+◌, List, [], ◌∷◌, length, Bool, sym, ap, refl}
-use Rattle.columnar_memory.specs.declared.DataType.{DataType}
-use Rattle.columnar_memory.specs.declared.DataType.TheOpen as layer
-use Rattle.columnar_memory.specs.declared.Field.{Field}
-use Rattle.nested_arrays_columns.specs.Children.{field_slots}
-use Rattle.nested_arrays_columns.specs.Rows.{fresh_columns}
-use Rattle.nested_arrays_columns.specs.Slots.{Slot, window}
-use Rattle.nested_arrays_columns.specs.StoredColumns.{column_size, columns_size, in_columns, type_layer}
-use Rattle.nested_arrays_columns.proofs.FreshLengths.{Layer}
-use Rattle.nested_arrays_growth.specs.OpenParts.{slots_of_fields}
-use Rattle.nested_arrays_growth.proofs.LayerParts.{fresh_list, fresh_large_list, fresh_fixed_list, fresh_struct}
+use Rattle.nested_arrays_builder_parts.specs.arrays.columnar_memory.declared.DataType.{DataType}
+use Rattle.nested_arrays_builder_parts.specs.arrays.columnar_memory.declared.DataType.TheOpen as layer
+use Rattle.nested_arrays_builder_parts.specs.arrays.columnar_memory.declared.Field.{Field}
+use Rattle.nested_arrays_builder_parts.specs.arrays.columns.Children.{field_slots}
+use Rattle.nested_arrays_builder_parts.specs.arrays.columns.Rows.{fresh_columns}
+use Rattle.nested_arrays_builder_parts.specs.arrays.columns.Slots.{Slot, window}
+use Rattle.nested_arrays_builder_parts.specs.arrays.columns.StoredColumns.{column_size, columns_size, in_columns, type_layer}
+use Rattle.nested_arrays_builder_parts.proofs.arrays_lemmas.columns_lemmas.FreshLengths.{Layer}
+use Rattle.nested_arrays_builder_parts.specs.growth.OpenParts.{slots_of_fields}
+use Rattle.nested_arrays_builder_parts.proofs.growth_lemmas.LayerParts.{fresh_list, fresh_large_list, fresh_fixed_list, fresh_struct}
 use Rattle.nested_arrays_builder_parts.specs.Open.{Open}
 use Rattle.nested_arrays_builders.specs.Begun.{fields_size}
 use Rattle.nested_arrays_builders.specs.Parts.{Parts, listed, sized, of_fields, opened_each, type_size, types_size, parts_size, HoldsParts, IsKept}

@@ -1,8 +1,8 @@
 //! Builders of any type.
-ghost use Rattle.std.specs.Prelude.{◌≡◌, ◌<◌, ◌≤◌, length, not, slice_index_or, true, IfErr};
-ghost use Rattle.columnar_memory.specs.Error.{IsOutOfMemory};
-ghost use Rattle.nested_arrays_columns.specs.Cells.{fits_cell, is_null};
-ghost use Rattle.nested_arrays_columns.specs.Slots.{null};
+ghost use Rattle.std.specs.Prelude.{◌≡◌, ◌<◌, ◌≤◌, ◌↔◌, length, not, slice_index_or, true, IfErr, IsTrue};
+ghost use Rattle.nested_arrays_builder_parts.specs.arrays.columnar_memory.Error.{IsOutOfMemory};
+ghost use Rattle.nested_arrays_builder_parts.specs.arrays.columns.Cells.{fits_cell, is_null};
+ghost use Rattle.nested_arrays_builder_parts.specs.arrays.columns.Slots.{null};
 ghost use Rattle.nested_arrays_builder_parts.specs.Open.{first_slots, IsPushed, IsWithin};
 ghost use Rattle.nested_arrays_builder_parts.specs.Scalars.{scalar_slot};
 ghost use Rattle.nested_arrays_builders.specs.Nodes.{held_of};
@@ -12,7 +12,7 @@ use crate::children::{push_nested, truncate_nested};
 use crate::fitting::is_cell_of;
 use crate::offsets::MutableListOffsets;
 use crate::room::{reserve_nested, shrink_nested};
-use columnar_memory::{DataType, Error, Result};
+use nested_arrays_builder_parts::columnar_memory::{DataType, Error, Result};
 use nested_arrays_builder_parts::{AnyScalar, FlatBuilder, Marks};
 use std::marker::Model;
 
@@ -100,7 +100,9 @@ impl AnyMutableArray {
         }
     }
 
-    pub fn is_empty(&self) -> bool {
+    pub fn is_empty(&self) -> bool
+        ensures { IsTrue result ↔ (length self.now.slots ≡ 0) }
+    {
         self.len() == 0
     }
 

@@ -8,7 +8,7 @@ ghost use Rattle.nested_arrays_builders.specs.Parts.{first_parts, takes_slot, Ad
 use crate::any::{AnyMutableArray, MutableChildren};
 use crate::lists::{push_list, push_sized, truncate_list, truncate_sized};
 use crate::records::push_record;
-use columnar_memory::Result;
+use nested_arrays_builder_parts::columnar_memory::Result;
 use nested_arrays_builder_parts::{AnyScalar, Marks};
 
 /// Keeps the first `len` marks alone, and below what belongs to these slots.

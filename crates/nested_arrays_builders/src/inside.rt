@@ -1,9 +1,9 @@
 //! Cells inside a cell, by their places.
 ghost use Rattle.std.specs.Prelude.{◌≡◌, ◌<◌, length, true, slice_index_or};
-ghost use Rattle.nested_arrays_columns.specs.Children.{field_of, fixed_items_of, items_of};
-ghost use Rattle.nested_arrays_columns.specs.Slots.{null};
+ghost use Rattle.nested_arrays_builder_parts.specs.arrays.columns.Children.{field_of, fixed_items_of, items_of};
+ghost use Rattle.nested_arrays_builder_parts.specs.arrays.columns.Slots.{null};
 ghost use Rattle.nested_arrays_builder_parts.specs.Scalars.{scalar_slot};
-ghost use Rattle.nested_arrays_growth.specs.OpenParts.{is_list, is_list_sized, is_record_sized};
+ghost use Rattle.nested_arrays_builder_parts.specs.growth.OpenParts.{is_list, is_list_sized, is_record_sized};
 
 use nested_arrays_builder_parts::AnyScalar;
 

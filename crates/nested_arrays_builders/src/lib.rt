@@ -13,4 +13,6 @@ mod room;
 
 pub use any::{AnyMutableArray, Head, MutableChildren, MutableNode};
 pub use fitting::is_cell_of;
+pub use nested_arrays_builder_parts as parts;
+pub use nested_arrays_builder_parts::{arrays, columnar_memory};
 pub use offsets::MutableListOffsets;

@@ -1,14 +1,14 @@
 //! Builders of a data type before any slot is pushed.
 ghost use Rattle.std.specs.Prelude.{◌≡◌, []};
-ghost use Rattle.columnar_memory.specs.declared.DataType.TheOpen as layer;
-ghost use Rattle.nested_arrays_columns.specs.StoredColumns.{type_layer};
+ghost use Rattle.nested_arrays_builder_parts.specs.arrays.columnar_memory.declared.DataType.TheOpen as layer;
+ghost use Rattle.nested_arrays_builder_parts.specs.arrays.columns.StoredColumns.{type_layer};
 ghost use Rattle.nested_arrays_builders.specs.Begun.{AreBegun, IsBegun, IsPlain};
 ghost use Rattle.nested_arrays_builders.specs.Nodes.{parts_of};
 ghost use Rattle.nested_arrays_builders.specs.Parts.{IsKept};
 
 use crate::any::{AnyMutableArray, Head, MutableChildren, MutableNode};
 use crate::offsets::MutableListOffsets;
-use columnar_memory::{DataType, Error, Field, Offsets, Result};
+use nested_arrays_builder_parts::columnar_memory::{DataType, Error, Field, Offsets, Result};
 use nested_arrays_builder_parts::{FlatBuilder, Marks};
 use std::alloc::Global;
 

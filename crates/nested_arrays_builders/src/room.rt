@@ -1,11 +1,11 @@
 //! Room for what builders with children are to hold.
 ghost use Rattle.std.specs.Prelude.{◌≡◌, IfErr};
-ghost use Rattle.columnar_memory.specs.Error.{IsOutOfMemory};
+ghost use Rattle.nested_arrays_builder_parts.specs.arrays.columnar_memory.Error.{IsOutOfMemory};
 ghost use Rattle.nested_arrays_builders.specs.Nodes.{parts_of};
 
 use crate::any::{AnyMutableArray, MutableChildren};
-use columnar_memory::{Error, Result};
 use nested_arrays_builder_parts::Marks;
+use nested_arrays_builder_parts::columnar_memory::{Error, Result};
 
 /// Makes room for some more marks, and below for what so many slots bring, but for items of lists of any length.
 #[cycle(reserving)]

@@ -1,9 +1,9 @@
 use Rattle.std.proofs.Common.{rules, ◌≡◌, ◌∙◌, ℕ, ◌<◌, ◌≤◌, length, take, get_or, true, ap, sym, arith}
 use Rattle.std.specs.Prelude.{slice_set}
-use Rattle.nested_arrays_columns.specs.Cells.{fits_cell}
-use Rattle.nested_arrays_columns.specs.Children.{fixed_items_of}
-use Rattle.nested_arrays_columns.specs.Slots.{null}
-use Rattle.nested_arrays_growth.specs.OpenParts.{fields_of_slot, is_record_sized}
+use Rattle.nested_arrays_builder_parts.specs.arrays.columns.Cells.{fits_cell}
+use Rattle.nested_arrays_builder_parts.specs.arrays.columns.Children.{fixed_items_of}
+use Rattle.nested_arrays_builder_parts.specs.arrays.columns.Slots.{null}
+use Rattle.nested_arrays_builder_parts.specs.growth.OpenParts.{fields_of_slot, is_record_sized}
 use Rattle.nested_arrays_builder_parts.specs.Open.{Open, first_slots}
 use Rattle.nested_arrays_builder_parts.specs.Scalars.{scalar_slot}
 use Rattle.nested_arrays_builders.specs.Parts.{is_fitting, of_fields, type_size, types_size, with_each, IsShort, IsShortOfEach}

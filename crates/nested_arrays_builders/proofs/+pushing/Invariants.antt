@@ -1,6 +1,6 @@
 use Rattle.std.proofs.Common.{◌≡◌, ℕ, ◌<◌, ◌+◌, ◌*◌, take, length, get_or, true}
-use Rattle.nested_arrays_columns.specs.Children.{fixed_items_of}
-use Rattle.nested_arrays_growth.specs.OpenParts.{fields_of_slot}
+use Rattle.nested_arrays_builder_parts.specs.arrays.columns.Children.{fixed_items_of}
+use Rattle.nested_arrays_builder_parts.specs.growth.OpenParts.{fields_of_slot}
 use Rattle.nested_arrays_builder_parts.specs.Open.{Open}
 use Rattle.nested_arrays_builder_parts.specs.Scalars.{scalar_slot}
 use Rattle.nested_arrays_builders.specs.Nodes.{parts_of}

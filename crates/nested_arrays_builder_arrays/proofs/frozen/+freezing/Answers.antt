@@ -1,12 +1,12 @@
 use Rattle.std.proofs.Common.{rules, ◌≡◌, ◌∙◌, ◌≤◌, [], length, true, ap, sym, subst, arith}
 use Rattle.std.proofs.lemmas.Iterator.Adapters.{YieldsList-from_vec}
 use Rattle.std.proofs.lemmas.Iterator.Consumers.{YieldsList-turn}
-use Rattle.columnar_memory.specs.Spans.{offsets_of}
+use Rattle.nested_arrays_builders.specs.columnar_memory.Spans.{offsets_of}
 use Rattle.nested_arrays_arrays.specs.Lengths.{size_of}
-use Rattle.nested_arrays_columns.specs.SoundColumns.{is_sound}
-use Rattle.nested_arrays_columns.specs.StoredColumns.{fixed_lists, lists}
-use Rattle.nested_arrays_builder_parts.specs.Marks.{mask_of_marks}
-use Rattle.nested_arrays_builder_parts.specs.Open.{Open, column_of}
+use Rattle.nested_arrays_builders.specs.columns.SoundColumns.{is_sound}
+use Rattle.nested_arrays_builders.specs.columns.StoredColumns.{fixed_lists, lists}
+use Rattle.nested_arrays_builders.specs.parts.Marks.{mask_of_marks}
+use Rattle.nested_arrays_builders.specs.parts.Open.{Open, column_of}
 use Rattle.nested_arrays_builders.specs.Nodes.{parts_of}
 use Rattle.nested_arrays_builders.specs.Parts.{listed, sized, of_fields, parts_column, parts_size, type_size, types_size}
 use Rattle.nested_arrays_builders.specs.Widths.{is_large, spans_in}

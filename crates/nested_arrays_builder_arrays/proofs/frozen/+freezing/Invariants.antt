@@ -1,5 +1,5 @@
 use Rattle.std.proofs.Common.{◌≡◌, ◌+◌, ◌*◌, map}
-use Rattle.nested_arrays_builder_parts.specs.Open.{column_of}
+use Rattle.nested_arrays_builders.specs.parts.Open.{column_of}
 use Rattle.nested_arrays_builders.specs.Nodes.{parts_of}
 use Rattle.nested_arrays_builders.specs.Parts.{parts_size, type_size, types_size}
 use Rattle.nested_arrays_builder_arrays.proofs.frozen.+freezing.Given as goal

@@ -1,12 +1,12 @@
 //! Slots of arrays that are pushed into builders.
 ghost use Rattle.std.specs.Prelude.{◌<◌};
-ghost use Rattle.nested_arrays_arrays.specs.columns.StoredColumns.{column_len};
-ghost use Rattle.nested_arrays_builder_cells.specs.ArrayCells.{PushesFrom};
+ghost use Rattle.nested_arrays_builder_cells.specs.arrays.columns.StoredColumns.{column_len};
+ghost use Rattle.nested_arrays_builder_pushes.specs.Pushes.{PushesFrom};
 
-use crate::cells::cell_at;
-use nested_arrays_arrays::columnar_memory::{Error, Result};
-use nested_arrays_arrays::AnyArray;
+use nested_arrays_builder_cells::arrays::AnyArray;
+use nested_arrays_builder_cells::cell_at;
 use nested_arrays_builders::AnyMutableArray;
+use nested_arrays_builders::columnar_memory::{Error, Result};
 use std::alloc::Global;
 
 /// Pushes the cell of the slot at a place of an array of any type, as `try_push_scalar` does. A call that is refused changes nothing.

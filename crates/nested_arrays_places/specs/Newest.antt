@@ -1,0 +1,26 @@
+-- Hashes one after another, the newest of each bucket, and before each the next newest of its bucket.
+use Rattle.std.specs.Prelude.{◌≡◌, ◌≢◌, ℕ, ◌-◌, ◌%◌, ◌<◌, ◌≤◌, List, length, slice_index_or}
+
+-- A place behind the newest of the first q hashes with this one, or 0 where none has it.
+pub record IsNewest (hashes : List ℕ) (q hash p : ℕ) : Type 0 where
+  pub within : p ≤ q
+  pub here : 0 < p → slice_index_or hashes (p - 1) 0 ≡ hash
+  pub none : (i : ℕ) → p ≤ i → i < q → slice_index_or hashes i 0 ≢ hash
+
+-- a place behind the newest of the first q hashes that fall into a bucket of n, or 0 where none does
+pub record IsLast (n : ℕ) (hashes : List ℕ) (q bucket p : ℕ) : Type 0 where
+  pub within : p ≤ q
+  pub here : 0 < p → slice_index_or hashes (p - 1) 0 % n ≡ bucket
+  pub none : (i : ℕ) → p ≤ i → i < q → slice_index_or hashes i 0 % n ≢ bucket
+
+-- the first q hashes are linked: from each of n buckets to the newest in it, and from each hash to the next newest
+pub record IsLinked (n : ℕ) (heads before hashes : List ℕ) (q : ℕ) : Type 0 where
+  pub wide : length heads ≡ n
+  pub long : length before ≡ q
+  pub first : (b : ℕ) → b < n → IsLast n hashes q b (slice_index_or heads b 0)
+  pub next : (i : ℕ) → i < q → IsLast n hashes i (slice_index_or hashes i 0 % n) (slice_index_or before i 0)
+
+-- all are linked, and there is a bucket for each at least
+pub record AreKept (heads before hashes : List ℕ) : Type 0 where
+  pub few : length hashes ≤ length heads
+  pub linked : IsLinked (length heads) heads before hashes (length hashes)
