@@ -7,11 +7,9 @@ ghost use Rattle.nested_arrays_arrays.specs.Places.{HavePlace};
 ghost use Rattle.nested_arrays_builder_cells.specs.ArrayCells.{has_cell, has_cell_at, IsCellAt, IsCellOf};
 
 use crate::flats::flat_cell;
-use crate::inside::{
-    fixed_items, list_items, map_cell, named_value, record_fields, union_cell,
-};
-use nested_arrays_arrays::columnar_memory::Result;
+use crate::inside::{fixed_items, list_items, map_cell, named_value, record_fields, union_cell};
 use columnar_memory_types::Items;
+use nested_arrays_arrays::columnar_memory::Result;
 use nested_arrays_arrays::parts::{FlatArray, holds_values};
 use nested_arrays_arrays::{AnyArray, Node};
 use nested_arrays_builder_parts::AnyScalar;
@@ -62,12 +60,7 @@ pub fn cell_at(alloc: Global, array: &AnyArray, place: usize) -> Result<Option<A
 
 /// The cell of a list of so many slots of an array from a place on.
 #[cycle(reading)]
-fn list_cell(
-    alloc: Global,
-    array: &AnyArray,
-    start: usize,
-    len: usize,
-) -> Result<Option<AnyScalar>>
+fn list_cell(alloc: Global, array: &AnyArray, start: usize, len: usize) -> Result<Option<AnyScalar>>
     requires { start + len ≤ column_len array.now }
     ensures { IsCellOf (list_all (has_cell (column_type array.now)) (window (slot_at array.now) start len))
         (items (in_slots (window (slot_at array.now) start len))) result }

@@ -8,8 +8,8 @@ ghost use Rattle.nested_arrays_arrays.specs.parts.Forms.{bare};
 ghost use Rattle.nested_arrays_builder_parts.specs.Scalars.{scalar_slot};
 
 use crate::numbers::{number_at, number_cell};
-use nested_arrays_arrays::columnar_memory::Result;
 use columnar_memory_types::{Items, Text};
+use nested_arrays_arrays::columnar_memory::Result;
 use nested_arrays_arrays::flat_arrays::BooleanArray;
 use nested_arrays_arrays::parts::{FlatArray, FlatNode, is_valid};
 use nested_arrays_builder_parts::AnyScalar;

@@ -70,10 +70,7 @@ fn set_fixed_items(array: &FixedSizeListArray, i: usize) -> (&AnyArray, usize, u
 }
 
 /// The items of a list of one size, and none where it is null.
-pub(crate) fn fixed_items(
-    array: &FixedSizeListArray,
-    i: usize,
-) -> Option<(&AnyArray, usize, usize)>
+pub(crate) fn fixed_items(array: &FixedSizeListArray, i: usize) -> Option<(&AnyArray, usize, usize)>
     requires { i < column_len array.now }
     ensures { MatchOption result (slot_at array.now i ≡ null) (λ found. AreCellItems array.now i found.0.now found.1 found.2) }
 {
