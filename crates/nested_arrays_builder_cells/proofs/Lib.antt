@@ -1,0 +1,8 @@
+pub mod CellForms
+pub mod CellPlaces
+pub mod HasCells
+pub mod ReadCells
+pub mod ReadPlaces
+pub mod ReadSlots
+pub mod StoredNumbers
+pub mod StoredValues
