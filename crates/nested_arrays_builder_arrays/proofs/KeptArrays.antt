@@ -1,28 +1,23 @@
 -- What builders with children store is sound.
 use Rattle.std.proofs.Common.{◌≡◌, ◌∙◌, ◌<◌, ℕ, List, [], ◌∷◌, length, map, Bool, true, refl, sym, ap, subst, arith}
-use Rattle.std.specs.Prelude.{◌≤◌, ◌&&◌, ◌==◌, ℤ, pos, nat_le, Result}
+use Rattle.std.specs.Prelude.{◌&&◌, ◌==◌, nat_le, Result}
 use Rattle.std.proofs.lemmas.Bool.{and_parts, eqb-true, leb-true}
 use Rattle.nested_arrays_builders.specs.columnar_memory.declared.DataType.{DataType}
 use Rattle.nested_arrays_builders.specs.columnar_memory.declared.DataType.TheOpen as layer
 use Rattle.nested_arrays_builders.specs.columnar_memory.declared.Field.{Field}
 use Rattle.nested_arrays_builders.specs.columnar_memory.declared.Error.{Error}
-use Rattle.nested_arrays_builders.specs.columnar_memory.declared.IntegerType.{IntegerType}
-use Rattle.nested_arrays_builders.specs.columnar_memory.declared.PhysicalType.TheVariants as physical
 use Rattle.nested_arrays_builders.specs.columnar_memory.Layouts.{physical_type}
 use Rattle.nested_arrays_builders.specs.columnar_memory.Results.{OrOutOfMemory}
 use Rattle.nested_arrays_builders.specs.columnar_memory.Spans.{Spans, offsets_of}
 use Rattle.nested_arrays_builders.specs.columns.FreshLaws.{are_buildable, is_buildable}
-use Rattle.nested_arrays_builders.specs.columns.Children.{dictionary_values}
-use Rattle.nested_arrays_builders.specs.columns.Kinds.{most_values}
-use Rattle.nested_arrays_builders.specs.columns.OpenBatch.{fits}
 use Rattle.nested_arrays_builders.specs.columns.Slots.{Slot}
 use Rattle.nested_arrays_builders.specs.columns.SoundColumns.{is_sound, are_sound, have_len, has_field_types, mask_fits}
-use Rattle.nested_arrays_builders.specs.columns.StoredColumns.{Column, column_len, dictionary, fixed_lists, in_columns, lists, records, slots, type_layer}
+use Rattle.nested_arrays_builders.specs.columns.StoredColumns.{Column, column_len, fixed_lists, in_columns, lists, records, slots, type_layer}
 use Rattle.nested_arrays_builders.proofs.columns_lemmas.Conditions.{parts_of_4}
 use Rattle.nested_arrays_builders.proofs.columns_lemmas.FreshLengths.{Layer}
 use Rattle.nested_arrays_builders.proofs.columns_lemmas.FreshSound.{fresh_is_sound}
 use Rattle.nested_arrays_builders.specs.growth.OpenParts.{mask_from, slots_of_fields}
-use Rattle.nested_arrays_builders.proofs.growth_lemmas.Below.{buildable_struct, values_fit_below}
+use Rattle.nested_arrays_builders.proofs.growth_lemmas.Below.{buildable_struct}
 use Rattle.nested_arrays_builders.proofs.growth_lemmas.Fields.{fields_count}
 use Rattle.nested_arrays_builders.proofs.growth_lemmas.Masks.{mask_by_count}
 use Rattle.nested_arrays_builders.proofs.growth_lemmas.TypeSteps.{layout_by_layer}
@@ -31,15 +26,12 @@ use Rattle.nested_arrays_builders.specs.parts.Marks.{mask_of_marks}
 use Rattle.nested_arrays_builders.specs.parts.Open.{Open, column_of}
 use Rattle.nested_arrays_builders.specs.KeptColumns.{column_kept}
 use Rattle.nested_arrays_builders.specs.Nodes.{held_of, parts_of}
-use Rattle.nested_arrays_builders.specs.Parts.{Parts, keyed, listed, seen, sized, of_fields, parts_column, HoldsParts, IsHeld, IsKept}
+use Rattle.nested_arrays_builders.specs.Parts.{Parts, listed, seen, sized, of_fields, parts_column, HoldsParts, IsHeld, IsKept}
 use Rattle.nested_arrays_builders.specs.declared.any.Head.{Head}
 use Rattle.nested_arrays_builders.specs.declared.any.MutableChildren.{MutableChildren}
 use Rattle.nested_arrays_builders.specs.declared.any.MutableNode.{MutableNode}
 use Rattle.nested_arrays_builders.specs.declared.any.MutableNode.TheVariants as variant
-use Rattle.nested_arrays_builders.specs.values.Uses.{greatest, key_of}
-use Rattle.nested_arrays_builders.proofs.CutParts.{kept_count}
 use Rattle.nested_arrays_builders.proofs.MoreParts.{opened_count}
-use Rattle.nested_arrays_builders.proofs.values_lemmas.UsedValues.{all_used}
 use Rattle.nested_arrays_builder_arrays.specs.Layouts.{lists_layout}
 
 pub kept_sound : (t : DataType) (marks : List Bool) (parts : Parts) (xs : List Slot) → IsKept t marks parts xs
@@ -115,37 +107,6 @@ module _ (t : DataType) (marks : List Bool) (xs : List Slot) where
       (parts_of_4 (has_field_types (type_layer t) columns) (have_len columns (length marks)) (mask_fits (mask_from marks) (length marks))
       (are_sound columns) (kept_sound t marks (of_fields children) xs kept)).1
       (some_by_layer (type_layer t) children refl kept.held kept.can)
-
-module _ (t : DataType) (marks : List Bool) (xs : List Slot) where
-  -- ---- dictionaries
-
-  abbrev keys_for : List ℕ → List ℤ
-  keys_for uses = map (λ n. pos (key_of n)) uses
-
-  pub dictionary_is : (own : IntegerType) (uses : List ℕ) (known : List Slot) (child : Open)
-      → dictionary t (mask_of_marks marks) (keys_for uses) (column_of child) ≡ parts_column t marks (keyed own uses known child)
-  dictionary_is own uses known child = ap (λ m. dictionary t m (keys_for uses) (column_of child)) (sym (mask_by_count marks))
-
-  module _ (own : IntegerType) (uses : List ℕ) (known : List Slot) (child : Open) (kept : IsKept t marks (keyed own uses known child) xs) where
-    pub dictionary_sound : is_sound (dictionary t (mask_of_marks marks) (keys_for uses) (column_of child)) ≡ true
-    dictionary_sound = ap is_sound (dictionary_is own uses known child) ∙ kept_sound t marks (keyed own uses known child) xs kept
-
-    pub dictionary_long : length uses ≡ length marks
-    dictionary_long = (kept_count t marks xs (keyed own uses known child) kept).many
-
-  few_by_layer : (x : Layer) (own : IntegerType) (uses : List ℕ) (known : List Slot) (child : Open) → type_layer t ≡ x → fits t xs ≡ true
-      → HoldsParts x (keyed own uses known child) xs → (physical_type t ≡ physical.Dictionary own) × (greatest uses ≤ most_values own)
-  few_by_layer (layer.Dictionary key value is_ordered) own uses known child is fit held =
-      let need = ap greatest held.1 ∙ all_used xs in
-      let few = subst (λ k. length (dictionary_values xs) ≤ most_values k) (sym held.0) (values_fit_below t key value is_ordered is xs fit).0 in (
-        layout_by_layer t (layer.Dictionary key value is_ordered) is ∙ ap physical.Dictionary (sym held.0),
-        omega (arith, need, few),
-      )
-  few_by_layer _ own uses known child is fit held = absurd held
-
-  pub dictionary_lies : (own : IntegerType) (uses : List ℕ) (known : List Slot) (child : Open) → IsKept t marks (keyed own uses known child) xs
-      → (physical_type t ≡ physical.Dictionary own) × (greatest uses ≤ most_values own)
-  dictionary_lies own uses known child kept = few_by_layer (type_layer t) own uses known child refl kept.fit kept.held
 
 -- ---- what is made of it
 

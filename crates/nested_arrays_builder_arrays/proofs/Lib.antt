@@ -1,2 +1,1 @@
 pub mod KeptArrays
-pub mod KeptKeys

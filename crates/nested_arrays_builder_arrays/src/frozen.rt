@@ -1,14 +1,10 @@
 //! Arrays of what builders hold, with no copy of values.
-ghost use Rattle.std.specs.Prelude.{◌≡◌, ◌≤◌, length, map, pos, true};
+ghost use Rattle.std.specs.Prelude.{◌≡◌, length, map, true};
 ghost use Rattle.nested_arrays_builders.specs.columnar_memory.Layouts.{physical_type};
 ghost use Rattle.nested_arrays_builders.specs.columnar_memory.Results.{OrOutOfMemory};
 ghost use Rattle.nested_arrays_builders.specs.columnar_memory.Spans.{offsets_of};
-ghost use Rattle.nested_arrays_builders.specs.columnar_memory.declared.PhysicalType.TheVariants as physical;
-ghost use Rattle.nested_arrays_builders.specs.columns.Kinds.{most_values};
 ghost use Rattle.nested_arrays_builders.specs.columns.SoundColumns.{is_sound};
-ghost use Rattle.nested_arrays_arrays.specs.parts.Keys.{keyed, AreKeysOf};
-ghost use Rattle.nested_arrays_builders.specs.values.Uses.{greatest, key_of};
-ghost use Rattle.nested_arrays_builders.specs.columns.StoredColumns.{dictionary, fixed_lists, in_columns, lists, records, slots};
+ghost use Rattle.nested_arrays_builders.specs.columns.StoredColumns.{fixed_lists, in_columns, lists, records, slots};
 ghost use Rattle.nested_arrays_arrays.specs.Lengths.{size_of, struct_len};
 ghost use Rattle.nested_arrays_arrays.specs.parts.Widths as frozen;
 ghost use Rattle.nested_arrays_builders.specs.parts.Marks.{mask_of_marks};
@@ -18,14 +14,9 @@ ghost use Rattle.nested_arrays_builders.specs.Parts.{parts_column, IsKept};
 ghost use Rattle.nested_arrays_builders.specs.Widths.{is_large, spans_in};
 ghost use Rattle.nested_arrays_builder_arrays.specs.Layouts.{lists_layout};
 
-use crate::keys::keys_of;
-use nested_arrays_arrays::flat::AnyPrimitive;
 use nested_arrays_arrays::parts::ListOffsets;
-use nested_arrays_arrays::{
-    AnyArray, DictionaryNode, FixedSizeListArray, ListNode, Node, StructArray,
-};
+use nested_arrays_arrays::{AnyArray, FixedSizeListArray, ListNode, Node, StructArray};
 use nested_arrays_builders::columnar_memory::{Bitmap, DataType, Result};
-use nested_arrays_builders::values::MutableKeys;
 use nested_arrays_builders::{
     AnyMutableArray, Head, MutableChildren, MutableListOffsets, MutableNode,
 };
@@ -60,9 +51,6 @@ fn freeze_nested(alloc: Global, head: Head, children: MutableChildren) -> Result
             freeze_sized(alloc, head, Box::into_inner(values))
         }
         MutableChildren::Struct(fields) => freeze_struct(alloc, head, fields),
-        MutableChildren::Dictionary(keys, values) => {
-            freeze_keyed(alloc, head, keys, Box::into_inner(values))
-        }
     }
 }
 
@@ -116,30 +104,6 @@ fn freeze_struct(alloc: Global, head: Head, fields: Vec<AnyMutableArray>) -> Res
     Ok(AnyArray::from(StructArray::new(data_type, fields, validity)))
 }
 
-/// The array of dictionaries.
-#[cycle(freezing)]
-fn freeze_keyed(
-    alloc: Global,
-    head: Head,
-    keys: MutableKeys,
-    values: AnyMutableArray,
-) -> Result<AnyArray>
-    requires few { greatest keys.uses.items ≤ most_values keys.key }
-    requires lies { physical_type head.data_type ≡ physical.Dictionary keys.key }
-    requires sound { is_sound (dictionary head.data_type (mask_of_marks head.marks) (map (λ n. pos (key_of n)) keys.uses.items) (column_of values))
-        ≡ true }
-    requires long { length keys.uses.items ≡ length head.marks }
-    ensures { OrOutOfMemory result (λ array. array
-        ≡ dictionary head.data_type (mask_of_marks head.marks) (map (λ n. pos (key_of n)) keys.uses.items) (column_of values)) }
-{
-    let values = into_array(alloc, values)?;
-    let values = Box::new(alloc, values)?;
-    let Head { data_type, marks } = head;
-    let validity = marks.freeze()?;
-    let keys = keys_of(alloc, keys.key, keys.uses.as_slice(), validity)?;
-    Ok(dictionary_array(data_type, keys, values))
-}
-
 /// The array of each builder.
 #[cycle(freezing)]
 fn freeze_each(alloc: Global, builders: Vec<AnyMutableArray>) -> Result<Vec<AnyArray>>
@@ -180,21 +144,6 @@ fn list_array(
             offsets,
             values,
             validity,
-        }),
-    }
-}
-
-/// The array of dictionaries with these parts, which fit.
-fn dictionary_array(data_type: DataType, keys: AnyPrimitive, values: Box<AnyArray>) -> AnyArray
-    requires sound { is_sound (keyed data_type keys values.value) ≡ true }
-    requires lies { AreKeysOf (physical_type data_type) keys }
-    ensures { result ≡ keyed data_type keys values.value }
-{
-    AnyArray {
-        node: Node::Dictionary(DictionaryNode {
-            data_type,
-            keys,
-            values,
         }),
     }
 }

@@ -2,8 +2,6 @@
 #![tactic(auto)]
 
 #[cfg(test)]
-mod dictionaries;
-#[cfg(test)]
 mod marks;
 #[cfg(test)]
 mod strings;

@@ -1,5 +1,5 @@
-use nested_arrays_builder_arrays::builders::columnar_memory::Error;
-use nested_arrays_builder_arrays::builders::parts::Marks;
+use columnar_memory::Error;
+use nested_arrays_builder_parts::Marks;
 use std::alloc::Global;
 use std::test::Fail;
 

@@ -9,19 +9,17 @@ use Rattle.nested_arrays_builder_parts.specs.arrays.columnar_memory.declared.Dat
 use Rattle.nested_arrays_builder_parts.specs.arrays.columnar_memory.declared.DataType.TheOpen as layer
 use Rattle.nested_arrays_builder_parts.specs.arrays.columnar_memory.declared.Error.{Error}
 use Rattle.nested_arrays_builder_parts.specs.arrays.columnar_memory.declared.Field.{Field}
-use Rattle.nested_arrays_builder_parts.specs.arrays.columnar_memory.declared.IntegerType.{IntegerType}
 use Rattle.nested_arrays_builder_parts.specs.arrays.columnar_memory.Error.{IsInvalidArgument, IsNotYetImplemented, IsOutOfMemory}
 use Rattle.nested_arrays_builder_parts.specs.arrays.columnar_memory.Spans.{Spans, no_spans}
 use Rattle.nested_arrays_builder_parts.specs.arrays.columns.Children.{field_slots}
 use Rattle.nested_arrays_builder_parts.specs.arrays.columns.FreshLaws.{is_buildable, are_buildable}
-use Rattle.nested_arrays_builder_parts.specs.arrays.columns.Slots.{Slot, window}
+use Rattle.nested_arrays_builder_parts.specs.arrays.columns.Slots.{window}
 use Rattle.nested_arrays_builder_parts.specs.arrays.columns.StoredColumns.{slots, type_layer}
-use Rattle.nested_arrays_builder_parts.proofs.growth_lemmas.Below.{buildable_dictionary, buildable_list, buildable_large_list, buildable_fixed_list, buildable_struct}
+use Rattle.nested_arrays_builder_parts.proofs.growth_lemmas.Below.{buildable_list, buildable_large_list, buildable_fixed_list, buildable_struct}
 use Rattle.nested_arrays_builder_parts.proofs.growth_lemmas.Fits.{nothing_fits}
 use Rattle.nested_arrays_builder_parts.specs.Open.{Open, opened}
-use Rattle.nested_arrays_builders.specs.Begun.{are_unbuilt, fields_size, has_builder, have_builders, is_unbuilt, opened_none, IsNoBuilder}
-use Rattle.nested_arrays_builders.specs.Parts.{Parts, keyed, listed, sized, of_fields, opened_each, parts_column, type_size, HoldsParts, IsKept}
-use Rattle.nested_arrays_builders.proofs.Builders.{has_fixed_list, has_struct}
+use Rattle.nested_arrays_builders.specs.Begun.{are_unbuilt, fields_size, is_unbuilt, opened_none, IsNoBuilder}
+use Rattle.nested_arrays_builders.specs.Parts.{Parts, listed, sized, of_fields, opened_each, parts_column, type_size, HoldsParts, IsKept}
 use Rattle.nested_arrays_builders.proofs.KeptNodes.{kept_again, view_kept}
 use Rattle.nested_arrays_builders.proofs.Unbuilt.{unbuilt_struct}
 
@@ -50,16 +48,6 @@ module _ (t : DataType) (item : Field) (o : Open) (made : o ≡ opened item.data
     marked = refl;
     held = subst (λ x. HoldsParts x (sized size o) []) (sym is) (refl, made);
   }
-
-pub begun_dictionary : (t : DataType) (key : IntegerType) (value : DataType) (is_ordered : Bool) (o : Open) → o ≡ opened value []
-    → is_buildable value ≡ true → type_layer t ≡ layer.Dictionary key value is_ordered → (own : IntegerType) (uses : List ℕ) (known : List Slot)
-    → own ≡ key → uses ≡ [] → known ≡ [] → IsKept t [] (keyed own uses known o) []
-begun_dictionary t key value is_ordered o made can is own uses known same none empty = record {
-  can = buildable_dictionary t key value is_ordered is ∙ can;
-  fit = nothing_fits t;
-  marked = refl;
-  held = subst (λ x. HoldsParts x (keyed own uses known o) []) (sym is) (same, none, empty, made);
-}
 
 each_none : (us : List Field) (a : ℕ) → opened_none us ≡ opened_each us (window (field_slots []) a (length us))
 each_none [] a = refl
@@ -92,22 +80,22 @@ left_fails : (a b : Bool) → b ≡ false → (a && b) ≡ false
 left_fails true b h = h
 left_fails false b h = refl
 
-pub unsized_fails : (t : DataType) (item : Field) (size : ℕ) → type_layer t ≡ layer.FixedSizeList item size → size ≡ 0 → has_builder t ≡ false
-unsized_fails t item size is none = has_fixed_list t item size is ∙ ap (λ n. nat_le 1 n && has_builder item.data_type) none
+pub unsized_fails : (t : DataType) (item : Field) (size : ℕ) → type_layer t ≡ layer.FixedSizeList item size → size ≡ 0 → is_buildable t ≡ false
+unsized_fails t item size is none = buildable_fixed_list t item size is ∙ ap (λ n. nat_le 1 n && is_buildable item.data_type) none
 
-pub sized_fails : (t : DataType) (item : Field) (size : ℕ) → type_layer t ≡ layer.FixedSizeList item size → has_builder item.data_type ≡ false
-    → has_builder t ≡ false
-sized_fails t item size is not = has_fixed_list t item size is ∙ left_fails (nat_le 1 size) (has_builder item.data_type) not
+pub sized_fails : (t : DataType) (item : Field) (size : ℕ) → type_layer t ≡ layer.FixedSizeList item size → is_buildable item.data_type ≡ false
+    → is_buildable t ≡ false
+sized_fails t item size is not = buildable_fixed_list t item size is ∙ left_fails (nat_le 1 size) (is_buildable item.data_type) not
 
-pub empty_struct_fails : (t : DataType) (us : List Field) → type_layer t ≡ layer.Struct us → length us ≡ 0 → has_builder t ≡ false
-empty_struct_fails t us is none = has_struct t us is ∙ ap (λ n. nat_le 1 n && have_builders us) none
+pub empty_struct_fails : (t : DataType) (us : List Field) → type_layer t ≡ layer.Struct us → length us ≡ 0 → is_buildable t ≡ false
+empty_struct_fails t us is none = buildable_struct t us is ∙ ap (λ n. nat_le 1 n && are_buildable us) none
 
 pub struct_refused : (t : DataType) (us : List Field) (e : Error) → type_layer t ≡ layer.Struct us
-    → IsOutOfMemory e ⊎ (IsNotYetImplemented e × (are_unbuilt us ≡ true)) ⊎ (IsInvalidArgument e × (have_builders us ≡ false)) → IsNoBuilder t e
+    → IsOutOfMemory e ⊎ (IsNotYetImplemented e × (are_unbuilt us ≡ true)) ⊎ (IsInvalidArgument e × (are_buildable us ≡ false)) → IsNoBuilder t e
 struct_refused t us e is (inl out) = inl out
 struct_refused t us e is (inr (inl not_yet)) = inr (inl (not_yet.0, unbuilt_struct t us is ∙ not_yet.1))
 struct_refused t us e is (inr (inr other)) =
-    inr (inr (other.0, has_struct t us is ∙ left_fails (nat_le 1 (length us)) (have_builders us) other.1))
+    inr (inr (other.0, buildable_struct t us is ∙ left_fails (nat_le 1 (length us)) (are_buildable us) other.1))
 
 pub some_of : (n : ℕ) → (n == 0) ≡ false → 0 < n
 some_of zero other = absurd cc
@@ -139,7 +127,7 @@ module _ (us : List Field) (k : ℕ) (u : Field) (lt : k < length us) (is : u �
 
   -- where one can't be begun not all can
   pub one_refused : (e : Error) → IsNoBuilder u.data_type e
-      → IsOutOfMemory e ⊎ (IsNotYetImplemented e × (are_unbuilt us ≡ true)) ⊎ (IsInvalidArgument e × (have_builders us ≡ false))
+      → IsOutOfMemory e ⊎ (IsNotYetImplemented e × (are_unbuilt us ≡ true)) ⊎ (IsInvalidArgument e × (are_buildable us ≡ false))
   one_refused e (inl out) = inl out
   one_refused e (inr (inl not_yet)) =
       inr (inl (
@@ -150,6 +138,6 @@ module _ (us : List Field) (k : ℕ) (u : Field) (lt : k < length us) (is : u �
   one_refused e (inr (inr other)) =
       inr (inr (
         other.0,
-        list_all_at (λ (v : Field). has_builder v.data_type) us k u lt
-            (ap (λ (v : Field). has_builder v.data_type) (sym is) ∙ other.1),
+        list_all_at (λ (v : Field). is_buildable v.data_type) us k u lt
+            (ap (λ (v : Field). is_buildable v.data_type) (sym is) ∙ other.1),
       ))

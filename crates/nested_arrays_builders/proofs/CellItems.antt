@@ -8,17 +8,37 @@ use Rattle.std.proofs.lemmas.List.{length-map}
 use Rattle.std.proofs.lemmas.List.Folds.{list_all_at}
 use Rattle.nested_arrays_builder_parts.specs.arrays.columns.Cells.{fit_each, is_list_of, is_list_of_size, is_record_of}
 use Rattle.nested_arrays_builder_parts.specs.arrays.columns.Children.{field_of, fixed_items_of, items_of, slot_number}
+use Rattle.nested_arrays_builder_parts.specs.arrays.columns.Rows.{Cell, cell_slot, cell_slots}
 use Rattle.nested_arrays_builder_parts.specs.arrays.columns.Slots.{Slot, null, items, fields, in_slots, slot_list, slot_then}
 use Rattle.nested_arrays_builder_parts.specs.growth.OpenParts.{is_list, is_list_sized, is_record_sized}
 use Rattle.nested_arrays_builder_parts.proofs.growth_lemmas.Pieces.{listed}
-use Rattle.nested_arrays_builder_parts.specs.Scalars.{scalar_slot}
-use Rattle.nested_arrays_builder_parts.specs.declared.scalars.AnyScalar.{AnyScalar}
+use Rattle.nested_arrays_builder_parts.specs.Scalars.{in_cells, cell_step, cell_of, scalar_slot}
+use Rattle.nested_arrays_builder_parts.specs.declared.scalars.AnyScalar.{AnyScalar, map-AnyScalar}
+use Rattle.nested_arrays_builder_parts.specs.declared.scalars.AnyScalar.TheFolds.{fold-roll-AnyScalar}
 use Rattle.nested_arrays_builder_parts.specs.declared.scalars.AnyScalar.TheOpen as layer
 use Rattle.nested_arrays_builder_parts.specs.declared.scalars.AnyScalar.TheVariants as variant
 use Rattle.nested_arrays_builder_parts.specs.declared.scalars.AnyScalar.TheViews.{roll-AnyScalar, out-AnyScalar, roll-out-AnyScalar}
 use denote.Hole.Carrier
-use Rattle.nested_arrays_builder_values.proofs.CellLayers.{list_slot, record_slot, slot_roll}
 use Rattle.nested_arrays_builders.proofs.TakenSlots.{each_has_one}
+
+-- a layer of a cell, where each inside stands as what it is
+abbrev cells_in : layer.AnyScalar-F AnyScalar → layer.AnyScalar-F Cell
+cells_in x = map-AnyScalar AnyScalar Cell cell_of x
+
+slot_roll : (x : layer.AnyScalar-F AnyScalar) → scalar_slot (roll-AnyScalar x) ≡ cell_slot (cell_step (cells_in x))
+slot_roll x = ap cell_slot (fold-roll-AnyScalar Cell cell_step x)
+
+slots_of_cells : (cells : List AnyScalar) → cell_slots (in_cells (map cell_of cells)) ≡ in_slots (map scalar_slot cells)
+slots_of_cells [] = refl
+slots_of_cells (cell ∷ cells) = ap (λ rest. slot_then (scalar_slot cell) rest) (slots_of_cells cells)
+
+pub list_slot : (cells : List AnyScalar) → scalar_slot (variant.List cells) ≡ items (in_slots (map scalar_slot cells))
+unfolding roll-AnyScalar denote.Hole.Carrier.roll
+list_slot cells = slot_roll (layer.List cells) ∙ ap items (slots_of_cells cells)
+
+pub record_slot : (cells : List AnyScalar) → scalar_slot (variant.Record cells) ≡ fields (in_slots (map scalar_slot cells))
+unfolding roll-AnyScalar denote.Hole.Carrier.roll
+record_slot cells = slot_roll (layer.Record cells) ∙ ap fields (slots_of_cells cells)
 
 pub slot_in : (cells : List AnyScalar) (k : ℕ) (d : AnyScalar) → k < length cells
     → get_or (map scalar_slot cells) k null ≡ scalar_slot (get_or cells k d)

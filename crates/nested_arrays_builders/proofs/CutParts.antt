@@ -6,11 +6,9 @@ use Rattle.std.proofs.lemmas.List.{length-map, length-replicate}
 use Rattle.nested_arrays_builder_parts.specs.arrays.columnar_memory.declared.DataType.{DataType}
 use Rattle.nested_arrays_builder_parts.specs.arrays.columnar_memory.declared.DataType.TheOpen as layer
 use Rattle.nested_arrays_builder_parts.specs.arrays.columnar_memory.declared.Field.{Field}
-use Rattle.nested_arrays_builder_parts.specs.arrays.columnar_memory.declared.IntegerType.{IntegerType}
 use Rattle.nested_arrays_builder_parts.specs.arrays.columnar_memory.Spans.{Spans, first_spans, last_of}
-use Rattle.nested_arrays_builder_parts.specs.arrays.columns.Children.{dictionary_values, items_of, fixed_items_of, field_of, joined_items, joined_fixed_items, field_slots}
+use Rattle.nested_arrays_builder_parts.specs.arrays.columns.Children.{items_of, fixed_items_of, field_of, joined_items, joined_fixed_items, field_slots}
 use Rattle.nested_arrays_builder_parts.specs.arrays.columns.OpenBatch.{fits}
-use Rattle.nested_arrays_builder_parts.specs.arrays.columns.SameSlots.{are_distinct}
 use Rattle.nested_arrays_builder_parts.specs.arrays.columns.Slots.{Slot, null, items, slot_list, window}
 use Rattle.nested_arrays_builder_parts.specs.arrays.columns.StoredColumns.{slots, type_layer}
 use Rattle.nested_arrays_builder_parts.proofs.arrays_lemmas.columns_lemmas.FreshBelow.{pieces_length}
@@ -22,12 +20,9 @@ use Rattle.nested_arrays_builder_parts.proofs.growth_lemmas.FirstOnes.{fixed_ite
 use Rattle.nested_arrays_builder_parts.proofs.growth_lemmas.Limits.{first_ones_fit}
 use Rattle.nested_arrays_builder_parts.proofs.growth_lemmas.Masks.{marks_cut}
 use Rattle.nested_arrays_builder_parts.proofs.growth_lemmas.Pieces.{item_spans_cut, item_spans_last, joined_cut}
-use Rattle.nested_arrays_builder_parts.proofs.growth_lemmas.Values.{values_distinct}
 use Rattle.nested_arrays_builder_parts.specs.Open.{Open, opened, first_slots}
-use Rattle.nested_arrays_builders.specs.Parts.{Parts, keyed, listed, sized, of_fields, parts_column, first_parts, opened_each, type_size, types_size}
-use Rattle.nested_arrays_builders.specs.Parts.{HoldsCount, HoldsKeys, HoldsParts, IsKept}
-use Rattle.nested_arrays_builder_values.specs.Uses.{greatest, use_among, uses_among}
-use Rattle.nested_arrays_builder_values.proofs.UsedValues.{all_used, uses_first, values_first_used}
+use Rattle.nested_arrays_builders.specs.Parts.{Parts, listed, sized, of_fields, parts_column, first_parts, opened_each, type_size, types_size}
+use Rattle.nested_arrays_builders.specs.Parts.{HoldsCount, HoldsParts, IsKept}
 use Rattle.nested_arrays_builders.proofs.KeptNodes.{view_kept, kept_again, kept_length}
 
 -- ---- lengths
@@ -78,19 +73,6 @@ fields_count_layer (layer.Struct us) children xs k d held lt =
     ap (λ (cs : List Open). length (get_or cs k d).slots) held ∙ each_count us xs 0 k d (omega (arith, lt, same))
 fields_count_layer _ children xs k d held lt = absurd held
 
-keys_layer : (x : Layer) (own : IntegerType) (uses : List ℕ) (known : List Slot) (child : Open) (xs : List Slot)
-    → HoldsParts x (keyed own uses known child) xs → HoldsKeys uses known child.slots (length xs)
-keys_layer (layer.Dictionary key value is_ordered) own uses known child xs held =
-    let values = ap (λ (o : Open). o.slots) held.3 in
-    let need = ap greatest held.1 ∙ all_used xs ∙ sym (ap length values) in
-    record {
-      many = ap length held.1 ∙ length-map xs (use_among (dictionary_values xs));
-      known_all = held.2 ∙ sym values;
-      distinct = ap are_distinct values ∙ values_distinct xs;
-      enough = omega (arith, need);
-    }
-keys_layer _ own uses known child xs held = absurd held
-
 module _ (t : DataType) (marks : List Bool) (xs : List Slot) where
   -- the parts of n slots hold what these bring
   pub kept_count : (parts : Parts) → IsKept t marks parts xs → HoldsCount parts (length marks)
@@ -102,9 +84,6 @@ module _ (t : DataType) (marks : List Bool) (xs : List Slot) where
       fixed_layer t (type_layer t) size child xs refl kept.fit kept.held ∙ ap (λ m. size * m) (sym n)
   kept_count (of_fields children) kept = λ k d lt.
       fields_count_layer (type_layer t) children xs k d kept.held lt ∙ sym (kept_length t marks (of_fields children) xs kept)
-  kept_count (keyed own uses known child) kept =
-      subst (HoldsKeys uses known child.slots) (sym (kept_length t marks (keyed own uses known child) xs kept))
-      (keys_layer (type_layer t) own uses known child xs kept.held)
 
 -- ---- what is held of the first slots
 
@@ -143,15 +122,6 @@ held_first t (layer.FixedSizeList item size) (sized own child) xs n is fit le he
 held_first t (layer.Struct us) (of_fields children) xs n is fit le held =
     ap (map (λ (o : Open). first_slots o n)) held ∙ first_of_each us (slots_of_fields (length us) xs) n
     ∙ ap (opened_each us) (sym (fields_cut (length us) n xs))
-held_first t (layer.Dictionary key value is_ordered) (keyed own uses known child) xs n is fit le held =
-    let all = uses_among (dictionary_values xs) xs in
-    let need = ap (λ us. greatest (take n us)) held.1 in
-    let first = sym (values_first_used n xs le) in (
-      held.0,
-      ap (take n) held.1 ∙ sym (uses_first n xs),
-      (λ j. take (need j) (held.2 j)) ∙ first,
-      (λ j. first_slots (held.3 j) (need j)) ∙ ap (opened value) first,
-    )
 held_first t _ _ xs n is fit le held = absurd held
 
 pub kept_first : (t : DataType) (marks : List Bool) (parts : Parts) (xs : List Slot) (n : ℕ) → IsKept t marks parts xs → n ≤ length xs

@@ -1,12 +1,10 @@
 pub mod AddedSlots
 pub mod BegunNodes
-pub mod Builders
 pub mod CellItems
 pub mod CutParts
 pub mod FirstSpans
 pub mod HeldNodes
 pub mod KeptNodes
-pub mod KeyedNodes
 pub mod MoreFits
 pub mod MoreParts
 pub mod PushedFields
@@ -18,4 +16,3 @@ pub mod Unbuilt
 pub use Rattle.nested_arrays_builder_parts.proofs as parts_lemmas
 pub use Rattle.nested_arrays_builder_parts.proofs.growth_lemmas
 pub use Rattle.nested_arrays_builder_parts.proofs.arrays_lemmas.columns_lemmas
-pub use Rattle.nested_arrays_builder_values.proofs as values_lemmas

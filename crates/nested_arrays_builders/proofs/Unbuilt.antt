@@ -15,13 +15,14 @@ use Rattle.nested_arrays_builder_parts.specs.arrays.columnar_memory.declared.Int
 use Rattle.nested_arrays_builder_parts.specs.arrays.columnar_memory.declared.UnionMode.{UnionMode}
 use Rattle.nested_arrays_builder_parts.specs.arrays.columnar_memory.Layouts.{logical_type}
 use denote.Hole.Carrier
+use Rattle.nested_arrays_builder_parts.specs.arrays.columns.FreshLaws.{is_buildable}
 use Rattle.nested_arrays_builder_parts.specs.arrays.columns.StoredColumns.{type_layer}
 use Rattle.nested_arrays_builder_parts.proofs.arrays_lemmas.columns_lemmas.FreshLengths.{Layer, buildable_layer}
 use Rattle.nested_arrays_builder_parts.proofs.arrays_lemmas.columns_lemmas.TypeLayers.{is_extension, layer_layout}
 use Rattle.nested_arrays_builder_parts.proofs.growth_lemmas.TypeSteps.{by_layer, buildable_by_layer, layout_by_layer, not_extended}
 use Rattle.nested_arrays_builder_parts.specs.NewValues.{is_of_floats}
 use Rattle.nested_arrays_builder_parts.specs.arrays.Childless.{is_childless}
-use Rattle.nested_arrays_builders.specs.Begun.{unbuilt_step, has_builder, is_unbuilt, are_unbuilt, IsNoBuilder, IsPlain}
+use Rattle.nested_arrays_builders.specs.Begun.{unbuilt_step, is_unbuilt, are_unbuilt, IsNoBuilder, IsPlain}
 
 abbrev unbuilt_field : Field → Bool
 unbuilt_field = fold-Field Bool Bool unbuilt_step (λ field. field.data_type)
@@ -53,10 +54,6 @@ module _ (t : DataType) where
 
   pub unbuilt_fixed_list : (item : Field) (size : ℕ) → type_layer t ≡ layer.FixedSizeList item size → is_unbuilt t ≡ is_unbuilt item.data_type
   unbuilt_fixed_list item size is = unbuilt_is t ∙ ap unbuilt_layer is ∙ unbuilt_field_is item
-
-  pub unbuilt_dictionary : (key : IntegerType) (value : DataType) (is_ordered : Bool) → type_layer t ≡ layer.Dictionary key value is_ordered
-      → is_unbuilt t ≡ is_unbuilt value
-  unbuilt_dictionary key value is_ordered is = unbuilt_is t ∙ ap unbuilt_layer is
 
   pub unbuilt_struct : (us : List Field) → type_layer t ≡ layer.Struct us → is_unbuilt t ≡ are_unbuilt us
   unbuilt_struct us is = unbuilt_is t ∙ ap unbuilt_layer is ∙ any_unbuilt us
@@ -96,6 +93,11 @@ module _ (t d : DataType) (logical : d ≡ logical_type t) where
   pub no_union : (us : List Field) (ids : Option (List ℤ)) (mode : UnionMode) → d ≡ types.Union us ids mode → is_unbuilt t ≡ true
   unfolding roll-DataType denote.Hole.Carrier.roll
   no_union us ids mode is = unbuilt_is t ∙ ap unbuilt_layer (layer_of t d (layer.Union us ids mode) logical is)
+
+  pub no_dictionary : (key : IntegerType) (value : DataType) (is_ordered : Bool) → d ≡ types.Dictionary key value is_ordered → is_unbuilt t ≡ true
+  unfolding roll-DataType denote.Hole.Carrier.roll
+  no_dictionary key value is_ordered is =
+      unbuilt_is t ∙ ap unbuilt_layer (layer_of t d (layer.Dictionary key value is_ordered) logical is)
 
   pub no_half : d ≡ types.Float16 → is_unbuilt t ≡ true
   unfolding roll-DataType denote.Hole.Carrier.roll
@@ -167,7 +169,7 @@ strings_are_plain t size is some =
 
 -- ---- refusals
 
-pub refused_as : (t : DataType) (d : DataType) (e : Error) → is_unbuilt t ≡ is_unbuilt d → (has_builder d ≡ false → has_builder t ≡ false)
+pub refused_as : (t : DataType) (d : DataType) (e : Error) → is_unbuilt t ≡ is_unbuilt d → (is_buildable d ≡ false → is_buildable t ≡ false)
     → IsNoBuilder d e → IsNoBuilder t e
 refused_as t d e unbuilt unfit (inl out) = inl out
 refused_as t d e unbuilt unfit (inr (inl not_yet)) = inr (inl (not_yet.0, unbuilt ∙ not_yet.1))

@@ -1,15 +1,14 @@
 -- Builders before any slot is pushed.
-use Rattle.std.specs.Prelude.{◌≡◌, ◌⊎◌, ◌+◌, ◌&&◌, ◌||◌, not, ℕ, Bool, true, false, List, [], ◌∷◌, Result, MatchResult}
-use Rattle.std.specs.List.{list_all, list_any}
+use Rattle.std.specs.Prelude.{◌≡◌, ◌⊎◌, ◌+◌, ℕ, Bool, true, false, List, [], ◌∷◌, Result, MatchResult}
+use Rattle.std.specs.List.{list_any}
 use Rattle.nested_arrays_builder_parts.specs.arrays.columnar_memory.declared.DataType.{DataType}
 use Rattle.nested_arrays_builder_parts.specs.arrays.columnar_memory.declared.DataType.TheOpen as layer
-use Rattle.nested_arrays_builder_parts.specs.arrays.columnar_memory.declared.DataType.TheFolds.{fold-DataType, para-DataType}
+use Rattle.nested_arrays_builder_parts.specs.arrays.columnar_memory.declared.DataType.TheFolds.{fold-DataType}
 use Rattle.nested_arrays_builder_parts.specs.arrays.columnar_memory.declared.Error.{Error}
 use Rattle.nested_arrays_builder_parts.specs.arrays.columnar_memory.declared.Field.{Field}
 use Rattle.nested_arrays_builder_parts.specs.arrays.columnar_memory.Layouts.{physical_type}
 use Rattle.nested_arrays_builder_parts.specs.arrays.columnar_memory.Error.{IsInvalidArgument, IsNotYetImplemented, IsOutOfMemory}
-use Rattle.nested_arrays_builder_parts.specs.arrays.columns.FreshLaws.{buildable_step, is_buildable, are_buildable}
-use Rattle.nested_arrays_builder_parts.specs.arrays.columns.StoredColumns.{type_layer}
+use Rattle.nested_arrays_builder_parts.specs.arrays.columns.FreshLaws.{is_buildable, are_buildable}
 use Rattle.nested_arrays_builder_parts.specs.NewValues.{is_of_floats}
 use Rattle.nested_arrays_builder_parts.specs.Open.{Open, opened}
 use Rattle.nested_arrays_builder_parts.specs.arrays.Childless.{is_childless}
@@ -26,35 +25,17 @@ unbuilt_step (layer.FixedSizeList item size) = item
 unbuilt_step (layer.Struct children) = list_any (λ child. child) children
 unbuilt_step (layer.Union children ids mode) = true
 unbuilt_step (layer.Map entry is_sorted) = true
-unbuilt_step (layer.Dictionary key value is_ordered) = value
+unbuilt_step (layer.Dictionary key value is_ordered) = true
 unbuilt_step (layer.Extension name inner metadata) = inner
 unbuilt_step _ = false
 
--- whether floats, maps or unions stand in a type
+-- whether floats, maps, unions or dictionaries stand in a type
 abbrev pub is_unbuilt : DataType → Bool
 is_unbuilt = fold-DataType Bool Bool unbuilt_step (λ field. field.data_type)
 
--- whether a layer is of dictionaries
-abbrev pub is_of_keys : {A B : Type 0} → layer.DataType-F A B → Bool
-is_of_keys (layer.Dictionary key value is_ordered) = true
-is_of_keys _ = false
-
--- One layer of a type, where each type below stands as its answer: whether slots are stored as they come, and it is no ordered dictionary and
--- none directly in another.
-abbrev pub builder_step : layer.DataType-F (DataType × Bool) (Field × Bool) → Bool
-builder_step (layer.Dictionary key value is_ordered) = not (is_ordered || is_of_keys (type_layer value.0)) && value.1
-builder_step other = buildable_step other
-
-abbrev pub has_builder : DataType → Bool
-has_builder = para-DataType Bool Bool builder_step (λ field. field.data_type.1)
-
--- each of several fields has such a type
-abbrev pub have_builders : List Field → Bool
-have_builders fields = list_all (λ (field : Field). has_builder field.data_type) fields
-
--- why a type has no builder: something in it has none yet, or a size is 0, a struct has no field or a dictionary is not as it may be, or memory ran out
+-- why a type has no builder: something in it has none yet, or a size is 0 or a struct has no field, or memory ran out
 abbrev pub IsNoBuilder : DataType → Error → Type 0
-IsNoBuilder t e = IsOutOfMemory e ⊎ (IsNotYetImplemented e × (is_unbuilt t ≡ true)) ⊎ (IsInvalidArgument e × (has_builder t ≡ false))
+IsNoBuilder t e = IsOutOfMemory e ⊎ (IsNotYetImplemented e × (is_unbuilt t ≡ true)) ⊎ (IsInvalidArgument e × (is_buildable t ≡ false))
 
 -- no slots of the type
 abbrev pub IsBegun : DataType → Result Open Error → Type 0
@@ -71,7 +52,7 @@ are_unbuilt fields = list_any (λ (field : Field). is_unbuilt field.data_type) f
 
 abbrev pub AreBegun : {V : Type 0} → (V → List Open) → List Field → Result V Error → Type 0
 AreBegun held fields r = MatchResult r (λ v. (held v ≡ opened_none fields) × (are_buildable fields ≡ true))
-    (λ e. IsOutOfMemory e ⊎ (IsNotYetImplemented e × (are_unbuilt fields ≡ true)) ⊎ (IsInvalidArgument e × (have_builders fields ≡ false)))
+    (λ e. IsOutOfMemory e ⊎ (IsNotYetImplemented e × (are_unbuilt fields ≡ true)) ⊎ (IsInvalidArgument e × (are_buildable fields ≡ false)))
 
 -- a type without children, of no floats, and with strings of a byte at least
 pub record IsPlain (t : DataType) : Type 0 where

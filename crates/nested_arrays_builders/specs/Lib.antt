@@ -1,6 +1,5 @@
 pub mod Begun
 pub mod KeptColumns
-pub mod Keyed
 pub mod Nodes
 pub mod Parts
 pub mod Sizes
@@ -10,4 +9,3 @@ pub use Rattle.nested_arrays_builder_parts.specs as parts
 pub use Rattle.nested_arrays_builder_parts.specs.growth
 pub use Rattle.nested_arrays_builder_parts.specs.arrays.columns
 pub use Rattle.nested_arrays_builder_parts.specs.arrays.columnar_memory
-pub use Rattle.nested_arrays_builder_values.specs as values

@@ -20,7 +20,6 @@ most_of_opens (o ∷ os) = omega (arith, most_of_opens os)
 below_parts : (children : MutableChildren) → deep-MutableChildren children ≤ 4 * parts_size (parts_of children) + 2
 below_parts (below.List offsets child) = omega arith
 below_parts (below.FixedSizeList size child) = omega arith
-below_parts (below.Dictionary keys child) = omega arith
 below_parts (below.Struct children) = omega (arith, most_of_opens children.items)
 
 -- no child is deeper than its builder

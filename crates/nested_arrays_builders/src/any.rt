@@ -14,7 +14,6 @@ use crate::offsets::MutableListOffsets;
 use crate::room::{reserve_nested, shrink_nested};
 use nested_arrays_builder_parts::columnar_memory::{DataType, Error, Result};
 use nested_arrays_builder_parts::{AnyScalar, FlatBuilder, Marks};
-use nested_arrays_builder_values::MutableKeys;
 use std::marker::Model;
 
 /// The data type of a builder with children, and a mark for each slot.
@@ -31,7 +30,6 @@ pub enum MutableChildren {
     List(MutableListOffsets, Box<AnyMutableArray>),
     FixedSizeList(usize, Box<AnyMutableArray>),
     Struct(Vec<AnyMutableArray>),
-    Dictionary(MutableKeys, Box<AnyMutableArray>),
 }
 
 /// A builder without children, or what one with children holds.
@@ -138,8 +136,7 @@ impl AnyMutableArray {
         }
     }
 
-    /// Makes room for some more slots: marks, offsets and values, but for items of lists of any length and values of
-    /// dictionaries.
+    /// Makes room for some more slots: marks, offsets and values, but for items of lists of any length.
     ///
     /// # Errors
     /// `OutOfMemory`: the room found no memory.

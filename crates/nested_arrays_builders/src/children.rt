@@ -6,7 +6,6 @@ ghost use Rattle.nested_arrays_builders.specs.Nodes.{parts_of};
 ghost use Rattle.nested_arrays_builders.specs.Parts.{first_parts, takes_slot, AddsSlot, HoldsCount};
 
 use crate::any::{AnyMutableArray, MutableChildren};
-use crate::dictionaries::{push_keyed, truncate_keyed};
 use crate::lists::{push_list, push_sized, truncate_list, truncate_sized};
 use crate::records::push_record;
 use nested_arrays_builder_parts::columnar_memory::Result;
@@ -24,9 +23,6 @@ pub(crate) fn truncate_nested(marks: &mut Marks, children: &mut MutableChildren,
         MutableChildren::List(offsets, values) => truncate_list(offsets, values, len),
         MutableChildren::FixedSizeList(size, values) => truncate_sized(*size, values, len),
         MutableChildren::Struct(fields) => truncate_each(fields, len),
-        MutableChildren::Dictionary(keys, values) => {
-            truncate_keyed(&mut keys.uses, &mut keys.known, values, len)
-        }
     }
     marks.truncate(len);
 }
@@ -57,15 +53,5 @@ pub(crate) fn push_nested(
         MutableChildren::List(offsets, values) => push_list(marks, offsets, values, cell),
         MutableChildren::FixedSizeList(size, values) => push_sized(marks, *size, values, cell),
         MutableChildren::Struct(fields) => push_record(marks, fields, cell),
-        MutableChildren::Dictionary(keys, values) => {
-            push_keyed(
-                marks,
-                keys.key,
-                &mut keys.uses,
-                &mut keys.known,
-                values,
-                cell,
-            )
-        }
     }
 }

@@ -3,7 +3,6 @@
 
 mod any;
 mod children;
-mod dictionaries;
 mod fitting;
 mod inside;
 mod lists;
@@ -16,5 +15,4 @@ pub use any::{AnyMutableArray, Head, MutableChildren, MutableNode};
 pub use fitting::is_cell_of;
 pub use nested_arrays_builder_parts as parts;
 pub use nested_arrays_builder_parts::{arrays, columnar_memory};
-pub use nested_arrays_builder_values as values;
 pub use offsets::MutableListOffsets;

@@ -2,26 +2,22 @@
 ghost use Rattle.std.specs.Prelude.{◌≡◌, []};
 ghost use Rattle.nested_arrays_builder_parts.specs.arrays.columnar_memory.declared.DataType.TheOpen as layer;
 ghost use Rattle.nested_arrays_builder_parts.specs.arrays.columns.StoredColumns.{type_layer};
-ghost use Rattle.nested_arrays_builders.specs.Begun.{is_of_keys, AreBegun, IsBegun, IsPlain};
+ghost use Rattle.nested_arrays_builders.specs.Begun.{AreBegun, IsBegun, IsPlain};
 ghost use Rattle.nested_arrays_builders.specs.Nodes.{parts_of};
 ghost use Rattle.nested_arrays_builders.specs.Parts.{IsKept};
 
 use crate::any::{AnyMutableArray, Head, MutableChildren, MutableNode};
 use crate::offsets::MutableListOffsets;
-use nested_arrays_builder_parts::columnar_memory::{
-    DataType, Error, Field, IntegerType, Offsets, Result,
-};
+use nested_arrays_builder_parts::columnar_memory::{DataType, Error, Field, Offsets, Result};
 use nested_arrays_builder_parts::{FlatBuilder, Marks};
-use nested_arrays_builder_values::{CellMap, MutableKeys};
 use std::alloc::Global;
 
 impl AnyMutableArray {
     /// No slots of a data type.
     ///
     /// # Errors
-    /// `NotYetImplemented`: the type is of floats, a map or a union, or one of its children is.
-    /// `InvalidArgumentError`: it is of byte strings or lists of size 0, a struct without fields, an ordered dictionary or one directly in
-    /// another, or one of its children is.
+    /// `NotYetImplemented`: the type is of floats, a map, a union or a dictionary, or one of its children is.
+    /// `InvalidArgumentError`: it is of byte strings or lists of size 0 or a struct without fields, or one of its children is.
     /// `OutOfMemory`: the builder found no memory.
     // match table: an arm for each layout.
     #[cycle(beginning)]
@@ -35,8 +31,8 @@ impl AnyMutableArray {
             DataType::Struct(fields) => new_struct(alloc, data_type, fields.as_slice()),
             DataType::Map(_, _) => Err(Error::NotYetImplemented("builders of maps")),
             DataType::Union(_, _, _) => Err(Error::NotYetImplemented("builders of unions")),
-            DataType::Dictionary(key, value, is_ordered) => {
-                new_dictionary(alloc, data_type, *key, value.get(), *is_ordered)
+            DataType::Dictionary(_, _, _) => {
+                Err(Error::NotYetImplemented("builders of dictionaries"))
             }
             DataType::Float16 => Err(Error::NotYetImplemented("floats")),
             DataType::Float32 => Err(Error::NotYetImplemented("floats")),
@@ -105,53 +101,6 @@ fn new_struct(alloc: Global, data_type: &DataType, fields: &[Field]) -> Result<A
     }
     let children = new_each(alloc, fields)?;
     of_children(alloc, data_type, MutableChildren::Struct(children))
-}
-
-/// A builder of dictionaries.
-#[cycle(beginning)]
-fn new_dictionary(
-    alloc: Global,
-    data_type: &DataType,
-    key: IntegerType,
-    value: &DataType,
-    is_ordered: bool,
-) -> Result<AnyMutableArray>
-    requires { type_layer data_type.now ≡ layer.Dictionary key value.now is_ordered }
-    ensures { IsBegun data_type.now result }
-{
-    if is_ordered {
-        return Err(Error::InvalidArgumentError("an ordered dictionary"));
-    }
-    if is_dictionary(value) {
-        return Err(Error::InvalidArgumentError("a dictionary directly in another"));
-    }
-    let values = AnyMutableArray::new(alloc, value)?;
-    let values = Box::new(alloc, values)?;
-    of_children(
-        alloc,
-        data_type,
-        MutableChildren::Dictionary(no_keys(alloc, key), values),
-    )
-}
-
-/// Whether a data type is one of dictionaries, under its extensions.
-fn is_dictionary(data_type: &DataType) -> bool
-    ensures { result ≡ is_of_keys (type_layer data_type.now) }
-{
-    matches!(data_type.to_logical_type(), DataType::Dictionary(_, _, _))
-}
-
-/// No keys of a type.
-fn no_keys(alloc: Global, key: IntegerType) -> MutableKeys
-    ensures key { result.key ≡ key }
-    ensures uses { result.uses.items ≡ [] }
-    ensures known { result.known ≡ [] }
-{
-    MutableKeys {
-        key,
-        uses: Vec::new(alloc),
-        known: CellMap::new(alloc),
-    }
 }
 
 /// A builder for each field.

@@ -7,7 +7,7 @@ use crate::any::{AnyMutableArray, MutableChildren};
 use nested_arrays_builder_parts::Marks;
 use nested_arrays_builder_parts::columnar_memory::{Error, Result};
 
-/// Makes room for some more marks, and below for what so many slots bring, but for items of lists of any length and values of dictionaries.
+/// Makes room for some more marks, and below for what so many slots bring, but for items of lists of any length.
 #[cycle(reserving)]
 pub(crate) fn reserve_nested(
     marks: &mut Marks,
@@ -22,7 +22,7 @@ pub(crate) fn reserve_nested(
     reserve_below(children, additional)
 }
 
-/// Makes room below for what some more slots bring, but for items of lists of any length and values of dictionaries.
+/// Makes room below for what some more slots bring, but for items of lists of any length.
 #[cycle(reserving)]
 fn reserve_below(children: &mut MutableChildren, additional: usize) -> Result<()>
     ensures parts { parts_of children.new ≡ parts_of children.old }
@@ -35,7 +35,6 @@ fn reserve_below(children: &mut MutableChildren, additional: usize) -> Result<()
             None => Err(Error::OutOfMemory),
         },
         MutableChildren::Struct(fields) => reserve_each(fields, additional),
-        MutableChildren::Dictionary(keys, _) => Ok(keys.uses.reserve(additional)?),
     }
 }
 
@@ -64,10 +63,6 @@ pub(crate) fn shrink_nested(marks: &mut Marks, children: &mut MutableChildren)
         }
         MutableChildren::FixedSizeList(_, values) => values.shrink_to_fit(),
         MutableChildren::Struct(fields) => shrink_each(fields),
-        MutableChildren::Dictionary(keys, values) => {
-            keys.uses.shrink_to_fit();
-            values.shrink_to_fit();
-        }
     }
     marks.shrink_to_fit();
 }

@@ -1,18 +1,18 @@
 use Rattle.std.proofs.Common.{rules, ◌≡◌, ◌∙◌, ◌≤◌, length, true, false, ap, sym, arith}
 use Rattle.std.specs.Prelude.{◌⊎◌}
-use Rattle.std.proofs.lemmas.Bool.{eqb-true, or_left, or_right}
+use Rattle.std.proofs.lemmas.Bool.{eqb-true}
 use Rattle.nested_arrays_builder_parts.specs.arrays.columnar_memory.declared.Field.{Field}
 use Rattle.nested_arrays_builder_parts.specs.arrays.columnar_memory.Error.{IsInvalidArgument, IsNotYetImplemented, IsOutOfMemory}
-use Rattle.nested_arrays_builder_parts.specs.arrays.columns.StoredColumns.{type_layer}
-use Rattle.nested_arrays_builders.specs.Begun.{are_unbuilt, fields_size, has_builder, have_builders, is_of_keys, is_unbuilt, IsNoBuilder}
+use Rattle.nested_arrays_builder_parts.specs.arrays.columns.FreshLaws.{are_buildable, is_buildable}
+use Rattle.nested_arrays_builder_parts.proofs.growth_lemmas.Below.{buildable_list, buildable_large_list}
+use Rattle.nested_arrays_builders.specs.Begun.{are_unbuilt, fields_size, is_unbuilt, IsNoBuilder}
 use Rattle.nested_arrays_builders.specs.Parts.{type_size}
-use Rattle.nested_arrays_builders.specs.TypeSizes.{dictionary_size, list_size, large_list_size, fixed_list_size, struct_is_larger}
-use Rattle.nested_arrays_builders.proofs.BegunNodes.{begun_dictionary, begun_list, begun_large_list, begun_sized, begun_struct, empty_struct_fails}
+use Rattle.nested_arrays_builders.specs.TypeSizes.{list_size, large_list_size, fixed_list_size, struct_is_larger}
+use Rattle.nested_arrays_builders.proofs.BegunNodes.{begun_list, begun_large_list, begun_sized, begun_struct, empty_struct_fails}
 use Rattle.nested_arrays_builders.proofs.BegunNodes.{one_field, one_more_begun, one_more_can, one_refused, sized_fails, some_of, struct_refused}
 use Rattle.nested_arrays_builders.proofs.BegunNodes.{unsized_fails}
-use Rattle.nested_arrays_builders.proofs.Builders.{at_dictionary, has_list, has_large_list, misused, unfit_value}
-use Rattle.nested_arrays_builders.proofs.Unbuilt.{at_list, at_large_list, at_fixed_list, at_struct, no_map, no_union, unbuilt_dictionary}
-use Rattle.nested_arrays_builders.proofs.Unbuilt.{no_half, no_single}
+use Rattle.nested_arrays_builders.proofs.Unbuilt.{at_list, at_large_list, at_fixed_list, at_struct, no_map, no_union}
+use Rattle.nested_arrays_builders.proofs.Unbuilt.{no_dictionary, no_half, no_single}
 use Rattle.nested_arrays_builders.proofs.Unbuilt.{no_double, others_are_plain, refused_as, unbuilt_list, unbuilt_large_list, unbuilt_fixed_list}
 use Rattle.nested_arrays_builders.proofs.+beginning.Goals as goal
 
@@ -77,13 +77,11 @@ any::AnyMutableArray::new-returns-in-Union t c =
     no_union c.args.data_type.now c.to_logical_type.result.now c.to_logical_type.ensures.value _ _ _ c.in-Union.is in
     search (rules, none)
 
-pub any::AnyMutableArray::new-new_dictionary-requires : goal.any::AnyMutableArray::new-new_dictionary-requires
-any::AnyMutableArray::new-new_dictionary-requires t c =
-    let d = c.args.data_type.now in
-    let is = at_dictionary d c.to_logical_type.result.now c.to_logical_type.ensures.value c.in-Dictionary.key c.in-Dictionary.value
-    c.get-in-Dictionary.result.now c.in-Dictionary.is_ordered c.in-Dictionary.is c.get-in-Dictionary.ensures in
-    let size = dictionary_size d c.in-Dictionary.key c.get-in-Dictionary.result.now c.in-Dictionary.is_ordered is in
-    (search (rules, size), is)
+pub any::AnyMutableArray::new-returns-in-Dictionary : goal.any::AnyMutableArray::new-returns-in-Dictionary
+any::AnyMutableArray::new-returns-in-Dictionary t c =
+    let none : is_unbuilt c.args.data_type.now ≡ true =
+    no_dictionary c.args.data_type.now c.to_logical_type.result.now c.to_logical_type.ensures.value _ _ _ c.in-Dictionary.is in
+    search (rules, none)
 
 pub any::AnyMutableArray::new-returns-in-Float16 : goal.any::AnyMutableArray::new-returns-in-Float16
 any::AnyMutableArray::new-returns-in-Float16 t c =
@@ -109,7 +107,7 @@ pub new::new_list-returns-in_err-values : goal.new::new_list-returns-in_err-valu
 new::new_list-returns-in_err-values t c =
     let none : IsNoBuilder c.args.data_type.now c.in_err-values.field-0.0 =
     refused_as c.args.data_type.now c.args.item.now.data_type _ (unbuilt_list c.args.data_type.now c.args.item.now c.requires)
-    (λ (fails : has_builder c.args.item.now.data_type ≡ false). has_list c.args.data_type.now c.args.item.now c.requires ∙ fails)
+    (λ (fails : is_buildable c.args.item.now.data_type ≡ false). buildable_list c.args.data_type.now c.args.item.now c.requires ∙ fails)
     c.in_err-values.ensures in
     search (rules, none)
 
@@ -122,7 +120,7 @@ pub new::new_large_list-returns-in_err-values : goal.new::new_large_list-returns
 new::new_large_list-returns-in_err-values t c =
     let none : IsNoBuilder c.args.data_type.now c.in_err-values.field-0.0 =
     refused_as c.args.data_type.now c.args.item.now.data_type _ (unbuilt_large_list c.args.data_type.now c.args.item.now c.requires)
-    (λ (fails : has_builder c.args.item.now.data_type ≡ false). has_large_list c.args.data_type.now c.args.item.now c.requires ∙ fails)
+    (λ (fails : is_buildable c.args.item.now.data_type ≡ false). buildable_large_list c.args.data_type.now c.args.item.now c.requires ∙ fails)
     c.in_err-values.ensures in
     search (rules, none)
 
@@ -133,7 +131,7 @@ new::new_large_list-of_children-requires t c =
 
 pub new::new_sized-returns-then-size-eq0 : goal.new::new_sized-returns-then-size-eq0
 new::new_sized-returns-then-size-eq0 t c =
-    let none : has_builder c.args.data_type.now ≡ false =
+    let none : is_buildable c.args.data_type.now ≡ false =
     unsized_fails c.args.data_type.now c.args.item.now c.args.size c.requires c.if-size-eq0.true in
     search (rules, none)
 
@@ -149,41 +147,11 @@ new::new_sized-of_children-requires t c =
     begun_sized c.args.data_type.now c.args.item.now c.in_ok-values-2.values.value (c.in_ok-values-2.ensures.ok ∙ c.in_ok-values.ensures.0)
     c.in_ok-values.ensures.1 c.args.size c.requires (omega (arith, c.if-size-eq0.false))
 
--- ---- dictionaries
-
-pub new::new_dictionary-returns-then-is_ordered : goal.new::new_dictionary-returns-then-is_ordered
-new::new_dictionary-returns-then-is_ordered t c =
-    let none : has_builder c.args.data_type.now ≡ false =
-    misused c.args.data_type.now c.args.key c.args.value.now c.args.is_ordered c.requires
-    (or_left c.args.is_ordered (is_of_keys (type_layer c.args.value.now)) c.if-is_ordered.true) in
-    search (rules, none)
-
-pub new::new_dictionary-returns-then-is_dictionary : goal.new::new_dictionary-returns-then-is_dictionary
-new::new_dictionary-returns-then-is_dictionary t c =
-    let none : has_builder c.args.data_type.now ≡ false =
-    misused c.args.data_type.now c.args.key c.args.value.now c.args.is_ordered c.requires
-    (or_right c.args.is_ordered (is_of_keys (type_layer c.args.value.now)) (sym c.is_dictionary.ensures ∙ c.if-is_dictionary.true)) in
-    search (rules, none)
-
-pub new::new_dictionary-returns-in_err-values : goal.new::new_dictionary-returns-in_err-values
-new::new_dictionary-returns-in_err-values t c =
-    let none : IsNoBuilder c.args.data_type.now c.in_err-values.field-0.0 =
-    refused_as c.args.data_type.now c.args.value.now _
-    (unbuilt_dictionary c.args.data_type.now c.args.key c.args.value.now c.args.is_ordered c.requires)
-    (unfit_value c.args.data_type.now c.args.key c.args.value.now c.args.is_ordered c.requires) c.in_err-values.ensures in
-    search (rules, none)
-
-pub new::new_dictionary-of_children-requires : goal.new::new_dictionary-of_children-requires
-new::new_dictionary-of_children-requires t c =
-    begun_dictionary c.args.data_type.now c.args.key c.args.value.now c.args.is_ordered c.in_ok-values-2.values.value
-    (c.in_ok-values-2.ensures.ok ∙ c.in_ok-values.ensures.0) c.in_ok-values.ensures.1 c.requires c.no_keys.result.key c.no_keys.result.uses.items
-    c.no_keys.result.known c.no_keys.ensures.key c.no_keys.ensures.uses c.no_keys.ensures.known
-
 -- ---- structs
 
 pub new::new_struct-returns-then-is_empty : goal.new::new_struct-returns-then-is_empty
 new::new_struct-returns-then-is_empty t c =
-    let none : has_builder c.args.data_type.now ≡ false =
+    let none : is_buildable c.args.data_type.now ≡ false =
     empty_struct_fails c.args.data_type.now c.args.fields.now c.requires
     (eqb-true (length c.args.fields.now) 0 (sym c.is_empty.ensures ∙ c.if-is_empty.true)) in
     search (rules, none)
@@ -212,7 +180,7 @@ new::new_each-new-requires t c =
 pub new::new_each-returns-in_err-new : goal.new::new_each-returns-in_err-new
 new::new_each-returns-in_err-new t c =
     let none : IsOutOfMemory c.in_err-new.field-0.0 ⊎ (IsNotYetImplemented c.in_err-new.field-0.0 × (are_unbuilt c.args.fields.now ≡ true))
-    ⊎ (IsInvalidArgument c.in_err-new.field-0.0 × (have_builders c.args.fields.now ≡ false)) =
+    ⊎ (IsInvalidArgument c.in_err-new.field-0.0 × (are_buildable c.args.fields.now ≡ false)) =
     one_refused c.args.fields.now c.loop-field.field-index c.field-item.result c.loop-field-test.true c.field-item.is _ c.in_err-new.ensures in
     search (rules, none)
 

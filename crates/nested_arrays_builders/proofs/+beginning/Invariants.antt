@@ -23,9 +23,6 @@ decreases-new::new_large_list l = 4 * type_size l.item.now.data_type + 1
 abbrev pub decreases-new::new_sized : goal.decreases-new::new_sized
 decreases-new::new_sized l = 4 * type_size l.item.now.data_type + 1
 
-abbrev pub decreases-new::new_dictionary : goal.decreases-new::new_dictionary
-decreases-new::new_dictionary l = 4 * type_size l.value.now + 1
-
 abbrev pub decreases-new::new_struct : goal.decreases-new::new_struct
 decreases-new::new_struct l = 4 * fields_size l.fields.now + 2
 

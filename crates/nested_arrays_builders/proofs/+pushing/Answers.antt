@@ -1,4 +1,4 @@
-use Rattle.std.proofs.Common.{rules, ◌≡◌, ◌∙◌, ℕ, ◌+◌, ◌<◌, ◌≤◌, [], ◌∷◌, length, length-append, take, get_or, true, ap, sym, arith}
+use Rattle.std.proofs.Common.{rules, ◌≡◌, ◌∙◌, ℕ, ◌<◌, ◌≤◌, length, take, get_or, true, ap, sym, arith}
 use Rattle.std.specs.Prelude.{slice_set}
 use Rattle.nested_arrays_builder_parts.specs.arrays.columns.Cells.{fits_cell}
 use Rattle.nested_arrays_builder_parts.specs.arrays.columns.Children.{fixed_items_of}
@@ -11,8 +11,6 @@ use Rattle.nested_arrays_builders.proofs.AddedSlots.{record_refused}
 use Rattle.nested_arrays_builders.proofs.CutParts.{one_child}
 use Rattle.nested_arrays_builders.proofs.HeldNodes.{leaf_held, leaf_pushed, nested_size, nested_count}
 use Rattle.nested_arrays_builders.proofs.HeldNodes.{nested_takes, nested_push_held, nested_push_seen}
-use Rattle.nested_arrays_builders.specs.Keyed.{has_value_room}
-use Rattle.nested_arrays_builders.proofs.KeyedNodes.{new_added}
 use Rattle.nested_arrays_builders.proofs.PushedFields.{all_fit, each_count, each_of_them, field_at, field_fits, fields_many, fits_there}
 use Rattle.nested_arrays_builders.proofs.PushedFields.{is_short_of_each, long_enough, more_of, next, none_each, none_more_each, one_more_each}
 use Rattle.nested_arrays_builders.proofs.PushedFields.{taken_back_each}
@@ -191,18 +189,3 @@ records::push_record-returns-in-Err t c =
     c.in_ok-push_each.ensures.0 c.truncate_each.ensures in
     record_refused c.args.marks.now os (scalar_slot c.args.cell.now) c.in-Err.error (Unit {0}) true c.push.new.self
     c.truncate_each.new.children.items back c.in-Err.ensures
-
--- ---- dictionaries
-
-pub dictionaries::push_new-returns-in-Ok : goal.dictionaries::push_new-returns-in-Ok
-dictionaries::push_new-returns-in-Ok t c =
-    let s = scalar_slot c.args.cell.now in
-    let child = c.args.values.now in
-    let known = c.args.known.now in
-    let last : c.len.result ≡ length known + 1 =
-    c.len.ensures ∙ ap (λ (o : Open). length o.slots) c.in_ok-push_value.ensures.1 ∙ length-append child.slots (s ∷ [])
-    ∙ ap (λ ys. length ys + 1) (sym c.requires.same) in
-    let room = sym (ap (λ most. has_value_room most child s) c.most_values_of.ensures) ∙ c.in_ok-push_value.ensures.2 in
-    new_added c.args.marks.now c.args.key c.args.uses.now.items known child s c.requires.same c.requires.some c.requires.new c.len.result last
-    c.add_use.new.marks c.add_use.new.uses.items c.push_value.new.known c.push_value.new.values c.in-Ok.ensures.0 c.in-Ok.ensures.1
-    c.in_ok-push_value.ensures.0 c.in_ok-push_value.ensures.1 c.in-Ok.ensures.2 room

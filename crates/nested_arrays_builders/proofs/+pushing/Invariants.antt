@@ -46,12 +46,3 @@ decreases-records::push_each l = 6 * types_size l.children.now.items + 2
 
 abbrev pub decreases-records::push_record : goal.decreases-records::push_record
 decreases-records::push_record l = 6 * types_size l.children.now.items + 3
-
-abbrev pub decreases-dictionaries::push_value : goal.decreases-dictionaries::push_value
-decreases-dictionaries::push_value l = 6 * type_size l.values.now.data_type + 1
-
-abbrev pub decreases-dictionaries::push_new : goal.decreases-dictionaries::push_new
-decreases-dictionaries::push_new l = 6 * type_size l.values.now.data_type + 2
-
-abbrev pub decreases-dictionaries::push_keyed : goal.decreases-dictionaries::push_keyed
-decreases-dictionaries::push_keyed l = 6 * type_size l.values.now.data_type + 3

@@ -3,7 +3,6 @@ use Rattle.std.specs.Prelude.{slice_set}
 use Rattle.std.proofs.lemmas.List.{get_or_default}
 use Rattle.std.proofs.lemmas.List.Edits.{map_over_more}
 use Rattle.nested_arrays_builder_parts.specs.Open.{Open, first_slots}
-use Rattle.nested_arrays_builder_values.proofs.Needs.{greatest_first}
 use Rattle.nested_arrays_builders.proofs.CutParts.{size_over, long_over, length_over}
 use Rattle.nested_arrays_builders.proofs.HeldNodes.{leaf_held, leaf_cut, nested_size, nested_count, nested_length, nested_cut_held, nested_cut_seen}
 use Rattle.nested_arrays_builders.proofs.+truncating.Goals as goal
@@ -61,21 +60,3 @@ children::truncate_each-loop-child-preserved t c =
     let inside : k < length now = omega (arith, small, length_over f os now k c.loop-child.invariant) in
     ap (slice_set now k) c.truncate.ensures
     ∙ map_over_more f os now k _ small c.loop-child.invariant (get_or_default now k c.child-item.result _ inside)
-
--- ---- dictionaries
-
-pub dictionaries::truncate_keyed-truncate-requires : goal.dictionaries::truncate_keyed-truncate-requires
-dictionaries::truncate_keyed-truncate-requires t c =
-    omega (
-      arith,
-      c.keep_uses-need.ensures.need,
-      greatest_first c.args.len c.args.uses.now.items,
-      c.requires.enough,
-      ap length c.requires.same,
-    )
-
-pub dictionaries::truncate_keyed-truncate-requires-2 : goal.dictionaries::truncate_keyed-truncate-requires-2
-dictionaries::truncate_keyed-truncate-requires-2 t c = (
-  search rules,
-  omega (arith, c.keep_uses-need.ensures.need, greatest_first c.args.len c.args.uses.now.items, c.requires.enough),
-)

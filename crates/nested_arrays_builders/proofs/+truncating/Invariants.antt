@@ -22,6 +22,3 @@ decreases-lists::truncate_list l = 6 * type_size l.values.now.data_type + 1
 
 abbrev pub decreases-lists::truncate_sized : goal.decreases-lists::truncate_sized
 decreases-lists::truncate_sized l = 6 * type_size l.values.now.data_type + 1
-
-abbrev pub decreases-dictionaries::truncate_keyed : goal.decreases-dictionaries::truncate_keyed
-decreases-dictionaries::truncate_keyed l = 6 * type_size l.values.now.data_type + 1

@@ -25,6 +25,3 @@ decreases-freeze_struct l = 4 * types_size l.fields.items + 2
 
 abbrev pub decreases-freeze_each : goal.decreases-freeze_each
 decreases-freeze_each l = 4 * types_size l.builders.items + 1
-
-abbrev pub decreases-freeze_keyed : goal.decreases-freeze_keyed
-decreases-freeze_keyed l = 4 * type_size l.values.data_type + 1
