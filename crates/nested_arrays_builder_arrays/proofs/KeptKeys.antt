@@ -14,19 +14,19 @@ key_less zero = omega arith
 key_less (suc n) = omega arith
 
 -- the key of a slot is one that the type has
-pub key_fits : (ns : List ℕ) (i n most : ℕ) → i < length ns → n ≡ get_or ns i n → greatest ns ≤ most + 1 → n - 1 ≤ most
-key_fits ns i n most lt is few = omega (arith, each_below ns i n lt, is, few)
+pub key_fits : (ns : List ℕ) (i most : ℕ) → i < length ns → greatest ns ≤ most + 1 → get_or ns i 0 - 1 ≤ most
+key_fits ns i most lt few = omega (arith, each_below ns i 0 lt, few)
 
 pub one_more_key : {K : Type 0} (numbers : K → Numbers) (value : K → ℤ) → ((x : K) → numbers x ≡ one (value x))
-    → (uses : List ℕ) (i n : ℕ) → i < length uses → n ≡ get_or uses i n → (keys more : List K) (x : K)
-    → map numbers keys ≡ map (λ n. one (pos (key_of n))) (take i uses) → more ≡ keys ++ x ∷ [] → value x ≡ pos (n - 1)
+    → (uses : List ℕ) (i : ℕ) → i < length uses → (keys more : List K) (x : K)
+    → map numbers keys ≡ map (λ n. one (pos (key_of n))) (take i uses) → more ≡ keys ++ x ∷ [] → value x ≡ pos (get_or uses i 0 - 1)
     → map numbers more ≡ map (λ n. one (pos (key_of n))) (take (i + 1) uses)
-one_more_key numbers value law uses i n lt is keys more x held pushed own =
-    let last = law x ∙ ap one (own ∙ ap pos (sym (key_less n))) in
+one_more_key numbers value law uses i lt keys more x held pushed own =
+    let need = get_or uses i 0 in
+    let last = law x ∙ ap one (own ∙ ap pos (sym (key_less need))) in
     ap (map numbers) pushed ∙ map-append numbers keys (x ∷ [])
     ∙ (λ j. held j ++ last j ∷ [])
-    ∙ sym (ap (map (λ n. one (pos (key_of n)))) (take_more uses i n lt ∙ ap (λ m. take i uses ++ m ∷ []) (sym is))
-    ∙ map-append (λ n. one (pos (key_of n))) (take i uses) (n ∷ []))
+    ∙ sym (ap (map (λ n. one (pos (key_of n)))) (take_more uses i 0 lt) ∙ map-append (λ n. one (pos (key_of n))) (take i uses) (need ∷ []))
 
 -- stored keys as whole numbers
 pub stored_keys : (uses : List ℕ) → map first_number (map (λ n. one (pos (key_of n))) uses) ≡ map (λ n. pos (key_of n)) uses
