@@ -1,7 +1,6 @@
 //! Messages of a stream as their bytes arrive, and as they are written.
 ghost use Rattle.std.specs.Prelude.{◌<◌, length};
 
-use columnar_memory::Error;
 use ipc_format_stream_reading::{Incoming, next_message};
 use ipc_format_stream_writing::{EncodedData, write_continuation, write_message};
 use std::alloc::Global;
@@ -76,19 +75,6 @@ fn a_reader_waits_and_goes_on(rt: HostRuntime) -> Result<(), Fail> {
     assert_eq!(rt; first, (Some(Incoming::Waiting), 0, 0));
     assert_eq!(rt; second, (Some(Incoming::Message), 88, 0));
     assert_eq!(rt; third.0, Some(Incoming::End));
-    Ok(())
-}
-
-#[test]
-fn metadata_that_is_cut_is_refused(rt: HostRuntime) -> Result<(), Fail> {
-    let bytes = stream();
-    let mut rest = &bytes[..50];
-    let mut held = Vec::new(rt.alloc());
-    let mut metadata = Vec::new(rt.alloc());
-    let mut body = Vec::new(rt.alloc());
-    let answer = next_message(&mut rest, &mut held, &mut metadata, &mut body);
-    let is_refused = matches!(answer, Err(Error::OutOfSpec(_)));
-    assert_eq!(rt; is_refused, true);
     Ok(())
 }
 

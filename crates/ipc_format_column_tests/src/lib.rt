@@ -1,5 +1,5 @@
-//! Tests of columns that are passed over in record batches, of their buffers, read and written, and of messages as they arrive. They stand
-//! here since a crate with tests is proved twice.
+//! Tests of columns that are passed over in record batches or read, of their buffers, and of messages as they arrive. They stand here since a
+//! crate with tests is proved twice.
 #![tactic(auto)]
 
 #[cfg(test)]
@@ -14,5 +14,3 @@ mod devices;
 mod flat;
 #[cfg(test)]
 mod skipping;
-#[cfg(test)]
-mod writing;
