@@ -1,16 +1,19 @@
 -- Which array is read of a column of any type at the fronts of the queues of nodes and buffers (Arrow IPC, "RecordBatch message",
 -- "Dictionary Messages"; Arrow columnar format, "Physical Memory Layout").
-use Rattle.std.specs.Prelude.{Bool, true, false, nat_lt, ◌&&◌, List, [], ◌∷◌, length, Option}
+use Rattle.std.specs.Prelude.{Bool, true, false, nat_lt, ◌&&◌, ℕ, List, [], ◌∷◌, length, Option, Result}
 use Rattle.ipc_format_column_reading.specs.columnar_memory.declared.DataType.{DataType}
 use Rattle.ipc_format_column_reading.specs.columnar_memory.declared.DataType.TheFolds.{para-DataType}
 use Rattle.ipc_format_column_reading.specs.columnar_memory.declared.DataType.TheOpen as layer
 use Rattle.ipc_format_column_reading.specs.columnar_memory.declared.DataType.TheViews.{out-DataType}
+use Rattle.ipc_format_column_reading.specs.columnar_memory.declared.Error.{Error}
 use Rattle.ipc_format_column_reading.specs.columnar_memory.declared.Field.{Field}
 use Rattle.ipc_format_column_reading.specs.columns.Slots.{Slot}
 use Rattle.ipc_format_column_reading.specs.columns.SoundColumns.{has_an_id_each, is_entry}
 use Rattle.ipc_format_column_reading.specs.flatbuffers.Reading.{◌>>=◌, guard}
 use Rattle.ipc_format_column_reading.specs.grammar.Columns.{Place, ids_below, slots_in}
 use Rattle.ipc_format_column_reading.specs.grammar.Schemas.{Ids, IdsList, no_ids, ids_then}
+use Rattle.ipc_format_column_reading.specs.Queues.{TakesOff}
+use Rattle.ipc_format_column_reading.specs.Rooms.{Told, ReadsAs}
 
 -- ---- types that have arrays
 
@@ -58,3 +61,12 @@ is_readable = para-DataType Test Test readable_step (λ field. field.data_type.1
 -- The slots of the array that is read of a column: those that the format gives, where there are arrays of its type.
 abbrev pub array_slots : DataType → Place → Option (List Slot)
 array_slots data_type at = guard (is_readable data_type at.ids) >>= (λ _. slots_in data_type at)
+
+-- ---- what a call answers
+
+-- What is read is what the format gives, or the call is refused. So many nodes and so many buffers come off the fronts of the queues; where the
+-- call is refused, each holds an end of what it held.
+abbrev pub Takes : {A B X Y : Type 0} → Bool → Told → Told → (A → B) → (List ℕ → Option B) → ℕ → ℕ → List X → List X → List Y → List Y
+    → Result A Error → Type 0
+Takes is_compressed old new view given n b nodes nodes_after buffers buffers_after r =
+    ReadsAs is_compressed old new view given r × TakesOff n nodes nodes_after r × TakesOff b buffers buffers_after r

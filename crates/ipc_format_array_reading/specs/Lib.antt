@@ -1,3 +1,5 @@
 pub mod ArrayReads
+pub mod Limits
+pub mod Parts
 pub mod TypedReads
 pub use Rattle.ipc_format_column_reading.specs as column_reading

@@ -1,0 +1,28 @@
+-- Lists of their one child.
+use Rattle.std.proofs.Common.{◌≡◌, ◌∙◌, inr, rules, subst, sym}
+use Rattle.std.specs.Prelude.{None, Result, Some}
+use Rattle.ipc_format_column_reading.specs.columnar_memory.Spans.{offsets_of}
+use Rattle.ipc_format_column_reading.specs.columnar_memory.declared.Error.{Error}
+use Rattle.ipc_format_column_reading.specs.columns.StoredColumns.{Column}
+use Rattle.ipc_format_array_reading.specs.Parts.{Makes, made_column, single, spans}
+use Rattle.ipc_format_array_reading.proofs.MadeChecks.{large_list, spans_gone, spans_joined}
+use Rattle.ipc_format_array_reading.proofs.made.large_of.Goals as goal
+
+pub returns-in_default : goal.returns-in_default
+returns-in_default c =
+    let none : single c.args.children.items ≡ None = search rules in
+    inr (tt, spans_gone c.args.data_type c.args.marked.taken c.args.marked.validity (offsets_of c.args.offsets) c.args.children.items none)
+
+pub list_of-requires : goal.list_of-requires
+list_of-requires c = large_list c.args.data_type c.requires
+
+pub returns : goal.returns
+returns c =
+    let t = c.args.data_type in
+    let n = c.args.marked.taken in
+    let mask = c.args.marked.validity in
+    let offsets = offsets_of c.args.offsets in
+    let cs = c.args.children.items in
+    let is : single cs ≡ Some c.in-Some.items = search rules in
+    subst (λ (r : Result Column Error). Makes (made_column t None (spans n mask offsets) cs) r) (sym c.any_large_list.ensures)
+    (spans_joined t n mask offsets cs c.in-Some.items c.list_of.result is c.list_of.ensures)
