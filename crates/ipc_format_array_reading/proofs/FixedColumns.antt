@@ -6,7 +6,7 @@ use Rattle.std.specs.List.{list_all}
 use Rattle.std.proofs.Math.Nat.{mul_comm, mul-div_cancel_left}
 use Rattle.std.proofs.lemmas.Bool.{cases_Bool, eq-eqb, leb-true, lt-ltb, ltb-true, true≢false}
 use Rattle.std.proofs.lemmas.List.{length-drop, length-take-le}
-use Rattle.flat_arrays.specs.Flat.{IsMaskOf}
+use Rattle.nested_arrays_generic.specs.flat_arrays.Flat.{IsMaskOf}
 use Rattle.ipc_format_column_reading.specs.columnar_memory.Layouts.{physical_type}
 use Rattle.ipc_format_column_reading.specs.columnar_memory.declared.DataType.{DataType}
 use Rattle.ipc_format_column_reading.specs.columnar_memory.declared.Error.{Error}
@@ -341,8 +341,8 @@ strings_made is_compressed old mid new t nodes nodes1 limit buffers later last l
       off_nodes,
       takes_behind 1 1 2 buffers later last refl off_first off_next,
     )
-strings_made is_compressed old mid new t nodes nodes1 limit buffers later last little origin marks needed content (Err error) kind counted masked sized
-    each before off_nodes off_first read off_next checked =
+strings_made is_compressed old mid new t nodes nodes1 limit buffers later last little origin marks needed content (Err error) kind counted masked
+    sized each before off_nodes off_first read off_next checked =
     let size : ℕ = byte_width t in
     let none : made_bytes t marks content ≡ None = elim (cases_Bool (nat_lt 0 size)) [
       | inl some ↦ absurd (checked.1 (strings_sound t marks.0 marks.1 content (ltb-true 0 size some) (sized ∙ counted) masked each))

@@ -1,6 +1,6 @@
 //! What is read of a column with children before these: its node, and its own buffers.
 ghost use Rattle.std.specs.Prelude.{◌≡◌, ◌+◌, ◌≤◌, drop, length, map, false, true, IfOk};
-ghost use Rattle.flat_arrays.specs.Flat.{IsMaskOf};
+ghost use Rattle.nested_arrays_generic.specs.flat_arrays.Flat.{IsMaskOf};
 ghost use Rattle.ipc_format_column_reading.specs.columnar_memory.Spans.{last_of, offsets_of};
 ghost use Rattle.ipc_format_column_reading.specs.columns.StoredColumns.{type_layer};
 ghost use Rattle.ipc_format_column_reading.specs.grammar.Columns.{limit_times};
@@ -54,6 +54,21 @@ fn beginning_of(data_type: &DataType) -> Beginning
         DataType::Union(_, _, mode) => Beginning::Choices(*mode),
         _ => Beginning::Marks,
     }
+}
+
+/// Whether columns of a data type have columns below them that are read with them: those of lists, maps, structs and unions.
+pub fn has_children(data_type: &DataType) -> bool
+    ensures { result ≡ has_children (type_layer data_type.now) }
+{
+    matches!(
+        data_type.to_logical_type(),
+        DataType::List(_)
+            | DataType::LargeList(_)
+            | DataType::FixedSizeList(_, _)
+            | DataType::Map(_, _)
+            | DataType::Struct(_)
+            | DataType::Union(_, _, _)
+    )
 }
 
 /// Reads what stands of lists before their items: a node and two buffers.
@@ -187,7 +202,7 @@ fn begin_union<R: Room>(
     Ok((types, places))
 }
 
-/// Reads what stands of a column of a type with children before these (Arrow IPC, "RecordBatch message"): one node, and the column's own
+/// Reads what stands of a column of a type that `has_children` before these (Arrow IPC, "RecordBatch message"): one node, and the column's own
 /// buffers, come off the fronts of the queues. At most `limit` slots are taken, of a union all that its node has. Offsets of buffers count from
 /// `block_offset`, in bytes. A union of a `version` before V5 has one buffer more, which is passed over.
 ///

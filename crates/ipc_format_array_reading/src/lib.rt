@@ -8,7 +8,7 @@ mod fixed_size_binary;
 mod made;
 mod null;
 
-pub use begun::{Beginning, Begun, begin, limit_below};
+pub use begun::{Beginning, Begun, begin, has_children, limit_below};
 pub use fixed_size_binary::read_fixed_size_binary;
 pub use ipc_format_column_reading as column_reading;
 pub use made::array_of;

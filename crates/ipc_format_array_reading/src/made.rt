@@ -360,7 +360,7 @@ fn marked_of(
     any_struct(struct_of(data_type, marked.taken, children, marked.validity))
 }
 
-/// The array of a data type with children, of what stands before these and of the children (Arrow columnar format, "Physical Memory Layout"). A
+/// The array of a data type that `has_children`, of what stands before these and of the children (Arrow columnar format, "Physical Memory Layout"). A
 /// union is cut to its first `limit` slots.
 ///
 /// # Errors

@@ -53,7 +53,8 @@ module _ {C : Type 0} (slot_of : C → Slot) (has : Slot → Bool) (slot : ℕ �
 pub one_is_none : (has : Slot → Bool) (slot : ℕ → Slot) (start len k : ℕ) → k < len → has (slot (start + k)) ≡ false
     → list_all has (window slot start len) ≡ false
 one_is_none has slot start len k lt none =
-    list_all_at has (window slot start len) k null (omega (arith, lt, length-window slot start len)) (ap has (at_window slot start len k null lt) ∙ none)
+    list_all_at has (window slot start len) k null (omega (arith, lt, length-window slot start len))
+    (ap has (at_window slot start len k null lt) ∙ none)
 
 -- ---- slots at a place
 

@@ -15,7 +15,8 @@ returns-clause-ok c = λ hashes q is k.
     let read : c.index.result.now ≡ get_or heads (hash % n) 0 = grind (arith, get_or_default) in
     let pushed : c.push.new.self.items ≡ before ++ get_or heads (hash % n) 0 ∷ [] =
     c.in_ok-push.ensures.items ∙ ap (λ x. before ++ x ∷ []) read in
-    let count : c.len-2.result ≡ q + 1 = omega (arith, c.len-2.ensures, k.long, ap length pushed, length-append before (get_or heads (hash % n) 0 ∷ [])) in
+    let longer = length-append before (get_or heads (hash % n) 0 ∷ []) in
+    let count : c.len-2.result ≡ q + 1 = omega (arith, c.len-2.ensures, k.long, ap length pushed, longer) in
     let wide : c.len.result ≡ n = omega (arith, c.len.ensures) in
     let more = linked_more n heads before hashes q hash is (mod-lt hash (omega (arith, c.requires))) k in
     subst (λ bucket. IsLinked n (slice_set heads (hash % bucket) c.len-2.result) c.push.new.self.items hashes (q + 1)) (sym wide)
