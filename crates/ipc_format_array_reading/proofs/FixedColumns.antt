@@ -6,7 +6,7 @@ use Rattle.std.specs.List.{list_all}
 use Rattle.std.proofs.Math.Nat.{mul_comm, mul-div_cancel_left}
 use Rattle.std.proofs.lemmas.Bool.{cases_Bool, eq-eqb, leb-true, lt-ltb, ltb-true, true≢false}
 use Rattle.std.proofs.lemmas.List.{length-drop, length-take-le}
-use Rattle.nested_arrays_generic.specs.flat_arrays.Flat.{IsMaskOf}
+use Rattle.ipc_format_column_reading.specs.Flat.{IsMaskOf}
 use Rattle.ipc_format_column_reading.specs.columnar_memory.Layouts.{physical_type}
 use Rattle.ipc_format_column_reading.specs.columnar_memory.declared.DataType.{DataType}
 use Rattle.ipc_format_column_reading.specs.columnar_memory.declared.Error.{Error}

@@ -2,7 +2,7 @@
 use Rattle.std.specs.Prelude.{◌≡◌, ◌⊎◌, ℕ, ◌*◌, ◌-◌, ◌^◌, ◌≤◌, ℤ, Bool, true, false, ◌==◌, List, [], ◌∷◌, length, drop, map}
 use Rattle.std.specs.Prelude.{Option, Some, None, Result, Ok, Err, slice_get, if◌then◌else◌}
 use Rattle.std.specs.List.{list_all}
-use Rattle.nested_arrays_generic.specs.flat_arrays.Flat.{IsMaskOf}
+use Rattle.ipc_format_column_reading.specs.Flat.{IsMaskOf}
 use Rattle.ipc_format_column_reading.specs.columnar_memory.Error.{IsOutOfMemory, IsOutOfSpec}
 use Rattle.ipc_format_column_reading.specs.columnar_memory.Numbers.{first_number}
 use Rattle.ipc_format_column_reading.specs.columnar_memory.Spans as memory

@@ -1,6 +1,6 @@
 //! What is read of a column with children before these: its node, and its own buffers.
 ghost use Rattle.std.specs.Prelude.{◌≡◌, ◌+◌, ◌≤◌, drop, length, map, false, true, IfOk};
-ghost use Rattle.nested_arrays_generic.specs.flat_arrays.Flat.{IsMaskOf};
+ghost use Rattle.ipc_format_column_reading.specs.Flat.{IsMaskOf};
 ghost use Rattle.ipc_format_column_reading.specs.columnar_memory.Spans.{last_of, offsets_of};
 ghost use Rattle.ipc_format_column_reading.specs.columns.StoredColumns.{type_layer};
 ghost use Rattle.ipc_format_column_reading.specs.grammar.Columns.{limit_times};

@@ -20,7 +20,9 @@ use ipc_format_column_reading::Marked;
 use ipc_format_column_reading::columnar_memory::{
     Bitmap, Buffer, DataType, Error, Index, Offset, OffsetsBuffer, PhysicalType, Result,
 };
-use nested_arrays::{AnyArray, FixedSizeListArray, ListArray, MapArray, StructArray, UnionArray};
+use nested_arrays::{
+    AnyArray, FixedSizeListArray, ListArray, MapArray, StructArray, ToBoxed, UnionArray,
+};
 use std::alloc::Global;
 
 /// Hands to a proof that each array is sound at every depth.
@@ -226,7 +228,7 @@ fn any_list(array: Result<ListArray<i32>>) -> Result<AnyArray>
     ensures { result ≡ array }
 {
     match array {
-        Ok(array) => Ok(AnyArray::from(array)),
+        Ok(array) => Ok(array.into_any()),
         Err(error) => Err(error),
     }
 }
@@ -236,7 +238,7 @@ fn any_large_list(array: Result<ListArray<i64>>) -> Result<AnyArray>
     ensures { result ≡ array }
 {
     match array {
-        Ok(array) => Ok(AnyArray::from(array)),
+        Ok(array) => Ok(array.into_any()),
         Err(error) => Err(error),
     }
 }
