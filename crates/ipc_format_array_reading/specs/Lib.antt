@@ -3,3 +3,4 @@ pub mod Limits
 pub mod Parts
 pub mod TypedReads
 pub use Rattle.ipc_format_column_reading.specs as column_reading
+pub use Rattle.nested_arrays.specs as nested_arrays

@@ -1,0 +1,2 @@
+pub mod ReadArrays
+pub use Rattle.ipc_format_array_reading.specs as array_reading

@@ -1,0 +1,8 @@
+//! Columns of any type without columns below them, and columns of dictionaries' keys, read from the nodes and buffers of a record batch (Arrow
+//! IPC, "RecordBatch message", "Dictionary Messages").
+#![tactic(auto)]
+
+mod dictionaries;
+
+pub use dictionaries::Dictionaries;
+pub use ipc_format_array_reading as array_reading;

@@ -1,0 +1,1 @@
+pub use Rattle.ipc_format_childless_reading.proofs as childless_lemmas

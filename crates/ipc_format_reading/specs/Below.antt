@@ -1,0 +1,18 @@
+-- The arrays that are read of the columns of some fields, one after another (Arrow IPC, "RecordBatch message").
+use Rattle.std.specs.Prelude.{List, [], ◌∷◌, Option, Some, None}
+use Rattle.ipc_format_childless_reading.specs.array_reading.ArrayReads.{array_slots}
+use Rattle.ipc_format_childless_reading.specs.array_reading.column_reading.columnar_memory.declared.Field.{Field}
+use Rattle.ipc_format_childless_reading.specs.array_reading.column_reading.columns.Slots.{Slot}
+use Rattle.ipc_format_childless_reading.specs.array_reading.column_reading.flatbuffers.Reading.{◌>>=◌}
+use Rattle.ipc_format_childless_reading.specs.array_reading.column_reading.grammar.Columns.{Place, behind_column}
+use Rattle.ipc_format_childless_reading.specs.array_reading.column_reading.grammar.Schemas.{IdsList, ids_then, no_ids}
+
+-- The slots of the arrays of some fields' columns, the first of them at a place, by the ids at the fields. Ids beyond the fields are not
+-- looked at.
+abbrev pub arrays_below : List Field → Place → IdsList → Option (List (List Slot))
+arrays_below [] at below = Some []
+arrays_below (field ∷ fields) at no_ids = None
+arrays_below (field ∷ fields) at (ids_then first others) = do
+  column ← array_slots field.data_type (record at { ids = first })
+  columns ← arrays_below fields (behind_column at field.data_type) others
+  Some (column ∷ columns)
