@@ -2,4 +2,9 @@
 //! "Dictionary Messages").
 #![tactic(auto)]
 
+mod columns;
+mod read;
+
+pub use columns::read_children;
 pub use ipc_format_childless_reading as childless_reading;
+pub use read::read;
