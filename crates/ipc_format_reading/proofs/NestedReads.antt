@@ -11,12 +11,19 @@ use Rattle.ipc_format_childless_reading.specs.array_reading.column_reading.colum
 use Rattle.ipc_format_childless_reading.specs.array_reading.column_reading.columns.Slots.{Slot}
 use Rattle.ipc_format_childless_reading.specs.array_reading.column_reading.columns.StoredColumns.{Column, slots, type_layer}
 use Rattle.ipc_format_childless_reading.specs.array_reading.column_reading.flatbuffers.Reading.{◌>>=◌, guard}
+use Rattle.ipc_format_childless_reading.specs.array_reading.column_reading.grammar.Columns.{ids_below}
 use Rattle.ipc_format_childless_reading.specs.array_reading.column_reading.grammar.Layouts.{buffer_count, node_count}
 use Rattle.ipc_format_childless_reading.specs.array_reading.column_reading.grammar.Messages.{Version}
+use Rattle.ipc_format_childless_reading.specs.array_reading.column_reading.grammar.Schemas.{Ids}
+use Rattle.ipc_format_childless_reading.specs.array_reading.column_reading.metadata.Views.{ids_step, ids_view, ids_views}
+use Rattle.ipc_format_childless_reading.specs.array_reading.column_reading.metadata.declared.ipc_schema.IpcField.{IpcField}
+use Rattle.ipc_format_childless_reading.specs.array_reading.column_reading.metadata.declared.ipc_schema.IpcField.TheViews.{out-IpcField, roll-IpcField, roll-out-IpcField}
+use Rattle.ipc_format_childless_reading.specs.array_reading.column_reading.metadata.declared.ipc_schema.IpcField.TheFolds.{fold-roll-IpcField}
 use Rattle.ipc_format_childless_reading.proofs.array_lemmas.Layers.{layer_buffers, layer_nodes, type_buffers, type_nodes}
 use Rattle.ipc_format_childless_reading.proofs.array_lemmas.Taking.{takes_as, takes_made, takes_refused, takes_then}
 use Rattle.ipc_format_childless_reading.proofs.array_lemmas.column_lemmas.Readings.{made_none, out_of_memory, out_of_spec}
 use Rattle.ipc_format_childless_reading.proofs.array_lemmas.column_lemmas.columns_lemmas.TypeLayers.{Layer}
+use denote.Hole.Carrier
 use Rattle.ipc_format_reading.specs.Below.{buffers_below, nodes_below}
 
 -- ---- what is made
@@ -127,3 +134,11 @@ nodes_are t is = type_nodes t ∙ nested_nodes (type_layer t) is
 pub buffers_are : (version : Version) (t : DataType) → has_children (type_layer t) ≡ true
     → buffer_count version t ≡ own_buffers version (type_layer t) + buffers_below version (fields_below (type_layer t))
 buffers_are version t is = type_buffers version t ∙ nested_buffers version (type_layer t) is
+
+-- ---- ids
+
+-- the ids below a field are those of the fields below it
+pub ids_below_are : (field : IpcField) → ids_below (ids_view field) ≡ ids_views (out-IpcField field).fields
+unfolding roll-IpcField denote.Hole.Carrier.roll
+ids_below_are field =
+    ap ids_below (ap ids_view (sym (roll-out-IpcField field)) ∙ fold-roll-IpcField Ids ids_step (out-IpcField field))
