@@ -12,8 +12,8 @@ use Rattle.ipc_format_column_reading.specs.Rooms.{ForBytes}
 use Rattle.ipc_format_column_reading.proofs.ColumnReads.{Marks}
 use Rattle.ipc_format_column_reading.proofs.Readings.{out_of_memory, reads_refused}
 use Rattle.ipc_format_column_reading.proofs.Skipping.{end_behind}
-use Rattle.nested_arrays.specs.Checked.{IsChecked}
-use Rattle.nested_arrays.specs.FlatColumns.{byte_width}
+use Rattle.ipc_format_chunks.specs.nested_arrays.Checked.{IsChecked}
+use Rattle.ipc_format_chunks.specs.nested_arrays.FlatColumns.{byte_width}
 use Rattle.ipc_format_array_reading.specs.TypedReads.{IsNeeded, front_array}
 use Rattle.ipc_format_array_reading.proofs.FixedColumns.{bytes_past, bytes_refused, fixed_bytes_given, fixed_bytes_next, strings_made}
 use Rattle.ipc_format_array_reading.proofs.fixed_size_binary.read_fixed_size_binary.Goals as goal
