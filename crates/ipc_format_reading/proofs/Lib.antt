@@ -16,4 +16,8 @@ pub mod MadeUnions
 pub mod MadeNone
 pub mod MadeColumns
 pub mod MadeParts
+pub mod PartsGuards
+pub mod PartsMarks
+pub mod PartsUnions
+pub mod PartsReads
 pub use Rattle.ipc_format_childless_reading.proofs as childless_lemmas
