@@ -1,11 +1,10 @@
 -- Keys and values make a dictionary where each key that is not null is the place of a value.
 use Rattle.std.proofs.Common.{◌≡◌, ◌∙◌, ℕ, Bool, true, false, List, [], ◌∷◌, length, map, refl, sym, ap, subst, inl, inr}
-use Rattle.std.specs.Prelude.{ℤ, Option, Some, None, Result, Ok, Err, MatchResult, ◌&&◌, ◌==◌, if◌then◌else◌}
+use Rattle.std.specs.Prelude.{ℤ, Option, Some, None, Result, Ok, Err, ◌&&◌, ◌==◌, if◌then◌else◌}
 use Rattle.std.specs.List.{list_all}
 use Rattle.std.proofs.lemmas.Bool.{and_from, and_parts, cases_Bool, false≢true, true≢false}
 use Rattle.std.proofs.lemmas.List.{length-map}
 use Rattle.ipc_format_array_reading.specs.column_reading.columnar_memory.Equality.{same_type, same_type-Decides}
-use Rattle.ipc_format_array_reading.specs.column_reading.columnar_memory.Error.{IsOutOfSpec}
 use Rattle.ipc_format_array_reading.specs.column_reading.columnar_memory.Layouts.{physical_type}
 use Rattle.ipc_format_array_reading.specs.column_reading.columnar_memory.Numbers.{Numbers, first_number, one}
 use Rattle.ipc_format_array_reading.specs.column_reading.columnar_memory.declared.DataType.{DataType}
@@ -21,6 +20,7 @@ use Rattle.ipc_format_array_reading.specs.column_reading.columns.Kinds.{is_key}
 use Rattle.ipc_format_array_reading.specs.column_reading.columns.SoundColumns.{has_size, has_value_at, has_value_type, holds_below, is_sound, is_stored_as}
 use Rattle.ipc_format_array_reading.specs.column_reading.columns.SoundColumns.{mask_fits}
 use Rattle.ipc_format_array_reading.specs.column_reading.columns.StoredColumns.{Column, column_len, column_type, dictionary, flat, stored_len, type_layer}
+use Rattle.ipc_format_array_reading.specs.nested_arrays.Answers.{IsCheckedAs}
 use Rattle.ipc_format_array_reading.specs.nested_arrays.FlatColumns.{stored_numbers}
 use Rattle.ipc_format_array_reading.specs.nested_arrays.Keys.{kind_of_keys}
 use Rattle.ipc_format_array_reading.proofs.column_lemmas.columns_lemmas.Conditions.{parts_of_3, parts_of_4}
@@ -102,19 +102,14 @@ sound_keyed key t values mask keys lies typed are sound holds =
     (and_from (a && b) d
     (and_from a b (value_layer (type_layer t) key keys (column_type values) typed (sym (layout_is t) ∙ lies) are.ranged) are.masked) holds) sound
 
--- what a check of the parts answers
-abbrev pub IsCheckedKeyed : PhysicalType → Column → Result Column Error → Type 0
-IsCheckedKeyed layout parts r = MatchResult r (λ a. (a ≡ parts) × (is_sound parts ≡ true) × (physical_type (column_type parts) ≡ layout))
-    (λ e. IsOutOfSpec e × ¬ ((is_sound parts ≡ true) × (physical_type (column_type parts) ≡ layout)))
-
 made_keyed : (key : IntegerType) (t : DataType) (values : Column) (mask : Option (List Bool)) (keys : List ℤ) (numbers : List Numbers)
     (r : Result Column Error) → physical_type t ≡ physical.Dictionary key → has_values (type_layer t) (column_type values) ≡ true
     → AreKeys key mask keys → map first_number numbers ≡ keys → is_sound values ≡ true
     → ((is_sound (dictionary t mask keys values) ≡ true) → holds_below (length keys) (has_value_at mask keys (column_len values)) ≡ true)
-    → IsCheckedKeyed (physical.Dictionary key) (dictionary t mask keys values) r → MakesKeyed t values mask numbers r
+    → IsCheckedAs (physical.Dictionary key) (dictionary t mask keys values) r → MakesKeyed t values mask numbers r
 made_keyed key t values mask keys numbers (Ok array) lies typed are same sound held checked =
     ap (keyed_column t values mask) same
-    ∙ ap (λ b. if b then Some (dictionary t mask keys values) else None) (held checked.1)
+    ∙ ap (λ b. if b then Some (dictionary t mask keys values) else None) (held checked.1.0)
     ∙ ap (λ c. Some c) (sym checked.0)
 made_keyed key t values mask keys numbers (Err error) lies typed are same sound held checked =
     elim (cases_Bool (holds_below (length keys) (has_value_at mask keys (column_len values)))) [
@@ -134,7 +129,7 @@ pub keyed_made : {K : Type 0} (key : IntegerType) (kind : PrimitiveType) (number
     (mask : Option (List Bool)) (keys : List K) (values : Column) (r : Result Column Error) → kind ≡ kind_of_keys key
     → ((x : K) → number x ≡ one (value x)) → physical_type t ≡ physical.Dictionary key → has_values (type_layer t) (column_type values) ≡ true
     → physical_type key_type ≡ physical.Primitive kind → is_sound (flat key_type mask (stored_numbers kind (map number keys))) ≡ true
-    → is_sound values ≡ true → IsCheckedKeyed (physical.Dictionary key) (dictionary t mask (map value keys) values) r
+    → is_sound values ≡ true → IsCheckedAs (physical.Dictionary key) (dictionary t mask (map value keys) values) r
     → MakesKeyed t values mask (map number keys) r
 keyed_made key kind number value t key_type mask keys values r is law lies typed key_lies key_sound sound checked =
     let same : map first_number (map number keys) ≡ map value keys = numbers_are number value law keys in
