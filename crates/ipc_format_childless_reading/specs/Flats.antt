@@ -1,5 +1,5 @@
 -- What calls answer that read columns whose arrays lie flat in memory.
-use Rattle.std.specs.Prelude.{◌≡◌, ℕ, Bool, List, Option, Result, Ok, Err, IfOk}
+use Rattle.std.specs.Prelude.{◌≡◌, ℕ, Bool, false, List, Option, Result, Ok, Err, IfOk}
 use Rattle.ipc_format_array_reading.specs.column_reading.columnar_memory.declared.DataType.{DataType}
 use Rattle.ipc_format_array_reading.specs.column_reading.columnar_memory.declared.Error.{Error}
 use Rattle.ipc_format_array_reading.specs.column_reading.columns.StoredColumns.{Column, column_type, slots}

@@ -29,13 +29,13 @@ standing_in dictionaries = map dictionary_of dictionaries.entries
 
 -- where the column is read whose node and buffers are the first of the queues, by the ids at its field
 abbrev pub at_front : List FieldNode → List Buffer → Version → Bool → List Dictionary → Option ℕ → ℕ → Ids → List ℕ → Place
-at_front nodes buffers version is_little_endian standing limit origin ids room = record {
+at_front nodes buffers version is_little_endian standing limit origin here room = record {
   source = record (source_of nodes buffers is_little_endian room origin) { version = version };
   standing = standing;
   limit = limit;
   node = 0;
   buffer = 0;
-  ids = ids;
+  ids = here;
 }
 
 -- What is read of a column of a type: an array of the type, whose slots are those that the format gives, where there are arrays of the type.

@@ -111,6 +111,7 @@ fn dictionary_of<K: DictionaryKey>(
     requires typed { has_values (type_layer data_type) (column_type values.now) ≡ true }
     ensures { MakesKeyed data_type values.now keys.validity (map K.numbers keys.values) result }
 {
+    let _type = keys.data_type();
     keys.whole();
     values.whole();
     let values = values.clone()?;
