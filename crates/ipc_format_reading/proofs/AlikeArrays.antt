@@ -132,8 +132,12 @@ limits_dropped : {X : Type 0} (f : X → FieldNode) (n m : ℕ) (xs : List X) (o
     → LimitsAgree (map f xs) m old new
 limits_dropped f n m xs old new is (inl same) = inl same
 limits_dropped f n m xs old new is (inr both) =
-    inr ((λ k node count found counted. both.0 k node count
-    (ap (slice_get (map f (drop n xs))) (sym (zero-add k)) ∙ sym (get_mapped f n m k xs is) ∙ found) counted), both.1, both.2)
+    inr (
+      (λ k node count found counted. both.0 k node count
+          (ap (slice_get (map f (drop n xs))) (sym (zero-add k)) ∙ sym (get_mapped f n m k xs is) ∙ found) counted),
+      both.1,
+      both.2,
+    )
 
 pub below_at_front : {X Y : Type 0} (f : X → FieldNode) (g : Y → Buffer) (fields : List Field) (nodes : List X) (buffers : List Y)
     (version : Version) (little : Bool) (standing : List Dictionary) (limit l m : Option ℕ) (origin own : ℕ) (here there : Ids) (room : List ℕ)

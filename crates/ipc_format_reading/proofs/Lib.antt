@@ -20,4 +20,5 @@ pub mod PartsGuards
 pub mod PartsMarks
 pub mod PartsUnions
 pub mod PartsReads
+pub mod NestedColumns
 pub use Rattle.ipc_format_childless_reading.proofs as childless_lemmas
