@@ -1,9 +1,10 @@
 -- The columns of some fields, read one after another.
-use Rattle.std.proofs.Common.{◌≡◌, ◌∙◌, ◌+◌, ◌≤◌, ◌<◌, ℕ, suc, List, [], ◌∷◌, ◌++◌, length, take, drop, map, get_or, false, refl, sym, ap, ap₂, arith}
+use Rattle.std.proofs.Common.{◌≡◌, ◌∙◌, ◌+◌, ◌≤◌, ◌<◌, ℕ, zero, suc, List, [], ◌∷◌, ◌++◌, length, take, drop, map, get_or, false, refl, sym, ap, ap₂, arith}
 use Rattle.std.proofs.Common.{append_assoc, subst}
 use Rattle.std.specs.Prelude.{Option, Some, None, Result, Ok, Err, slice_get}
 use Rattle.std.proofs.Math.Seq.{drop-cons, take-suc}
 use Rattle.std.proofs.lemmas.List.{append-nil, map-append}
+use Rattle.std.proofs.lemmas.List.Sums.{sum_by-append}
 use Rattle.std.proofs.lemmas.Option.{slice_get_past, slice_get_within}
 use Rattle.ipc_format_childless_reading.specs.ReadArrays.{ReadsArray}
 use Rattle.ipc_format_childless_reading.specs.array_reading.ArrayReads.{Takes, array_slots}
@@ -16,7 +17,7 @@ use Rattle.ipc_format_childless_reading.specs.array_reading.column_reading.colum
 use Rattle.ipc_format_childless_reading.specs.array_reading.column_reading.columns.StoredColumns.{Column, column_type, slots}
 use Rattle.ipc_format_childless_reading.specs.array_reading.column_reading.flatbuffers.Reading.{◌>>=◌}
 use Rattle.ipc_format_childless_reading.specs.array_reading.column_reading.grammar.Columns.{Place, behind_column}
-use Rattle.ipc_format_childless_reading.specs.array_reading.column_reading.grammar.Layouts.{buffer_count, node_count}
+use Rattle.ipc_format_childless_reading.specs.array_reading.column_reading.grammar.Layouts.{buffer_count, node_count, total}
 use Rattle.ipc_format_childless_reading.specs.array_reading.column_reading.grammar.Messages.{Version}
 use Rattle.ipc_format_childless_reading.specs.array_reading.column_reading.grammar.Schemas.{IdsList}
 use Rattle.ipc_format_childless_reading.specs.array_reading.column_reading.messages.declared.values.Buffer.{Buffer}
@@ -27,7 +28,6 @@ use Rattle.ipc_format_childless_reading.proofs.array_lemmas.Taking.{drop_none, o
 use Rattle.ipc_format_childless_reading.proofs.array_lemmas.column_lemmas.ColumnReads.{takes_behind}
 use Rattle.ipc_format_childless_reading.proofs.array_lemmas.column_lemmas.NextBuffers.{refusal_for}
 use Rattle.ipc_format_childless_reading.proofs.array_lemmas.column_lemmas.Readings.{out_of_memory, out_of_spec, reads_behind}
-use Rattle.ipc_format_childless_reading.proofs.array_lemmas.column_lemmas.Skipping.{total_more}
 use Rattle.ipc_format_reading.specs.Below.{arrays_below, buffers_below, nodes_below, type_of}
 
 -- where the next column stands, by what is left of the nodes and of the buffers
@@ -77,7 +77,7 @@ none_read version at told fields ids nodes buffers = (
 -- the ids that are left, by the next field's
 next_ids : (ids : List IpcField) (k : ℕ) (i : IpcField) → slice_get ids k ≡ Some i → drop k ids ≡ i ∷ drop (suc k) ids
 next_ids [] k i is = absurd cc
-next_ids (x ∷ xs) 0 i is =
+next_ids (x ∷ xs) zero i is =
     let same : x ≡ i = cc in
     ap₂ (λ y ys. y ∷ ys) same (sym (drop_none xs))
 next_ids (x ∷ xs) (suc k) i is = next_ids xs k i is
@@ -105,6 +105,18 @@ read_more children array (Some columns) =
     ap Some (sym (append_assoc (map slots children) (slots array ∷ []) columns)
     ∙ ap (λ front. front ++ columns) (sym (map-append slots children (array ∷ []))))
 
+-- the counts of some fields and one more
+total_next : {F : Type 0} (count : F → ℕ) (xs : List F) (k : ℕ) (x : F) → k < length xs → x ≡ get_or xs k x
+    → total (map count (take (suc k) xs)) ≡ total (map count (take k xs)) + count x
+total_next count xs k x below is =
+    let more : take (suc k) xs ≡ take k xs ++ x ∷ [] = take-suc xs k x below ∙ ap (λ y. take k xs ++ y ∷ []) (sym is) in
+    let list : map count (take (suc k) xs) ≡ map count (take k xs) ++ count x ∷ [] =
+    ap (map count) more ∙ map-append count (take k xs) (x ∷ []) in
+    let sums : total (map count (take k xs) ++ count x ∷ []) ≡ total (map count (take k xs)) + total (count x ∷ []) =
+    sum_by-append (λ (n : ℕ). n) (map count (take k xs)) (count x ∷ []) in
+    let one : total (count x ∷ []) ≡ count x = omega arith in
+    ap total list ∙ sums ∙ ap (λ n. total (map count (take k xs)) + n) one
+
 -- counts of one field more
 off_more : {A : Type 0} (n m k : ℕ) (xs ys zs : List A) → k ≡ n + m → (n ≤ length xs) × (ys ≡ drop n xs) → (m ≤ length ys) × (zs ≡ drop m ys)
     → (k ≤ length xs) × (zs ≡ drop k xs)
@@ -120,11 +132,10 @@ one_more_read version at old now new fields ids nodes rest last buffers others e
     let t = type_of u in
     let stays : Stays old new =
     (read.0.0.1.0 ∙ before.0.0, omega (arith, before.0.1, read.0.0.1.1)) in
-    let one : suc k ≡ k + 1 = omega arith in
     let more_nodes : nodes_below (take (suc k) fields) ≡ nodes_below (take k fields) + node_count t =
-    ap (λ n. nodes_below (take n fields)) one ∙ total_more (λ field. node_count (type_of field)) fields k u lt is in
+    total_next (λ (field : Field). node_count (type_of field)) fields k u lt is in
     let more_buffers : buffers_below version (take (suc k) fields) ≡ buffers_below version (take k fields) + buffer_count version t =
-    ap (λ n. buffers_below version (take n fields)) one ∙ total_more (λ field. buffer_count version (type_of field)) fields k u lt is in (
+    total_next (λ (field : Field). buffer_count version (type_of field)) fields k u lt is in (
       stays,
       λ room told.
           before.1 room told
@@ -174,15 +185,15 @@ child_refused {B} version at old now new fields ids nodes rest last buffers othe
           arrays_below (drop (suc k) fields) (at (drop (node_count t) rest) (drop (buffer_count version t) others) room)
           (ids_views (drop (suc k) ids)) >>= (λ columns. Some (column ∷ columns)))) (none room told)))
           read.0.0),
-      off_behind {X = B} (nodes_below (take k fields)) 0 _ nodes rest last (Err error) (omega arith) before.2 read.0.1,
-      off_behind {X = B} (buffers_below version (take k fields)) 0 _ buffers others end (Err error) (omega arith) before.3 read.0.2,
+      off_behind {X = B} (nodes_below (take k fields)) 0 (nodes_below (take k fields)) nodes rest last (Err error) (omega arith) before.2 read.0.1,
+      off_behind {X = B} (buffers_below version (take k fields)) 0 (buffers_below version (take k fields)) buffers others end (Err error) (omega arith) before.3 read.0.2,
     )
 
 -- there are no ids beside a field
 no_ids_left : (ids : List IpcField) (k : ℕ) → slice_get ids k ≡ None → drop k ids ≡ []
-no_ids_left [] 0 is = refl
+no_ids_left [] zero is = refl
 no_ids_left [] (suc k) is = refl
-no_ids_left (x ∷ xs) 0 is = absurd cc
+no_ids_left (x ∷ xs) zero is = absurd cc
 no_ids_left (x ∷ xs) (suc k) is = no_ids_left xs k is
 
 pub ids_missing : {B : Type 0} (version : Version) (at : At) (old now : Told) (fields : List Field) (ids : List IpcField)
@@ -194,7 +205,7 @@ pub ids_missing : {B : Type 0} (version : Version) (at : At) (old now : Told) (f
 ids_missing {B} version at old now fields ids nodes rest buffers others k children u error view lt is none before refused =
     let whole : List ℕ → Option (List (List Slot)) = λ room. arrays_below fields (at nodes buffers room) (ids_views ids) in (
       from_later {B = B} old now now view whole (Err error) before.0
-          (refusal_for now now (ForBytes now (λ room. None {A = List (List Slot)} ≡ None)) (ForBytes now (λ room. whole room ≡ None)) error false
+          (refusal_for now now (ForBytes now (λ room. ◌≡◌ {A = Option (List (List Slot))} None None)) (ForBytes now (λ room. whole room ≡ None)) error false
           (λ same room told.
           before.1 room (sym before.0.0 ∙ told)
           ∙ ap₂ (λ us vs. arrays_below us (at rest others room) (ids_views vs) >>= read_then children) (next_field fields k u lt is)

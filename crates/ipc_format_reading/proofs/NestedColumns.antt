@@ -34,7 +34,7 @@ use Rattle.ipc_format_reading.proofs.PartsReads.{arrays_by_parts}
 
 -- ---- the test of a layer, made last
 
-none_after : {A B : Type 0} (r : Option A) → None {A = B} ≡ (r >>= (λ x. None))
+none_after : {A B : Type 0} (r : Option A) → ◌≡◌ {A = Option B} None (r >>= (λ x. None))
 none_after None = refl
 none_after (Some x) = refl
 
