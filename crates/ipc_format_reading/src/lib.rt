@@ -3,8 +3,8 @@
 #![tactic(auto)]
 
 mod columns;
-mod read;
+mod deserialize;
 
 pub use columns::read_children;
+pub use deserialize::read;
 pub use ipc_format_childless_reading as childless_reading;
-pub use read::read;
