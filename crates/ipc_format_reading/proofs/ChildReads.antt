@@ -1,14 +1,13 @@
 -- The columns of some fields, read one after another.
 use Rattle.std.proofs.Common.{◌≡◌, ◌∙◌, ◌+◌, ◌≤◌, ◌<◌, ℕ, zero, suc, List, [], ◌∷◌, ◌++◌, length, take, drop, map, get_or, false, refl, sym, ap, ap₂, arith}
 use Rattle.std.proofs.Common.{append_assoc, subst}
-use Rattle.std.specs.Prelude.{Option, Some, None, Result, Ok, Err, slice_get}
+use Rattle.std.specs.Prelude.{Option, Some, None, Result, Ok, Err}
 use Rattle.std.proofs.Math.Seq.{drop-cons, take-suc}
 use Rattle.std.proofs.lemmas.List.{append-nil, map-append}
 use Rattle.std.proofs.lemmas.List.Sums.{sum_by-append}
-use Rattle.std.proofs.lemmas.Option.{slice_get_past, slice_get_within}
 use Rattle.ipc_format_childless_reading.specs.ReadArrays.{ReadsArray}
 use Rattle.ipc_format_childless_reading.specs.array_reading.ArrayReads.{Takes, array_slots}
-use Rattle.ipc_format_childless_reading.specs.array_reading.column_reading.Queues.{TakesOff}
+use Rattle.ipc_format_childless_reading.specs.array_reading.column_reading.Queues.{IsEnd, TakesOff}
 use Rattle.ipc_format_childless_reading.specs.array_reading.column_reading.Rooms.{Told, Stays, ForBytes, ReadsAs}
 use Rattle.ipc_format_childless_reading.specs.array_reading.column_reading.columnar_memory.declared.DataType.{DataType}
 use Rattle.ipc_format_childless_reading.specs.array_reading.column_reading.columnar_memory.declared.Error.{Error}
@@ -27,7 +26,7 @@ use Rattle.ipc_format_childless_reading.specs.array_reading.column_reading.metad
 use Rattle.ipc_format_childless_reading.proofs.array_lemmas.Taking.{drop_none, off_behind}
 use Rattle.ipc_format_childless_reading.proofs.array_lemmas.column_lemmas.ColumnReads.{takes_behind}
 use Rattle.ipc_format_childless_reading.proofs.array_lemmas.column_lemmas.NextBuffers.{refusal_for}
-use Rattle.ipc_format_childless_reading.proofs.array_lemmas.column_lemmas.Readings.{out_of_memory, out_of_spec, reads_behind}
+use Rattle.ipc_format_childless_reading.proofs.array_lemmas.column_lemmas.Readings.{reads_behind}
 use Rattle.ipc_format_reading.specs.Below.{arrays_below, buffers_below, nodes_below, type_of}
 
 -- where the next column stands, by what is left of the nodes and of the buffers
@@ -74,26 +73,19 @@ none_read version at told fields ids nodes buffers = (
 
 -- ---- one more
 
--- the ids that are left, by the next field's
-next_ids : (ids : List IpcField) (k : ℕ) (i : IpcField) → slice_get ids k ≡ Some i → drop k ids ≡ i ∷ drop (suc k) ids
-next_ids [] k i is = absurd cc
-next_ids (x ∷ xs) zero i is =
-    let same : x ≡ i = cc in
-    ap₂ (λ y ys. y ∷ ys) same (sym (drop_none xs))
-next_ids (x ∷ xs) (suc k) i is = next_ids xs k i is
-
-next_field : (fields : List Field) (k : ℕ) (u : Field) → k < length fields → u ≡ get_or fields k u → drop k fields ≡ u ∷ drop (suc k) fields
-next_field fields k u lt is = drop-cons fields k u lt ∙ ap (λ x. x ∷ drop (suc k) fields) (sym is)
+-- what is left of a list, by the next one
+next_one : {A : Type 0} (xs : List A) (k : ℕ) (x : A) → k < length xs → x ≡ get_or xs k x → drop k xs ≡ x ∷ drop (suc k) xs
+next_one xs k x lt is = drop-cons xs k x lt ∙ ap (λ y. y ∷ drop (suc k) xs) (sym is)
 
 -- what is left, by the next column
 next_given : (version : Version) (at : At) (fields : List Field) (ids : List IpcField) (k : ℕ) (u : Field) (i : IpcField)
-    (rest : List FieldNode) (others : List Buffer) (room : List ℕ) → k < length fields → u ≡ get_or fields k u → slice_get ids k ≡ Some i
-    → Behind version at → arrays_below (drop k fields) (at rest others room) (ids_views (drop k ids))
+    (rest : List FieldNode) (others : List Buffer) (room : List ℕ) → k < length fields → u ≡ get_or fields k u → k < length ids
+    → i ≡ get_or ids k i → Behind version at → arrays_below (drop k fields) (at rest others room) (ids_views (drop k ids))
     ≡ (array_slots (type_of u) (record (at rest others room) { ids = ids_view i }) >>= (λ column.
     arrays_below (drop (suc k) fields) (at (drop (node_count (type_of u)) rest) (drop (buffer_count version (type_of u)) others) room)
     (ids_views (drop (suc k) ids)) >>= (λ columns. Some (column ∷ columns))))
-next_given version at fields ids k u i rest others room lt is has behind =
-    ap₂ (λ us vs. arrays_below us (at rest others room) (ids_views vs)) (next_field fields k u lt is) (next_ids ids k i has)
+next_given version at fields ids k u i rest others room lt is has its behind =
+    ap₂ (λ us vs. arrays_below us (at rest others room) (ids_views vs)) (next_one fields k u lt is) (next_one ids k i has its)
     ∙ ap (λ later. array_slots (type_of u) (record (at rest others room) { ids = ids_view i }) >>= (λ column.
     later >>= (λ columns. Some (column ∷ columns)))) (behind (drop (suc k) fields) (type_of u) rest others room (ids_views (drop (suc k) ids)))
 
@@ -124,11 +116,11 @@ off_more n m k xs ys zs is first later = takes_behind n m k xs ys zs is first la
 
 pub one_more_read : (version : Version) (at : At) (old now new : Told) (fields : List Field) (ids : List IpcField) (nodes rest last : List FieldNode)
     (buffers others end : List Buffer) (k : ℕ) (children : List Column) (u : Field) (i : IpcField) (array : Column)
-    → k < length fields → u ≡ get_or fields k u → slice_get ids k ≡ Some i → Behind version at
+    → k < length fields → u ≡ get_or fields k u → k < length ids → i ≡ get_or ids k i → Behind version at
     → LeftToRead version at old now fields ids nodes rest buffers others k children
     → ReadsArray false now new (type_of u) (λ room. record (at rest others room) { ids = ids_view i }) version rest last others end (Ok array)
     → LeftToRead version at old new fields ids nodes last buffers end (suc k) (children ++ array ∷ [])
-one_more_read version at old now new fields ids nodes rest last buffers others end k children u i array lt is has behind before read =
+one_more_read version at old now new fields ids nodes rest last buffers others end k children u i array lt is has its behind before read =
     let t = type_of u in
     let stays : Stays old new =
     (read.0.0.1.0 ∙ before.0.0, omega (arith, before.0.1, read.0.0.1.1)) in
@@ -139,7 +131,7 @@ one_more_read version at old now new fields ids nodes rest last buffers others e
       stays,
       λ room told.
           before.1 room told
-          ∙ ap (λ given. given >>= read_then children) (next_given version at fields ids k u i rest others room lt is has behind
+          ∙ ap (λ given. given >>= read_then children) (next_given version at fields ids k u i rest others room lt is has its behind
           ∙ ap (λ (given : Option (List Slot)). given >>= (λ column.
           arrays_below (drop (suc k) fields) (at (drop (node_count t) rest) (drop (buffer_count version t) others) room)
           (ids_views (drop (suc k) ids)) >>= (λ columns. Some (column ∷ columns)))) (read.0.0.2 room (before.0.0 ∙ told)))
@@ -156,6 +148,15 @@ one_more_read version at old now new fields ids nodes rest last buffers others e
           ∙ ap (map type_of) (sym (take-suc fields k u lt)),
     )
 
+-- the same under another name
+pub read_to : (version : Version) (at : At) (old now : Told) (fields : List Field) (ids : List IpcField) (nodes rest : List FieldNode)
+    (buffers others : List Buffer) (k n : ℕ) (children more : List Column) → k ≡ n → children ≡ more
+    → LeftToRead version at old now fields ids nodes rest buffers others k children
+    → LeftToRead version at old now fields ids nodes rest buffers others n more
+read_to version at old now fields ids nodes rest buffers others k n children more places are left =
+    subst (λ (m : ℕ). LeftToRead version at old now fields ids nodes rest buffers others m more) places
+    (subst (λ (columns : List Column). LeftToRead version at old now fields ids nodes rest buffers others k columns) are left)
+
 -- ---- refusals
 
 -- what is answered of the whole by a call that comes later
@@ -167,12 +168,12 @@ from_later old now new view whole r stays later =
 
 pub child_refused : {B : Type 0} (version : Version) (at : At) (old now new : Told) (fields : List Field) (ids : List IpcField)
     (nodes rest last : List FieldNode) (buffers others end : List Buffer) (k : ℕ) (children : List Column) (u : Field) (i : IpcField) (error : Error)
-    (view : B → List (List Slot)) → k < length fields → u ≡ get_or fields k u → slice_get ids k ≡ Some i → Behind version at
+    (view : B → List (List Slot)) → k < length fields → u ≡ get_or fields k u → k < length ids → i ≡ get_or ids k i → Behind version at
     → LeftToRead version at old now fields ids nodes rest buffers others k children
     → ReadsArray false now new (type_of u) (λ room. record (at rest others room) { ids = ids_view i }) version rest last others end (Err error)
     → Takes false old new view (λ room. arrays_below fields (at nodes buffers room) (ids_views ids)) (nodes_below fields)
     (buffers_below version fields) nodes last buffers end (Err error)
-child_refused {B} version at old now new fields ids nodes rest last buffers others end k children u i error view lt is has behind before read =
+child_refused {B} version at old now new fields ids nodes rest last buffers others end k children u i error view lt is has its behind before read =
     let t = type_of u in
     let whole : List ℕ → Option (List (List Slot)) = λ room. arrays_below fields (at nodes buffers room) (ids_views ids) in (
       from_later {B = B} old now new view whole (Err error) before.0
@@ -180,7 +181,7 @@ child_refused {B} version at old now new fields ids nodes rest last buffers othe
           (ForBytes now (λ room. whole room ≡ None)) error false
           (λ none room told.
           before.1 room (sym before.0.0 ∙ told)
-          ∙ ap (λ given. given >>= read_then children) (next_given version at fields ids k u i rest others room lt is has behind
+          ∙ ap (λ given. given >>= read_then children) (next_given version at fields ids k u i rest others room lt is has its behind
           ∙ ap (λ (given : Option (List Slot)). given >>= (λ column.
           arrays_below (drop (suc k) fields) (at (drop (node_count t) rest) (drop (buffer_count version t) others) room)
           (ids_views (drop (suc k) ids)) >>= (λ columns. Some (column ∷ columns)))) (none room told)))
@@ -190,29 +191,28 @@ child_refused {B} version at old now new fields ids nodes rest last buffers othe
     )
 
 -- there are no ids beside a field
-no_ids_left : (ids : List IpcField) (k : ℕ) → slice_get ids k ≡ None → drop k ids ≡ []
-no_ids_left [] zero is = refl
-no_ids_left [] (suc k) is = refl
-no_ids_left (x ∷ xs) zero is = absurd cc
-no_ids_left (x ∷ xs) (suc k) is = no_ids_left xs k is
+drop_past : {A : Type 0} (xs : List A) (k : ℕ) → length xs ≤ k → drop k xs ≡ []
+drop_past [] zero past = refl
+drop_past [] (suc k) past = refl
+drop_past (x ∷ xs) zero past = absurd (omega (arith, past))
+drop_past (x ∷ xs) (suc k) past = drop_past xs k (omega (arith, past))
 
-pub ids_missing : {B : Type 0} (version : Version) (at : At) (old now : Told) (fields : List Field) (ids : List IpcField)
-    (nodes rest : List FieldNode) (buffers others : List Buffer) (k : ℕ) (children : List Column) (u : Field) (error : Error)
-    (view : B → List (List Slot)) → k < length fields → u ≡ get_or fields k u → slice_get ids k ≡ None
-    → LeftToRead version at old now fields ids nodes rest buffers others k children → ReadsAs {A = B} false now now view (λ room. None) (Err error)
-    → Takes false old now view (λ room. arrays_below fields (at nodes buffers room) (ids_views ids)) (nodes_below fields)
-    (buffers_below version fields) nodes rest buffers others (Err error)
-ids_missing {B} version at old now fields ids nodes rest buffers others k children u error view lt is none before refused =
-    let whole : List ℕ → Option (List (List Slot)) = λ room. arrays_below fields (at nodes buffers room) (ids_views ids) in (
-      from_later {B = B} old now now view whole (Err error) before.0
-          (refusal_for now now (ForBytes now (λ room. ◌≡◌ {A = Option (List (List Slot))} None None)) (ForBytes now (λ room. whole room ≡ None)) error false
-          (λ same room told.
-          before.1 room (sym before.0.0 ∙ told)
-          ∙ ap₂ (λ us vs. arrays_below us (at rest others room) (ids_views vs) >>= read_then children) (next_field fields k u lt is)
-          (no_ids_left ids k none)) refused),
-      (nodes_below (take k fields), before.2.1),
-      (buffers_below version (take k fields), before.3.1),
-    )
+pub ids_missing : (version : Version) (at : At) (old now : Told) (fields : List Field) (ids : List IpcField)
+    (nodes rest : List FieldNode) (buffers others : List Buffer) (k : ℕ) (children : List Column) (u : Field) → k < length fields
+    → u ≡ get_or fields k u → length ids ≤ k → LeftToRead version at old now fields ids nodes rest buffers others k children
+    → ((false ≡ false) × ForBytes old (λ room. arrays_below fields (at nodes buffers room) (ids_views ids) ≡ None)) × IsEnd nodes rest
+    × IsEnd buffers others
+ids_missing version at old now fields ids nodes rest buffers others k children u lt is none before = (
+  (
+    refl,
+    λ room told.
+        before.1 room told
+        ∙ ap₂ (λ us vs. arrays_below us (at rest others room) (ids_views vs) >>= read_then children) (next_one fields k u lt is)
+        (drop_past ids k none),
+  ),
+  (nodes_below (take k fields), before.2.1),
+  (buffers_below version (take k fields), before.3.1),
+)
 
 -- a refusal for memory alone, behind what was read
 pub memory_refused : {B : Type 0} (version : Version) (at : At) (old now : Told) (fields : List Field) (ids : List IpcField)

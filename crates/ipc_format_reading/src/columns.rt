@@ -1,5 +1,5 @@
 //! Columns of every type, with the columns below them.
-ghost use Rattle.std.specs.Prelude.{◌≡◌, map, true, IfOk};
+ghost use Rattle.std.specs.Prelude.{◌≡◌, false, map, true, IfOk};
 ghost use Rattle.ipc_format_childless_reading.specs.ReadArrays.{ReadsArray, at_front, standing_in};
 ghost use Rattle.ipc_format_childless_reading.specs.array_reading.ArrayReads.{Takes, fields_below};
 ghost use Rattle.ipc_format_childless_reading.specs.array_reading.Parts.{has_children};
@@ -171,14 +171,14 @@ pub fn read_children<R: Room>(
 {
     let mut children = Vec::new(alloc);
     for k in 0..fields.len() {
-        let Some(ipc_field) = ipc_fields.get(k) else {
+        if k >= ipc_fields.len() {
             return Err(Error::OutOfSpec("a field without dictionary ids beside it"));
-        };
+        }
         let child = read_column(
             alloc,
             field_nodes,
             &fields[k].data_type,
-            ipc_field,
+            &ipc_fields[k],
             buffers,
             reader,
             dictionaries,

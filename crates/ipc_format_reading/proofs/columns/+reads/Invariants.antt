@@ -21,5 +21,5 @@ invariant-read_children-loop-k g l =
     LeftToRead (version_view l.version)
     (λ nodes buffers. at_front nodes buffers (version_view l.version) l.is_little_endian (standing_in l.dictionaries) l.limit l.block_offset
     no_own_ids)
-    (g.R.Room.told l.initial.reader) (g.R.Room.told l.reader) l.fields.now l.ipc_fields.now l.initial.field_nodes.items l.field_nodes.items
+    (g.R.Room.told l.initial.reader) (g.R.Room.told l.reader) l.fields l.ipc_fields l.initial.field_nodes.items l.field_nodes.items
     l.initial.buffers.items l.buffers.items l.k l.children.items
