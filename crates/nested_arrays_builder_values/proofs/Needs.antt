@@ -29,16 +29,6 @@ value_needs values s k apart some lt same =
 
 -- ---- the greatest
 
-pub greatest_more : (ns : List ℕ) (i d : ℕ) → i < length ns → greatest (take (i + 1) ns) ≡ max (greatest (take i ns)) (get_or ns i d)
-greatest_more ns i d lt = ap greatest (take_more ns i d lt) ∙ behind (take i ns) (get_or ns i d)
-  where
-    gather : (a b c : ℕ) → max a (max b c) ≡ max (max a b) c
-    gather a b c = omega arith
-
-    behind : (ns : List ℕ) (n : ℕ) → greatest (ns ++ n ∷ []) ≡ max (greatest ns) n
-    behind [] n = omega arith
-    behind (m ∷ ns) n = ap (max m) (behind ns n) ∙ gather m (greatest ns) n
-
 pub greatest_first : (n : ℕ) (ns : List ℕ) → greatest (take n ns) ≤ greatest ns
 greatest_first zero ns = omega arith
 greatest_first (suc n) [] = omega arith

@@ -5,19 +5,19 @@ use Rattle.std.specs.Prelude.{◌&&◌, ◌⊎◌, ◌==◌, nat_le}
 use Rattle.std.proofs.lemmas.Bool.{and_from, le-leb}
 use Rattle.std.proofs.lemmas.List.{take_more}
 use Rattle.std.proofs.lemmas.List.Folds.{list_all_at, list_all_more, list_any_at}
-use Rattle.nested_arrays_builder_parts.specs.arrays.columnar_memory.declared.DataType.{DataType}
-use Rattle.nested_arrays_builder_parts.specs.arrays.columnar_memory.declared.DataType.TheOpen as layer
-use Rattle.nested_arrays_builder_parts.specs.arrays.columnar_memory.declared.Error.{Error}
-use Rattle.nested_arrays_builder_parts.specs.arrays.columnar_memory.declared.Field.{Field}
-use Rattle.nested_arrays_builder_parts.specs.arrays.columnar_memory.Error.{IsInvalidArgument, IsNotYetImplemented, IsOutOfMemory}
-use Rattle.nested_arrays_builder_parts.specs.arrays.columnar_memory.Spans.{Spans, no_spans}
-use Rattle.nested_arrays_builder_parts.specs.arrays.columns.Children.{field_slots}
-use Rattle.nested_arrays_builder_parts.specs.arrays.columns.FreshLaws.{is_buildable, are_buildable}
-use Rattle.nested_arrays_builder_parts.specs.arrays.columns.Slots.{window}
-use Rattle.nested_arrays_builder_parts.specs.arrays.columns.StoredColumns.{slots, type_layer}
-use Rattle.nested_arrays_builder_parts.proofs.growth_lemmas.Below.{buildable_list, buildable_large_list, buildable_fixed_list, buildable_struct}
-use Rattle.nested_arrays_builder_parts.proofs.growth_lemmas.Fits.{nothing_fits}
-use Rattle.nested_arrays_builder_parts.specs.Open.{Open, opened}
+use Rattle.nested_arrays_builder_values.specs.parts.arrays.columnar_memory.declared.DataType.{DataType}
+use Rattle.nested_arrays_builder_values.specs.parts.arrays.columnar_memory.declared.DataType.TheOpen as layer
+use Rattle.nested_arrays_builder_values.specs.parts.arrays.columnar_memory.declared.Error.{Error}
+use Rattle.nested_arrays_builder_values.specs.parts.arrays.columnar_memory.declared.Field.{Field}
+use Rattle.nested_arrays_builder_values.specs.parts.arrays.columnar_memory.Error.{IsInvalidArgument, IsNotYetImplemented, IsOutOfMemory}
+use Rattle.nested_arrays_builder_values.specs.parts.arrays.columnar_memory.Spans.{Spans, no_spans}
+use Rattle.nested_arrays_builder_values.specs.parts.arrays.columns.Children.{field_slots}
+use Rattle.nested_arrays_builder_values.specs.parts.arrays.columns.FreshLaws.{is_buildable, are_buildable}
+use Rattle.nested_arrays_builder_values.specs.parts.arrays.columns.Slots.{window}
+use Rattle.nested_arrays_builder_values.specs.parts.arrays.columns.StoredColumns.{slots, type_layer}
+use Rattle.nested_arrays_builder_values.proofs.parts_lemmas.growth_lemmas.Below.{buildable_list, buildable_large_list, buildable_fixed_list, buildable_struct}
+use Rattle.nested_arrays_builder_values.proofs.parts_lemmas.growth_lemmas.Fits.{nothing_fits}
+use Rattle.nested_arrays_builder_values.specs.parts.Open.{Open, opened}
 use Rattle.nested_arrays_builders.specs.Begun.{are_unbuilt, fields_size, is_unbuilt, opened_none, IsNoBuilder}
 use Rattle.nested_arrays_builders.specs.Parts.{Parts, listed, sized, of_fields, opened_each, parts_column, type_size, HoldsParts, IsKept}
 use Rattle.nested_arrays_builders.proofs.KeptNodes.{kept_again, view_kept}

@@ -3,24 +3,24 @@ use Rattle.std.proofs.Common.{◌≡◌, ◌∙◌, ℕ, zero, suc, ◌+◌, ◌
 use Rattle.std.proofs.Common.{sym, ap, subst, arith, length-append}
 use Rattle.std.proofs.lemmas.Bool.{eqb-true}
 use Rattle.std.proofs.lemmas.List.{length-map, length-replicate}
-use Rattle.nested_arrays_builder_parts.specs.arrays.columnar_memory.declared.DataType.{DataType}
-use Rattle.nested_arrays_builder_parts.specs.arrays.columnar_memory.declared.DataType.TheOpen as layer
-use Rattle.nested_arrays_builder_parts.specs.arrays.columnar_memory.declared.Field.{Field}
-use Rattle.nested_arrays_builder_parts.specs.arrays.columnar_memory.Spans.{Spans, first_spans, last_of}
-use Rattle.nested_arrays_builder_parts.specs.arrays.columns.Children.{items_of, fixed_items_of, field_of, joined_items, joined_fixed_items, field_slots}
-use Rattle.nested_arrays_builder_parts.specs.arrays.columns.OpenBatch.{fits}
-use Rattle.nested_arrays_builder_parts.specs.arrays.columns.Slots.{Slot, null, items, slot_list, window}
-use Rattle.nested_arrays_builder_parts.specs.arrays.columns.StoredColumns.{slots, type_layer}
-use Rattle.nested_arrays_builder_parts.proofs.arrays_lemmas.columns_lemmas.FreshBelow.{pieces_length}
-use Rattle.nested_arrays_builder_parts.proofs.arrays_lemmas.columns_lemmas.FreshLengths.{Layer}
-use Rattle.nested_arrays_builder_parts.specs.growth.OpenParts.{is_list_sized, item_spans, slots_of_fields}
-use Rattle.nested_arrays_builder_parts.proofs.growth_lemmas.Below.{fixed_items_fit_below}
-use Rattle.nested_arrays_builder_parts.proofs.growth_lemmas.Fields.{fields_cut}
-use Rattle.nested_arrays_builder_parts.proofs.growth_lemmas.FirstOnes.{fixed_items_cut}
-use Rattle.nested_arrays_builder_parts.proofs.growth_lemmas.Limits.{first_ones_fit}
-use Rattle.nested_arrays_builder_parts.proofs.growth_lemmas.Masks.{marks_cut}
-use Rattle.nested_arrays_builder_parts.proofs.growth_lemmas.Pieces.{item_spans_cut, item_spans_last, joined_cut}
-use Rattle.nested_arrays_builder_parts.specs.Open.{Open, opened, first_slots}
+use Rattle.nested_arrays_builder_values.specs.parts.arrays.columnar_memory.declared.DataType.{DataType}
+use Rattle.nested_arrays_builder_values.specs.parts.arrays.columnar_memory.declared.DataType.TheOpen as layer
+use Rattle.nested_arrays_builder_values.specs.parts.arrays.columnar_memory.declared.Field.{Field}
+use Rattle.nested_arrays_builder_values.specs.parts.arrays.columnar_memory.Spans.{Spans, first_spans, last_of}
+use Rattle.nested_arrays_builder_values.specs.parts.arrays.columns.Children.{items_of, fixed_items_of, field_of, joined_items, joined_fixed_items, field_slots}
+use Rattle.nested_arrays_builder_values.specs.parts.arrays.columns.OpenBatch.{fits}
+use Rattle.nested_arrays_builder_values.specs.parts.arrays.columns.Slots.{Slot, null, items, slot_list, window}
+use Rattle.nested_arrays_builder_values.specs.parts.arrays.columns.StoredColumns.{slots, type_layer}
+use Rattle.nested_arrays_builder_values.proofs.parts_lemmas.arrays_lemmas.columns_lemmas.FreshBelow.{pieces_length}
+use Rattle.nested_arrays_builder_values.proofs.parts_lemmas.arrays_lemmas.columns_lemmas.FreshLengths.{Layer}
+use Rattle.nested_arrays_builder_values.specs.parts.growth.OpenParts.{is_list_sized, item_spans, slots_of_fields}
+use Rattle.nested_arrays_builder_values.proofs.parts_lemmas.growth_lemmas.Below.{fixed_items_fit_below}
+use Rattle.nested_arrays_builder_values.proofs.parts_lemmas.growth_lemmas.Fields.{fields_cut}
+use Rattle.nested_arrays_builder_values.proofs.parts_lemmas.growth_lemmas.FirstOnes.{fixed_items_cut}
+use Rattle.nested_arrays_builder_values.proofs.parts_lemmas.growth_lemmas.Limits.{first_ones_fit}
+use Rattle.nested_arrays_builder_values.proofs.parts_lemmas.growth_lemmas.Masks.{marks_cut}
+use Rattle.nested_arrays_builder_values.proofs.parts_lemmas.growth_lemmas.Pieces.{item_spans_cut, item_spans_last, joined_cut}
+use Rattle.nested_arrays_builder_values.specs.parts.Open.{Open, opened, first_slots}
 use Rattle.nested_arrays_builders.specs.Parts.{Parts, listed, sized, of_fields, parts_column, first_parts, opened_each, type_size, types_size}
 use Rattle.nested_arrays_builders.specs.Parts.{HoldsCount, HoldsParts, IsKept}
 use Rattle.nested_arrays_builders.proofs.KeptNodes.{view_kept, kept_again, kept_length}

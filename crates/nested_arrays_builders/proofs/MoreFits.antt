@@ -2,21 +2,21 @@
 use Rattle.std.proofs.Common.{◌≡◌, ◌∙◌, ◌+◌, List, [], ◌∷◌, ◌++◌, length, Bool, true, false, refl, sym, ap}
 use Rattle.std.specs.Prelude.{◌&&◌, nat_le}
 use Rattle.std.specs.List.{list_all}
-use Rattle.nested_arrays_builder_parts.specs.arrays.columnar_memory.declared.DataType.{DataType}
-use Rattle.nested_arrays_builder_parts.specs.arrays.columnar_memory.declared.DataType.TheOpen as layer
-use Rattle.nested_arrays_builder_parts.specs.arrays.columnar_memory.declared.Field.{Field}
-use Rattle.nested_arrays_builder_parts.specs.arrays.columns.Children.{items_of, fixed_items_of, joined_items}
-use Rattle.nested_arrays_builder_parts.specs.arrays.columns.Kinds.{most_slots}
-use Rattle.nested_arrays_builder_parts.specs.arrays.columns.OpenBatch.{fits}
-use Rattle.nested_arrays_builder_parts.specs.arrays.columns.Rows.{columns_fit}
-use Rattle.nested_arrays_builder_parts.specs.arrays.columns.Slots.{Slot}
-use Rattle.nested_arrays_builder_parts.specs.arrays.columns.StoredColumns.{type_layer}
-use Rattle.nested_arrays_builder_parts.proofs.arrays_lemmas.columns_lemmas.FreshLengths.{Layer}
-use Rattle.nested_arrays_builder_parts.specs.growth.OpenParts.{is_list, is_list_sized, is_record_sized, slots_of_fields, fields_of_slot, pushed_each}
-use Rattle.nested_arrays_builder_parts.proofs.growth_lemmas.Fields.{fields_count}
-use Rattle.nested_arrays_builder_parts.proofs.growth_lemmas.OneMore.{list_fits_one_more, large_list_fits_one_more, fixed_list_fits_one_more}
-use Rattle.nested_arrays_builder_parts.proofs.growth_lemmas.OneMore.{struct_fits_one_more}
-use Rattle.nested_arrays_builder_parts.specs.Open.{Open, opened}
+use Rattle.nested_arrays_builder_values.specs.parts.arrays.columnar_memory.declared.DataType.{DataType}
+use Rattle.nested_arrays_builder_values.specs.parts.arrays.columnar_memory.declared.DataType.TheOpen as layer
+use Rattle.nested_arrays_builder_values.specs.parts.arrays.columnar_memory.declared.Field.{Field}
+use Rattle.nested_arrays_builder_values.specs.parts.arrays.columns.Children.{items_of, fixed_items_of, joined_items}
+use Rattle.nested_arrays_builder_values.specs.parts.arrays.columns.Kinds.{most_slots}
+use Rattle.nested_arrays_builder_values.specs.parts.arrays.columns.OpenBatch.{fits}
+use Rattle.nested_arrays_builder_values.specs.parts.arrays.columns.Rows.{columns_fit}
+use Rattle.nested_arrays_builder_values.specs.parts.arrays.columns.Slots.{Slot}
+use Rattle.nested_arrays_builder_values.specs.parts.arrays.columns.StoredColumns.{type_layer}
+use Rattle.nested_arrays_builder_values.proofs.parts_lemmas.arrays_lemmas.columns_lemmas.FreshLengths.{Layer}
+use Rattle.nested_arrays_builder_values.specs.parts.growth.OpenParts.{is_list, is_list_sized, is_record_sized, slots_of_fields, fields_of_slot, pushed_each}
+use Rattle.nested_arrays_builder_values.proofs.parts_lemmas.growth_lemmas.Fields.{fields_count}
+use Rattle.nested_arrays_builder_values.proofs.parts_lemmas.growth_lemmas.OneMore.{list_fits_one_more, large_list_fits_one_more, fixed_list_fits_one_more}
+use Rattle.nested_arrays_builder_values.proofs.parts_lemmas.growth_lemmas.OneMore.{struct_fits_one_more}
+use Rattle.nested_arrays_builder_values.specs.parts.Open.{Open, opened}
 use Rattle.nested_arrays_builders.specs.Parts.{Parts, listed, sized, of_fields, opened_each, with_each, with_slots, is_formed, most_end}
 use Rattle.nested_arrays_builders.specs.Parts.{is_fitting, has_room, HoldsParts, IsKept}
 use Rattle.nested_arrays_builders.proofs.MoreParts.{with_opened, opened_count}

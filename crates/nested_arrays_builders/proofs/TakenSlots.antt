@@ -2,17 +2,17 @@
 use Rattle.std.proofs.Common.{◌≡◌, ◌∙◌, suc, List, [], ◌∷◌, length, map, Bool, true, false, refl, sym, ap, arith}
 use Rattle.std.specs.Prelude.{◌&&◌}
 use Rattle.std.proofs.lemmas.Bool.{eq-eqb}
-use Rattle.nested_arrays_builder_parts.specs.arrays.columnar_memory.declared.DataType.{DataType}
-use Rattle.nested_arrays_builder_parts.specs.arrays.columnar_memory.declared.DataType.TheOpen as layer
-use Rattle.nested_arrays_builder_parts.specs.arrays.columnar_memory.declared.Field.{Field}
-use Rattle.nested_arrays_builder_parts.specs.arrays.columns.Cells.{fits_cell, fit_each, is_list_of, is_list_of_size, is_record_of}
-use Rattle.nested_arrays_builder_parts.specs.arrays.columns.Slots.{Slot, Slots, null, items, fields, no_slot, slot_then, slot_list}
-use Rattle.nested_arrays_builder_parts.specs.arrays.columns.StoredColumns.{type_layer}
-use Rattle.nested_arrays_builder_parts.proofs.arrays_lemmas.columns_lemmas.FreshLengths.{Layer, cell_field}
-use Rattle.nested_arrays_builder_parts.specs.growth.OpenParts.{slots_of_fields}
-use Rattle.nested_arrays_builder_parts.proofs.growth_lemmas.Fields.{fields_count}
-use Rattle.nested_arrays_builder_parts.proofs.growth_lemmas.TypeSteps.{cell_by_layer, cell_field_is}
-use Rattle.nested_arrays_builder_parts.specs.Open.{Open}
+use Rattle.nested_arrays_builder_values.specs.parts.arrays.columnar_memory.declared.DataType.{DataType}
+use Rattle.nested_arrays_builder_values.specs.parts.arrays.columnar_memory.declared.DataType.TheOpen as layer
+use Rattle.nested_arrays_builder_values.specs.parts.arrays.columnar_memory.declared.Field.{Field}
+use Rattle.nested_arrays_builder_values.specs.parts.arrays.columns.Cells.{fits_cell, fit_each, is_list_of, is_list_of_size, is_record_of}
+use Rattle.nested_arrays_builder_values.specs.parts.arrays.columns.Slots.{Slot, Slots, null, items, fields, no_slot, slot_then, slot_list}
+use Rattle.nested_arrays_builder_values.specs.parts.arrays.columns.StoredColumns.{type_layer}
+use Rattle.nested_arrays_builder_values.proofs.parts_lemmas.arrays_lemmas.columns_lemmas.FreshLengths.{Layer, cell_field}
+use Rattle.nested_arrays_builder_values.specs.parts.growth.OpenParts.{slots_of_fields}
+use Rattle.nested_arrays_builder_values.proofs.parts_lemmas.growth_lemmas.Fields.{fields_count}
+use Rattle.nested_arrays_builder_values.proofs.parts_lemmas.growth_lemmas.TypeSteps.{cell_by_layer, cell_field_is}
+use Rattle.nested_arrays_builder_values.specs.parts.Open.{Open}
 use Rattle.nested_arrays_builders.specs.Parts.{Parts, listed, sized, of_fields, opened_each, tests_of, takes_slot, is_formed, HoldsParts, IsKept}
 
 tests_opened : (us : List Field) (columns : List (List Slot)) → length columns ≡ length us → tests_of (opened_each us columns) ≡ map cell_field us

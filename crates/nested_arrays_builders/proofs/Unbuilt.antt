@@ -3,25 +3,25 @@ use Rattle.std.proofs.Common.{inl, inr, ◌≡◌, ◌∙◌, ℕ, ◌<◌, List
 use Rattle.std.specs.Prelude.{◌||◌, ℤ, Option}
 use Rattle.std.specs.List.{list_any}
 use Rattle.std.proofs.lemmas.Bool.{le-leb}
-use Rattle.nested_arrays_builder_parts.specs.arrays.columnar_memory.declared.DataType.{DataType, map-DataType}
-use Rattle.nested_arrays_builder_parts.specs.arrays.columnar_memory.declared.DataType.TheFolds.{fold-Field, fold-roll-DataType, fold-roll-Field}
-use Rattle.nested_arrays_builder_parts.specs.arrays.columnar_memory.declared.DataType.TheOpen as layer
-use Rattle.nested_arrays_builder_parts.specs.arrays.columnar_memory.declared.DataType.TheVariants as types
-use Rattle.nested_arrays_builder_parts.specs.arrays.columnar_memory.declared.DataType.TheViews.{out-DataType, roll-DataType, out-roll-DataType, roll-out-DataType}
-use Rattle.nested_arrays_builder_parts.specs.arrays.columnar_memory.declared.Error.{Error}
-use Rattle.nested_arrays_builder_parts.specs.arrays.columnar_memory.declared.Field.{Field}
-use Rattle.nested_arrays_builder_parts.specs.arrays.columnar_memory.declared.IntegerType.{IntegerType}
-use Rattle.nested_arrays_builder_parts.specs.arrays.columnar_memory.declared.IntervalUnit.TheVariants as intervals
-use Rattle.nested_arrays_builder_parts.specs.arrays.columnar_memory.declared.UnionMode.{UnionMode}
-use Rattle.nested_arrays_builder_parts.specs.arrays.columnar_memory.Layouts.{logical_type}
+use Rattle.nested_arrays_builder_values.specs.parts.arrays.columnar_memory.declared.DataType.{DataType, map-DataType}
+use Rattle.nested_arrays_builder_values.specs.parts.arrays.columnar_memory.declared.DataType.TheFolds.{fold-Field, fold-roll-DataType, fold-roll-Field}
+use Rattle.nested_arrays_builder_values.specs.parts.arrays.columnar_memory.declared.DataType.TheOpen as layer
+use Rattle.nested_arrays_builder_values.specs.parts.arrays.columnar_memory.declared.DataType.TheVariants as types
+use Rattle.nested_arrays_builder_values.specs.parts.arrays.columnar_memory.declared.DataType.TheViews.{out-DataType, roll-DataType, out-roll-DataType, roll-out-DataType}
+use Rattle.nested_arrays_builder_values.specs.parts.arrays.columnar_memory.declared.Error.{Error}
+use Rattle.nested_arrays_builder_values.specs.parts.arrays.columnar_memory.declared.Field.{Field}
+use Rattle.nested_arrays_builder_values.specs.parts.arrays.columnar_memory.declared.IntegerType.{IntegerType}
+use Rattle.nested_arrays_builder_values.specs.parts.arrays.columnar_memory.declared.IntervalUnit.TheVariants as intervals
+use Rattle.nested_arrays_builder_values.specs.parts.arrays.columnar_memory.declared.UnionMode.{UnionMode}
+use Rattle.nested_arrays_builder_values.specs.parts.arrays.columnar_memory.Layouts.{logical_type}
 use denote.Hole.Carrier
-use Rattle.nested_arrays_builder_parts.specs.arrays.columns.FreshLaws.{is_buildable}
-use Rattle.nested_arrays_builder_parts.specs.arrays.columns.StoredColumns.{type_layer}
-use Rattle.nested_arrays_builder_parts.proofs.arrays_lemmas.columns_lemmas.FreshLengths.{Layer, buildable_layer}
-use Rattle.nested_arrays_builder_parts.proofs.arrays_lemmas.columns_lemmas.TypeLayers.{is_extension, layer_layout}
-use Rattle.nested_arrays_builder_parts.proofs.growth_lemmas.TypeSteps.{by_layer, buildable_by_layer, layout_by_layer, not_extended}
-use Rattle.nested_arrays_builder_parts.specs.NewValues.{is_of_floats}
-use Rattle.nested_arrays_builder_parts.specs.arrays.Childless.{is_childless}
+use Rattle.nested_arrays_builder_values.specs.parts.arrays.columns.FreshLaws.{is_buildable}
+use Rattle.nested_arrays_builder_values.specs.parts.arrays.columns.StoredColumns.{type_layer}
+use Rattle.nested_arrays_builder_values.proofs.parts_lemmas.arrays_lemmas.columns_lemmas.FreshLengths.{Layer, buildable_layer}
+use Rattle.nested_arrays_builder_values.proofs.parts_lemmas.arrays_lemmas.columns_lemmas.TypeLayers.{is_extension, layer_layout}
+use Rattle.nested_arrays_builder_values.proofs.parts_lemmas.growth_lemmas.TypeSteps.{by_layer, buildable_by_layer, layout_by_layer, not_extended}
+use Rattle.nested_arrays_builder_values.specs.parts.NewValues.{is_of_floats}
+use Rattle.nested_arrays_builder_values.specs.parts.arrays.Childless.{is_childless}
 use Rattle.nested_arrays_builders.specs.Begun.{unbuilt_step, is_unbuilt, are_unbuilt, IsNoBuilder, IsPlain}
 
 abbrev unbuilt_field : Field → Bool

@@ -1,10 +1,10 @@
 use Rattle.std.proofs.Common.{rules, ◌≡◌, ◌∙◌, ◌≤◌, length, true, false, ap, sym, arith}
 use Rattle.std.specs.Prelude.{◌⊎◌}
 use Rattle.std.proofs.lemmas.Bool.{eqb-true}
-use Rattle.nested_arrays_builder_parts.specs.arrays.columnar_memory.declared.Field.{Field}
-use Rattle.nested_arrays_builder_parts.specs.arrays.columnar_memory.Error.{IsInvalidArgument, IsNotYetImplemented, IsOutOfMemory}
-use Rattle.nested_arrays_builder_parts.specs.arrays.columns.FreshLaws.{are_buildable, is_buildable}
-use Rattle.nested_arrays_builder_parts.proofs.growth_lemmas.Below.{buildable_list, buildable_large_list}
+use Rattle.nested_arrays_builder_values.specs.parts.arrays.columnar_memory.declared.Field.{Field}
+use Rattle.nested_arrays_builder_values.specs.parts.arrays.columnar_memory.Error.{IsInvalidArgument, IsNotYetImplemented, IsOutOfMemory}
+use Rattle.nested_arrays_builder_values.specs.parts.arrays.columns.FreshLaws.{are_buildable, is_buildable}
+use Rattle.nested_arrays_builder_values.proofs.parts_lemmas.growth_lemmas.Below.{buildable_list, buildable_large_list}
 use Rattle.nested_arrays_builders.specs.Begun.{are_unbuilt, fields_size, is_unbuilt, IsNoBuilder}
 use Rattle.nested_arrays_builders.specs.Parts.{type_size}
 use Rattle.nested_arrays_builders.specs.TypeSizes.{list_size, large_list_size, fixed_list_size, struct_is_larger}

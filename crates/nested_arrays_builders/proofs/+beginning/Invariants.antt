@@ -1,5 +1,5 @@
 use Rattle.std.proofs.Common.{◌≡◌, ◌+◌, ◌*◌, take, true}
-use Rattle.nested_arrays_builder_parts.specs.arrays.columns.FreshLaws.{are_buildable}
+use Rattle.nested_arrays_builder_values.specs.parts.arrays.columns.FreshLaws.{are_buildable}
 use Rattle.nested_arrays_builders.specs.Begun.{fields_size, opened_none}
 use Rattle.nested_arrays_builders.specs.Parts.{type_size}
 use Rattle.nested_arrays_builders.proofs.+beginning.Given as goal

@@ -1,11 +1,11 @@
 use Rattle.std.proofs.Common.{rules, ◌≡◌, ◌∙◌, ℕ, ◌<◌, ◌≤◌, length, take, get_or, true, ap, sym, arith}
 use Rattle.std.specs.Prelude.{slice_set}
-use Rattle.nested_arrays_builder_parts.specs.arrays.columns.Cells.{fits_cell}
-use Rattle.nested_arrays_builder_parts.specs.arrays.columns.Children.{fixed_items_of}
-use Rattle.nested_arrays_builder_parts.specs.arrays.columns.Slots.{null}
-use Rattle.nested_arrays_builder_parts.specs.growth.OpenParts.{fields_of_slot, is_record_sized}
-use Rattle.nested_arrays_builder_parts.specs.Open.{Open, first_slots}
-use Rattle.nested_arrays_builder_parts.specs.Scalars.{scalar_slot}
+use Rattle.nested_arrays_builder_values.specs.parts.arrays.columns.Cells.{fits_cell}
+use Rattle.nested_arrays_builder_values.specs.parts.arrays.columns.Children.{fixed_items_of}
+use Rattle.nested_arrays_builder_values.specs.parts.arrays.columns.Slots.{null}
+use Rattle.nested_arrays_builder_values.specs.parts.growth.OpenParts.{fields_of_slot, is_record_sized}
+use Rattle.nested_arrays_builder_values.specs.parts.Open.{Open, first_slots}
+use Rattle.nested_arrays_builder_values.specs.parts.Scalars.{scalar_slot}
 use Rattle.nested_arrays_builders.specs.Parts.{is_fitting, of_fields, type_size, types_size, with_each, IsShort, IsShortOfEach}
 use Rattle.nested_arrays_builders.proofs.AddedSlots.{record_refused}
 use Rattle.nested_arrays_builders.proofs.CutParts.{one_child}

@@ -1,8 +1,8 @@
 use Rattle.std.proofs.Common.{◌≡◌, ℕ, ◌<◌, ◌+◌, ◌*◌, take, length, get_or, true}
-use Rattle.nested_arrays_builder_parts.specs.arrays.columns.Children.{fixed_items_of}
-use Rattle.nested_arrays_builder_parts.specs.growth.OpenParts.{fields_of_slot}
-use Rattle.nested_arrays_builder_parts.specs.Open.{Open}
-use Rattle.nested_arrays_builder_parts.specs.Scalars.{scalar_slot}
+use Rattle.nested_arrays_builder_values.specs.parts.arrays.columns.Children.{fixed_items_of}
+use Rattle.nested_arrays_builder_values.specs.parts.growth.OpenParts.{fields_of_slot}
+use Rattle.nested_arrays_builder_values.specs.parts.Open.{Open}
+use Rattle.nested_arrays_builder_values.specs.parts.Scalars.{scalar_slot}
 use Rattle.nested_arrays_builders.specs.Nodes.{parts_of}
 use Rattle.nested_arrays_builders.specs.Parts.{is_fitting, parts_size, type_size, types_size, with_each, with_slots}
 use Rattle.nested_arrays_builders.proofs.+pushing.Given as goal

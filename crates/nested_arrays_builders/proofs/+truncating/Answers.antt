@@ -2,7 +2,7 @@ use Rattle.std.proofs.Common.{rules, ◌∙◌, ◌<◌, length, ap, arith}
 use Rattle.std.specs.Prelude.{slice_set}
 use Rattle.std.proofs.lemmas.List.{get_or_default}
 use Rattle.std.proofs.lemmas.List.Edits.{map_over_more}
-use Rattle.nested_arrays_builder_parts.specs.Open.{Open, first_slots}
+use Rattle.nested_arrays_builder_values.specs.parts.Open.{Open, first_slots}
 use Rattle.nested_arrays_builders.proofs.CutParts.{size_over, long_over, length_over}
 use Rattle.nested_arrays_builders.proofs.HeldNodes.{leaf_held, leaf_cut, nested_size, nested_count, nested_length, nested_cut_held, nested_cut_seen}
 use Rattle.nested_arrays_builders.proofs.+truncating.Goals as goal

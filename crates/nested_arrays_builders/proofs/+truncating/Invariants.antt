@@ -1,5 +1,5 @@
 use Rattle.std.proofs.Common.{◌≡◌, ◌+◌, take, drop, map, ◌++◌, ◌*◌}
-use Rattle.nested_arrays_builder_parts.specs.Open.{first_slots}
+use Rattle.nested_arrays_builder_values.specs.parts.Open.{first_slots}
 use Rattle.nested_arrays_builders.specs.Nodes.{parts_of}
 use Rattle.nested_arrays_builders.specs.Parts.{parts_size, type_size, types_size}
 use Rattle.nested_arrays_builders.proofs.+truncating.Given as goal
