@@ -27,8 +27,8 @@ use nested_arrays_builders::{
 };
 use std::alloc::Global;
 
-/// The array of what a builder holds, with no copy of values but of keys: zeros or no bytes stand under nulls, offsets go from 0 on without gaps, and there
-/// is a mask exactly where a slot is null, at every depth.
+/// The array of what a builder holds, with no copy of values but of keys: zeros or no bytes stand under nulls, offsets go from 0 on without
+/// gaps, values of dictionaries stand in the order of first use, and there is a mask exactly where a slot is null, at every depth.
 ///
 /// # Errors
 /// `OutOfMemory`: the places of children or counts of owners found no memory.

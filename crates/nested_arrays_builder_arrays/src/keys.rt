@@ -1,10 +1,10 @@
 //! The keys of dictionaries.
 ghost use Rattle.std.specs.Prelude.{◌≡◌, ◌+◌, ◌≤◌, length, map, true};
 ghost use Rattle.nested_arrays_arrays.specs.columns.SoundColumns.{is_sound, mask_fits};
+ghost use Rattle.nested_arrays_arrays.specs.columnar_memory.Conversions.{type_of_primitive};
 ghost use Rattle.nested_arrays_arrays.specs.columnar_memory.Layouts.{physical_type};
 ghost use Rattle.nested_arrays_arrays.specs.columnar_memory.Numbers.{one};
 ghost use Rattle.nested_arrays_arrays.specs.columnar_memory.Results.{OrOutOfMemory};
-ghost use Rattle.nested_arrays_arrays.specs.columnar_memory.declared.PhysicalType.TheVariants as physical;
 ghost use Rattle.nested_arrays_arrays.specs.columns.Kinds.{most_values};
 ghost use Rattle.nested_arrays_arrays.specs.columns.StoredColumns.{flat};
 ghost use Rattle.nested_arrays_arrays.specs.flat.FlatColumns.{stored_numbers};
@@ -43,18 +43,17 @@ fn keys_of<K: Index>(alloc: Global, uses: &[usize]) -> Result<Vec<K>>
 /// The array of keys of one type.
 fn keys_array<K: Index + PrimitiveKind>(
     alloc: Global,
-    data_type: DataType,
     uses: SlotUses,
     validity: Option<Bitmap>,
 ) -> Result<AnyPrimitive>
-    requires lies { physical_type data_type ≡ physical.Primitive K.PRIMITIVE }
     requires few { greatest uses ≤ K.greatest + 1 }
     requires masked { mask_fits validity (length uses) ≡ true }
-    ensures { OrOutOfMemory result (λ array. array ≡ flat data_type validity (stored_numbers K.PRIMITIVE (map one (keys_from uses)))) }
+    ensures { OrOutOfMemory result (λ array. array
+        ≡ flat (type_of_primitive K.PRIMITIVE) validity (stored_numbers K.PRIMITIVE (map one (keys_from uses)))) }
 {
     let keys = keys_of::<K>(alloc, uses.as_slice())?;
     let values = Buffer::from_vec(keys)?;
-    let array = PrimitiveArray::new(data_type, values, validity);
+    let array = PrimitiveArray::new(DataType::from(K::PRIMITIVE), values, validity);
     Ok(AnyPrimitive::from_array(array))
 }
 
@@ -70,14 +69,14 @@ pub(crate) fn freeze_keys(
     ensures { OrOutOfMemory result (AreFrozenKeys key validity uses) }
 {
     match key {
-        IntegerType::Int8 => keys_array::<i8>(alloc, DataType::Int8, uses, validity),
-        IntegerType::Int16 => keys_array::<i16>(alloc, DataType::Int16, uses, validity),
-        IntegerType::Int32 => keys_array::<i32>(alloc, DataType::Int32, uses, validity),
-        IntegerType::Int64 => keys_array::<i64>(alloc, DataType::Int64, uses, validity),
-        IntegerType::UInt8 => keys_array::<u8>(alloc, DataType::UInt8, uses, validity),
-        IntegerType::UInt16 => keys_array::<u16>(alloc, DataType::UInt16, uses, validity),
-        IntegerType::UInt32 => keys_array::<u32>(alloc, DataType::UInt32, uses, validity),
-        IntegerType::UInt64 => keys_array::<u64>(alloc, DataType::UInt64, uses, validity),
+        IntegerType::Int8 => keys_array::<i8>(alloc, uses, validity),
+        IntegerType::Int16 => keys_array::<i16>(alloc, uses, validity),
+        IntegerType::Int32 => keys_array::<i32>(alloc, uses, validity),
+        IntegerType::Int64 => keys_array::<i64>(alloc, uses, validity),
+        IntegerType::UInt8 => keys_array::<u8>(alloc, uses, validity),
+        IntegerType::UInt16 => keys_array::<u16>(alloc, uses, validity),
+        IntegerType::UInt32 => keys_array::<u32>(alloc, uses, validity),
+        IntegerType::UInt64 => keys_array::<u64>(alloc, uses, validity),
     }
 }
 

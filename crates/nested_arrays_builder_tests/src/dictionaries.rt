@@ -18,11 +18,13 @@ fn push_text(builder: &mut AnyMutableArray, alloc: Global, text: &str) -> Result
 
 /// Whether an array is a dictionary with these keys and these texts.
 fn stores(array: AnyArray, keys: &[i8], texts: &[&str]) -> bool {
-    let Node::Dictionary(DictionaryNode {
-        data_type,
-        keys: own,
-        values,
-    }) = array.node
+    let Node::Dictionary(
+        DictionaryNode {
+            data_type,
+            keys: own,
+            values,
+        },
+    ) = array.node
     else {
         return false;
     };

@@ -18,7 +18,7 @@ key_of (suc key) = key
 
 -- the keys of slots that need so many
 abbrev pub keys_from : List ℕ → List ℤ
-keys_from uses = map (λ use. pos (key_of use)) uses
+keys_from uses = map (λ n. pos (key_of n)) uses
 
 -- the greatest of some numbers, or 0
 abbrev pub greatest : List ℕ → ℕ

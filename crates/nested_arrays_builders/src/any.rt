@@ -12,8 +12,8 @@ use crate::children::{push_nested, truncate_nested};
 use crate::fitting::is_cell_of;
 use crate::offsets::MutableListOffsets;
 use crate::room::{reserve_nested, shrink_nested};
-use nested_arrays_builder_values::parts::columnar_memory::{DataType, Error, Result};
 use nested_arrays_builder_values::MutableKeys;
+use nested_arrays_builder_values::parts::columnar_memory::{DataType, Error, Result};
 use nested_arrays_builder_values::parts::{AnyScalar, FlatBuilder, Marks};
 use std::marker::Model;
 

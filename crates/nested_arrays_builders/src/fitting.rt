@@ -9,7 +9,9 @@ ghost use Rattle.nested_arrays_builder_values.specs.parts.AnyNumbers.{slot_of_nu
 ghost use Rattle.nested_arrays_builder_values.specs.parts.Scalars.{scalar_slot};
 
 use nested_arrays_builder_values::parts::arrays::flat::read_bytes;
-use nested_arrays_builder_values::parts::columnar_memory::{DataType, Field, IntervalUnit, PrimitiveType};
+use nested_arrays_builder_values::parts::columnar_memory::{
+    DataType, Field, IntervalUnit, PrimitiveType,
+};
 use nested_arrays_builder_values::parts::{AnyNumber, AnyScalar, CellPart};
 
 /// Whether a cell fits a data type: the kind is the type's, a size is met exactly, items and fields fit the types of the children, and a

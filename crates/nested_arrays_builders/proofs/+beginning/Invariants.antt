@@ -28,3 +28,6 @@ decreases-new::new_struct l = 4 * fields_size l.fields.now + 2
 
 abbrev pub decreases-new::new_each : goal.decreases-new::new_each
 decreases-new::new_each l = 4 * fields_size l.fields.now + 1
+
+abbrev pub decreases-new::new_dictionary : goal.decreases-new::new_dictionary
+decreases-new::new_dictionary l = 4 * type_size l.value.now + 1

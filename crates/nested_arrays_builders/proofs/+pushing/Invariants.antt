@@ -38,6 +38,15 @@ decreases-lists::push_list l = 6 * type_size l.values.now.data_type + 3
 abbrev pub decreases-lists::push_sized : goal.decreases-lists::push_sized
 decreases-lists::push_sized l = 6 * type_size l.values.now.data_type + 3
 
+abbrev pub decreases-keyed::learn_slot : goal.decreases-keyed::learn_slot
+decreases-keyed::learn_slot l = 6 * type_size l.values.now.data_type + 1
+
+abbrev pub decreases-keyed::push_new : goal.decreases-keyed::push_new
+decreases-keyed::push_new l = 6 * type_size l.values.now.data_type + 2
+
+abbrev pub decreases-keyed::push_keyed : goal.decreases-keyed::push_keyed
+decreases-keyed::push_keyed l = 6 * type_size l.values.now.data_type + 3
+
 abbrev pub decreases-records::push_first : goal.decreases-records::push_first
 decreases-records::push_first l = 6 * types_size l.children.now.items + 1
 

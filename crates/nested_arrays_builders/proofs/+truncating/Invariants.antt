@@ -22,3 +22,6 @@ decreases-lists::truncate_list l = 6 * type_size l.values.now.data_type + 1
 
 abbrev pub decreases-lists::truncate_sized : goal.decreases-lists::truncate_sized
 decreases-lists::truncate_sized l = 6 * type_size l.values.now.data_type + 1
+
+abbrev pub decreases-keyed::truncate_keyed : goal.decreases-keyed::truncate_keyed
+decreases-keyed::truncate_keyed l = 6 * type_size l.values.now.data_type + 1
