@@ -26,6 +26,7 @@ use Rattle.nested_arrays_builder_values.proofs.parts_lemmas.growth_lemmas.Values
 use Rattle.nested_arrays_builder_values.proofs.parts_lemmas.growth_lemmas.Pieces.{item_spans_cut, item_spans_last, joined_cut}
 use Rattle.nested_arrays_builder_values.specs.parts.Open.{Open, opened, first_slots}
 use Rattle.nested_arrays_builder_values.specs.Uses.{greatest, use_among}
+use Rattle.nested_arrays_builder_values.proofs.Needs.{greatest_first}
 use Rattle.nested_arrays_builder_values.proofs.UsedValues.{all_used, uses_first, values_first_used}
 use Rattle.nested_arrays_builders.specs.Parts.{Parts, listed, sized, of_fields, keyed, parts_column, first_parts, opened_each, type_size, types_size}
 use Rattle.nested_arrays_builders.specs.Parts.{HoldsCount, HoldsParts, IsKept}
@@ -174,6 +175,11 @@ module _ (t : DataType) (marks : List Bool) (parts : Parts) (o : Open) (is : ope
 
   pub cut_seen : opened t (slots (parts_column t after new)) ≡ first_slots o n
   cut_seen = view_kept t after new (take n o.slots) kept_then ∙ ap (λ t. opened t (take n o.slots)) (ap (λ (o : Open). o.data_type) is)
+
+-- the first slots of a dictionary name values that it has
+pub named_few : (uses : List ℕ) (values : List Slot) (len named : ℕ) → named ≡ greatest (take len uses) → greatest uses ≡ length values
+    → named ≤ length values
+named_few uses values len named is all = omega (arith, is, all, greatest_first len uses)
 
 -- ---- loops over children
 
