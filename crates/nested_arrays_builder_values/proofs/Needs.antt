@@ -1,8 +1,7 @@
 -- What a slot needs of the values of its dictionary.
-use Rattle.std.proofs.Common.{◌≡◌, ◌∙◌, ℕ, zero, suc, ◌+◌, ◌<◌, ◌≤◌, List, [], ◌∷◌, ◌++◌, length, take, get_or, true, false, sym, ap, arith}
-use Rattle.std.specs.Prelude.{◌||◌, not, max}
+use Rattle.std.proofs.Common.{◌≡◌, ◌∙◌, ℕ, zero, suc, ◌+◌, ◌<◌, ◌≤◌, List, [], ◌∷◌, length, take, get_or, true, false, sym, ap, arith}
+use Rattle.std.specs.Prelude.{◌||◌, not}
 use Rattle.std.proofs.lemmas.Bool.{or_left, or_right}
-use Rattle.std.proofs.lemmas.List.{take_more}
 use Rattle.nested_arrays_builder_parts.specs.arrays.columns.Cells.{is_null}
 use Rattle.nested_arrays_builder_parts.specs.arrays.columns.FreshColumns.{key_among}
 use Rattle.nested_arrays_builder_parts.specs.arrays.columns.SameSlots.{are_distinct, is_among, same_slot}
