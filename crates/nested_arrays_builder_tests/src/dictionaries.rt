@@ -1,4 +1,4 @@
-use columnar_memory::{Boxed, DataType, Error, Field, IntegerType, Items, Text};
+use columnar_memory_types::{Boxed, DataType, Error, Field, IntegerType, Items, Text};
 use nested_arrays_builder_arrays::arrays::flat_arrays::Utf8Array;
 use nested_arrays_builder_arrays::arrays::{AnyArray, DictionaryNode, Node};
 use nested_arrays_builder_arrays::as_box;

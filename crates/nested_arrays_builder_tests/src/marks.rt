@@ -1,4 +1,4 @@
-use columnar_memory::Error;
+use columnar_memory_types::Error;
 use nested_arrays_builder_arrays::builders::parts::Marks;
 use std::alloc::Global;
 use std::test::Fail;

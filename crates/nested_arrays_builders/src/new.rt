@@ -136,11 +136,9 @@ fn new_dictionary(
     }
     let values = AnyMutableArray::new(alloc, value)?;
     let values = Box::new(alloc, values)?;
-    let keys = MutableKeys {
-        key,
-        uses: SlotUses::new(alloc),
-        known: CellMap::new(alloc),
-    };
+    let uses = SlotUses::new(alloc);
+    let known = CellMap::new(alloc);
+    let keys = MutableKeys { key, uses, known };
     of_children(alloc, data_type, MutableChildren::Dictionary(keys, values))
 }
 
