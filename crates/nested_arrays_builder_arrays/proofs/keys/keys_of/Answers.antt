@@ -1,4 +1,4 @@
-use Rattle.std.proofs.Common.{◌≡◌, ◌∙◌, ◌++◌, ◌∷◌, [], map, ap}
+use Rattle.std.proofs.Common.{rules, ◌≡◌, ◌∙◌, ◌≤◌, ap}
 use Rattle.nested_arrays_builder_arrays.proofs.FrozenParts.{key_within, one_more_key}
 use Rattle.nested_arrays_builder_arrays.proofs.keys.keys_of.Goals as goal
 
