@@ -3,7 +3,7 @@ use Rattle.std.proofs.Common.{◌≡◌, ◌∙◌, ◌+◌, ◌≤◌, ◌<◌,
 use Rattle.std.proofs.Common.{append_assoc, subst}
 use Rattle.std.specs.Prelude.{Option, Some, None, Result, Ok, Err}
 use Rattle.std.proofs.Math.Seq.{drop-cons, take-suc}
-use Rattle.std.proofs.lemmas.List.{append-nil, map-append}
+use Rattle.std.proofs.lemmas.List.{append-nil, length-drop, map-append}
 use Rattle.std.proofs.lemmas.List.Sums.{sum_by-append}
 use Rattle.ipc_format_childless_reading.specs.ReadArrays.{ReadsArray}
 use Rattle.ipc_format_childless_reading.specs.array_reading.ArrayReads.{Takes, array_slots}
@@ -18,7 +18,7 @@ use Rattle.ipc_format_childless_reading.specs.array_reading.column_reading.flatb
 use Rattle.ipc_format_childless_reading.specs.array_reading.column_reading.grammar.Columns.{Place, behind_column}
 use Rattle.ipc_format_childless_reading.specs.array_reading.column_reading.grammar.Layouts.{buffer_count, node_count, total}
 use Rattle.ipc_format_childless_reading.specs.array_reading.column_reading.grammar.Messages.{Version}
-use Rattle.ipc_format_childless_reading.specs.array_reading.column_reading.grammar.Schemas.{IdsList}
+use Rattle.ipc_format_childless_reading.specs.array_reading.column_reading.grammar.Schemas.{IdsList, no_ids}
 use Rattle.ipc_format_childless_reading.specs.array_reading.column_reading.messages.declared.values.Buffer.{Buffer}
 use Rattle.ipc_format_childless_reading.specs.array_reading.column_reading.messages.declared.values.FieldNode.{FieldNode}
 use Rattle.ipc_format_childless_reading.specs.array_reading.column_reading.metadata.Views.{ids_view, ids_views}
@@ -197,18 +197,23 @@ drop_past [] (suc k) past = refl
 drop_past (x ∷ xs) zero past = absurd (omega (arith, past))
 drop_past (x ∷ xs) (suc k) past = drop_past xs k (omega (arith, past))
 
+missing : (fields : List Field) (place : Place) → 0 < length fields → arrays_below fields place no_ids ≡ None
+missing [] place some = absurd (omega (arith, some))
+missing (u ∷ us) place some = refl
+
 pub ids_missing : (version : Version) (at : At) (old now : Told) (fields : List Field) (ids : List IpcField)
-    (nodes rest : List FieldNode) (buffers others : List Buffer) (k : ℕ) (children : List Column) (u : Field) → k < length fields
-    → u ≡ get_or fields k u → length ids ≤ k → LeftToRead version at old now fields ids nodes rest buffers others k children
+    (nodes rest : List FieldNode) (buffers others : List Buffer) (k : ℕ) (children : List Column) → k < length fields
+    → length ids ≤ k → LeftToRead version at old now fields ids nodes rest buffers others k children
     → ((false ≡ false) × ForBytes old (λ room. arrays_below fields (at nodes buffers room) (ids_views ids) ≡ None)) × IsEnd nodes rest
     × IsEnd buffers others
-ids_missing version at old now fields ids nodes rest buffers others k children u lt is none before = (
+ids_missing version at old now fields ids nodes rest buffers others k children lt none before = (
   (
     refl,
     λ room told.
         before.1 room told
-        ∙ ap₂ (λ us vs. arrays_below us (at rest others room) (ids_views vs) >>= read_then children) (next_one fields k u lt is)
-        (drop_past ids k none),
+        ∙ ap (λ (vs : List IpcField). arrays_below (drop k fields) (at rest others room) (ids_views vs) >>= read_then children) (drop_past ids k none)
+        ∙ ap (λ (given : Option (List (List Slot))). given >>= read_then children)
+        (missing (drop k fields) (at rest others room) (omega (arith, length-drop k fields, lt))),
   ),
   (nodes_below (take k fields), before.2.1),
   (buffers_below version (take k fields), before.3.1),

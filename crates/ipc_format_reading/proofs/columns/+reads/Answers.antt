@@ -13,7 +13,7 @@ use Rattle.ipc_format_childless_reading.proofs.array_lemmas.column_lemmas.Readin
 use Rattle.ipc_format_childless_reading.proofs.array_lemmas.column_lemmas.Skipping.{total_within}
 use Rattle.ipc_format_reading.specs.Below.{no_own_ids, nodes_below, type_of}
 use Rattle.ipc_format_reading.proofs.AlikeFronts.{behind_fronts}
-use Rattle.ipc_format_reading.proofs.ChildReads.{child_refused, memory_refused, one_more_read, read_to}
+use Rattle.ipc_format_reading.proofs.ChildReads.{child_refused, ids_missing, memory_refused, one_more_read, read_to}
 use Rattle.ipc_format_reading.proofs.NestedColumns.{begun_refused, below_refused, nested_read}
 use Rattle.ipc_format_reading.proofs.NestedReads.{ids_below_are, nodes_are}
 use Rattle.ipc_format_reading.proofs.columns.+reads.Goals as goal
@@ -69,6 +69,16 @@ read_nested-returns g t c =
     (λ arrays. map slots arrays.items) c.in_ok-children.children c.in_ok-children.children.items c.array_of.result c.requires c.fields_of.ensures
     ids c.limit_below-below.ensures c.in_ok-begun.ensures.fit c.in_ok-begun.ensures.read refl c.in_ok-children.ensures.types
     c.in_ok-children.ensures.read c.array_of.ensures.ranges c.array_of.ensures.sound c.array_of.ensures.made
+
+pub read_children-returns-then-k-ipc_fields-clause-read : goal.read_children-returns-then-k-ipc_fields-clause-read
+read_children-returns-then-k-ipc_fields-clause-read g t c =
+    let version = version_view c.args.version in
+    let little = c.args.is_little_endian in
+    let standing = standing_in c.args.dictionaries.now in
+    ids_missing version (λ nodes buffers. at_front nodes buffers version little standing c.args.limit c.args.block_offset no_own_ids)
+    (g.R.Room.told c.args.reader.now) (g.R.Room.told c.loop-k.reader) c.args.fields.now c.args.ipc_fields.now c.args.field_nodes.now.items
+    c.loop-k.field_nodes.items c.args.buffers.now.items c.loop-k.buffers.items c.loop-k.k c.loop-k.children.items c.loop-k-test.true (omega arith)
+    c.loop-k.invariant
 
 pub read_children-returns-in_err-child-clause-read : goal.read_children-returns-in_err-child-clause-read
 read_children-returns-in_err-child-clause-read g t c =
