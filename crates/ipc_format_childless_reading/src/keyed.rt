@@ -18,9 +18,7 @@ use ipc_format_array_reading::column_reading::columnar_memory::{
     DataType, Error, PhysicalType, Result,
 };
 use ipc_format_array_reading::column_reading::messages::{BodyCompressionRef, FieldNode};
-use ipc_format_array_reading::column_reading::{
-    Room, messages as ipc, read_buffer, read_marked,
-};
+use ipc_format_array_reading::column_reading::{Room, messages as ipc, read_buffer, read_marked};
 use ipc_format_array_reading::nested_arrays::flat_arrays::PrimitiveArray;
 use ipc_format_array_reading::nested_arrays::{AnyArray, Array, DictionaryArray, DictionaryKey};
 use std::alloc::Global;
@@ -145,7 +143,7 @@ pub fn read_dictionary<K: DictionaryKey, R: Room>(
     ensures { ReadsColumn (physical_type data_type ≡ layouts.Dictionary K.KEY_TYPE) (is_some compression.entry)
         (R.told reader.old) (R.told reader.new) (λ array. array) data_type
         (λ room. array_slots data_type (at_front field_nodes.old.items buffers.old.items V5 is_little_endian (standing_in dictionaries.now) limit
-            block_offset (ids id.entry no_ids) room))
+        block_offset (ids id.entry no_ids) room))
         1 2 field_nodes.old.items field_nodes.new.items buffers.old.items buffers.new.items result }
 {
     if data_type.to_physical_type() != PhysicalType::Dictionary(K::KEY_TYPE) {

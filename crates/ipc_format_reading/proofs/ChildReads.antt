@@ -65,7 +65,8 @@ pub none_read : (version : Version) (at : At) (told : Told) (fields : List Field
 none_read version at told fields ids nodes buffers = (
   (refl, omega arith),
   λ room is. given_itself (arrays_below fields (at nodes buffers room) (ids_views ids))
-      ∙ ap₂ (λ us vs. arrays_below us (at nodes buffers room) (ids_views vs) >>= (λ later. Some later)) (sym (drop_none fields)) (sym (drop_none ids)),
+      ∙ ap₂ (λ us vs. arrays_below us (at nodes buffers room) (ids_views vs) >>= (λ later. Some later)) (sym (drop_none fields))
+      (sym (drop_none ids)),
   (omega arith, sym (drop_none nodes)),
   (omega arith, sym (drop_none buffers)),
   refl,
@@ -187,7 +188,8 @@ child_refused {B} version at old now new fields ids nodes rest last buffers othe
           (ids_views (drop (suc k) ids)) >>= (λ columns. Some (column ∷ columns)))) (none room told)))
           read.0.0),
       off_behind {X = B} (nodes_below (take k fields)) 0 (nodes_below (take k fields)) nodes rest last (Err error) (omega arith) before.2 read.0.1,
-      off_behind {X = B} (buffers_below version (take k fields)) 0 (buffers_below version (take k fields)) buffers others end (Err error) (omega arith) before.3 read.0.2,
+      off_behind {X = B} (buffers_below version (take k fields)) 0 (buffers_below version (take k fields)) buffers others end (Err error)
+          (omega arith) before.3 read.0.2,
     )
 
 -- there are no ids beside a field

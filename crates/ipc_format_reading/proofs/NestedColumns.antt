@@ -132,8 +132,8 @@ pub below_refused : {B : Type 0} (t : DataType) (fields : List Field) (nodes res
     (λ room. arrays_below fields (at_front rest others version little standing lower origin no_own_ids room) below)
     (nodes_below fields) (buffers_below version fields) rest last others end (Err error)
     → ReadsArray false old new t (at_front nodes buffers version little standing limit origin here) version nodes last buffers end (Err error)
-below_refused t fields nodes rest last buffers others end version little standing limit lower origin here below old mid new begun view error nested are
-    ids agree before refused = (
+below_refused t fields nodes rest last buffers others end version little standing limit lower origin here below old mid new begun view error nested
+    are ids agree before refused = (
       children_refused old mid new parts_in (next_parts (type_layer t) version little nodes limit buffers origin) begun view
           (λ room. arrays_below fields (at_front rest others version little standing lower origin no_own_ids room) below)
           (λ room. array_slots t (at_front nodes buffers version little standing limit origin here room))
@@ -159,8 +159,8 @@ pub nested_read : {B : Type 0} (t : DataType) (fields : List Field) (nodes rest 
     (nodes_below fields) (buffers_below version fields) rest last others end (Ok found)
     → AreInRange begun → are_sound (in_columns cs) ≡ true → Makes (made_column t limit (parts_in begun) cs) r
     → ReadsArray false old new t (at_front nodes buffers version little standing limit origin here) version nodes last buffers end r
-nested_read t fields nodes rest last buffers others end version little standing limit lower origin here below old mid new begun view found cs r nested are
-    ids agree fit before seen types later ranges sound makes = (
+nested_read t fields nodes rest last buffers others end version little standing limit lower origin here below old mid new begun view found cs r
+    nested are ids agree fit before seen types later ranges sound makes = (
       array_made old mid new parts_in (next_parts (type_layer t) version little nodes limit buffers origin) begun view
           (λ room. arrays_below fields (at_front rest others version little standing lower origin no_own_ids room) below) found
           (λ room. array_slots t (at_front nodes buffers version little standing limit origin here room))

@@ -170,7 +170,8 @@ new::new_dictionary-returns-in_err-values t c =
 pub new::new_dictionary-of_children-requires : goal.new::new_dictionary-of_children-requires
 new::new_dictionary-of_children-requires t c =
     begun_keyed c.args.data_type.now c.args.key c.args.value.now c.args.is_ordered c.new-uses.result c.new-known.result
-    c.in_ok-values-2.values.value c.requires c.new-uses.ensures c.new-known.ensures (c.in_ok-values-2.ensures.ok ∙ c.in_ok-values.ensures.0) c.in_ok-values.ensures.1
+    c.in_ok-values-2.values.value c.requires c.new-uses.ensures c.new-known.ensures
+    (c.in_ok-values-2.ensures.ok ∙ c.in_ok-values.ensures.0) c.in_ok-values.ensures.1
 
 -- ---- structs
 

@@ -33,7 +33,8 @@ returns-in_err-marked g c =
       reads_refused (is_some c.args.compression) (g.R.Room.told c.args.reader.now) (g.R.Room.told c.read_marked.new.reader)
           (λ (found : Marks). found) (next_marked nodes c.args.limit buffers origin) (λ (some : List Slot). some)
           (λ marks room. fixed_bytes_next t (byte_width t) (drop 1 buffers) origin marks room)
-          (front_array t nodes buffers little c.args.limit origin) error (fixed_bytes_given t nodes buffers little c.args.limit origin kind) c.in_err-marked.ensures.read,
+          (front_array t nodes buffers little c.args.limit origin) error
+          (fixed_bytes_given t nodes buffers little c.args.limit origin kind) c.in_err-marked.ensures.read,
       c.in_err-marked.ensures.nodes,
       c.in_err-marked.ensures.buffers,
     ))
