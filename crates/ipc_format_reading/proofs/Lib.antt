@@ -21,4 +21,5 @@ pub mod PartsMarks
 pub mod PartsUnions
 pub mod PartsReads
 pub mod NestedColumns
+pub mod KindReads
 pub use Rattle.ipc_format_childless_reading.proofs as childless_lemmas
