@@ -2,6 +2,9 @@
 use Rattle.std.proofs.Common.{◌≡◌, ◌∙◌, ◌≤◌, ℕ, List, [], Bool, true, false, length, map, drop, refl, sym, ap, subst, inl, inr}
 use Rattle.std.specs.Prelude.{ℤ, Option, Some, None, Result, Ok, Err, if◌then◌else◌}
 use Rattle.std.specs.BTreeMap.{BTreeMap}
+use Rattle.std.specs.Map.{lookup}
+use Rattle.std.specs.Ordering.{int_eq}
+use Rattle.std.proofs.lemmas.Bool.{cases_Bool}
 use Rattle.ipc_format_array_reading.specs.column_reading.columnar_memory.Layouts.{physical_type}
 use Rattle.ipc_format_array_reading.specs.column_reading.columnar_memory.Numbers.{Numbers, first_number}
 use Rattle.ipc_format_array_reading.specs.column_reading.columnar_memory.declared.DataType.{DataType}
@@ -27,7 +30,8 @@ use Rattle.ipc_format_array_reading.specs.ArrayReads.{array_slots}
 use Rattle.ipc_format_array_reading.proofs.Taking.{drop_none}
 use Rattle.ipc_format_array_reading.proofs.column_lemmas.ColumnReads.{Marks}
 use Rattle.ipc_format_array_reading.proofs.column_lemmas.Readings.{made_none, out_of_memory, out_of_spec, reads_behind, reads_made, reads_refused}
-use Rattle.ipc_format_childless_reading.specs.Keyed.{MakesKeyed, keyed_column, keyed_slots, next_keys, values_for}
+use Rattle.ipc_format_array_reading.proofs.column_lemmas.columns_lemmas.TypeLayers.{Layer}
+use Rattle.ipc_format_childless_reading.specs.Keyed.{MakesKeyed, has_values, if_values, keyed_column, keyed_slots, next_keys, values_for}
 use Rattle.ipc_format_childless_reading.specs.ReadArrays.{at_front, standing_in}
 use Rattle.ipc_format_childless_reading.proofs.KeyedColumns.{keyed_given}
 
@@ -186,3 +190,26 @@ pub not_read : {X Y : Type 0} (Kind : Type 0) (is_compressed : Bool) (told : Tol
     → ReadsColumn Kind is_compressed told told (λ (array : Column). array) t given n b nodes nodes buffers buffers (Err error)
 not_read Kind is_compressed told t given n b nodes buffers error kind refusal =
     inl (kind, refusal, (0, sym (drop_none nodes)), (0, sym (drop_none buffers)))
+
+-- ---- the values that stand have the type that is said
+
+or_column : Column → Option Column → Column
+or_column c None = c
+or_column c (Some d) = d
+
+typed_in : (x : Layer) (r : Option Column) (values : Column) → (r >>= if_values x) ≡ Some values → has_values x (column_type values) ≡ true
+unfolding or_column
+typed_in x None values is = absurd cc
+typed_in x (Some v) values is = elim (cases_Bool (has_values x (column_type v))) [
+  | inl typed ↦
+      let same : Some v ≡ Some values = sym (ap (λ (b : Bool). if b then Some v else None) typed) ∙ is in
+      subst (λ (c : Column). has_values x (column_type c) ≡ true) (ap (or_column v) same) typed
+  | inr apart ↦
+      let none : None ≡ Some values = sym (ap (λ (b : Bool). if b then Some v else None) apart) ∙ is in
+      absurd cc
+]
+
+pub values_typed : (x : Layer) (id : Option ℤ) (dictionaries : BTreeMap ℤ Column) (values : Column) → values_for x id dictionaries ≡ Some values
+    → has_values x (column_type values) ≡ true
+values_typed x None dictionaries values is = absurd cc
+values_typed x (Some id) dictionaries values is = typed_in x (lookup (int_eq id) dictionaries.entries) values is
