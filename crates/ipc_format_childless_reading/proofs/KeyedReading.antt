@@ -17,7 +17,7 @@ use Rattle.ipc_format_array_reading.specs.column_reading.columns.SoundColumns.{h
 use Rattle.ipc_format_array_reading.specs.column_reading.columns.StoredColumns.{Column, column_len, column_type, dictionary, slots, type_layer}
 use Rattle.ipc_format_array_reading.specs.column_reading.flatbuffers.Reading.{◌>>=◌}
 use Rattle.ipc_format_array_reading.specs.column_reading.grammar.Columns.{own_id}
-use Rattle.ipc_format_array_reading.specs.column_reading.grammar.Messages.{Version}
+use Rattle.ipc_format_array_reading.specs.column_reading.grammar.Messages.{V5, Version}
 use Rattle.ipc_format_array_reading.specs.column_reading.grammar.Schemas.{Ids}
 use Rattle.ipc_format_array_reading.specs.column_reading.messages.declared.values.Buffer.{Buffer}
 use Rattle.ipc_format_array_reading.specs.column_reading.messages.declared.values.FieldNode.{FieldNode}
@@ -213,3 +213,16 @@ pub values_typed : (x : Layer) (id : Option ℤ) (dictionaries : BTreeMap ℤ Co
     → has_values x (column_type values) ≡ true
 values_typed x None dictionaries values is = absurd cc
 values_typed x (Some id) dictionaries values is = typed_in x (lookup (int_eq id) dictionaries.entries) values is
+
+-- ---- by the own id alone
+
+pub keyed_same : (t : DataType) (key : IntegerType) (nodes : List FieldNode) (buffers : List Buffer) (version : Version) (little : Bool)
+    (dictionaries : BTreeMap ℤ Column) (limit : Option ℕ) (origin : ℕ) (here there : Ids) → own_id here ≡ own_id there
+    → physical_type t ≡ physical.Dictionary key → (room : List ℕ)
+    → array_slots t (at_front nodes buffers version little (standing_in dictionaries) limit origin here room)
+    ≡ array_slots t (at_front nodes buffers V5 little (standing_in dictionaries) limit origin there room)
+keyed_same t key nodes buffers version little dictionaries limit origin here there own lies room =
+    keyed_given t key nodes buffers version little dictionaries limit origin here lies room
+    ∙ ap (λ id. values_for (type_layer t) id dictionaries
+    >>= (λ values. next_keys (kind_of_keys key) little nodes limit buffers origin room >>= keyed_slots t values)) own
+    ∙ sym (keyed_given t key nodes buffers V5 little dictionaries limit origin there lies room)

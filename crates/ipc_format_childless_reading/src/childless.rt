@@ -40,7 +40,7 @@ fn read_keys_as<K: DictionaryKey, R: Room>(
     requires { physical_type data_type ≡ layouts.Dictionary K.KEY_TYPE }
     ensures { ReadsArray false (R.told reader.old) (R.told reader.new) data_type
         (at_front field_nodes.old.items buffers.old.items V5 is_little_endian (standing_in dictionaries.now) limit block_offset
-            (ids id.entry no_ids)) V5
+            (ids id no_ids)) V5
         field_nodes.old.items field_nodes.new.items buffers.old.items buffers.new.items result }
 {
     any_of(read_dictionary::<K, R>(
@@ -93,7 +93,7 @@ fn read_keyed<R: Room>(
     requires { physical_type data_type ≡ layouts.Dictionary key }
     ensures { ReadsArray false (R.told reader.old) (R.told reader.new) data_type
         (at_front field_nodes.old.items buffers.old.items V5 is_little_endian (standing_in dictionaries.now) limit block_offset
-            (ids id.entry no_ids)) V5
+            (ids id no_ids)) V5
         field_nodes.old.items field_nodes.new.items buffers.old.items buffers.new.items result }
 {
     of_keys!(
