@@ -9,6 +9,7 @@ use Rattle.ipc_format_array_reading.specs.column_reading.columnar_memory.declare
 use Rattle.ipc_format_array_reading.specs.column_reading.columnar_memory.declared.IntervalUnit.TheVariants as intervals
 use Rattle.ipc_format_array_reading.specs.column_reading.columnar_memory.declared.PhysicalType.{PhysicalType}
 use Rattle.ipc_format_array_reading.specs.column_reading.columnar_memory.declared.PhysicalType.TheVariants as physical
+use Rattle.ipc_format_array_reading.specs.column_reading.columnar_memory.declared.PrimitiveType.{PrimitiveType}
 use Rattle.ipc_format_array_reading.specs.column_reading.columnar_memory.declared.PrimitiveType.TheVariants as kinds
 use Rattle.ipc_format_array_reading.specs.column_reading.columns.StoredColumns.{type_layer}
 use Rattle.ipc_format_array_reading.specs.column_reading.flatbuffers.Reading.{◌>>=◌, guard}
@@ -26,6 +27,7 @@ use Rattle.ipc_format_array_reading.specs.TypedReads.{front_array}
 use Rattle.ipc_format_array_reading.proofs.Layers.{layer_buffers, layer_nodes, layer_plain, layer_reads, layer_tests, read_layer, test_layer, type_buffers}
 use Rattle.ipc_format_array_reading.proofs.Layers.{type_nodes}
 use Rattle.ipc_format_array_reading.proofs.column_lemmas.columns_lemmas.TypeLayers.{Layer, is_extension, layer_layout, layout_is}
+use Rattle.ipc_format_childless_reading.specs.Flats.{has_all}
 use Rattle.ipc_format_childless_reading.specs.ReadArrays.{at_front}
 
 -- ---- one layer
@@ -66,21 +68,7 @@ same_test (layer.Union fields numbers mode) here there plain bare = absurd (true
 same_test (layer.Extension name inner metadata) here there plain bare = absurd (true≢false plain)
 same_test x here there plain bare = refl
 
--- layouts whose types all have arrays
-abbrev pub has_all : PhysicalType → Bool
-has_all physical.Null = true
-has_all physical.Boolean = true
-has_all (physical.Primitive kinds.Float16) = false
-has_all (physical.Primitive kinds.Float32) = false
-has_all (physical.Primitive kinds.Float64) = false
-has_all (physical.Primitive kind) = true
-has_all physical.Binary = true
-has_all physical.LargeBinary = true
-has_all physical.Utf8 = true
-has_all physical.LargeUtf8 = true
-has_all _ = false
-
--- and those of floats, which have none
+-- layouts of floats, of which there are no arrays
 abbrev pub is_float : PhysicalType → Bool
 is_float (physical.Primitive kinds.Float16) = true
 is_float (physical.Primitive kinds.Float32) = true
@@ -235,3 +223,26 @@ none_read t nodes buffers little limit origin float room =
     ap (λ (f : Test). f (ids None no_ids)) (layer_tests t)
     ∙ none_pass (type_layer t) (ids None no_ids) (layer_plain t) (in_layer is_float t true float) in
     ap (λ b. guard b >>= (λ _. front_slots t nodes buffers little limit origin room)) test
+
+-- ---- layouts
+
+not_keyed : (p : PhysicalType) → ((key : IntegerType) → ¬ (p ≡ physical.Dictionary key)) → is_keyed p ≡ false
+not_keyed (physical.Dictionary key) never = absurd (never key refl)
+not_keyed p never = refl
+
+pub apart_from_keys : (t : DataType) → ((key : IntegerType) → ¬ (physical_type t ≡ physical.Dictionary key)) → is_keyed (physical_type t) ≡ false
+apart_from_keys t never = not_keyed (physical_type t) never
+
+-- there are no other layouts without columns below them
+pub no_other : (p : PhysicalType) → is_childless p ≡ true → ((kind : PrimitiveType) → ¬ (p ≡ physical.Primitive kind)) → ¬ (p ≡ physical.Null)
+    → ¬ (p ≡ physical.Boolean) → ¬ (p ≡ physical.Binary) → ¬ (p ≡ physical.LargeBinary) → ¬ (p ≡ physical.FixedSizeBinary)
+    → ¬ (p ≡ physical.Utf8) → ¬ (p ≡ physical.LargeUtf8) → ⊥
+no_other physical.Null flat a b c d e f g h = b refl
+no_other physical.Boolean flat a b c d e f g h = c refl
+no_other (physical.Primitive kind) flat a b c d e f g h = a kind refl
+no_other physical.Binary flat a b c d e f g h = d refl
+no_other physical.LargeBinary flat a b c d e f g h = e refl
+no_other physical.FixedSizeBinary flat a b c d e f g h = f refl
+no_other physical.Utf8 flat a b c d e f g h = g refl
+no_other physical.LargeUtf8 flat a b c d e f g h = h refl
+no_other p flat a b c d e f g h = false≢true flat

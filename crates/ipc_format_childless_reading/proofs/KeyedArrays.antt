@@ -42,8 +42,7 @@ stored_in_range integers.UInt16 values h = (and_parts true (list_all (is_key int
 stored_in_range integers.UInt32 values h = (and_parts true (list_all (is_key integers.UInt32) (map first_number values)) h).1
 stored_in_range integers.UInt64 values h = (and_parts true (list_all (is_key integers.UInt64) (map first_number values)) h).1
 
-stored_keys_len : (key : IntegerType) (values : List Numbers)
-    → stored_len (stored_numbers (kind_of_keys key) values) ≡ length (map first_number values)
+stored_keys_len : (key : IntegerType) (values : List Numbers) → stored_len (stored_numbers (kind_of_keys key) values) ≡ length (map first_number values)
 stored_keys_len integers.Int8 values = refl
 stored_keys_len integers.Int16 values = refl
 stored_keys_len integers.Int32 values = refl
@@ -115,11 +114,8 @@ made_keyed key t values mask keys numbers (Ok array) lies typed are same sound h
 made_keyed key t values mask keys numbers (Err error) lies typed are same sound held checked =
     elim (cases_Bool (holds_below (length keys) (has_value_at mask keys (column_len values)))) [
       | inl holds ↦ absurd (checked.1 (sound_keyed key t values mask keys lies typed are sound holds, lies))
-      | inr fails ↦ inr (
-        checked.0,
-        ap (keyed_column t values mask) same
-            ∙ ap (λ b. if b then Some (dictionary t mask keys values) else None) fails,
-      )
+      | inr fails ↦ inr (checked.0, ap (keyed_column t values mask) same
+          ∙ ap (λ b. if b then Some (dictionary t mask keys values) else None) fails)
     ]
 
 held_keyed : (t : DataType) (values : Column) (mask : Option (List Bool)) (keys : List ℤ) → is_sound (dictionary t mask keys values) ≡ true

@@ -2,6 +2,9 @@
 use Rattle.std.proofs.Common.{◌≡◌, ◌∙◌, ◌≤◌, ℕ, List, [], Bool, true, false, length, map, drop, refl, sym, ap, subst, inl, inr}
 use Rattle.std.specs.Prelude.{ℤ, Option, Some, None, Result, Ok, Err, if◌then◌else◌}
 use Rattle.std.specs.BTreeMap.{BTreeMap}
+use Rattle.std.specs.Map.{lookup}
+use Rattle.std.specs.Ordering.{int_eq}
+use Rattle.std.proofs.lemmas.Bool.{cases_Bool}
 use Rattle.ipc_format_array_reading.specs.column_reading.columnar_memory.Layouts.{physical_type}
 use Rattle.ipc_format_array_reading.specs.column_reading.columnar_memory.Numbers.{Numbers, first_number}
 use Rattle.ipc_format_array_reading.specs.column_reading.columnar_memory.declared.DataType.{DataType}
@@ -14,7 +17,7 @@ use Rattle.ipc_format_array_reading.specs.column_reading.columns.SoundColumns.{h
 use Rattle.ipc_format_array_reading.specs.column_reading.columns.StoredColumns.{Column, column_len, column_type, dictionary, slots, type_layer}
 use Rattle.ipc_format_array_reading.specs.column_reading.flatbuffers.Reading.{◌>>=◌}
 use Rattle.ipc_format_array_reading.specs.column_reading.grammar.Columns.{own_id}
-use Rattle.ipc_format_array_reading.specs.column_reading.grammar.Messages.{Version}
+use Rattle.ipc_format_array_reading.specs.column_reading.grammar.Messages.{V5, Version}
 use Rattle.ipc_format_array_reading.specs.column_reading.grammar.Schemas.{Ids}
 use Rattle.ipc_format_array_reading.specs.column_reading.messages.declared.values.Buffer.{Buffer}
 use Rattle.ipc_format_array_reading.specs.column_reading.messages.declared.values.FieldNode.{FieldNode}
@@ -27,7 +30,8 @@ use Rattle.ipc_format_array_reading.specs.ArrayReads.{array_slots}
 use Rattle.ipc_format_array_reading.proofs.Taking.{drop_none}
 use Rattle.ipc_format_array_reading.proofs.column_lemmas.ColumnReads.{Marks}
 use Rattle.ipc_format_array_reading.proofs.column_lemmas.Readings.{made_none, out_of_memory, out_of_spec, reads_behind, reads_made, reads_refused}
-use Rattle.ipc_format_childless_reading.specs.Keyed.{MakesKeyed, keyed_column, keyed_slots, next_keys, values_for}
+use Rattle.ipc_format_array_reading.proofs.column_lemmas.columns_lemmas.TypeLayers.{Layer}
+use Rattle.ipc_format_childless_reading.specs.Keyed.{MakesKeyed, has_values, if_values, keyed_column, keyed_slots, next_keys, values_for}
 use Rattle.ipc_format_childless_reading.specs.ReadArrays.{at_front, standing_in}
 use Rattle.ipc_format_childless_reading.proofs.KeyedColumns.{keyed_given}
 
@@ -102,10 +106,10 @@ pub array_refused : {A : Type 0} (old new : Told) (t : DataType) (key : IntegerT
     → values_for (type_layer t) (own_id here) dictionaries ≡ Some values
     → ReadsAs false old new view (next_keys kind little nodes limit buffers origin) (Err error) → IsEnd nodes nodes1 → IsEnd buffers buffers1
     → ReadsColumn (physical_type t ≡ physical.Dictionary key) false old new (λ (array : Column). array) t
-    (λ room. array_slots t (at_front nodes buffers version little (standing_in dictionaries) limit origin here room)) 1 2 nodes nodes1 buffers
-    buffers1 (Err error)
-array_refused {A} old new t key kind view values nodes nodes1 buffers buffers1 version little dictionaries limit origin here error is lies found
-    refused nodes_end buffers_end =
+    (λ room. array_slots t (at_front nodes buffers version little (standing_in dictionaries) limit origin here room)) 1 2 nodes nodes1 buffers buffers1
+    (Err error)
+array_refused {A} old new t key kind view values nodes nodes1 buffers buffers1 version little dictionaries limit origin here error is lies found refused
+    nodes_end buffers_end =
     inl (
       lies,
       reads_refused false old new view (next_keys (kind_of_keys key) little nodes limit buffers origin) slots (λ x room. keyed_slots t values x)
@@ -133,14 +137,13 @@ pub array_made : (old new : Told) (t : DataType) (key : IntegerType) (kind : Pri
     → ReadsAs false old new (λ (found : Found). found) (next_keys kind little nodes limit buffers origin) (Ok (mask, keys))
     → (1 ≤ length nodes) × (nodes1 ≡ drop 1 nodes) → (2 ≤ length buffers) × (buffers1 ≡ drop 2 buffers) → MakesKeyed t values mask keys r
     → ReadsColumn (physical_type t ≡ physical.Dictionary key) false old new (λ (array : Column). array) t
-    (λ room. array_slots t (at_front nodes buffers version little (standing_in dictionaries) limit origin here room)) 1 2 nodes nodes1 buffers
-    buffers1 r
+    (λ room. array_slots t (at_front nodes buffers version little (standing_in dictionaries) limit origin here room)) 1 2 nodes nodes1 buffers buffers1
+    r
 array_made old new t key kind mask keys values nodes nodes1 buffers buffers1 version little dictionaries limit origin here (Ok array) is lies found
     read nodes_off buffers_off makes =
     let given = next_keys (kind_of_keys key) little nodes limit buffers origin in
     let before : ReadsAs false old new (λ (f : Found). f) given (Ok (mask, keys)) =
-    subst (λ (k : PrimitiveType). ReadsAs false old new (λ (f : Found). f) (next_keys k little nodes limit buffers origin) (Ok (mask, keys)))
-    is read in (
+    subst (λ (k : PrimitiveType). ReadsAs false old new (λ (f : Found). f) (next_keys k little nodes limit buffers origin) (Ok (mask, keys))) is read in (
       lies,
       typed_made (holds_below (length (map first_number keys)) (has_value_at mask (map first_number keys) (column_len values))) t mask
           (map first_number keys) values array makes,
@@ -157,8 +160,7 @@ array_made old new t key kind mask keys values nodes nodes1 buffers buffers1 ver
     let whole : List ℕ → Option (List Slot) =
     λ room. array_slots t (at_front nodes buffers version little (standing_in dictionaries) limit origin here room) in
     let before : ReadsAs false old new (λ (f : Found). f) given (Ok (mask, keys)) =
-    subst (λ (k : PrimitiveType). ReadsAs false old new (λ (f : Found). f) (next_keys k little nodes limit buffers origin) (Ok (mask, keys)))
-    is read in
+    subst (λ (k : PrimitiveType). ReadsAs false old new (λ (f : Found). f) (next_keys k little nodes limit buffers origin) (Ok (mask, keys))) is read in
     let none : (keyed_column t values mask (map first_number keys) ≡ None) → ForBytes old (λ room. whole room ≡ None) = λ nothing.
     made_none false old new (λ (f : Found). f) given (mask, keys) (λ x room. keyed_slots t values x) whole
     (with_values t key values nodes buffers version little dictionaries limit origin here lies found) before
@@ -188,3 +190,39 @@ pub not_read : {X Y : Type 0} (Kind : Type 0) (is_compressed : Bool) (told : Tol
     → ReadsColumn Kind is_compressed told told (λ (array : Column). array) t given n b nodes nodes buffers buffers (Err error)
 not_read Kind is_compressed told t given n b nodes buffers error kind refusal =
     inl (kind, refusal, (0, sym (drop_none nodes)), (0, sym (drop_none buffers)))
+
+-- ---- the values that stand have the type that is said
+
+or_column : Column → Option Column → Column
+or_column c None = c
+or_column c (Some d) = d
+
+typed_in : (x : Layer) (r : Option Column) (values : Column) → (r >>= if_values x) ≡ Some values → has_values x (column_type values) ≡ true
+unfolding or_column
+typed_in x None values is = absurd cc
+typed_in x (Some v) values is = elim (cases_Bool (has_values x (column_type v))) [
+  | inl typed ↦
+      let same : Some v ≡ Some values = sym (ap (λ (b : Bool). if b then Some v else None) typed) ∙ is in
+      subst (λ (c : Column). has_values x (column_type c) ≡ true) (ap (or_column v) same) typed
+  | inr apart ↦
+      let none : None ≡ Some values = sym (ap (λ (b : Bool). if b then Some v else None) apart) ∙ is in
+      absurd cc
+]
+
+pub values_typed : (x : Layer) (id : Option ℤ) (dictionaries : BTreeMap ℤ Column) (values : Column) → values_for x id dictionaries ≡ Some values
+    → has_values x (column_type values) ≡ true
+values_typed x None dictionaries values is = absurd cc
+values_typed x (Some id) dictionaries values is = typed_in x (lookup (int_eq id) dictionaries.entries) values is
+
+-- ---- by the own id alone
+
+pub keyed_same : (t : DataType) (key : IntegerType) (nodes : List FieldNode) (buffers : List Buffer) (version : Version) (little : Bool)
+    (dictionaries : BTreeMap ℤ Column) (limit : Option ℕ) (origin : ℕ) (here there : Ids) → own_id here ≡ own_id there
+    → physical_type t ≡ physical.Dictionary key → (room : List ℕ)
+    → array_slots t (at_front nodes buffers version little (standing_in dictionaries) limit origin here room)
+    ≡ array_slots t (at_front nodes buffers V5 little (standing_in dictionaries) limit origin there room)
+keyed_same t key nodes buffers version little dictionaries limit origin here there own lies room =
+    keyed_given t key nodes buffers version little dictionaries limit origin here lies room
+    ∙ ap (λ id. values_for (type_layer t) id dictionaries
+    >>= (λ values. next_keys (kind_of_keys key) little nodes limit buffers origin room >>= keyed_slots t values)) own
+    ∙ sym (keyed_given t key nodes buffers V5 little dictionaries limit origin there lies room)

@@ -1,7 +1,10 @@
 -- What calls answer that read columns whose arrays lie flat in memory.
-use Rattle.std.specs.Prelude.{◌≡◌, ℕ, Bool, false, List, Option, Result, Ok, Err, IfOk}
+use Rattle.std.specs.Prelude.{◌≡◌, ℕ, Bool, true, false, List, Option, Result, Ok, Err, IfOk}
 use Rattle.ipc_format_array_reading.specs.column_reading.columnar_memory.declared.DataType.{DataType}
 use Rattle.ipc_format_array_reading.specs.column_reading.columnar_memory.declared.Error.{Error}
+use Rattle.ipc_format_array_reading.specs.column_reading.columnar_memory.declared.PhysicalType.{PhysicalType}
+use Rattle.ipc_format_array_reading.specs.column_reading.columnar_memory.declared.PhysicalType.TheVariants as physical
+use Rattle.ipc_format_array_reading.specs.column_reading.columnar_memory.declared.PrimitiveType.TheVariants as kinds
 use Rattle.ipc_format_array_reading.specs.column_reading.columns.StoredColumns.{Column, column_type, slots}
 use Rattle.ipc_format_array_reading.specs.column_reading.grammar.Layouts.{buffer_count, node_count}
 use Rattle.ipc_format_array_reading.specs.column_reading.grammar.Messages.{V5}
@@ -25,3 +28,17 @@ ReadsFlat old new data_type is_little_endian limit origin nodes nodes_after buff
     Takes false old new slots (front_array data_type nodes buffers is_little_endian limit origin) (node_count data_type)
     (buffer_count V5 data_type) nodes nodes_after buffers buffers_after r
     × IfOk r (λ array. column_type array ≡ data_type)
+
+-- layouts whose types all have arrays
+abbrev pub has_all : PhysicalType → Bool
+has_all physical.Null = true
+has_all physical.Boolean = true
+has_all (physical.Primitive kinds.Float16) = false
+has_all (physical.Primitive kinds.Float32) = false
+has_all (physical.Primitive kinds.Float64) = false
+has_all (physical.Primitive kind) = true
+has_all physical.Binary = true
+has_all physical.LargeBinary = true
+has_all physical.Utf8 = true
+has_all physical.LargeUtf8 = true
+has_all _ = false

@@ -14,27 +14,63 @@ use crate::dictionaries::Dictionaries;
 use crate::flats::{any_of, read_flat};
 use crate::keyed::read_dictionary;
 use ipc_format_array_reading::column_reading::columnar_memory::{
-    DataType, Error, IntegerType, PhysicalType, Result,
+    DataType, IntegerType, PhysicalType, Result,
 };
 use ipc_format_array_reading::column_reading::messages::{FieldNode, MetadataVersion};
 use ipc_format_array_reading::column_reading::metadata::IpcField;
 use ipc_format_array_reading::column_reading::{Room, messages as ipc};
-use ipc_format_array_reading::nested_arrays::AnyArray;
+use ipc_format_array_reading::nested_arrays::{AnyArray, DictionaryKey};
 use std::alloc::Global;
 use std::collections::VecDeque;
+
+/// Reads a column of keys of a type.
+fn read_keys_as<K: DictionaryKey, R: Room>(
+    alloc: Global,
+    field_nodes: &mut VecDeque<FieldNode>,
+    data_type: DataType,
+    id: Option<i64>,
+    buffers: &mut VecDeque<ipc::Buffer>,
+    reader: &mut R,
+    dictionaries: &Dictionaries,
+    block_offset: u64,
+    is_little_endian: bool,
+    limit: Option<usize>,
+    scratch: &mut Vec<u8>,
+) -> Result<AnyArray>
+    requires { physical_type data_type ≡ layouts.Dictionary K.KEY_TYPE }
+    ensures { ReadsArray false (R.told reader.old) (R.told reader.new) data_type
+        (at_front field_nodes.old.items buffers.old.items V5 is_little_endian (standing_in dictionaries.now) limit block_offset
+            (ids id no_ids)) V5
+        field_nodes.old.items field_nodes.new.items buffers.old.items buffers.new.items result }
+{
+    any_of(read_dictionary::<K, R>(
+        alloc,
+        field_nodes,
+        data_type,
+        id,
+        buffers,
+        reader,
+        dictionaries,
+        block_offset,
+        is_little_endian,
+        None,
+        limit,
+        scratch,
+    ))
+}
 
 /// The same answer of keys of each integer type.
 macro_rules! of_keys {
     ($key:expr, $arguments:tt) => {
         match $key {
-            IntegerType::Int8 => any_of(read_dictionary::<i8, R> $arguments),
-            IntegerType::Int16 => any_of(read_dictionary::<i16, R> $arguments),
-            IntegerType::Int32 => any_of(read_dictionary::<i32, R> $arguments),
-            IntegerType::Int64 => any_of(read_dictionary::<i64, R> $arguments),
-            IntegerType::UInt8 => any_of(read_dictionary::<u8, R> $arguments),
-            IntegerType::UInt16 => any_of(read_dictionary::<u16, R> $arguments),
-            IntegerType::UInt32 => any_of(read_dictionary::<u32, R> $arguments),
-            IntegerType::UInt64 => any_of(read_dictionary::<u64, R> $arguments),
+            IntegerType::Int8 => read_keys_as::<i8, R> $arguments,
+            IntegerType::Int16 => read_keys_as::<i16, R> $arguments,
+            IntegerType::Int32 => read_keys_as::<i32, R> $arguments,
+            IntegerType::Int64 => read_keys_as::<i64, R> $arguments,
+            IntegerType::UInt8 => read_keys_as::<u8, R> $arguments,
+            IntegerType::UInt16 => read_keys_as::<u16, R> $arguments,
+            IntegerType::UInt32 => read_keys_as::<u32, R> $arguments,
+            IntegerType::UInt64 => read_keys_as::<u64, R> $arguments,
         }
     };
 }
@@ -57,7 +93,7 @@ fn read_keyed<R: Room>(
     requires { physical_type data_type ≡ layouts.Dictionary key }
     ensures { ReadsArray false (R.told reader.old) (R.told reader.new) data_type
         (at_front field_nodes.old.items buffers.old.items V5 is_little_endian (standing_in dictionaries.now) limit block_offset
-        (ids id.entry no_ids)) V5
+            (ids id no_ids)) V5
         field_nodes.old.items field_nodes.new.items buffers.old.items buffers.new.items result }
 {
     of_keys!(
@@ -72,7 +108,6 @@ fn read_keyed<R: Room>(
             dictionaries,
             block_offset,
             is_little_endian,
-            None,
             limit,
             scratch
         )
@@ -105,7 +140,7 @@ pub fn read_childless<R: Room>(
     requires { has_children (type_layer data_type.now) ≡ false }
     ensures read { ReadsArray false (R.told reader.old) (R.told reader.new) data_type.now
         (at_front field_nodes.old.items buffers.old.items (version_view _version) is_little_endian (standing_in dictionaries.now) limit block_offset
-        (ids_view ipc_field.now)) (version_view _version)
+            (ids_view ipc_field.now)) (version_view _version)
         field_nodes.old.items field_nodes.new.items buffers.old.items buffers.new.items result }
 {
     let copy = data_type.clone()?;

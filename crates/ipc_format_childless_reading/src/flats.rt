@@ -29,8 +29,9 @@ pub(crate) fn any_of<A: ToBoxed>(read: Result<A>) -> Result<AnyArray>
 
 /// The same answer of each kind of flat arrays.
 macro_rules! of_layout {
-    ($layout:expr, $nulls:tt, $others:tt, $numbers:expr) => {
+    ($layout:expr, $kind:ident, $nulls:tt, $numbers:tt, $others:tt) => {
         match $layout {
+            PhysicalType::Primitive($kind) => read_numbers $numbers,
             PhysicalType::Null => any_of(read_null $nulls),
             PhysicalType::Boolean => any_of(read_boolean $others),
             PhysicalType::Binary => any_of(read_binary::<i32, R> $others),
@@ -38,7 +39,7 @@ macro_rules! of_layout {
             PhysicalType::FixedSizeBinary => any_of(read_fixed_size_binary $others),
             PhysicalType::Utf8 => any_of(read_utf8::<i32, R> $others),
             PhysicalType::LargeUtf8 => any_of(read_utf8::<i64, R> $others),
-            _ => $numbers,
+            _ => Err(Error::OutOfSpec("a type with columns below it")),
         }
     };
 }
@@ -59,9 +60,11 @@ pub(crate) fn read_flat<R: Room>(
     ensures { ReadsFlat (R.told reader.old) (R.told reader.new) data_type is_little_endian limit block_offset
         field_nodes.old.items field_nodes.new.items buffers.old.items buffers.new.items result }
 {
-    let layout = data_type.to_physical_type();
-    if let PhysicalType::Primitive(kind) = layout {
-        return read_numbers(
+    of_layout!(
+        data_type.to_physical_type(),
+        kind,
+        (field_nodes, data_type, limit),
+        (
             alloc,
             field_nodes,
             data_type,
@@ -71,12 +74,8 @@ pub(crate) fn read_flat<R: Room>(
             block_offset,
             is_little_endian,
             limit,
-            scratch,
-        );
-    }
-    of_layout!(
-        layout,
-        (field_nodes, data_type, limit),
+            scratch
+        ),
         (
             alloc,
             field_nodes,
@@ -88,7 +87,6 @@ pub(crate) fn read_flat<R: Room>(
             None,
             limit,
             scratch
-        ),
-        Err(Error::OutOfSpec("a type with children"))
+        )
     )
 }

@@ -1,6 +1,7 @@
 //! Columns of keys into dictionaries that stand.
-ghost use Rattle.std.specs.Prelude.{◌≡◌, [], map, is_some, option_copied, true, IfOk};
-ghost use Rattle.ipc_format_array_reading.specs.column_reading.Flat.{IsFlat, IsMaskOf};
+ghost use Rattle.std.specs.Prelude.{◌≡◌, ◌↔◌, IsTrue, map, is_some, option_copied, false, true};
+ghost use Rattle.std.specs.Map.{lookup};
+ghost use Rattle.std.specs.Ordering.{int_eq};
 ghost use Rattle.ipc_format_array_reading.specs.column_reading.columnar_memory.Layouts.{physical_type};
 ghost use Rattle.ipc_format_array_reading.specs.column_reading.columnar_memory.declared.PhysicalType.TheVariants as layouts;
 ghost use Rattle.ipc_format_array_reading.specs.column_reading.columns.StoredColumns.{column_type, type_layer};
@@ -18,11 +19,20 @@ use ipc_format_array_reading::column_reading::columnar_memory::{
     DataType, Error, PhysicalType, Result,
 };
 use ipc_format_array_reading::column_reading::messages::{BodyCompressionRef, FieldNode};
-use ipc_format_array_reading::column_reading::{Room, messages as ipc, read_buffer, read_marked};
+use ipc_format_array_reading::column_reading::{
+    Room, messages as ipc, read_buffer, read_marked,
+};
 use ipc_format_array_reading::nested_arrays::flat_arrays::PrimitiveArray;
 use ipc_format_array_reading::nested_arrays::{AnyArray, Array, DictionaryArray, DictionaryKey};
 use std::alloc::Global;
 use std::collections::VecDeque;
+
+/// Whether a data type is of dictionaries with such keys.
+fn has_keys<K: DictionaryKey>(data_type: &DataType) -> bool
+    ensures { IsTrue result ↔ (physical_type data_type.now ≡ layouts.Dictionary K.KEY_TYPE) }
+{
+    data_type.to_physical_type() == PhysicalType::Dictionary(K::KEY_TYPE)
+}
 
 /// Whether a data type is of dictionaries whose values have another.
 fn has_values(data_type: &DataType, value_type: &DataType) -> bool
@@ -34,16 +44,23 @@ fn has_values(data_type: &DataType, value_type: &DataType) -> bool
     }
 }
 
+/// The values that stand under an id.
+fn values_under(id: i64, dictionaries: &Dictionaries) -> Option<&AnyArray>
+    ensures { option_copied result ≡ lookup (int_eq id) dictionaries.now.entries }
+{
+    dictionaries.get(&id)
+}
+
 /// The values that stand under an id, where they have the type that a type of dictionaries says.
 fn values_for<'a>(
     data_type: &DataType,
     id: Option<i64>,
     dictionaries: &'a Dictionaries,
 ) -> Option<&'a AnyArray>
-    ensures { option_copied result ≡ values_for (type_layer data_type.now) id.entry dictionaries.now }
+    ensures { option_copied result ≡ values_for (type_layer data_type.now) id dictionaries.now }
 {
     let id = id?;
-    let values = dictionaries.get(&id)?;
+    let values = values_under(id, dictionaries)?;
     if has_values(data_type, values.data_type()) {
         Some(values)
     } else {
@@ -112,8 +129,49 @@ fn dictionary_of<K: DictionaryKey>(
     let _type = keys.data_type();
     keys.whole();
     values.whole();
-    let values = values.clone()?;
-    DictionaryArray::try_new(data_type, keys, Box::new(alloc, values)?)
+    let copy = values.clone()?;
+    let boxed = Box::new(alloc, copy)?;
+    DictionaryArray::try_new(data_type, keys, boxed)
+}
+
+/// Reads a column of keys into an array whose values are those that stand under an id.
+///
+/// # Errors
+/// As of `read_dictionary`.
+fn read_standing<K: DictionaryKey, R: Room>(
+    alloc: Global,
+    field_nodes: &mut VecDeque<FieldNode>,
+    data_type: DataType,
+    id: Option<i64>,
+    buffers: &mut VecDeque<ipc::Buffer>,
+    reader: &mut R,
+    dictionaries: &Dictionaries,
+    block_offset: u64,
+    is_little_endian: bool,
+    limit: Option<usize>,
+    scratch: &mut Vec<u8>,
+) -> Result<DictionaryArray<K>>
+    requires { physical_type data_type ≡ layouts.Dictionary K.KEY_TYPE }
+    ensures { ReadsColumn (physical_type data_type ≡ layouts.Dictionary K.KEY_TYPE) false (R.told reader.old) (R.told reader.new)
+        (λ array. array) data_type
+        (λ room. array_slots data_type (at_front field_nodes.old.items buffers.old.items V5 is_little_endian (standing_in dictionaries.now) limit
+            block_offset (ids id no_ids) room))
+        1 2 field_nodes.old.items field_nodes.new.items buffers.old.items buffers.new.items result }
+{
+    let Some(values) = values_for(&data_type, id, dictionaries) else {
+        return Err(Error::OutOfSpec("a dictionary that does not stand"));
+    };
+    let keys = read_keys::<K, R>(
+        alloc,
+        field_nodes,
+        buffers,
+        reader,
+        block_offset,
+        is_little_endian,
+        limit,
+        scratch,
+    )?;
+    dictionary_of(alloc, data_type, keys, values)
 }
 
 /// Reads a column of keys, a node and two buffers, into an array whose values are those that stand under the id of the column's field. The array
@@ -143,27 +201,26 @@ pub fn read_dictionary<K: DictionaryKey, R: Room>(
     ensures { ReadsColumn (physical_type data_type ≡ layouts.Dictionary K.KEY_TYPE) (is_some compression.entry)
         (R.told reader.old) (R.told reader.new) (λ array. array) data_type
         (λ room. array_slots data_type (at_front field_nodes.old.items buffers.old.items V5 is_little_endian (standing_in dictionaries.now) limit
-        block_offset (ids id.entry no_ids) room))
+            block_offset (ids id no_ids) room))
         1 2 field_nodes.old.items field_nodes.new.items buffers.old.items buffers.new.items result }
 {
-    if data_type.to_physical_type() != PhysicalType::Dictionary(K::KEY_TYPE) {
+    if !has_keys::<K>(&data_type) {
         return Err(Error::OutOfSpec("InvalidDataType"));
     }
     if compression.is_some() {
         return Err(Error::NotYetImplemented("compressed buffers"));
     }
-    let Some(values) = values_for(&data_type, id, dictionaries) else {
-        return Err(Error::OutOfSpec("a dictionary that does not stand"));
-    };
-    let keys = read_keys::<K, R>(
+    read_standing(
         alloc,
         field_nodes,
+        data_type,
+        id,
         buffers,
         reader,
+        dictionaries,
         block_offset,
         is_little_endian,
         limit,
         scratch,
-    )?;
-    dictionary_of(alloc, data_type, keys, values)
+    )
 }

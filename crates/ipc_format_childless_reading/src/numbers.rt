@@ -1,8 +1,8 @@
 //! Columns of numbers of any kind.
-ghost use Rattle.std.specs.Prelude.{◌≡◌};
+ghost use Rattle.std.specs.Prelude.{◌≡◌, true};
 ghost use Rattle.ipc_format_array_reading.specs.column_reading.columnar_memory.Layouts.{physical_type};
 ghost use Rattle.ipc_format_array_reading.specs.column_reading.columnar_memory.declared.PhysicalType.TheVariants as layouts;
-ghost use Rattle.ipc_format_childless_reading.specs.Flats.{ReadsFlat};
+ghost use Rattle.ipc_format_childless_reading.specs.Flats.{ReadsFlat, has_all};
 
 use crate::flats::any_of;
 use ipc_format_array_reading::column_reading::columnar_memory::{
@@ -26,7 +26,8 @@ fn read_kind<T: PrimitiveKind, R: Room>(
     limit: Option<usize>,
     scratch: &mut Vec<u8>,
 ) -> Result<AnyArray>
-    requires { physical_type data_type ≡ layouts.Primitive T.PRIMITIVE }
+    requires kind { physical_type data_type ≡ layouts.Primitive T.PRIMITIVE }
+    requires all { has_all (layouts.Primitive T.PRIMITIVE) ≡ true }
     ensures { ReadsFlat (R.told reader.old) (R.told reader.new) data_type is_little_endian limit block_offset
         field_nodes.old.items field_nodes.new.items buffers.old.items buffers.new.items result }
 {
@@ -60,7 +61,9 @@ macro_rules! of_kind {
             PrimitiveType::UInt64 => read_kind::<u64, R> $arguments,
             PrimitiveType::DaysMs => read_kind::<days_ms, R> $arguments,
             PrimitiveType::MonthDayNano => read_kind::<months_days_ns, R> $arguments,
-            _ => Err(Error::OutOfSpec("floats")),
+            PrimitiveType::Float16 => Err(Error::OutOfSpec("floats of 16 bits")),
+            PrimitiveType::Float32 => Err(Error::OutOfSpec("floats of 32 bits")),
+            PrimitiveType::Float64 => Err(Error::OutOfSpec("floats of 64 bits")),
         }
     };
 }
@@ -84,16 +87,6 @@ pub(crate) fn read_numbers<R: Room>(
 {
     of_kind!(
         kind,
-        (
-            alloc,
-            field_nodes,
-            data_type,
-            buffers,
-            reader,
-            block_offset,
-            is_little_endian,
-            limit,
-            scratch
-        )
+        (alloc, field_nodes, data_type, buffers, reader, block_offset, is_little_endian, limit, scratch)
     )
 }

@@ -46,3 +46,9 @@ pub returns-clause-buffers : goal.returns-clause-buffers
 returns-clause-buffers g c =
     takes_behind 1 1 2 c.args.buffers.now.items c.read_marked.new.buffers.items c.read_buffer.new.buffers.items refl c.in_ok-marked.ensures.buffers
     c.in_ok-values.ensures.taken
+
+pub returns-in_err-values-clause-nodes : goal.returns-in_err-values-clause-nodes
+returns-in_err-values-clause-nodes g c =
+    let error = c.in_err-values.field-0.0 in
+    let is : c.from_residual-in_err-values.result ≡ Err error = search rules in
+    rw is (1, c.in_ok-marked.ensures.nodes.1)
