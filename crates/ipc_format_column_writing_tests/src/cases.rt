@@ -12,7 +12,7 @@ use std::alloc::Global;
 
 /// The nodes, the buffers and the body of a batch.
 #[derive(Drop)]
-pub(crate) struct Written {
+pub(crate) struct Batch {
     pub(crate) nodes: Vec<FieldNode>,
     pub(crate) buffers: Vec<Buffer>,
     pub(crate) bytes: Vec<u8>,
@@ -23,7 +23,7 @@ pub(crate) fn written(
     alloc: Global,
     array: &AnyArray,
     is_little_endian: bool,
-) -> Result<Written, Error> {
+) -> Result<Batch, Error> {
     let (mut nodes, mut buffers, mut bytes) = (Vec::new(alloc), Vec::new(alloc), Vec::new(alloc));
     let mut offset = 0;
     write(
@@ -35,14 +35,14 @@ pub(crate) fn written(
         is_little_endian,
         None,
     )?;
-    Ok(Written {
+    Ok(Batch {
         nodes,
         buffers,
         bytes,
     })
 }
 
-impl Written {
+impl Batch {
     /// How long the columns are, and how many of their slots are null.
     pub(crate) fn nodes(&self, alloc: Global) -> Result<Vec<(i64, i64)>, Error> {
         let nodes = self.nodes.iter().map(|node| (node.length, node.null_count));
