@@ -1,7 +1,7 @@
 -- The keys of dictionaries as arrays.
-use Rattle.std.proofs.Common.{inl, inr, ◌≡◌, ◌∙◌, ℕ, ℤ, zero, suc, ◌+◌, ◌<◌, ◌≤◌, List, [], ◌∷◌, ◌++◌, length, map, take, get_or, Bool, true, refl}
+use Rattle.std.proofs.Common.{◌≡◌, ◌∙◌, ℕ, ℤ, zero, suc, ◌+◌, ◌<◌, ◌≤◌, List, [], ◌∷◌, ◌++◌, length, map, take, get_or, Bool, true, refl}
 use Rattle.std.proofs.Common.{sym, ap, subst, arith}
-use Rattle.std.specs.Prelude.{pos, Option, Result, Ok, Err, max}
+use Rattle.std.specs.Prelude.{pos, Option, Result, Ok, Err}
 use Rattle.std.proofs.lemmas.List.{length-map, map-append, take_more}
 use Rattle.nested_arrays_arrays.specs.columnar_memory.declared.DataType.{DataType}
 use Rattle.nested_arrays_arrays.specs.columnar_memory.declared.Error.{Error}

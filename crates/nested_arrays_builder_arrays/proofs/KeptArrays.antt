@@ -11,7 +11,6 @@ use Rattle.nested_arrays_builders.specs.columnar_memory.declared.PhysicalType.Th
 use Rattle.nested_arrays_builders.specs.columnar_memory.Layouts.{physical_type}
 use Rattle.nested_arrays_builders.specs.columnar_memory.Results.{OrOutOfMemory}
 use Rattle.nested_arrays_builders.specs.columnar_memory.Spans.{Spans, offsets_of}
-use Rattle.nested_arrays_builders.specs.columns.Children.{dictionary_values}
 use Rattle.nested_arrays_builders.specs.columns.FreshLaws.{are_buildable, is_buildable}
 use Rattle.nested_arrays_builders.specs.columns.Kinds.{most_values}
 use Rattle.nested_arrays_builders.specs.columns.OpenBatch.{fits}

@@ -113,14 +113,18 @@ fn a_refused_row_leaves_no_text(rt: HostRuntime) -> Result<(), Fail> {
     drop(refused);
     builder.try_push_scalar(&row(rt.alloc(), "y", AnyScalar::Null)?)?;
     let array = Box::into_inner(as_box(&mut builder, rt.alloc())?);
-    if let Node::Struct(rows) = array.node {
-        let (data_type, mut fields, validity) = rows.into_data();
-        drop(data_type);
-        drop(validity);
-        let first = fields.remove(0);
-        drop(fields);
-        assert!(rt; stores(first, &[0], &["y"]));
+    let Node::Struct(rows) = array.node else {
+        return Err(Fail::from("an array of structs"));
+    };
+    let (data_type, mut fields, validity) = rows.into_data();
+    drop(data_type);
+    drop(validity);
+    if fields.len() != 2 {
+        return Err(Fail::from("two fields"));
     }
+    let first = fields.remove(0);
+    drop(fields);
+    assert!(rt; stores(first, &[0], &["y"]));
     drop(builder);
     Ok(())
 }
