@@ -11,7 +11,7 @@ use Rattle.ipc_format_column_reading.specs.columnar_memory.declared.DataType.{Da
 use Rattle.ipc_format_column_reading.specs.columnar_memory.declared.PhysicalType.TheVariants as physical
 use Rattle.ipc_format_column_reading.specs.grammar.Columns.{last_of}
 use Rattle.ipc_format_column_reading.proofs.ColumnReads.{last_is}
-use Rattle.nested_arrays.specs.ListTypes.{list_layout}
+use Rattle.ipc_format_chunks.specs.nested_arrays.ListTypes.{list_layout}
 use Rattle.ipc_format_column_reading.specs.columnar_memory.declared.DataType.TheOpen as layer
 use Rattle.ipc_format_column_reading.specs.columnar_memory.declared.Error.{Error}
 use Rattle.ipc_format_column_reading.specs.columnar_memory.declared.PhysicalType.{PhysicalType}
@@ -19,9 +19,9 @@ use Rattle.ipc_format_column_reading.specs.columns.SoundColumns.{are_sound, has_
 use Rattle.ipc_format_column_reading.specs.columns.StoredColumns.{Column, column_len, fixed_lists, in_columns, lists, records, type_layer}
 use Rattle.ipc_format_column_reading.specs.flatbuffers.Reading.{◌>>=◌}
 use Rattle.ipc_format_column_reading.proofs.columns_lemmas.TypeLayers.{Layer, layer_layout, layout_is}
-use Rattle.nested_arrays.specs.Answers.{IsChecked, IsCheckedAs}
-use Rattle.nested_arrays.specs.FlatLayouts.{layout_in}
-use Rattle.nested_arrays.specs.Lengths.{layer_size, size_of, struct_len}
+use Rattle.ipc_format_chunks.specs.nested_arrays.Answers.{IsChecked, IsCheckedAs}
+use Rattle.ipc_format_chunks.specs.nested_arrays.FlatLayouts.{layout_in}
+use Rattle.ipc_format_chunks.specs.nested_arrays.Lengths.{layer_size, size_of, struct_len}
 use Rattle.ipc_format_array_reading.specs.Parts.{Makes, beginning_of, checked, has_children, if_long, made_column, marked_column, marks, single}
 use Rattle.ipc_format_array_reading.specs.Parts.{sound_column, spans}
 use Rattle.ipc_format_array_reading.specs.declared.begun.Beginning.{Beginning}

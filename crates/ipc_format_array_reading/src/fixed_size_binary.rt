@@ -7,10 +7,10 @@ ghost use Rattle.ipc_format_column_reading.specs.columns.SoundColumns.{is_byte};
 ghost use Rattle.ipc_format_column_reading.specs.Reads.{ReadsColumn};
 ghost use Rattle.ipc_format_array_reading.specs.TypedReads.{IsNeeded, StatesSmall, front_array};
 
+use ipc_format_chunks::nested_arrays::FixedSizeBinaryArray;
 use ipc_format_column_reading::columnar_memory::{Buffer, DataType, Error, PhysicalType, Result};
 use ipc_format_column_reading::messages::{BodyCompressionRef, FieldNode};
 use ipc_format_column_reading::{Room, messages as ipc, read_bytes, read_marked};
-use nested_arrays::FixedSizeBinaryArray;
 use std::alloc::Global;
 use std::collections::VecDeque;
 

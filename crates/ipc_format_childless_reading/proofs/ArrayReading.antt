@@ -50,10 +50,10 @@ any_read Kind old new column t given other n b m c nodes nodes1 buffers buffers1
 any_read Kind old new column t given other n b m c nodes nodes1 buffers buffers1 (Err error) (Err refusal) kind same nodes_are buffers_are read is =
     subst (λ (e : Error). TakesTyped old new t other m c nodes nodes1 buffers buffers1 (Err e)) (sym is) (elim read [
       | inl found ↦ (
-          takes_as old new slots given other n b m c nodes nodes1 buffers buffers1 (Err error) same nodes_are buffers_are
-              (found.1, found.2, found.3),
-          tt,
-        )
+        takes_as old new slots given other n b m c nodes nodes1 buffers buffers1 (Err error) same nodes_are buffers_are
+            (found.1, found.2, found.3),
+        tt,
+      )
       | inr apart ↦ absurd (apart.0 kind)
     ])
 any_read Kind old new column t given other n b m c nodes nodes1 buffers buffers1 (Ok array) (Err refusal) kind same nodes_are buffers_are read is =
@@ -121,13 +121,13 @@ nulls_read told t given other m c nodes nodes1 buffers (Ok array) (Ok any) kind 
 nulls_read told t given other m c nodes nodes1 buffers (Err error) (Err refusal) kind same nodes_are buffers_are read is =
     subst (λ (e : Error). TakesTyped told told t other m c nodes nodes1 buffers buffers (Err e)) (sym is) (elim read.1 [
       | inl found ↦ (
-          (
-            out_of_spec told told (ForBytes told (λ room. other room ≡ None)) false error read.0 refl (λ room known. same room ∙ found.1),
-            found.2,
-            (0, sym (drop_none buffers)),
-          ),
-          tt,
-        )
+        (
+          out_of_spec told told (ForBytes told (λ room. other room ≡ None)) false error read.0 refl (λ room known. same room ∙ found.1),
+          found.2,
+          (0, sym (drop_none buffers)),
+        ),
+        tt,
+      )
       | inr apart ↦ absurd (apart.0 kind)
     ])
 nulls_read told t given other m c nodes nodes1 buffers (Ok array) (Err refusal) kind same nodes_are buffers_are read is = absurd is

@@ -114,8 +114,11 @@ made_keyed key t values mask keys numbers (Ok array) lies typed are same sound h
 made_keyed key t values mask keys numbers (Err error) lies typed are same sound held checked =
     elim (cases_Bool (holds_below (length keys) (has_value_at mask keys (column_len values)))) [
       | inl holds ↦ absurd (checked.1 (sound_keyed key t values mask keys lies typed are sound holds, lies))
-      | inr fails ↦ inr (checked.0, ap (keyed_column t values mask) same
-          ∙ ap (λ b. if b then Some (dictionary t mask keys values) else None) fails)
+      | inr fails ↦ inr (
+        checked.0,
+        ap (keyed_column t values mask) same
+            ∙ ap (λ b. if b then Some (dictionary t mask keys values) else None) fails,
+      )
     ]
 
 held_keyed : (t : DataType) (values : Column) (mask : Option (List Bool)) (keys : List ℤ) → is_sound (dictionary t mask keys values) ≡ true

@@ -40,7 +40,7 @@ fn read_keys_as<K: DictionaryKey, R: Room>(
     requires { physical_type data_type ≡ layouts.Dictionary K.KEY_TYPE }
     ensures { ReadsArray false (R.told reader.old) (R.told reader.new) data_type
         (at_front field_nodes.old.items buffers.old.items V5 is_little_endian (standing_in dictionaries.now) limit block_offset
-            (ids id no_ids)) V5
+        (ids id no_ids)) V5
         field_nodes.old.items field_nodes.new.items buffers.old.items buffers.new.items result }
 {
     any_of(read_dictionary::<K, R>(
@@ -93,7 +93,7 @@ fn read_keyed<R: Room>(
     requires { physical_type data_type ≡ layouts.Dictionary key }
     ensures { ReadsArray false (R.told reader.old) (R.told reader.new) data_type
         (at_front field_nodes.old.items buffers.old.items V5 is_little_endian (standing_in dictionaries.now) limit block_offset
-            (ids id no_ids)) V5
+        (ids id no_ids)) V5
         field_nodes.old.items field_nodes.new.items buffers.old.items buffers.new.items result }
 {
     of_keys!(
@@ -140,7 +140,7 @@ pub fn read_childless<R: Room>(
     requires { has_children (type_layer data_type.now) ≡ false }
     ensures read { ReadsArray false (R.told reader.old) (R.told reader.new) data_type.now
         (at_front field_nodes.old.items buffers.old.items (version_view _version) is_little_endian (standing_in dictionaries.now) limit block_offset
-            (ids_view ipc_field.now)) (version_view _version)
+        (ids_view ipc_field.now)) (version_view _version)
         field_nodes.old.items field_nodes.new.items buffers.old.items buffers.new.items result }
 {
     let copy = data_type.clone()?;

@@ -19,9 +19,7 @@ use ipc_format_array_reading::column_reading::columnar_memory::{
     DataType, Error, PhysicalType, Result,
 };
 use ipc_format_array_reading::column_reading::messages::{BodyCompressionRef, FieldNode};
-use ipc_format_array_reading::column_reading::{
-    Room, messages as ipc, read_buffer, read_marked,
-};
+use ipc_format_array_reading::column_reading::{Room, messages as ipc, read_buffer, read_marked};
 use ipc_format_array_reading::nested_arrays::flat_arrays::PrimitiveArray;
 use ipc_format_array_reading::nested_arrays::{AnyArray, Array, DictionaryArray, DictionaryKey};
 use std::alloc::Global;
@@ -155,7 +153,7 @@ fn read_standing<K: DictionaryKey, R: Room>(
     ensures { ReadsColumn (physical_type data_type ≡ layouts.Dictionary K.KEY_TYPE) false (R.told reader.old) (R.told reader.new)
         (λ array. array) data_type
         (λ room. array_slots data_type (at_front field_nodes.old.items buffers.old.items V5 is_little_endian (standing_in dictionaries.now) limit
-            block_offset (ids id no_ids) room))
+        block_offset (ids id no_ids) room))
         1 2 field_nodes.old.items field_nodes.new.items buffers.old.items buffers.new.items result }
 {
     let Some(values) = values_for(&data_type, id, dictionaries) else {
@@ -201,7 +199,7 @@ pub fn read_dictionary<K: DictionaryKey, R: Room>(
     ensures { ReadsColumn (physical_type data_type ≡ layouts.Dictionary K.KEY_TYPE) (is_some compression.entry)
         (R.told reader.old) (R.told reader.new) (λ array. array) data_type
         (λ room. array_slots data_type (at_front field_nodes.old.items buffers.old.items V5 is_little_endian (standing_in dictionaries.now) limit
-            block_offset (ids id no_ids) room))
+        block_offset (ids id no_ids) room))
         1 2 field_nodes.old.items field_nodes.new.items buffers.old.items buffers.new.items result }
 {
     if !has_keys::<K>(&data_type) {

@@ -87,6 +87,16 @@ pub(crate) fn read_numbers<R: Room>(
 {
     of_kind!(
         kind,
-        (alloc, field_nodes, data_type, buffers, reader, block_offset, is_little_endian, limit, scratch)
+        (
+            alloc,
+            field_nodes,
+            data_type,
+            buffers,
+            reader,
+            block_offset,
+            is_little_endian,
+            limit,
+            scratch
+        )
     )
 }

@@ -8,4 +8,5 @@ mod parts;
 mod serialize;
 
 pub use ipc_format_column_bytes as column_bytes;
+pub use nested_arrays;
 pub use serialize::{Compression, write, write_struct, write_union};

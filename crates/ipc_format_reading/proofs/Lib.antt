@@ -1,1 +1,25 @@
+pub mod AlikePlaces
+pub mod AlikeColumns
+pub mod AlikeTypes
+pub mod AlikeArrays
+pub mod AlikeFronts
+pub mod ChildReads
+pub mod NestedReads
+pub mod JoinedSlots
+pub mod JoinedChoices
+pub mod MadeTypes
+pub mod MadeLists
+pub mod MadeFixedLists
+pub mod MadeRecords
+pub mod UnionSlots
+pub mod MadeUnions
+pub mod MadeNone
+pub mod MadeColumns
+pub mod MadeParts
+pub mod PartsGuards
+pub mod PartsMarks
+pub mod PartsUnions
+pub mod PartsReads
+pub mod NestedColumns
+pub mod KindReads
 pub use Rattle.ipc_format_childless_reading.proofs as childless_lemmas

@@ -1,32 +1,39 @@
 -- What builders with children store is sound.
-use Rattle.std.proofs.Common.{◌≡◌, ◌∙◌, ◌<◌, ℕ, List, [], ◌∷◌, length, map, Bool, true, refl, sym, ap, subst, arith}
+use Rattle.std.proofs.Common.{◌≡◌, ◌∙◌, ◌<◌, ◌≤◌, ℕ, List, [], ◌∷◌, length, map, Bool, true, refl, sym, ap, subst, arith}
 use Rattle.std.specs.Prelude.{◌&&◌, ◌==◌, nat_le, Result}
 use Rattle.std.proofs.lemmas.Bool.{and_parts, eqb-true, leb-true}
 use Rattle.nested_arrays_builders.specs.columnar_memory.declared.DataType.{DataType}
 use Rattle.nested_arrays_builders.specs.columnar_memory.declared.DataType.TheOpen as layer
 use Rattle.nested_arrays_builders.specs.columnar_memory.declared.Field.{Field}
 use Rattle.nested_arrays_builders.specs.columnar_memory.declared.Error.{Error}
+use Rattle.nested_arrays_builders.specs.columnar_memory.declared.IntegerType.{IntegerType}
+use Rattle.nested_arrays_builders.specs.columnar_memory.declared.PhysicalType.TheVariants as physical
 use Rattle.nested_arrays_builders.specs.columnar_memory.Layouts.{physical_type}
 use Rattle.nested_arrays_builders.specs.columnar_memory.Results.{OrOutOfMemory}
 use Rattle.nested_arrays_builders.specs.columnar_memory.Spans.{Spans, offsets_of}
+use Rattle.nested_arrays_builders.specs.columns.Children.{dictionary_values}
 use Rattle.nested_arrays_builders.specs.columns.FreshLaws.{are_buildable, is_buildable}
+use Rattle.nested_arrays_builders.specs.columns.Kinds.{most_values}
+use Rattle.nested_arrays_builders.specs.columns.OpenBatch.{fits}
 use Rattle.nested_arrays_builders.specs.columns.Slots.{Slot}
 use Rattle.nested_arrays_builders.specs.columns.SoundColumns.{is_sound, are_sound, have_len, has_field_types, mask_fits}
-use Rattle.nested_arrays_builders.specs.columns.StoredColumns.{Column, column_len, fixed_lists, in_columns, lists, records, slots, type_layer}
+use Rattle.nested_arrays_builders.specs.columns.StoredColumns.{Column, column_len, dictionary, fixed_lists, in_columns, lists, records, slots, type_layer}
 use Rattle.nested_arrays_builders.proofs.columns_lemmas.Conditions.{parts_of_4}
 use Rattle.nested_arrays_builders.proofs.columns_lemmas.FreshLengths.{Layer}
 use Rattle.nested_arrays_builders.proofs.columns_lemmas.FreshSound.{fresh_is_sound}
 use Rattle.nested_arrays_builders.specs.growth.OpenParts.{mask_from, slots_of_fields}
-use Rattle.nested_arrays_builders.proofs.growth_lemmas.Below.{buildable_struct}
+use Rattle.nested_arrays_builders.proofs.growth_lemmas.Below.{buildable_struct, values_fit_below}
 use Rattle.nested_arrays_builders.proofs.growth_lemmas.Fields.{fields_count}
 use Rattle.nested_arrays_builders.proofs.growth_lemmas.Masks.{mask_by_count}
 use Rattle.nested_arrays_builders.proofs.growth_lemmas.TypeSteps.{layout_by_layer}
 use Rattle.nested_arrays_arrays.specs.Lengths.{size_of, layer_size, struct_len}
 use Rattle.nested_arrays_builders.specs.parts.Marks.{mask_of_marks}
 use Rattle.nested_arrays_builders.specs.parts.Open.{Open, column_of}
+use Rattle.nested_arrays_builders.specs.values.Uses.{greatest, keys_from}
+use Rattle.nested_arrays_builders.proofs.values_lemmas.UsedValues.{all_used}
 use Rattle.nested_arrays_builders.specs.KeptColumns.{column_kept}
 use Rattle.nested_arrays_builders.specs.Nodes.{held_of, parts_of}
-use Rattle.nested_arrays_builders.specs.Parts.{Parts, listed, seen, sized, of_fields, parts_column, HoldsParts, IsHeld, IsKept}
+use Rattle.nested_arrays_builders.specs.Parts.{Parts, keyed, listed, seen, sized, of_fields, parts_column, HoldsParts, IsHeld, IsKept}
 use Rattle.nested_arrays_builders.specs.declared.any.Head.{Head}
 use Rattle.nested_arrays_builders.specs.declared.any.MutableChildren.{MutableChildren}
 use Rattle.nested_arrays_builders.specs.declared.any.MutableNode.{MutableNode}
@@ -107,6 +114,35 @@ module _ (t : DataType) (marks : List Bool) (xs : List Slot) where
       (parts_of_4 (has_field_types (type_layer t) columns) (have_len columns (length marks)) (mask_fits (mask_from marks) (length marks))
       (are_sound columns) (kept_sound t marks (of_fields children) xs kept)).1
       (some_by_layer (type_layer t) children refl kept.held kept.can)
+
+  -- ---- dictionaries
+
+  pub keyed_is : (key : IntegerType) (uses : List ℕ) (known : List Slot) (child : Open)
+      → dictionary t (mask_of_marks marks) (keys_from uses) (column_of child) ≡ parts_column t marks (keyed key uses known child)
+  keyed_is key uses known child = ap (λ m. dictionary t m (keys_from uses) (column_of child)) (sym mask)
+
+  pub keyed_sound : (key : IntegerType) (uses : List ℕ) (known : List Slot) (child : Open) → IsKept t marks (keyed key uses known child) xs
+      → is_sound (dictionary t (mask_of_marks marks) (keys_from uses) (column_of child)) ≡ true
+  keyed_sound key uses known child kept =
+      ap is_sound (keyed_is key uses known child) ∙ kept_sound t marks (keyed key uses known child) xs kept
+
+  keyed_by_layer : (x : Layer) (key : IntegerType) (uses : List ℕ) (known : List Slot) (child : Open) → type_layer t ≡ x
+      → HoldsParts x (keyed key uses known child) xs → fits t xs ≡ true
+      → (physical_type t ≡ physical.Dictionary key) × (greatest uses ≤ most_values key)
+  keyed_by_layer (layer.Dictionary own value is_ordered) key uses known child is held fit =
+      let named = ap greatest held.1 ∙ all_used xs in (
+        layout_by_layer t (layer.Dictionary own value is_ordered) is ∙ ap physical.Dictionary (sym held.0),
+        omega (arith, named, (values_fit_below t own value is_ordered is xs fit).0, ap most_values held.0),
+      )
+  keyed_by_layer _ key uses known child is held fit = absurd held
+
+  pub keyed_lies : (key : IntegerType) (uses : List ℕ) (known : List Slot) (child : Open) → IsKept t marks (keyed key uses known child) xs
+      → physical_type t ≡ physical.Dictionary key
+  keyed_lies key uses known child kept = (keyed_by_layer (type_layer t) key uses known child refl kept.held kept.fit).0
+
+  pub keyed_few : (key : IntegerType) (uses : List ℕ) (known : List Slot) (child : Open) → IsKept t marks (keyed key uses known child) xs
+      → greatest uses ≤ most_values key
+  keyed_few key uses known child kept = (keyed_by_layer (type_layer t) key uses known child refl kept.held kept.fit).1
 
 -- ---- what is made of it
 

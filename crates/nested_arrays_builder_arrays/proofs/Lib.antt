@@ -1,1 +1,2 @@
+pub mod FrozenParts
 pub mod KeptArrays

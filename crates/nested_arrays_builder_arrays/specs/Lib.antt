@@ -1,2 +1,3 @@
+pub mod FrozenKeys
 pub mod Layouts
 pub mod Taken

@@ -1,29 +1,34 @@
 //! Arrays of what builders hold, with no copy of values.
-ghost use Rattle.std.specs.Prelude.{◌≡◌, length, map, true};
+ghost use Rattle.std.specs.Prelude.{◌≡◌, ◌≤◌, length, map, true};
 ghost use Rattle.nested_arrays_builders.specs.columnar_memory.Layouts.{physical_type};
 ghost use Rattle.nested_arrays_builders.specs.columnar_memory.Results.{OrOutOfMemory};
 ghost use Rattle.nested_arrays_builders.specs.columnar_memory.Spans.{offsets_of};
+ghost use Rattle.nested_arrays_builders.specs.columnar_memory.declared.PhysicalType.TheVariants as physical;
+ghost use Rattle.nested_arrays_builders.specs.columns.Kinds.{most_values};
 ghost use Rattle.nested_arrays_builders.specs.columns.SoundColumns.{is_sound};
-ghost use Rattle.nested_arrays_builders.specs.columns.StoredColumns.{fixed_lists, in_columns, lists, records, slots};
+ghost use Rattle.nested_arrays_builders.specs.columns.StoredColumns.{dictionary, fixed_lists, in_columns, lists, records, slots};
 ghost use Rattle.nested_arrays_arrays.specs.Lengths.{size_of, struct_len};
 ghost use Rattle.nested_arrays_arrays.specs.parts.Widths as frozen;
 ghost use Rattle.nested_arrays_builders.specs.parts.Marks.{mask_of_marks};
 ghost use Rattle.nested_arrays_builders.specs.parts.Open.{column_of};
 ghost use Rattle.nested_arrays_builders.specs.Nodes.{parts_of};
 ghost use Rattle.nested_arrays_builders.specs.Parts.{parts_column, IsKept};
+ghost use Rattle.nested_arrays_builders.specs.values.Uses.{greatest, keys_from};
 ghost use Rattle.nested_arrays_builders.specs.Widths.{is_large, spans_in};
 ghost use Rattle.nested_arrays_builder_arrays.specs.Layouts.{lists_layout};
 
+use crate::keys::{dictionary_array, freeze_keys};
 use nested_arrays_arrays::parts::ListOffsets;
 use nested_arrays_arrays::{AnyArray, FixedSizeListArray, ListNode, Node, StructArray};
 use nested_arrays_builders::columnar_memory::{Bitmap, DataType, Result};
+use nested_arrays_builders::values::MutableKeys;
 use nested_arrays_builders::{
     AnyMutableArray, Head, MutableChildren, MutableListOffsets, MutableNode,
 };
 use std::alloc::Global;
 
-/// The array of what a builder holds, with no copy of values: zeros or no bytes stand under nulls, offsets go from 0 on without gaps, and there
-/// is a mask exactly where a slot is null, at every depth.
+/// The array of what a builder holds, with no copy of values but of keys: zeros or no bytes stand under nulls, offsets go from 0 on without
+/// gaps, values of dictionaries stand in the order of first use, and there is a mask exactly where a slot is null, at every depth.
 ///
 /// # Errors
 /// `OutOfMemory`: the places of children or counts of owners found no memory.
@@ -51,6 +56,9 @@ fn freeze_nested(alloc: Global, head: Head, children: MutableChildren) -> Result
             freeze_sized(alloc, head, Box::into_inner(values))
         }
         MutableChildren::Struct(fields) => freeze_struct(alloc, head, fields),
+        MutableChildren::Dictionary(keys, values) => {
+            freeze_keyed(alloc, head, keys, Box::into_inner(values))
+        }
     }
 }
 
@@ -102,6 +110,30 @@ fn freeze_struct(alloc: Global, head: Head, fields: Vec<AnyMutableArray>) -> Res
     let Head { data_type, marks } = head;
     let validity = marks.freeze()?;
     Ok(AnyArray::from(StructArray::new(data_type, fields, validity)))
+}
+
+/// The array of a dictionary.
+#[cycle(freezing)]
+fn freeze_keyed(
+    alloc: Global,
+    head: Head,
+    keys: MutableKeys,
+    values: AnyMutableArray,
+) -> Result<AnyArray>
+    requires sound { is_sound (dictionary head.data_type (mask_of_marks head.marks) (keys_from keys.uses) (column_of values)) ≡ true }
+    requires lies { physical_type head.data_type ≡ physical.Dictionary keys.key }
+    requires few { greatest keys.uses ≤ most_values keys.key }
+    ensures { OrOutOfMemory result (λ array. array
+        ≡ dictionary head.data_type (mask_of_marks head.marks) (keys_from keys.uses) (column_of values)) }
+{
+    let values = into_array(alloc, values)?;
+    let values = Box::new(alloc, values)?;
+    let Head { data_type, marks } = head;
+    let MutableKeys { key, uses, known } = keys;
+    drop(known);
+    let validity = marks.freeze()?;
+    let keys = freeze_keys(alloc, key, uses, validity)?;
+    Ok(dictionary_array(data_type, keys, values))
 }
 
 /// The array of each builder.

@@ -1,5 +1,5 @@
 -- The slots of cells, layer by layer, and the cell of a slot.
-use Rattle.std.proofs.Common.{◌≡◌, ◌∙◌, ℕ, ℤ, pos, List, [], ◌∷◌, map, Bool, true, false, refl, sym, ap}
+use Rattle.std.proofs.Common.{◌≡◌, ◌∙◌, pos, List, [], ◌∷◌, map, Bool, true, false, refl, sym, ap}
 use Rattle.std.proofs.lemmas.Bool.{false≢true}
 use Rattle.nested_arrays_builder_parts.specs.arrays.columnar_memory.declared.PrimitiveType.TheVariants as kinds
 use Rattle.nested_arrays_builder_parts.specs.arrays.columns.Rows.{Cell, cell_slot, cell_slots}

@@ -1,4 +1,6 @@
 pub mod CellLayers
 pub mod Looked
 pub mod Needs
+pub mod Totals
 pub mod UsedValues
+pub use Rattle.nested_arrays_builder_parts.proofs as parts_lemmas

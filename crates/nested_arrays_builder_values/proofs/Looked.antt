@@ -1,11 +1,11 @@
 -- Cells that are looked for by their hashes.
-use Rattle.std.proofs.Common.{inl, inr, ◌≡◌, ◌∙◌, ℕ, zero, suc, ◌-◌, ◌<◌, ◌≤◌, List, [], ◌∷◌, length, map, get_or, Bool, true, false, refl, sym, ap, arith}
+use Rattle.std.proofs.Common.{inl, inr, ◌≡◌, ◌∙◌, ℕ, zero, suc, ◌-◌, ◌<◌, ◌≤◌, List, [], ◌∷◌, length, map, get_or, refl, sym, ap, arith}
 use Rattle.std.specs.Prelude.{◌⊎◌, ◌≢◌, Option, Some, None}
 use Rattle.std.proofs.lemmas.Bool.{false_from_ne_true}
 use Rattle.std.proofs.lemmas.List.{length-map}
 use Rattle.nested_arrays_places.specs.Newest.{IsNewest}
-use Rattle.nested_arrays_builder_parts.specs.arrays.columns.SameSlots.{is_among, same_slot}
-use Rattle.nested_arrays_builder_parts.specs.arrays.columns.Slots.{Slot, null}
+use Rattle.nested_arrays_builder_parts.specs.arrays.columns.SameSlots.{same_slot}
+use Rattle.nested_arrays_builder_parts.specs.arrays.columns.Slots.{null}
 use Rattle.nested_arrays_builder_parts.proofs.arrays_lemmas.columns_lemmas.SameSlotsDecide.{same_slot-implies, same_slot-itself}
 use Rattle.nested_arrays_builder_parts.proofs.growth_lemmas.Values.{not_among}
 use Rattle.nested_arrays_builder_parts.specs.Scalars.{scalar_slot}

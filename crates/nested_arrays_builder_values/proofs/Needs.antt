@@ -1,8 +1,7 @@
 -- What a slot needs of the values of its dictionary.
-use Rattle.std.proofs.Common.{◌≡◌, ◌∙◌, ℕ, zero, suc, ◌+◌, ◌<◌, ◌≤◌, List, [], ◌∷◌, ◌++◌, length, take, get_or, true, false, sym, ap, arith}
-use Rattle.std.specs.Prelude.{◌||◌, not, max}
+use Rattle.std.proofs.Common.{◌≡◌, ◌∙◌, ℕ, zero, suc, ◌+◌, ◌<◌, ◌≤◌, List, [], ◌∷◌, length, take, get_or, true, false, sym, ap, arith}
+use Rattle.std.specs.Prelude.{◌||◌, not}
 use Rattle.std.proofs.lemmas.Bool.{or_left, or_right}
-use Rattle.std.proofs.lemmas.List.{take_more}
 use Rattle.nested_arrays_builder_parts.specs.arrays.columns.Cells.{is_null}
 use Rattle.nested_arrays_builder_parts.specs.arrays.columns.FreshColumns.{key_among}
 use Rattle.nested_arrays_builder_parts.specs.arrays.columns.SameSlots.{are_distinct, is_among, same_slot}
@@ -28,16 +27,6 @@ value_needs values s k apart some lt same =
     )
 
 -- ---- the greatest
-
-pub greatest_more : (ns : List ℕ) (i d : ℕ) → i < length ns → greatest (take (i + 1) ns) ≡ max (greatest (take i ns)) (get_or ns i d)
-greatest_more ns i d lt = ap greatest (take_more ns i d lt) ∙ behind (take i ns) (get_or ns i d)
-  where
-    gather : (a b c : ℕ) → max a (max b c) ≡ max (max a b) c
-    gather a b c = omega arith
-
-    behind : (ns : List ℕ) (n : ℕ) → greatest (ns ++ n ∷ []) ≡ max (greatest ns) n
-    behind [] n = omega arith
-    behind (m ∷ ns) n = ap (max m) (behind ns n) ∙ gather m (greatest ns) n
 
 pub greatest_first : (n : ℕ) (ns : List ℕ) → greatest (take n ns) ≤ greatest ns
 greatest_first zero ns = omega arith

@@ -2,3 +2,4 @@ pub mod Found
 pub mod Hashes
 pub mod Keyed
 pub mod Uses
+pub use Rattle.nested_arrays_builder_parts.specs as parts

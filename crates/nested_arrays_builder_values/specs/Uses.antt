@@ -1,5 +1,5 @@
 -- What the slots of a dictionary need of its values.
-use Rattle.std.specs.Prelude.{ℕ, zero, suc, max, List, [], ◌∷◌, map}
+use Rattle.std.specs.Prelude.{ℕ, zero, suc, ℤ, pos, max, List, [], ◌∷◌, map}
 use Rattle.nested_arrays_builder_parts.specs.arrays.columns.FreshColumns.{is_valid, key_among}
 use Rattle.nested_arrays_builder_parts.specs.arrays.columns.Slots.{Slot}
 use Rattle.nested_arrays_builder_parts.specs.growth.OpenParts.{used_by}
@@ -16,7 +16,16 @@ abbrev pub key_of : ℕ → ℕ
 key_of zero = 0
 key_of (suc key) = key
 
+-- the keys of slots that need so many
+abbrev pub keys_from : List ℕ → List ℤ
+keys_from uses = map (λ n. pos (key_of n)) uses
+
 -- the greatest of some numbers, or 0
 abbrev pub greatest : List ℕ → ℕ
 greatest [] = 0
 greatest (n ∷ ns) = max n (greatest ns)
+
+-- the greatest of the first one, two .. of some numbers and a first one
+abbrev pub totals_from : ℕ → List ℕ → List ℕ
+totals_from m [] = []
+totals_from m (n ∷ ns) = max m n ∷ totals_from (max m n) ns

@@ -1,11 +1,11 @@
 //! What a dictionary that grows holds beside its values.
-ghost use Rattle.std.specs.Prelude.{◌≡◌, ◌≤◌, ◌||◌, length, max, take, true};
+ghost use Rattle.std.specs.Prelude.{◌≡◌, true};
 ghost use Rattle.nested_arrays_builder_parts.specs.arrays.columns.Kinds.{most_values};
 ghost use Rattle.nested_arrays_builder_parts.specs.arrays.columns.SameSlots.{are_distinct};
 ghost use Rattle.nested_arrays_builder_parts.specs.Scalars.{scalar_slot};
 ghost use Rattle.nested_arrays_builder_values.specs.Keyed.{AddsUse, IsLearnt, IsNeeded};
-ghost use Rattle.nested_arrays_builder_values.specs.Uses.{greatest};
 
+use crate::uses::SlotUses;
 use crate::values::CellMap;
 use nested_arrays_builder_parts::columnar_memory::{Error, IntegerType, Result};
 use nested_arrays_builder_parts::{AnyScalar, Marks};
@@ -16,7 +16,7 @@ pub struct MutableKeys {
     /// The type of its keys.
     pub key: IntegerType,
     /// How many of the values each slot needs: one more than its key, and none under a null.
-    pub uses: Vec<usize>,
+    pub uses: SlotUses,
     /// The values as cells, by which they are found.
     pub known: CellMap,
 }
@@ -64,44 +64,16 @@ pub fn learn(most: usize, known: &mut CellMap, cell: &AnyScalar) -> Result<()>
 }
 
 /// Adds the mark of a slot and what it needs.
-pub fn add_use(marks: &mut Marks, uses: &mut Vec<usize>, mark: bool, need: usize) -> Result<()>
-    ensures { AddsUse marks.old uses.old.items mark need marks.new uses.new.items result }
+pub fn add_use(marks: &mut Marks, uses: &mut SlotUses, mark: bool, need: usize) -> Result<()>
+    ensures { AddsUse marks.old uses.old mark need marks.new uses.new result }
 {
+    let held = uses.len();
     uses.push(need)?;
     match marks.push(mark) {
         Ok(()) => Ok(()),
         Err(error) => {
-            uses.pop();
+            uses.truncate(held);
             Err(error)
         }
     }
-}
-
-/// Keeps what the first `len` slots need, and answers how many values this is.
-pub fn keep_uses(uses: &mut Vec<usize>, len: usize) -> usize
-    requires { len ≤ length uses.old.items }
-    ensures first { uses.new.items ≡ take len uses.old.items }
-    ensures need { result ≡ greatest (take len uses.old.items) }
-{
-    uses.truncate(len);
-    greatest_of(uses.as_slice())
-}
-
-/// The greatest of some numbers, or 0.
-#[tactic(auto, using(crate::proofs::Needs::greatest_more))]
-fn greatest_of(numbers: &[usize]) -> usize
-    ensures { result ≡ greatest numbers.now }
-{
-    let mut most = 0;
-    for number in numbers {
-        most = larger(most, *number);
-    }
-    most
-}
-
-/// The larger of two numbers.
-fn larger(a: usize, b: usize) -> usize
-    ensures { result ≡ max a b }
-{
-    if a < b { b } else { a }
 }

@@ -5,9 +5,13 @@
 mod cells;
 mod hashes;
 mod keys;
+mod uses;
 mod values;
 
 pub use cells::{copy_of_cell, same_cell};
 pub use hashes::hash_of;
-pub use keys::{MutableKeys, add_use, keep_uses, learn, most_values_of, needed};
+pub use keys::{MutableKeys, add_use, learn, most_values_of, needed};
+pub use nested_arrays_builder_parts as parts;
+pub use nested_arrays_builder_parts::{arrays, columnar_memory};
+pub use uses::SlotUses;
 pub use values::CellMap;

@@ -1,12 +1,12 @@
 -- Records that are not added.
 use Rattle.std.proofs.Common.{inl, inr, ◌≡◌, List, length, Bool, false, ap}
 use Rattle.std.specs.Prelude.{◌⊎◌, Err}
-use Rattle.nested_arrays_builder_parts.specs.arrays.columnar_memory.declared.Error.{Error}
-use Rattle.nested_arrays_builder_parts.specs.arrays.columnar_memory.Error.{IsOutOfMemory, IsOverflow}
-use Rattle.nested_arrays_builder_parts.specs.arrays.columns.Kinds.{most_slots}
-use Rattle.nested_arrays_builder_parts.specs.arrays.columns.Slots.{Slot}
-use Rattle.nested_arrays_builder_parts.specs.Marks.{TakesMark}
-use Rattle.nested_arrays_builder_parts.specs.Open.{Open}
+use Rattle.nested_arrays_builder_values.specs.parts.arrays.columnar_memory.declared.Error.{Error}
+use Rattle.nested_arrays_builder_values.specs.parts.arrays.columnar_memory.Error.{IsOutOfMemory, IsOverflow}
+use Rattle.nested_arrays_builder_values.specs.parts.arrays.columns.Kinds.{most_slots}
+use Rattle.nested_arrays_builder_values.specs.parts.arrays.columns.Slots.{Slot}
+use Rattle.nested_arrays_builder_values.specs.parts.Marks.{TakesMark}
+use Rattle.nested_arrays_builder_values.specs.parts.Open.{Open}
 use Rattle.nested_arrays_builders.specs.Parts.{of_fields, has_room, AddsSlot}
 
 module _ (marks : List Bool) (children : List Open) (s : Slot) (e : Error) where

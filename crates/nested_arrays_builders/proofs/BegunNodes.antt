@@ -5,21 +5,23 @@ use Rattle.std.specs.Prelude.{◌&&◌, ◌⊎◌, ◌==◌, nat_le}
 use Rattle.std.proofs.lemmas.Bool.{and_from, le-leb}
 use Rattle.std.proofs.lemmas.List.{take_more}
 use Rattle.std.proofs.lemmas.List.Folds.{list_all_at, list_all_more, list_any_at}
-use Rattle.nested_arrays_builder_parts.specs.arrays.columnar_memory.declared.DataType.{DataType}
-use Rattle.nested_arrays_builder_parts.specs.arrays.columnar_memory.declared.DataType.TheOpen as layer
-use Rattle.nested_arrays_builder_parts.specs.arrays.columnar_memory.declared.Error.{Error}
-use Rattle.nested_arrays_builder_parts.specs.arrays.columnar_memory.declared.Field.{Field}
-use Rattle.nested_arrays_builder_parts.specs.arrays.columnar_memory.Error.{IsInvalidArgument, IsNotYetImplemented, IsOutOfMemory}
-use Rattle.nested_arrays_builder_parts.specs.arrays.columnar_memory.Spans.{Spans, no_spans}
-use Rattle.nested_arrays_builder_parts.specs.arrays.columns.Children.{field_slots}
-use Rattle.nested_arrays_builder_parts.specs.arrays.columns.FreshLaws.{is_buildable, are_buildable}
-use Rattle.nested_arrays_builder_parts.specs.arrays.columns.Slots.{window}
-use Rattle.nested_arrays_builder_parts.specs.arrays.columns.StoredColumns.{slots, type_layer}
-use Rattle.nested_arrays_builder_parts.proofs.growth_lemmas.Below.{buildable_list, buildable_large_list, buildable_fixed_list, buildable_struct}
-use Rattle.nested_arrays_builder_parts.proofs.growth_lemmas.Fits.{nothing_fits}
-use Rattle.nested_arrays_builder_parts.specs.Open.{Open, opened}
+use Rattle.nested_arrays_builder_values.specs.parts.arrays.columnar_memory.declared.DataType.{DataType}
+use Rattle.nested_arrays_builder_values.specs.parts.arrays.columnar_memory.declared.DataType.TheOpen as layer
+use Rattle.nested_arrays_builder_values.specs.parts.arrays.columnar_memory.declared.Error.{Error}
+use Rattle.nested_arrays_builder_values.specs.parts.arrays.columnar_memory.declared.Field.{Field}
+use Rattle.nested_arrays_builder_values.specs.parts.arrays.columnar_memory.declared.IntegerType.{IntegerType}
+use Rattle.nested_arrays_builder_values.specs.parts.arrays.columnar_memory.Error.{IsInvalidArgument, IsNotYetImplemented, IsOutOfMemory}
+use Rattle.nested_arrays_builder_values.specs.parts.arrays.columnar_memory.Spans.{Spans, no_spans}
+use Rattle.nested_arrays_builder_values.specs.parts.arrays.columns.Children.{field_slots}
+use Rattle.nested_arrays_builder_values.specs.parts.arrays.columns.FreshLaws.{is_buildable, are_buildable}
+use Rattle.nested_arrays_builder_values.specs.parts.arrays.columns.Slots.{Slot, window}
+use Rattle.nested_arrays_builder_values.specs.parts.arrays.columns.StoredColumns.{slots, type_layer}
+use Rattle.nested_arrays_builder_values.proofs.parts_lemmas.growth_lemmas.Below.{buildable_list, buildable_large_list, buildable_fixed_list, buildable_struct}
+use Rattle.nested_arrays_builder_values.proofs.parts_lemmas.growth_lemmas.Below.{buildable_dictionary}
+use Rattle.nested_arrays_builder_values.proofs.parts_lemmas.growth_lemmas.Fits.{nothing_fits}
+use Rattle.nested_arrays_builder_values.specs.parts.Open.{Open, opened}
 use Rattle.nested_arrays_builders.specs.Begun.{are_unbuilt, fields_size, is_unbuilt, opened_none, IsNoBuilder}
-use Rattle.nested_arrays_builders.specs.Parts.{Parts, listed, sized, of_fields, opened_each, parts_column, type_size, HoldsParts, IsKept}
+use Rattle.nested_arrays_builders.specs.Parts.{Parts, listed, sized, of_fields, keyed, opened_each, parts_column, type_size, HoldsParts, IsKept}
 use Rattle.nested_arrays_builders.proofs.KeptNodes.{kept_again, view_kept}
 use Rattle.nested_arrays_builders.proofs.Unbuilt.{unbuilt_struct}
 
@@ -48,6 +50,16 @@ module _ (t : DataType) (item : Field) (o : Open) (made : o ≡ opened item.data
     marked = refl;
     held = subst (λ x. HoldsParts x (sized size o) []) (sym is) (refl, made);
   }
+
+pub begun_keyed : (t : DataType) (key : IntegerType) (value : DataType) (is_ordered : Bool) (uses : List ℕ) (known : List Slot) (o : Open)
+    → type_layer t ≡ layer.Dictionary key value is_ordered → uses ≡ [] → known ≡ [] → o ≡ opened value [] → is_buildable value ≡ true
+    → IsKept t [] (keyed key uses known o) []
+begun_keyed t key value is_ordered uses known o is unused unknown made can = record {
+  can = buildable_dictionary t key value is_ordered is ∙ can;
+  fit = nothing_fits t;
+  marked = refl;
+  held = subst (λ x. HoldsParts x (keyed key uses known o) []) (sym is) (refl, unused, unknown, made);
+}
 
 each_none : (us : List Field) (a : ℕ) → opened_none us ≡ opened_each us (window (field_slots []) a (length us))
 each_none [] a = refl

@@ -6,18 +6,18 @@ use Rattle.std.specs.List.{list_all}
 use Rattle.std.proofs.lemmas.Bool.{cases_Bool, eqb-true, false≢true}
 use Rattle.std.proofs.lemmas.List.{length-map}
 use Rattle.std.proofs.lemmas.List.Folds.{list_all_at}
-use Rattle.nested_arrays_builder_parts.specs.arrays.columns.Cells.{fit_each, is_list_of, is_list_of_size, is_record_of}
-use Rattle.nested_arrays_builder_parts.specs.arrays.columns.Children.{field_of, fixed_items_of, items_of, slot_number}
-use Rattle.nested_arrays_builder_parts.specs.arrays.columns.Rows.{Cell, cell_slot, cell_slots}
-use Rattle.nested_arrays_builder_parts.specs.arrays.columns.Slots.{Slot, null, items, fields, in_slots, slot_list, slot_then}
-use Rattle.nested_arrays_builder_parts.specs.growth.OpenParts.{is_list, is_list_sized, is_record_sized}
-use Rattle.nested_arrays_builder_parts.proofs.growth_lemmas.Pieces.{listed}
-use Rattle.nested_arrays_builder_parts.specs.Scalars.{in_cells, cell_step, cell_of, scalar_slot}
-use Rattle.nested_arrays_builder_parts.specs.declared.scalars.AnyScalar.{AnyScalar, map-AnyScalar}
-use Rattle.nested_arrays_builder_parts.specs.declared.scalars.AnyScalar.TheFolds.{fold-roll-AnyScalar}
-use Rattle.nested_arrays_builder_parts.specs.declared.scalars.AnyScalar.TheOpen as layer
-use Rattle.nested_arrays_builder_parts.specs.declared.scalars.AnyScalar.TheVariants as variant
-use Rattle.nested_arrays_builder_parts.specs.declared.scalars.AnyScalar.TheViews.{roll-AnyScalar, out-AnyScalar, roll-out-AnyScalar}
+use Rattle.nested_arrays_builder_values.specs.parts.arrays.columns.Cells.{fit_each, is_list_of, is_list_of_size, is_record_of}
+use Rattle.nested_arrays_builder_values.specs.parts.arrays.columns.Children.{field_of, fixed_items_of, items_of, slot_number}
+use Rattle.nested_arrays_builder_values.specs.parts.arrays.columns.Rows.{Cell, cell_slot, cell_slots}
+use Rattle.nested_arrays_builder_values.specs.parts.arrays.columns.Slots.{Slot, null, items, fields, in_slots, slot_list, slot_then}
+use Rattle.nested_arrays_builder_values.specs.parts.growth.OpenParts.{is_list, is_list_sized, is_record_sized}
+use Rattle.nested_arrays_builder_values.proofs.parts_lemmas.growth_lemmas.Pieces.{listed}
+use Rattle.nested_arrays_builder_values.specs.parts.Scalars.{in_cells, cell_step, cell_of, scalar_slot}
+use Rattle.nested_arrays_builder_values.specs.parts.declared.scalars.AnyScalar.{AnyScalar, map-AnyScalar}
+use Rattle.nested_arrays_builder_values.specs.parts.declared.scalars.AnyScalar.TheFolds.{fold-roll-AnyScalar}
+use Rattle.nested_arrays_builder_values.specs.parts.declared.scalars.AnyScalar.TheOpen as layer
+use Rattle.nested_arrays_builder_values.specs.parts.declared.scalars.AnyScalar.TheVariants as variant
+use Rattle.nested_arrays_builder_values.specs.parts.declared.scalars.AnyScalar.TheViews.{roll-AnyScalar, out-AnyScalar, roll-out-AnyScalar}
 use denote.Hole.Carrier
 use Rattle.nested_arrays_builders.proofs.TakenSlots.{each_has_one}
 

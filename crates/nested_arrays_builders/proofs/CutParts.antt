@@ -3,25 +3,32 @@ use Rattle.std.proofs.Common.{◌≡◌, ◌∙◌, ℕ, zero, suc, ◌+◌, ◌
 use Rattle.std.proofs.Common.{sym, ap, subst, arith, length-append}
 use Rattle.std.proofs.lemmas.Bool.{eqb-true}
 use Rattle.std.proofs.lemmas.List.{length-map, length-replicate}
-use Rattle.nested_arrays_builder_parts.specs.arrays.columnar_memory.declared.DataType.{DataType}
-use Rattle.nested_arrays_builder_parts.specs.arrays.columnar_memory.declared.DataType.TheOpen as layer
-use Rattle.nested_arrays_builder_parts.specs.arrays.columnar_memory.declared.Field.{Field}
-use Rattle.nested_arrays_builder_parts.specs.arrays.columnar_memory.Spans.{Spans, first_spans, last_of}
-use Rattle.nested_arrays_builder_parts.specs.arrays.columns.Children.{items_of, fixed_items_of, field_of, joined_items, joined_fixed_items, field_slots}
-use Rattle.nested_arrays_builder_parts.specs.arrays.columns.OpenBatch.{fits}
-use Rattle.nested_arrays_builder_parts.specs.arrays.columns.Slots.{Slot, null, items, slot_list, window}
-use Rattle.nested_arrays_builder_parts.specs.arrays.columns.StoredColumns.{slots, type_layer}
-use Rattle.nested_arrays_builder_parts.proofs.arrays_lemmas.columns_lemmas.FreshBelow.{pieces_length}
-use Rattle.nested_arrays_builder_parts.proofs.arrays_lemmas.columns_lemmas.FreshLengths.{Layer}
-use Rattle.nested_arrays_builder_parts.specs.growth.OpenParts.{is_list_sized, item_spans, slots_of_fields}
-use Rattle.nested_arrays_builder_parts.proofs.growth_lemmas.Below.{fixed_items_fit_below}
-use Rattle.nested_arrays_builder_parts.proofs.growth_lemmas.Fields.{fields_cut}
-use Rattle.nested_arrays_builder_parts.proofs.growth_lemmas.FirstOnes.{fixed_items_cut}
-use Rattle.nested_arrays_builder_parts.proofs.growth_lemmas.Limits.{first_ones_fit}
-use Rattle.nested_arrays_builder_parts.proofs.growth_lemmas.Masks.{marks_cut}
-use Rattle.nested_arrays_builder_parts.proofs.growth_lemmas.Pieces.{item_spans_cut, item_spans_last, joined_cut}
-use Rattle.nested_arrays_builder_parts.specs.Open.{Open, opened, first_slots}
-use Rattle.nested_arrays_builders.specs.Parts.{Parts, listed, sized, of_fields, parts_column, first_parts, opened_each, type_size, types_size}
+use Rattle.nested_arrays_builder_values.specs.parts.arrays.columnar_memory.declared.DataType.{DataType}
+use Rattle.nested_arrays_builder_values.specs.parts.arrays.columnar_memory.declared.DataType.TheOpen as layer
+use Rattle.nested_arrays_builder_values.specs.parts.arrays.columnar_memory.declared.Field.{Field}
+use Rattle.nested_arrays_builder_values.specs.parts.arrays.columnar_memory.declared.IntegerType.{IntegerType}
+use Rattle.nested_arrays_builder_values.specs.parts.arrays.columnar_memory.Spans.{Spans, first_spans, last_of}
+use Rattle.nested_arrays_builder_values.specs.parts.arrays.columns.Children.{items_of, fixed_items_of, field_of, joined_items, joined_fixed_items, field_slots}
+use Rattle.nested_arrays_builder_values.specs.parts.arrays.columns.Children.{dictionary_values}
+use Rattle.nested_arrays_builder_values.specs.parts.arrays.columns.OpenBatch.{fits}
+use Rattle.nested_arrays_builder_values.specs.parts.arrays.columns.SameSlots.{are_distinct}
+use Rattle.nested_arrays_builder_values.specs.parts.arrays.columns.Slots.{Slot, null, items, slot_list, window}
+use Rattle.nested_arrays_builder_values.specs.parts.arrays.columns.StoredColumns.{slots, type_layer}
+use Rattle.nested_arrays_builder_values.proofs.parts_lemmas.arrays_lemmas.columns_lemmas.FreshBelow.{pieces_length}
+use Rattle.nested_arrays_builder_values.proofs.parts_lemmas.arrays_lemmas.columns_lemmas.FreshLengths.{Layer}
+use Rattle.nested_arrays_builder_values.specs.parts.growth.OpenParts.{is_list_sized, item_spans, slots_of_fields}
+use Rattle.nested_arrays_builder_values.proofs.parts_lemmas.growth_lemmas.Below.{fixed_items_fit_below}
+use Rattle.nested_arrays_builder_values.proofs.parts_lemmas.growth_lemmas.Fields.{fields_cut}
+use Rattle.nested_arrays_builder_values.proofs.parts_lemmas.growth_lemmas.FirstOnes.{fixed_items_cut}
+use Rattle.nested_arrays_builder_values.proofs.parts_lemmas.growth_lemmas.Limits.{first_ones_fit}
+use Rattle.nested_arrays_builder_values.proofs.parts_lemmas.growth_lemmas.Masks.{marks_cut}
+use Rattle.nested_arrays_builder_values.proofs.parts_lemmas.growth_lemmas.Values.{values_distinct}
+use Rattle.nested_arrays_builder_values.proofs.parts_lemmas.growth_lemmas.Pieces.{item_spans_cut, item_spans_last, joined_cut}
+use Rattle.nested_arrays_builder_values.specs.parts.Open.{Open, opened, first_slots}
+use Rattle.nested_arrays_builder_values.specs.Uses.{greatest, use_among}
+use Rattle.nested_arrays_builder_values.proofs.Needs.{greatest_first}
+use Rattle.nested_arrays_builder_values.proofs.UsedValues.{all_used, uses_first, values_first_used}
+use Rattle.nested_arrays_builders.specs.Parts.{Parts, listed, sized, of_fields, keyed, parts_column, first_parts, opened_each, type_size, types_size}
 use Rattle.nested_arrays_builders.specs.Parts.{HoldsCount, HoldsParts, IsKept}
 use Rattle.nested_arrays_builders.proofs.KeptNodes.{view_kept, kept_again, kept_length}
 
@@ -73,6 +80,17 @@ fields_count_layer (layer.Struct us) children xs k d held lt =
     ap (λ (cs : List Open). length (get_or cs k d).slots) held ∙ each_count us xs 0 k d (omega (arith, lt, same))
 fields_count_layer _ children xs k d held lt = absurd held
 
+keyed_layer : (x : Layer) (key : IntegerType) (uses : List ℕ) (known : List Slot) (child : Open) (xs : List Slot)
+    → HoldsParts x (keyed key uses known child) xs
+    → (length uses ≡ length xs) × (greatest uses ≡ length child.slots) × (known ≡ child.slots) × (are_distinct known ≡ true)
+keyed_layer (layer.Dictionary own value is_ordered) key uses known child xs held = (
+  ap length held.1 ∙ length-map xs (use_among (dictionary_values xs)),
+  ap greatest held.1 ∙ all_used xs ∙ ap (λ (o : Open). length o.slots) (sym held.3),
+  held.2 ∙ ap (λ (o : Open). o.slots) (sym held.3),
+  ap are_distinct held.2 ∙ values_distinct xs,
+)
+keyed_layer _ key uses known child xs held = absurd held
+
 module _ (t : DataType) (marks : List Bool) (xs : List Slot) where
   -- the parts of n slots hold what these bring
   pub kept_count : (parts : Parts) → IsKept t marks parts xs → HoldsCount parts (length marks)
@@ -84,6 +102,9 @@ module _ (t : DataType) (marks : List Bool) (xs : List Slot) where
       fixed_layer t (type_layer t) size child xs refl kept.fit kept.held ∙ ap (λ m. size * m) (sym n)
   kept_count (of_fields children) kept = λ k d lt.
       fields_count_layer (type_layer t) children xs k d kept.held lt ∙ sym (kept_length t marks (of_fields children) xs kept)
+  kept_count (keyed key uses known child) kept =
+      let of = keyed_layer (type_layer t) key uses known child xs kept.held in
+      (of.0 ∙ sym (kept_length t marks (keyed key uses known child) xs kept), of.1, of.2, of.3)
 
 -- ---- what is held of the first slots
 
@@ -122,6 +143,12 @@ held_first t (layer.FixedSizeList item size) (sized own child) xs n is fit le he
 held_first t (layer.Struct us) (of_fields children) xs n is fit le held =
     ap (map (λ (o : Open). first_slots o n)) held ∙ first_of_each us (slots_of_fields (length us) xs) n
     ∙ ap (opened_each us) (sym (fields_cut (length us) n xs))
+held_first t (layer.Dictionary own value is_ordered) (keyed key uses known child) xs n is fit le held = (
+  held.0,
+  ap (take n) held.1 ∙ sym (uses_first n xs),
+  (λ j. take (greatest (take n (held.1 j))) (held.2 j)) ∙ sym (values_first_used n xs le),
+  (λ j. first_slots (held.3 j) (greatest (take n (held.1 j)))) ∙ ap (opened value) (sym (values_first_used n xs le)),
+)
 held_first t _ _ xs n is fit le held = absurd held
 
 pub kept_first : (t : DataType) (marks : List Bool) (parts : Parts) (xs : List Slot) (n : ℕ) → IsKept t marks parts xs → n ≤ length xs
@@ -148,6 +175,11 @@ module _ (t : DataType) (marks : List Bool) (parts : Parts) (o : Open) (is : ope
 
   pub cut_seen : opened t (slots (parts_column t after new)) ≡ first_slots o n
   cut_seen = view_kept t after new (take n o.slots) kept_then ∙ ap (λ t. opened t (take n o.slots)) (ap (λ (o : Open). o.data_type) is)
+
+-- the first slots of a dictionary name values that it has
+pub named_few : (uses : List ℕ) (values : List Slot) (len named : ℕ) → named ≡ greatest (take len uses) → greatest uses ≡ length values
+    → named ≤ length values
+named_few uses values len named is all = omega (arith, is, all, greatest_first len uses)
 
 -- ---- loops over children
 

@@ -1,11 +1,11 @@
 -- Builders by their nodes: without children, or with.
 use Rattle.std.proofs.Common.{◌≡◌, ◌∙◌, ℕ, ◌+◌, ◌≤◌, List, Bool, length, take, sym, ap, subst}
 use Rattle.std.specs.Prelude.{true, Result}
-use Rattle.nested_arrays_builder_parts.specs.arrays.columnar_memory.declared.Error.{Error}
-use Rattle.nested_arrays_builder_parts.specs.arrays.columns.Cells.{fits_cell}
-use Rattle.nested_arrays_builder_parts.specs.arrays.columns.Slots.{Slot}
-use Rattle.nested_arrays_builder_parts.specs.arrays.columns.StoredColumns.{slots}
-use Rattle.nested_arrays_builder_parts.specs.Open.{Open, opened, first_slots, IsPushed}
+use Rattle.nested_arrays_builder_values.specs.parts.arrays.columnar_memory.declared.Error.{Error}
+use Rattle.nested_arrays_builder_values.specs.parts.arrays.columns.Cells.{fits_cell}
+use Rattle.nested_arrays_builder_values.specs.parts.arrays.columns.Slots.{Slot}
+use Rattle.nested_arrays_builder_values.specs.parts.arrays.columns.StoredColumns.{slots}
+use Rattle.nested_arrays_builder_values.specs.parts.Open.{Open, opened, first_slots, IsPushed}
 use Rattle.nested_arrays_builders.specs.Nodes.{held_of, parts_of}
 use Rattle.nested_arrays_builders.specs.Parts.{seen, parts_column, parts_size, type_size, first_parts, takes_slot}
 use Rattle.nested_arrays_builders.specs.Parts.{AddsSlot, HoldsCount, IsHeld, IsKept}

@@ -9,10 +9,12 @@ pub mod MoreFits
 pub mod MoreParts
 pub mod PushedFields
 pub mod PushedItems
+pub mod PushedKeys
 pub mod PushedNodes
 pub mod SameNodes
 pub mod TakenSlots
 pub mod Unbuilt
-pub use Rattle.nested_arrays_builder_parts.proofs as parts_lemmas
-pub use Rattle.nested_arrays_builder_parts.proofs.growth_lemmas
-pub use Rattle.nested_arrays_builder_parts.proofs.arrays_lemmas.columns_lemmas
+pub use Rattle.nested_arrays_builder_values.proofs as values_lemmas
+pub use Rattle.nested_arrays_builder_values.proofs.parts_lemmas
+pub use Rattle.nested_arrays_builder_values.proofs.parts_lemmas.growth_lemmas
+pub use Rattle.nested_arrays_builder_values.proofs.parts_lemmas.arrays_lemmas.columns_lemmas

@@ -1,23 +1,25 @@
 -- When one more slot fits a builder.
 use Rattle.std.proofs.Common.{◌≡◌, ◌∙◌, ◌+◌, List, [], ◌∷◌, ◌++◌, length, Bool, true, false, refl, sym, ap}
-use Rattle.std.specs.Prelude.{◌&&◌, nat_le}
+use Rattle.std.specs.Prelude.{◌&&◌, ◌||◌, nat_le}
 use Rattle.std.specs.List.{list_all}
-use Rattle.nested_arrays_builder_parts.specs.arrays.columnar_memory.declared.DataType.{DataType}
-use Rattle.nested_arrays_builder_parts.specs.arrays.columnar_memory.declared.DataType.TheOpen as layer
-use Rattle.nested_arrays_builder_parts.specs.arrays.columnar_memory.declared.Field.{Field}
-use Rattle.nested_arrays_builder_parts.specs.arrays.columns.Children.{items_of, fixed_items_of, joined_items}
-use Rattle.nested_arrays_builder_parts.specs.arrays.columns.Kinds.{most_slots}
-use Rattle.nested_arrays_builder_parts.specs.arrays.columns.OpenBatch.{fits}
-use Rattle.nested_arrays_builder_parts.specs.arrays.columns.Rows.{columns_fit}
-use Rattle.nested_arrays_builder_parts.specs.arrays.columns.Slots.{Slot}
-use Rattle.nested_arrays_builder_parts.specs.arrays.columns.StoredColumns.{type_layer}
-use Rattle.nested_arrays_builder_parts.proofs.arrays_lemmas.columns_lemmas.FreshLengths.{Layer}
-use Rattle.nested_arrays_builder_parts.specs.growth.OpenParts.{is_list, is_list_sized, is_record_sized, slots_of_fields, fields_of_slot, pushed_each}
-use Rattle.nested_arrays_builder_parts.proofs.growth_lemmas.Fields.{fields_count}
-use Rattle.nested_arrays_builder_parts.proofs.growth_lemmas.OneMore.{list_fits_one_more, large_list_fits_one_more, fixed_list_fits_one_more}
-use Rattle.nested_arrays_builder_parts.proofs.growth_lemmas.OneMore.{struct_fits_one_more}
-use Rattle.nested_arrays_builder_parts.specs.Open.{Open, opened}
-use Rattle.nested_arrays_builders.specs.Parts.{Parts, listed, sized, of_fields, opened_each, with_each, with_slots, is_formed, most_end}
+use Rattle.nested_arrays_builder_values.specs.parts.arrays.columnar_memory.declared.DataType.{DataType}
+use Rattle.nested_arrays_builder_values.specs.parts.arrays.columnar_memory.declared.DataType.TheOpen as layer
+use Rattle.nested_arrays_builder_values.specs.parts.arrays.columnar_memory.declared.Field.{Field}
+use Rattle.nested_arrays_builder_values.specs.parts.arrays.columns.Cells.{is_null}
+use Rattle.nested_arrays_builder_values.specs.parts.arrays.columns.Children.{items_of, fixed_items_of, joined_items}
+use Rattle.nested_arrays_builder_values.specs.parts.arrays.columns.Kinds.{most_slots, most_values}
+use Rattle.nested_arrays_builder_values.specs.parts.arrays.columns.OpenBatch.{fits}
+use Rattle.nested_arrays_builder_values.specs.parts.arrays.columns.Rows.{columns_fit}
+use Rattle.nested_arrays_builder_values.specs.parts.arrays.columns.SameSlots.{is_among}
+use Rattle.nested_arrays_builder_values.specs.parts.arrays.columns.Slots.{Slot}
+use Rattle.nested_arrays_builder_values.specs.parts.arrays.columns.StoredColumns.{type_layer}
+use Rattle.nested_arrays_builder_values.proofs.parts_lemmas.arrays_lemmas.columns_lemmas.FreshLengths.{Layer}
+use Rattle.nested_arrays_builder_values.specs.parts.growth.OpenParts.{is_list, is_list_sized, is_record_sized, slots_of_fields, fields_of_slot, pushed_each}
+use Rattle.nested_arrays_builder_values.proofs.parts_lemmas.growth_lemmas.Fields.{fields_count}
+use Rattle.nested_arrays_builder_values.proofs.parts_lemmas.growth_lemmas.OneMore.{list_fits_one_more, large_list_fits_one_more, fixed_list_fits_one_more}
+use Rattle.nested_arrays_builder_values.proofs.parts_lemmas.growth_lemmas.OneMore.{struct_fits_one_more, dictionary_fits_one_more}
+use Rattle.nested_arrays_builder_values.specs.parts.Open.{Open, opened, with_slot}
+use Rattle.nested_arrays_builders.specs.Parts.{Parts, listed, sized, of_fields, keyed, opened_each, with_each, with_slots, is_formed, most_end}
 use Rattle.nested_arrays_builders.specs.Parts.{is_fitting, has_room, HoldsParts, IsKept}
 use Rattle.nested_arrays_builders.proofs.MoreParts.{with_opened, opened_count}
 
@@ -62,6 +64,10 @@ fits_layer t (layer.Struct us) (of_fields children) xs s is held fit =
     ∙ ap (λ b. is_record_sized (length us) s && nat_le (length xs + 1) most_slots && b) each
     ∙ (λ j. is_record_sized (sym many j) s && nat_le (length xs + 1) most_slots
     && list_all is_fitting (with_each (sym held j) (fields_of_slot (sym many j) s)))
+fits_layer t (layer.Dictionary own value is_ordered) (keyed key uses known child) xs s is held fit =
+    dictionary_fits_one_more t own value is_ordered is xs s fit
+    ∙ (λ j. nat_le (length xs + 1) most_slots && (is_null s || is_among s (sym held.2 j)
+    || (nat_le (length (sym held.2 j) + 1) (most_values (sym held.0 j)) && is_fitting (with_slot (sym held.3 j) s))))
 fits_layer t _ _ xs s is held fit = absurd held
 
 -- one more slot fits where it has the form, there is room for it, and what it brings fits below

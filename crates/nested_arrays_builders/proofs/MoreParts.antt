@@ -1,21 +1,24 @@
 -- Builders with one more slot.
 use Rattle.std.proofs.Common.{◌≡◌, ◌∙◌, suc, List, [], ◌∷◌, ◌++◌, length, Bool, true, refl, sym, ap, arith}
-use Rattle.nested_arrays_builder_parts.specs.arrays.columnar_memory.declared.DataType.{DataType}
-use Rattle.nested_arrays_builder_parts.specs.arrays.columnar_memory.declared.DataType.TheOpen as layer
-use Rattle.nested_arrays_builder_parts.specs.arrays.columnar_memory.declared.Field.{Field}
-use Rattle.nested_arrays_builder_parts.specs.arrays.columnar_memory.Spans.{Spans, extended}
-use Rattle.nested_arrays_builder_parts.specs.arrays.columns.Children.{items_of, fixed_items_of, joined_items, joined_fixed_items}
-use Rattle.nested_arrays_builder_parts.specs.arrays.columns.FreshColumns.{is_valid}
-use Rattle.nested_arrays_builder_parts.specs.arrays.columns.OpenBatch.{fits}
-use Rattle.nested_arrays_builder_parts.specs.arrays.columns.Slots.{Slot}
-use Rattle.nested_arrays_builder_parts.specs.arrays.columns.StoredColumns.{type_layer}
-use Rattle.nested_arrays_builder_parts.proofs.arrays_lemmas.columns_lemmas.FreshLengths.{Layer}
-use Rattle.nested_arrays_builder_parts.specs.growth.OpenParts.{slots_of_fields, fields_of_slot, pushed_each}
-use Rattle.nested_arrays_builder_parts.proofs.growth_lemmas.Fields.{fields_count, fields_one_more}
-use Rattle.nested_arrays_builder_parts.proofs.growth_lemmas.Masks.{marks_one_more}
-use Rattle.nested_arrays_builder_parts.proofs.growth_lemmas.Pieces.{item_spans_one_more, joined_one_more}
-use Rattle.nested_arrays_builder_parts.specs.Open.{Open, opened}
-use Rattle.nested_arrays_builders.specs.Parts.{Parts, listed, sized, of_fields, more_parts, opened_each, with_each, with_slots}
+use Rattle.nested_arrays_builder_values.specs.parts.arrays.columnar_memory.declared.DataType.{DataType}
+use Rattle.nested_arrays_builder_values.specs.parts.arrays.columnar_memory.declared.DataType.TheOpen as layer
+use Rattle.nested_arrays_builder_values.specs.parts.arrays.columnar_memory.declared.Field.{Field}
+use Rattle.nested_arrays_builder_values.specs.parts.arrays.columnar_memory.Spans.{Spans, extended}
+use Rattle.nested_arrays_builder_values.specs.parts.arrays.columns.Children.{items_of, fixed_items_of, joined_items, joined_fixed_items}
+use Rattle.nested_arrays_builder_values.specs.parts.arrays.columns.FreshColumns.{is_valid}
+use Rattle.nested_arrays_builder_values.specs.parts.arrays.columns.OpenBatch.{fits}
+use Rattle.nested_arrays_builder_values.specs.parts.arrays.columns.Slots.{Slot}
+use Rattle.nested_arrays_builder_values.specs.parts.arrays.columns.StoredColumns.{type_layer}
+use Rattle.nested_arrays_builder_values.proofs.parts_lemmas.arrays_lemmas.columns_lemmas.FreshLengths.{Layer}
+use Rattle.nested_arrays_builder_values.specs.parts.growth.OpenParts.{slots_of_fields, fields_of_slot, pushed_each, grown_values}
+use Rattle.nested_arrays_builder_values.proofs.parts_lemmas.growth_lemmas.Fields.{fields_count, fields_one_more}
+use Rattle.nested_arrays_builder_values.proofs.parts_lemmas.growth_lemmas.Masks.{marks_one_more}
+use Rattle.nested_arrays_builder_values.proofs.parts_lemmas.growth_lemmas.Pieces.{item_spans_one_more, joined_one_more}
+use Rattle.nested_arrays_builder_values.specs.parts.Open.{Open, opened}
+use Rattle.nested_arrays_builder_values.specs.Uses.{use_among}
+use Rattle.nested_arrays_builder_values.proofs.UsedValues.{uses_one_more}
+use Rattle.nested_arrays_builder_values.proofs.parts_lemmas.growth_lemmas.Values.{values_grow}
+use Rattle.nested_arrays_builders.specs.Parts.{Parts, listed, sized, of_fields, keyed, more_parts, opened_each, with_each, with_slots}
 use Rattle.nested_arrays_builders.specs.Parts.{HoldsParts, IsKept}
 
 -- ---- one more slot
@@ -59,6 +62,12 @@ held_more (layer.Struct us) (of_fields children) xs s held =
     let many : length children ≡ length us = ap length held ∙ opened_count us columns (fields_count (length us) xs) in
     (λ j. with_each (held j) (fields_of_slot (many j) s)) ∙ with_opened us columns (fields_of_slot (length us) s)
     ∙ ap (opened_each us) (sym (fields_one_more (length us) xs s))
+held_more (layer.Dictionary own value is_ordered) (keyed key uses known child) xs s held = (
+  held.0,
+  (λ j. held.1 j ++ use_among (grown_values (held.2 j) s) s ∷ []) ∙ sym (uses_one_more xs s),
+  (λ j. grown_values (held.2 j) s) ∙ sym (values_grow xs s),
+  (λ j. opened (held.3 j).data_type (grown_values (held.3 j).slots s)) ∙ ap (opened value) (sym (values_grow xs s)),
+)
 held_more _ _ xs s held = absurd held
 
 -- where one more slot fits it is kept with its mark and its parts

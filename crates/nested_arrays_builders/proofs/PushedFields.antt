@@ -7,13 +7,13 @@ use Rattle.std.proofs.lemmas.Bool.{and_parts, and_from, false≢true}
 use Rattle.std.proofs.lemmas.List.{take_at, take_all}
 use Rattle.std.proofs.lemmas.List.Folds.{list_all_at}
 use borrow.Author.Count.{below_more}
-use Rattle.nested_arrays_builder_parts.specs.arrays.columnar_memory.declared.Error.{Error}
-use Rattle.nested_arrays_builder_parts.specs.arrays.columns.Cells.{fits_cell, fit_each, is_record_of}
-use Rattle.nested_arrays_builder_parts.specs.arrays.columns.Children.{field_of, slot_number}
-use Rattle.nested_arrays_builder_parts.specs.arrays.columns.Slots.{Slot, Slots, null, fields, no_slot, slot_then, window}
-use Rattle.nested_arrays_builder_parts.proofs.arrays_lemmas.columns_lemmas.Fitting.{null_fits}
-use Rattle.nested_arrays_builder_parts.specs.growth.OpenParts.{fields_of_slot}
-use Rattle.nested_arrays_builder_parts.specs.Open.{Open, opened, first_slots, with_slot, IsRefusal}
+use Rattle.nested_arrays_builder_values.specs.parts.arrays.columnar_memory.declared.Error.{Error}
+use Rattle.nested_arrays_builder_values.specs.parts.arrays.columns.Cells.{fits_cell, fit_each, is_record_of}
+use Rattle.nested_arrays_builder_values.specs.parts.arrays.columns.Children.{field_of, slot_number}
+use Rattle.nested_arrays_builder_values.specs.parts.arrays.columns.Slots.{Slot, Slots, null, fields, no_slot, slot_then, window}
+use Rattle.nested_arrays_builder_values.proofs.parts_lemmas.arrays_lemmas.columns_lemmas.Fitting.{null_fits}
+use Rattle.nested_arrays_builder_values.specs.parts.growth.OpenParts.{fields_of_slot}
+use Rattle.nested_arrays_builder_values.specs.parts.Open.{Open, opened, first_slots, with_slot, IsRefusal}
 use Rattle.nested_arrays_builders.specs.Parts.{is_fitting, tests_of, with_each, IsShortOfEach}
 
 -- ---- the fields of a slot

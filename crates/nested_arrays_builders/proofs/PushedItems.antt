@@ -6,16 +6,16 @@ use Rattle.std.specs.Prelude.{◌&&◌, ◌==◌, replicate}
 use Rattle.std.specs.List.{list_all}
 use Rattle.std.proofs.lemmas.Bool.{and_parts, eqb-true, false≢true}
 use Rattle.std.proofs.lemmas.List.{take_at, take_all, take_more, take-append-drop, length-replicate}
-use Rattle.nested_arrays_builder_parts.specs.arrays.columnar_memory.declared.DataType.{DataType}
-use Rattle.nested_arrays_builder_parts.specs.arrays.columnar_memory.declared.Error.{Error}
-use Rattle.nested_arrays_builder_parts.specs.arrays.columns.Cells.{fits_cell, is_list_of_size}
-use Rattle.nested_arrays_builder_parts.specs.arrays.columns.Children.{fixed_items_of}
-use Rattle.nested_arrays_builder_parts.specs.arrays.columns.OpenBatch.{fits}
-use Rattle.nested_arrays_builder_parts.specs.arrays.columns.Slots.{Slot, null, items, slot_list}
-use Rattle.nested_arrays_builder_parts.proofs.arrays_lemmas.columns_lemmas.Fitting.{null_fits}
-use Rattle.nested_arrays_builder_parts.specs.growth.OpenParts.{is_list_sized}
-use Rattle.nested_arrays_builder_parts.proofs.growth_lemmas.Limits.{fits_not_with_more}
-use Rattle.nested_arrays_builder_parts.specs.Open.{Open, opened, first_slots, with_slot, IsRefusal}
+use Rattle.nested_arrays_builder_values.specs.parts.arrays.columnar_memory.declared.DataType.{DataType}
+use Rattle.nested_arrays_builder_values.specs.parts.arrays.columnar_memory.declared.Error.{Error}
+use Rattle.nested_arrays_builder_values.specs.parts.arrays.columns.Cells.{fits_cell, is_list_of_size}
+use Rattle.nested_arrays_builder_values.specs.parts.arrays.columns.Children.{fixed_items_of}
+use Rattle.nested_arrays_builder_values.specs.parts.arrays.columns.OpenBatch.{fits}
+use Rattle.nested_arrays_builder_values.specs.parts.arrays.columns.Slots.{Slot, null, items, slot_list}
+use Rattle.nested_arrays_builder_values.proofs.parts_lemmas.arrays_lemmas.columns_lemmas.Fitting.{null_fits}
+use Rattle.nested_arrays_builder_values.specs.parts.growth.OpenParts.{is_list_sized}
+use Rattle.nested_arrays_builder_values.proofs.parts_lemmas.growth_lemmas.Limits.{fits_not_with_more}
+use Rattle.nested_arrays_builder_values.specs.parts.Open.{Open, opened, first_slots, with_slot, IsRefusal}
 use Rattle.nested_arrays_builders.specs.Parts.{with_slots, IsShort}
 
 pub each_passes : {A : Type 0} (test : A → Bool) (xs : List A) (k : ℕ) (d : A) → list_all test xs ≡ true → k < length xs

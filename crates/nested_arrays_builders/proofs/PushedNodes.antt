@@ -3,16 +3,16 @@ use Rattle.std.proofs.Common.{inl, inr, ◌≡◌, ◌∙◌, ℕ, ◌<◌, ◌+
 use Rattle.std.specs.Prelude.{◌&&◌, ◌⊎◌, nat_le, Result, Ok, Err}
 use Rattle.std.proofs.lemmas.Bool.{le-leb, leb-true, cases_Bool}
 use Rattle.std.proofs.lemmas.List.{length-map}
-use Rattle.nested_arrays_builder_parts.specs.arrays.columnar_memory.declared.DataType.{DataType}
-use Rattle.nested_arrays_builder_parts.specs.arrays.columnar_memory.declared.Error.{Error}
-use Rattle.nested_arrays_builder_parts.specs.arrays.columnar_memory.Error.{IsOutOfMemory, IsOverflow}
-use Rattle.nested_arrays_builder_parts.specs.arrays.columns.Cells.{fits_cell}
-use Rattle.nested_arrays_builder_parts.specs.arrays.columns.FreshColumns.{is_valid}
-use Rattle.nested_arrays_builder_parts.specs.arrays.columns.Kinds.{most_slots}
-use Rattle.nested_arrays_builder_parts.specs.arrays.columns.OpenBatch.{fits}
-use Rattle.nested_arrays_builder_parts.specs.arrays.columns.Slots.{Slot}
-use Rattle.nested_arrays_builder_parts.specs.arrays.columns.StoredColumns.{slots}
-use Rattle.nested_arrays_builder_parts.specs.Open.{opened, IsPushed, IsRefusal}
+use Rattle.nested_arrays_builder_values.specs.parts.arrays.columnar_memory.declared.DataType.{DataType}
+use Rattle.nested_arrays_builder_values.specs.parts.arrays.columnar_memory.declared.Error.{Error}
+use Rattle.nested_arrays_builder_values.specs.parts.arrays.columnar_memory.Error.{IsOutOfMemory, IsOverflow}
+use Rattle.nested_arrays_builder_values.specs.parts.arrays.columns.Cells.{fits_cell}
+use Rattle.nested_arrays_builder_values.specs.parts.arrays.columns.FreshColumns.{is_valid}
+use Rattle.nested_arrays_builder_values.specs.parts.arrays.columns.Kinds.{most_slots}
+use Rattle.nested_arrays_builder_values.specs.parts.arrays.columns.OpenBatch.{fits}
+use Rattle.nested_arrays_builder_values.specs.parts.arrays.columns.Slots.{Slot}
+use Rattle.nested_arrays_builder_values.specs.parts.arrays.columns.StoredColumns.{slots}
+use Rattle.nested_arrays_builder_values.specs.parts.Open.{opened, IsPushed, IsRefusal}
 use Rattle.nested_arrays_builders.specs.Parts.{Parts, parts_column, more_parts, is_formed, has_room, AddsSlot, IsKept}
 use Rattle.nested_arrays_builders.proofs.KeptNodes.{view_kept, kept_again}
 use Rattle.nested_arrays_builders.proofs.MoreFits.{fits_more}

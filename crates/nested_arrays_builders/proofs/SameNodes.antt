@@ -1,11 +1,11 @@
 -- Builders that stay as they were.
 use Rattle.std.proofs.Common.{◌≡◌, ◌∙◌, ℕ, List, Bool, get_or, sym, ap, subst}
 use Rattle.std.specs.Prelude.{Some, slice_get}
-use Rattle.nested_arrays_builder_parts.specs.arrays.columns.FreshColumns.{is_valid}
-use Rattle.nested_arrays_builder_parts.specs.arrays.columns.Slots.{null}
-use Rattle.nested_arrays_builder_parts.specs.arrays.columns.StoredColumns.{slots}
-use Rattle.nested_arrays_builder_parts.specs.Open.{Open, opened}
-use Rattle.nested_arrays_builder_parts.proofs.KeptSlots.{mark_is}
+use Rattle.nested_arrays_builder_values.specs.parts.arrays.columns.FreshColumns.{is_valid}
+use Rattle.nested_arrays_builder_values.specs.parts.arrays.columns.Slots.{null}
+use Rattle.nested_arrays_builder_values.specs.parts.arrays.columns.StoredColumns.{slots}
+use Rattle.nested_arrays_builder_values.specs.parts.Open.{Open, opened}
+use Rattle.nested_arrays_builder_values.proofs.parts_lemmas.KeptSlots.{mark_is}
 use Rattle.nested_arrays_builders.specs.Nodes.{held_of, parts_of}
 use Rattle.nested_arrays_builders.specs.Parts.{nested, seen, parts_column, IsHeld, IsKept}
 use Rattle.nested_arrays_builders.specs.declared.any.Head.{Head}

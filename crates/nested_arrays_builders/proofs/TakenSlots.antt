@@ -2,18 +2,18 @@
 use Rattle.std.proofs.Common.{◌≡◌, ◌∙◌, suc, List, [], ◌∷◌, length, map, Bool, true, false, refl, sym, ap, arith}
 use Rattle.std.specs.Prelude.{◌&&◌}
 use Rattle.std.proofs.lemmas.Bool.{eq-eqb}
-use Rattle.nested_arrays_builder_parts.specs.arrays.columnar_memory.declared.DataType.{DataType}
-use Rattle.nested_arrays_builder_parts.specs.arrays.columnar_memory.declared.DataType.TheOpen as layer
-use Rattle.nested_arrays_builder_parts.specs.arrays.columnar_memory.declared.Field.{Field}
-use Rattle.nested_arrays_builder_parts.specs.arrays.columns.Cells.{fits_cell, fit_each, is_list_of, is_list_of_size, is_record_of}
-use Rattle.nested_arrays_builder_parts.specs.arrays.columns.Slots.{Slot, Slots, null, items, fields, no_slot, slot_then, slot_list}
-use Rattle.nested_arrays_builder_parts.specs.arrays.columns.StoredColumns.{type_layer}
-use Rattle.nested_arrays_builder_parts.proofs.arrays_lemmas.columns_lemmas.FreshLengths.{Layer, cell_field}
-use Rattle.nested_arrays_builder_parts.specs.growth.OpenParts.{slots_of_fields}
-use Rattle.nested_arrays_builder_parts.proofs.growth_lemmas.Fields.{fields_count}
-use Rattle.nested_arrays_builder_parts.proofs.growth_lemmas.TypeSteps.{cell_by_layer, cell_field_is}
-use Rattle.nested_arrays_builder_parts.specs.Open.{Open}
-use Rattle.nested_arrays_builders.specs.Parts.{Parts, listed, sized, of_fields, opened_each, tests_of, takes_slot, is_formed, HoldsParts, IsKept}
+use Rattle.nested_arrays_builder_values.specs.parts.arrays.columnar_memory.declared.DataType.{DataType}
+use Rattle.nested_arrays_builder_values.specs.parts.arrays.columnar_memory.declared.DataType.TheOpen as layer
+use Rattle.nested_arrays_builder_values.specs.parts.arrays.columnar_memory.declared.Field.{Field}
+use Rattle.nested_arrays_builder_values.specs.parts.arrays.columns.Cells.{fits_cell, fit_each, is_list_of, is_list_of_size, is_record_of}
+use Rattle.nested_arrays_builder_values.specs.parts.arrays.columns.Slots.{Slot, Slots, null, items, fields, no_slot, slot_then, slot_list}
+use Rattle.nested_arrays_builder_values.specs.parts.arrays.columns.StoredColumns.{type_layer}
+use Rattle.nested_arrays_builder_values.proofs.parts_lemmas.arrays_lemmas.columns_lemmas.FreshLengths.{Layer, cell_field}
+use Rattle.nested_arrays_builder_values.specs.parts.growth.OpenParts.{slots_of_fields}
+use Rattle.nested_arrays_builder_values.proofs.parts_lemmas.growth_lemmas.Fields.{fields_count}
+use Rattle.nested_arrays_builder_values.proofs.parts_lemmas.growth_lemmas.TypeSteps.{cell_by_layer, cell_field_is}
+use Rattle.nested_arrays_builder_values.specs.parts.Open.{Open}
+use Rattle.nested_arrays_builders.specs.Parts.{Parts, listed, sized, of_fields, keyed, opened_each, tests_of, takes_slot, is_formed, HoldsParts, IsKept}
 
 tests_opened : (us : List Field) (columns : List (List Slot)) → length columns ≡ length us → tests_of (opened_each us columns) ≡ map cell_field us
 tests_opened [] columns e = refl
@@ -36,6 +36,9 @@ takes_layer t (layer.Struct us) (of_fields children) xs s is held =
     ap (λ (f : Slot → Bool). f s) (cell_by_layer t (layer.Struct us) is)
     ∙ ap (λ tests. is_record_of tests s)
     (sym (ap tests_of held ∙ tests_opened us (slots_of_fields (length us) xs) (fields_count (length us) xs)))
+takes_layer t (layer.Dictionary own value is_ordered) (keyed key uses known child) xs s is held =
+    ap (λ (f : Slot → Bool). f s) (cell_by_layer t (layer.Dictionary own value is_ordered) is)
+    ∙ ap (λ (o : Open). fits_cell o.data_type s) (sym held.3)
 takes_layer t _ _ xs s is held = absurd held
 
 pub takes_is : (t : DataType) (marks : List Bool) (parts : Parts) (xs : List Slot) (s : Slot) → IsKept t marks parts xs
@@ -74,3 +77,4 @@ taken_is_formed (of_fields children) (fields ys) h =
     length_of_tests [] = refl
     length_of_tests (o ∷ os) = ap suc (length_of_tests os)
 taken_is_formed (of_fields children) _ h = absurd cc
+taken_is_formed (keyed key uses known child) s h = refl

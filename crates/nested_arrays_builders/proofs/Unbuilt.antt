@@ -3,25 +3,25 @@ use Rattle.std.proofs.Common.{inl, inr, ◌≡◌, ◌∙◌, ℕ, ◌<◌, List
 use Rattle.std.specs.Prelude.{◌||◌, ℤ, Option}
 use Rattle.std.specs.List.{list_any}
 use Rattle.std.proofs.lemmas.Bool.{le-leb}
-use Rattle.nested_arrays_builder_parts.specs.arrays.columnar_memory.declared.DataType.{DataType, map-DataType}
-use Rattle.nested_arrays_builder_parts.specs.arrays.columnar_memory.declared.DataType.TheFolds.{fold-Field, fold-roll-DataType, fold-roll-Field}
-use Rattle.nested_arrays_builder_parts.specs.arrays.columnar_memory.declared.DataType.TheOpen as layer
-use Rattle.nested_arrays_builder_parts.specs.arrays.columnar_memory.declared.DataType.TheVariants as types
-use Rattle.nested_arrays_builder_parts.specs.arrays.columnar_memory.declared.DataType.TheViews.{out-DataType, roll-DataType, out-roll-DataType, roll-out-DataType}
-use Rattle.nested_arrays_builder_parts.specs.arrays.columnar_memory.declared.Error.{Error}
-use Rattle.nested_arrays_builder_parts.specs.arrays.columnar_memory.declared.Field.{Field}
-use Rattle.nested_arrays_builder_parts.specs.arrays.columnar_memory.declared.IntegerType.{IntegerType}
-use Rattle.nested_arrays_builder_parts.specs.arrays.columnar_memory.declared.IntervalUnit.TheVariants as intervals
-use Rattle.nested_arrays_builder_parts.specs.arrays.columnar_memory.declared.UnionMode.{UnionMode}
-use Rattle.nested_arrays_builder_parts.specs.arrays.columnar_memory.Layouts.{logical_type}
+use Rattle.nested_arrays_builder_values.specs.parts.arrays.columnar_memory.declared.DataType.{DataType, map-DataType}
+use Rattle.nested_arrays_builder_values.specs.parts.arrays.columnar_memory.declared.DataType.TheFolds.{fold-Field, fold-roll-DataType, fold-roll-Field}
+use Rattle.nested_arrays_builder_values.specs.parts.arrays.columnar_memory.declared.DataType.TheOpen as layer
+use Rattle.nested_arrays_builder_values.specs.parts.arrays.columnar_memory.declared.DataType.TheVariants as types
+use Rattle.nested_arrays_builder_values.specs.parts.arrays.columnar_memory.declared.DataType.TheViews.{out-DataType, roll-DataType, out-roll-DataType, roll-out-DataType}
+use Rattle.nested_arrays_builder_values.specs.parts.arrays.columnar_memory.declared.Error.{Error}
+use Rattle.nested_arrays_builder_values.specs.parts.arrays.columnar_memory.declared.Field.{Field}
+use Rattle.nested_arrays_builder_values.specs.parts.arrays.columnar_memory.declared.IntegerType.{IntegerType}
+use Rattle.nested_arrays_builder_values.specs.parts.arrays.columnar_memory.declared.IntervalUnit.TheVariants as intervals
+use Rattle.nested_arrays_builder_values.specs.parts.arrays.columnar_memory.declared.UnionMode.{UnionMode}
+use Rattle.nested_arrays_builder_values.specs.parts.arrays.columnar_memory.Layouts.{logical_type}
 use denote.Hole.Carrier
-use Rattle.nested_arrays_builder_parts.specs.arrays.columns.FreshLaws.{is_buildable}
-use Rattle.nested_arrays_builder_parts.specs.arrays.columns.StoredColumns.{type_layer}
-use Rattle.nested_arrays_builder_parts.proofs.arrays_lemmas.columns_lemmas.FreshLengths.{Layer, buildable_layer}
-use Rattle.nested_arrays_builder_parts.proofs.arrays_lemmas.columns_lemmas.TypeLayers.{is_extension, layer_layout}
-use Rattle.nested_arrays_builder_parts.proofs.growth_lemmas.TypeSteps.{by_layer, buildable_by_layer, layout_by_layer, not_extended}
-use Rattle.nested_arrays_builder_parts.specs.NewValues.{is_of_floats}
-use Rattle.nested_arrays_builder_parts.specs.arrays.Childless.{is_childless}
+use Rattle.nested_arrays_builder_values.specs.parts.arrays.columns.FreshLaws.{is_buildable}
+use Rattle.nested_arrays_builder_values.specs.parts.arrays.columns.StoredColumns.{type_layer}
+use Rattle.nested_arrays_builder_values.proofs.parts_lemmas.arrays_lemmas.columns_lemmas.FreshLengths.{Layer, buildable_layer}
+use Rattle.nested_arrays_builder_values.proofs.parts_lemmas.arrays_lemmas.columns_lemmas.TypeLayers.{is_extension, layer_layout}
+use Rattle.nested_arrays_builder_values.proofs.parts_lemmas.growth_lemmas.TypeSteps.{by_layer, buildable_by_layer, layout_by_layer, not_extended}
+use Rattle.nested_arrays_builder_values.specs.parts.NewValues.{is_of_floats}
+use Rattle.nested_arrays_builder_values.specs.parts.arrays.Childless.{is_childless}
 use Rattle.nested_arrays_builders.specs.Begun.{unbuilt_step, is_unbuilt, are_unbuilt, IsNoBuilder, IsPlain}
 
 abbrev unbuilt_field : Field → Bool
@@ -54,6 +54,18 @@ module _ (t : DataType) where
 
   pub unbuilt_fixed_list : (item : Field) (size : ℕ) → type_layer t ≡ layer.FixedSizeList item size → is_unbuilt t ≡ is_unbuilt item.data_type
   unbuilt_fixed_list item size is = unbuilt_is t ∙ ap unbuilt_layer is ∙ unbuilt_field_is item
+
+  pub unbuilt_dictionary : (key : IntegerType) (value : DataType) (is_ordered : Bool) → type_layer t ≡ layer.Dictionary key value is_ordered
+      → is_unbuilt t ≡ (is_ordered || is_unbuilt value)
+  unbuilt_dictionary key value is_ordered is = unbuilt_is t ∙ ap unbuilt_layer is
+
+  pub unbuilt_ordered : (key : IntegerType) (value : DataType) (is_ordered : Bool) → type_layer t ≡ layer.Dictionary key value is_ordered
+      → is_ordered ≡ true → is_unbuilt t ≡ true
+  unbuilt_ordered key value is_ordered is ordered = unbuilt_dictionary key value is_ordered is ∙ ap (λ b. b || is_unbuilt value) ordered
+
+  pub unbuilt_unordered : (key : IntegerType) (value : DataType) (is_ordered : Bool) → type_layer t ≡ layer.Dictionary key value is_ordered
+      → is_ordered ≡ false → is_unbuilt t ≡ is_unbuilt value
+  unbuilt_unordered key value is_ordered is not = unbuilt_dictionary key value is_ordered is ∙ ap (λ b. b || is_unbuilt value) not
 
   pub unbuilt_struct : (us : List Field) → type_layer t ≡ layer.Struct us → is_unbuilt t ≡ are_unbuilt us
   unbuilt_struct us is = unbuilt_is t ∙ ap unbuilt_layer is ∙ any_unbuilt us
@@ -94,10 +106,11 @@ module _ (t d : DataType) (logical : d ≡ logical_type t) where
   unfolding roll-DataType denote.Hole.Carrier.roll
   no_union us ids mode is = unbuilt_is t ∙ ap unbuilt_layer (layer_of t d (layer.Union us ids mode) logical is)
 
-  pub no_dictionary : (key : IntegerType) (value : DataType) (is_ordered : Bool) → d ≡ types.Dictionary key value is_ordered → is_unbuilt t ≡ true
+  pub at_dictionary : (key : IntegerType) (value : DataType) (is_ordered : Bool) (own : DataType) → d ≡ types.Dictionary key value is_ordered
+      → own ≡ value → type_layer t ≡ layer.Dictionary key own is_ordered
   unfolding roll-DataType denote.Hole.Carrier.roll
-  no_dictionary key value is_ordered is =
-      unbuilt_is t ∙ ap unbuilt_layer (layer_of t d (layer.Dictionary key value is_ordered) logical is)
+  at_dictionary key value is_ordered own is got =
+      layer_of t d (layer.Dictionary key value is_ordered) logical is ∙ ap (λ v. layer.Dictionary key v is_ordered) (sym got)
 
   pub no_half : d ≡ types.Float16 → is_unbuilt t ≡ true
   unfolding roll-DataType denote.Hole.Carrier.roll

@@ -1,17 +1,17 @@
 -- Builders before any slot is pushed.
-use Rattle.std.specs.Prelude.{◌≡◌, ◌⊎◌, ◌+◌, ℕ, Bool, true, false, List, [], ◌∷◌, Result, MatchResult}
+use Rattle.std.specs.Prelude.{◌≡◌, ◌⊎◌, ◌+◌, ◌||◌, ℕ, Bool, true, false, List, [], ◌∷◌, Result, MatchResult}
 use Rattle.std.specs.List.{list_any}
-use Rattle.nested_arrays_builder_parts.specs.arrays.columnar_memory.declared.DataType.{DataType}
-use Rattle.nested_arrays_builder_parts.specs.arrays.columnar_memory.declared.DataType.TheOpen as layer
-use Rattle.nested_arrays_builder_parts.specs.arrays.columnar_memory.declared.DataType.TheFolds.{fold-DataType}
-use Rattle.nested_arrays_builder_parts.specs.arrays.columnar_memory.declared.Error.{Error}
-use Rattle.nested_arrays_builder_parts.specs.arrays.columnar_memory.declared.Field.{Field}
-use Rattle.nested_arrays_builder_parts.specs.arrays.columnar_memory.Layouts.{physical_type}
-use Rattle.nested_arrays_builder_parts.specs.arrays.columnar_memory.Error.{IsInvalidArgument, IsNotYetImplemented, IsOutOfMemory}
-use Rattle.nested_arrays_builder_parts.specs.arrays.columns.FreshLaws.{is_buildable, are_buildable}
-use Rattle.nested_arrays_builder_parts.specs.NewValues.{is_of_floats}
-use Rattle.nested_arrays_builder_parts.specs.Open.{Open, opened}
-use Rattle.nested_arrays_builder_parts.specs.arrays.Childless.{is_childless}
+use Rattle.nested_arrays_builder_values.specs.parts.arrays.columnar_memory.declared.DataType.{DataType}
+use Rattle.nested_arrays_builder_values.specs.parts.arrays.columnar_memory.declared.DataType.TheOpen as layer
+use Rattle.nested_arrays_builder_values.specs.parts.arrays.columnar_memory.declared.DataType.TheFolds.{fold-DataType}
+use Rattle.nested_arrays_builder_values.specs.parts.arrays.columnar_memory.declared.Error.{Error}
+use Rattle.nested_arrays_builder_values.specs.parts.arrays.columnar_memory.declared.Field.{Field}
+use Rattle.nested_arrays_builder_values.specs.parts.arrays.columnar_memory.Layouts.{physical_type}
+use Rattle.nested_arrays_builder_values.specs.parts.arrays.columnar_memory.Error.{IsInvalidArgument, IsNotYetImplemented, IsOutOfMemory}
+use Rattle.nested_arrays_builder_values.specs.parts.arrays.columns.FreshLaws.{is_buildable, are_buildable}
+use Rattle.nested_arrays_builder_values.specs.parts.NewValues.{is_of_floats}
+use Rattle.nested_arrays_builder_values.specs.parts.Open.{Open, opened}
+use Rattle.nested_arrays_builder_values.specs.parts.arrays.Childless.{is_childless}
 use Rattle.nested_arrays_builders.specs.Parts.{type_size}
 
 -- One layer of a type, where each type below stands as its answer: whether it has no builder yet.
@@ -25,11 +25,11 @@ unbuilt_step (layer.FixedSizeList item size) = item
 unbuilt_step (layer.Struct children) = list_any (λ child. child) children
 unbuilt_step (layer.Union children ids mode) = true
 unbuilt_step (layer.Map entry is_sorted) = true
-unbuilt_step (layer.Dictionary key value is_ordered) = true
+unbuilt_step (layer.Dictionary key value is_ordered) = is_ordered || value
 unbuilt_step (layer.Extension name inner metadata) = inner
 unbuilt_step _ = false
 
--- whether floats, maps, unions or dictionaries stand in a type
+-- whether floats, maps, unions or dictionaries with an order stand in a type
 abbrev pub is_unbuilt : DataType → Bool
 is_unbuilt = fold-DataType Bool Bool unbuilt_step (λ field. field.data_type)
 

@@ -1,21 +1,24 @@
 -- The column of parts that hold some slots is the one that stores them.
+use Rattle.std.specs.Prelude.{pos}
 use Rattle.std.proofs.Common.{◌≡◌, ◌∙◌, List, [], ◌∷◌, Bool, length, map, refl, sym, ap}
 use Rattle.std.proofs.lemmas.List.{length-map}
-use Rattle.nested_arrays_builder_parts.specs.arrays.columnar_memory.declared.DataType.{DataType}
-use Rattle.nested_arrays_builder_parts.specs.arrays.columnar_memory.declared.DataType.TheOpen as layer
-use Rattle.nested_arrays_builder_parts.specs.arrays.columnar_memory.declared.Field.{Field}
-use Rattle.nested_arrays_builder_parts.specs.arrays.columnar_memory.Spans.{offsets_of}
-use Rattle.nested_arrays_builder_parts.specs.arrays.columns.FreshColumns.{is_valid, mask_of, fresh}
-use Rattle.nested_arrays_builder_parts.specs.arrays.columns.Rows.{fresh_columns}
-use Rattle.nested_arrays_builder_parts.specs.arrays.columns.Slots.{Slot}
-use Rattle.nested_arrays_builder_parts.specs.arrays.columns.StoredColumns.{lists, fixed_lists, records, in_columns, type_layer}
-use Rattle.nested_arrays_builder_parts.proofs.arrays_lemmas.columns_lemmas.FreshLengths.{Layer}
-use Rattle.nested_arrays_builder_parts.specs.growth.OpenParts.{marks_of, mask_from, slots_of_fields}
-use Rattle.nested_arrays_builder_parts.proofs.growth_lemmas.LayerParts.{fresh_list, fresh_large_list, fresh_fixed_list, fresh_struct}
-use Rattle.nested_arrays_builder_parts.proofs.growth_lemmas.Masks.{mask_is}
-use Rattle.nested_arrays_builder_parts.proofs.growth_lemmas.Pieces.{item_spans_are}
-use Rattle.nested_arrays_builder_parts.specs.Open.{column_of}
-use Rattle.nested_arrays_builders.specs.Parts.{Parts, listed, sized, of_fields, parts_column, opened_each, HoldsParts, IsKept}
+use Rattle.nested_arrays_builder_values.specs.parts.arrays.columnar_memory.declared.DataType.{DataType}
+use Rattle.nested_arrays_builder_values.specs.parts.arrays.columnar_memory.declared.DataType.TheOpen as layer
+use Rattle.nested_arrays_builder_values.specs.parts.arrays.columnar_memory.declared.Field.{Field}
+use Rattle.nested_arrays_builder_values.specs.parts.arrays.columnar_memory.Spans.{offsets_of}
+use Rattle.nested_arrays_builder_values.specs.parts.arrays.columns.Children.{dictionary_values}
+use Rattle.nested_arrays_builder_values.specs.parts.arrays.columns.FreshColumns.{is_valid, key_among, mask_of, fresh}
+use Rattle.nested_arrays_builder_values.specs.parts.arrays.columns.Rows.{fresh_columns}
+use Rattle.nested_arrays_builder_values.specs.parts.arrays.columns.Slots.{Slot, null}
+use Rattle.nested_arrays_builder_values.specs.parts.arrays.columns.StoredColumns.{lists, fixed_lists, records, dictionary, in_columns, type_layer}
+use Rattle.nested_arrays_builder_values.proofs.parts_lemmas.arrays_lemmas.columns_lemmas.FreshLengths.{Layer}
+use Rattle.nested_arrays_builder_values.specs.parts.growth.OpenParts.{marks_of, mask_from, slots_of_fields}
+use Rattle.nested_arrays_builder_values.proofs.parts_lemmas.growth_lemmas.LayerParts.{fresh_list, fresh_large_list, fresh_fixed_list, fresh_struct, fresh_dictionary}
+use Rattle.nested_arrays_builder_values.proofs.parts_lemmas.growth_lemmas.Masks.{mask_is}
+use Rattle.nested_arrays_builder_values.proofs.parts_lemmas.growth_lemmas.Pieces.{item_spans_are}
+use Rattle.nested_arrays_builder_values.specs.Uses.{key_of, keys_from, use_among, uses_among}
+use Rattle.nested_arrays_builder_values.specs.parts.Open.{column_of}
+use Rattle.nested_arrays_builders.specs.Parts.{Parts, listed, sized, of_fields, keyed, parts_column, opened_each, HoldsParts, IsKept}
 
 columns_each : (us : List Field) (columns : List (List Slot)) → map column_of (opened_each us columns) ≡ fresh_columns us columns
 columns_each [] columns = refl
@@ -27,6 +30,14 @@ count_is marks xs marked = ap length marked ∙ length-map xs is_valid
 
 masked : (marks : List Bool) (xs : List Slot) → marks ≡ marks_of xs → mask_from marks ≡ mask_of xs
 masked marks xs marked = ap mask_from marked ∙ sym (mask_is xs)
+
+key_needed : (values : List Slot) (x : Slot) → key_of (use_among values x) ≡ key_among values x
+key_needed values null = refl
+key_needed values _ = refl
+
+keys_needed : (values xs : List Slot) → keys_from (uses_among values xs) ≡ map (λ x. pos (key_among values x)) xs
+keys_needed values [] = refl
+keys_needed values (x ∷ xs) = λ j. pos (key_needed values x j) ∷ keys_needed values xs j
 
 column_of_parts : (t : DataType) (x : Layer) (marks : List Bool) (parts : Parts) (xs : List Slot) → type_layer t ≡ x → marks ≡ marks_of xs
     → HoldsParts x parts xs → parts_column t marks parts ≡ fresh t xs
@@ -41,6 +52,9 @@ column_of_parts t (layer.FixedSizeList item size) marks (sized own child) xs is 
 column_of_parts t (layer.Struct us) marks (of_fields children) xs is marked held =
     let columns = ap (map column_of) held ∙ columns_each us (slots_of_fields (length us) xs) in
     (λ j. records t (masked marks xs marked j) (count_is marks xs marked j) (in_columns (columns j))) ∙ sym (fresh_struct t us is xs)
+column_of_parts t (layer.Dictionary own value is_ordered) marks (keyed key uses known child) xs is marked held =
+    let keys = ap keys_from held.1 ∙ keys_needed (dictionary_values xs) xs in
+    (λ j. dictionary t (masked marks xs marked j) (keys j) (column_of (held.3 j))) ∙ sym (fresh_dictionary t own value is_ordered is xs)
 column_of_parts t _ marks _ xs is marked held = absurd held
 
 pub column_kept : (t : DataType) (marks : List Bool) (parts : Parts) (xs : List Slot) → IsKept t marks parts xs

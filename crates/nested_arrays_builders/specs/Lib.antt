@@ -1,11 +1,13 @@
 pub mod Begun
 pub mod KeptColumns
+pub mod Keyed
 pub mod Nodes
 pub mod Parts
 pub mod Sizes
 pub mod TypeSizes
 pub mod Widths
-pub use Rattle.nested_arrays_builder_parts.specs as parts
-pub use Rattle.nested_arrays_builder_parts.specs.growth
-pub use Rattle.nested_arrays_builder_parts.specs.arrays.columns
-pub use Rattle.nested_arrays_builder_parts.specs.arrays.columnar_memory
+pub use Rattle.nested_arrays_builder_values.specs as values
+pub use Rattle.nested_arrays_builder_values.specs.parts
+pub use Rattle.nested_arrays_builder_values.specs.parts.growth
+pub use Rattle.nested_arrays_builder_values.specs.parts.arrays.columns
+pub use Rattle.nested_arrays_builder_values.specs.parts.arrays.columnar_memory

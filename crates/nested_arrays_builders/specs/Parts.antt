@@ -1,24 +1,27 @@
 -- What a builder holds beside its marks: the column that it stores, and which parts hold which slots.
-use Rattle.std.specs.Prelude.{◌≡◌, ◌⊎◌, ◌<◌, ℕ, ◌+◌, ◌*◌, ◌≤◌, ◌&&◌, nat_le, Bool, true, false, List, [], ◌∷◌, ◌++◌, length, map, take, All}
+use Rattle.std.specs.Prelude.{◌≡◌, ◌⊎◌, ◌<◌, ℕ, ◌+◌, ◌*◌, ◌≤◌, ◌&&◌, ◌||◌, nat_le, Bool, true, false, List, [], ◌∷◌, ◌++◌, length, map, take, All}
 use Rattle.std.specs.Prelude.{Result, MatchResult}
 use Rattle.std.specs.List.{list_all}
-use Rattle.nested_arrays_builder_parts.specs.arrays.columnar_memory.declared.DataType.{DataType}
-use Rattle.nested_arrays_builder_parts.specs.arrays.columnar_memory.declared.DataType.TheOpen as layer
-use Rattle.nested_arrays_builder_parts.specs.arrays.columnar_memory.declared.Error.{Error}
-use Rattle.nested_arrays_builder_parts.specs.arrays.columnar_memory.declared.Field.{Field}
-use Rattle.nested_arrays_builder_parts.specs.arrays.columnar_memory.Error.{IsOutOfMemory, IsOverflow}
-use Rattle.nested_arrays_builder_parts.specs.arrays.columnar_memory.Spans.{Spans, offsets_of, extended, first_spans, last_of}
-use Rattle.nested_arrays_builder_parts.specs.arrays.columns.Cells.{fits_cell, is_list_of, is_list_of_size, is_record_of}
-use Rattle.nested_arrays_builder_parts.specs.arrays.columns.Children.{items_of, fixed_items_of, joined_items, joined_fixed_items}
-use Rattle.nested_arrays_builder_parts.specs.arrays.columns.FreshColumns.{fresh, is_valid}
-use Rattle.nested_arrays_builder_parts.specs.arrays.columns.FreshLaws.{is_buildable}
-use Rattle.nested_arrays_builder_parts.specs.arrays.columns.Kinds.{most_slots}
-use Rattle.nested_arrays_builder_parts.specs.arrays.columns.OpenBatch.{most_short, most_long, fits}
-use Rattle.nested_arrays_builder_parts.specs.arrays.columns.Slots.{Slot}
-use Rattle.nested_arrays_builder_parts.specs.arrays.columns.StoredColumns.{Column, column_size, lists, fixed_lists, records, in_columns, slots, type_layer}
-use Rattle.nested_arrays_builder_parts.specs.growth.OpenParts.{marks_of, mask_from, item_spans, slots_of_fields, fields_of_slot, is_list, is_list_sized}
-use Rattle.nested_arrays_builder_parts.specs.growth.OpenParts.{is_record_sized}
-use Rattle.nested_arrays_builder_parts.specs.Open.{Open, opened, column_of, first_slots, with_slot, IsWithin}
+use Rattle.nested_arrays_builder_values.specs.parts.arrays.columnar_memory.declared.DataType.{DataType}
+use Rattle.nested_arrays_builder_values.specs.parts.arrays.columnar_memory.declared.DataType.TheOpen as layer
+use Rattle.nested_arrays_builder_values.specs.parts.arrays.columnar_memory.declared.Error.{Error}
+use Rattle.nested_arrays_builder_values.specs.parts.arrays.columnar_memory.declared.Field.{Field}
+use Rattle.nested_arrays_builder_values.specs.parts.arrays.columnar_memory.declared.IntegerType.{IntegerType}
+use Rattle.nested_arrays_builder_values.specs.parts.arrays.columnar_memory.Error.{IsOutOfMemory, IsOverflow}
+use Rattle.nested_arrays_builder_values.specs.parts.arrays.columnar_memory.Spans.{Spans, offsets_of, extended, first_spans, last_of}
+use Rattle.nested_arrays_builder_values.specs.parts.arrays.columns.Cells.{fits_cell, is_null, is_list_of, is_list_of_size, is_record_of}
+use Rattle.nested_arrays_builder_values.specs.parts.arrays.columns.Children.{items_of, fixed_items_of, joined_items, joined_fixed_items, dictionary_values}
+use Rattle.nested_arrays_builder_values.specs.parts.arrays.columns.FreshColumns.{fresh, is_valid}
+use Rattle.nested_arrays_builder_values.specs.parts.arrays.columns.FreshLaws.{is_buildable}
+use Rattle.nested_arrays_builder_values.specs.parts.arrays.columns.Kinds.{most_slots, most_values}
+use Rattle.nested_arrays_builder_values.specs.parts.arrays.columns.OpenBatch.{most_short, most_long, fits}
+use Rattle.nested_arrays_builder_values.specs.parts.arrays.columns.SameSlots.{is_among, are_distinct}
+use Rattle.nested_arrays_builder_values.specs.parts.arrays.columns.Slots.{Slot}
+use Rattle.nested_arrays_builder_values.specs.parts.arrays.columns.StoredColumns.{Column, column_size, lists, fixed_lists, records, dictionary, in_columns, slots, type_layer}
+use Rattle.nested_arrays_builder_values.specs.parts.growth.OpenParts.{marks_of, mask_from, item_spans, slots_of_fields, fields_of_slot, is_list, is_list_sized}
+use Rattle.nested_arrays_builder_values.specs.parts.growth.OpenParts.{is_record_sized, grown_values}
+use Rattle.nested_arrays_builder_values.specs.Uses.{greatest, keys_from, use_among, uses_among}
+use Rattle.nested_arrays_builder_values.specs.parts.Open.{Open, opened, column_of, first_slots, with_slot, IsWithin}
 
 pub data Parts : Type 0 where
   -- lists: whether their offsets are large, the spans of their items, and these
@@ -27,6 +30,8 @@ pub data Parts : Type 0 where
   sized : ℕ → Open → Parts
   -- an open column for each field
   of_fields : List Open → Parts
+  -- dictionaries: the type of their keys, how many of the values each slot needs, and the values, as they are found and as they are held
+  keyed : IntegerType → List ℕ → List Slot → Open → Parts
 
 -- what a builder is: one without children, or a data type, marks, and what is held beside them
 pub data Held : Type 0 where
@@ -38,6 +43,7 @@ abbrev pub parts_column : DataType → List Bool → Parts → Column
 parts_column t marks (listed large spans child) = lists t (mask_from marks) (offsets_of spans) (column_of child)
 parts_column t marks (sized size child) = fixed_lists t (mask_from marks) size (column_of child)
 parts_column t marks (of_fields children) = records t (mask_from marks) (length marks) (in_columns (map column_of children))
+parts_column t marks (keyed key uses known child) = dictionary t (mask_from marks) (keys_from uses) (column_of child)
 
 -- the open column that a builder is
 abbrev pub seen : Held → Open
@@ -49,6 +55,8 @@ abbrev pub first_parts : Parts → ℕ → Parts
 first_parts (listed large spans child) n = listed large (first_spans spans n) (first_slots child (last_of (first_spans spans n)))
 first_parts (sized size child) n = sized size (first_slots child (size * n))
 first_parts (of_fields children) n = of_fields (map (λ o. first_slots o n) children)
+first_parts (keyed key uses known child) n =
+    keyed key (take n uses) (take (greatest (take n uses)) known) (first_slots child (greatest (take n uses)))
 
 -- more slots behind
 abbrev pub with_slots : Open → List Slot → Open
@@ -66,12 +74,15 @@ more_parts (listed large spans child) slot =
     listed large (extended spans (length (items_of slot) ∷ [])) (with_slots child (items_of slot))
 more_parts (sized size child) slot = sized size (with_slots child (fixed_items_of size slot))
 more_parts (of_fields children) slot = of_fields (with_each children (fields_of_slot (length children) slot))
+more_parts (keyed key uses known child) slot = keyed key (uses ++ use_among (grown_values known slot) slot ∷ []) (grown_values known slot)
+    (opened child.data_type (grown_values child.slots slot))
 
 -- whether a slot is one of the form that the parts hold
 abbrev pub is_formed : Parts → Slot → Bool
 is_formed (listed large spans child) slot = is_list slot
 is_formed (sized size child) slot = is_list_sized size slot
 is_formed (of_fields children) slot = is_record_sized (length children) slot
+is_formed (keyed key uses known child) slot = true
 
 -- the test of each of some open columns
 abbrev pub tests_of : List Open → List (Slot → Bool)
@@ -82,6 +93,7 @@ abbrev pub takes_slot : Parts → Slot → Bool
 takes_slot (listed large spans child) slot = is_list_of (fits_cell child.data_type) slot
 takes_slot (sized size child) slot = is_list_of_size size (fits_cell child.data_type) slot
 takes_slot (of_fields children) slot = is_record_of (tests_of children) slot
+takes_slot (keyed key uses known child) slot = fits_cell child.data_type slot
 
 -- the greatest offset of 64 bits, or else of 32
 abbrev pub most_end : Bool → ℕ
@@ -98,6 +110,8 @@ has_room (listed large spans child) slot =
     nat_le (length child.slots + length (items_of slot)) (most_end large) && is_fitting (with_slots child (items_of slot))
 has_room (sized size child) slot = is_fitting (with_slots child (fixed_items_of size slot))
 has_room (of_fields children) slot = list_all is_fitting (with_each children (fields_of_slot (length children) slot))
+has_room (keyed key uses known child) slot = is_null slot || is_among slot known
+    || (nat_le (length known + 1) (most_values key) && is_fitting (with_slot child slot))
 
 -- how many columns a type has, itself among them: a measure for what is cut and pushed
 abbrev pub type_size : DataType → ℕ
@@ -112,6 +126,7 @@ abbrev pub parts_size : Parts → ℕ
 parts_size (listed large spans child) = type_size child.data_type
 parts_size (sized size child) = type_size child.data_type
 parts_size (of_fields children) = types_size children
+parts_size (keyed key uses known child) = type_size child.data_type
 
 -- an open column for each field
 abbrev pub opened_each : List Field → List (List Slot) → List Open
@@ -128,6 +143,9 @@ HoldsParts (layer.LargeList item) (listed large spans child) some =
 HoldsParts (layer.FixedSizeList item size) (sized held child) some =
     (held ≡ size) × (child ≡ opened item.data_type (joined_fixed_items size some))
 HoldsParts (layer.Struct fields) (of_fields children) some = children ≡ opened_each fields (slots_of_fields (length fields) some)
+HoldsParts (layer.Dictionary own value is_ordered) (keyed key uses known child) some =
+    (key ≡ own) × (uses ≡ uses_among (dictionary_values some) some) × (known ≡ dictionary_values some)
+    × (child ≡ opened value (dictionary_values some))
 HoldsParts _ _ some = ⊥
 
 -- These slots are kept as a mark each and what is held beside them, and they fit.
@@ -147,6 +165,8 @@ abbrev pub HoldsCount : Parts → ℕ → Type 0
 HoldsCount (listed large spans child) n = (length spans.lengths ≡ n) × (last_of spans ≡ length child.slots)
 HoldsCount (sized size child) n = length child.slots ≡ size * n
 HoldsCount (of_fields children) n = All (λ (o : Open). length o.slots ≡ n) children
+HoldsCount (keyed key uses known child) n =
+    (length uses ≡ n) × (greatest uses ≡ length child.slots) × (known ≡ child.slots) × (are_distinct known ≡ true)
 
 -- ---- pushes
 

@@ -1,8 +1,8 @@
 -- Each child of a builder has a type of fewer columns than the builder.
 use Rattle.std.specs.Prelude.{◌+◌, ◌*◌, ◌≤◌, max, List, [], ◌∷◌}
 use Rattle.std.proofs.Common.{arith}
-use Rattle.nested_arrays_builder_parts.specs.arrays.columns.StoredColumns.{slots}
-use Rattle.nested_arrays_builder_parts.specs.Open.{Open}
+use Rattle.nested_arrays_builder_values.specs.parts.arrays.columns.StoredColumns.{slots}
+use Rattle.nested_arrays_builder_values.specs.parts.Open.{Open}
 use Rattle.nested_arrays_builders.specs.Nodes.{held_of, parts_of}
 use Rattle.nested_arrays_builders.specs.Parts.{seen, parts_column, parts_size, type_size, types_size, IsHeld}
 use Rattle.nested_arrays_builders.specs.TypeSizes.{parts_are_smaller}
@@ -21,6 +21,7 @@ below_parts : (children : MutableChildren) → deep-MutableChildren children ≤
 below_parts (below.List offsets child) = omega arith
 below_parts (below.FixedSizeList size child) = omega arith
 below_parts (below.Struct children) = omega (arith, most_of_opens children.items)
+below_parts (below.Dictionary keys child) = omega arith
 
 -- no child is deeper than its builder
 pub node_is_deep : (node : MutableNode) → IsHeld (held_of node) → max (deep-MutableNode node) 0 ≤ 4 * type_size (seen (held_of node)).data_type

@@ -1,18 +1,19 @@
 -- The types below a builder have fewer columns than its own.
 use Rattle.std.proofs.Common.{◌≡◌, ◌∙◌, ℕ, ◌+◌, List, [], ◌∷◌, length, Bool, sym, ap, refl}
-use Rattle.nested_arrays_builder_parts.specs.arrays.columnar_memory.declared.DataType.{DataType}
-use Rattle.nested_arrays_builder_parts.specs.arrays.columnar_memory.declared.DataType.TheOpen as layer
-use Rattle.nested_arrays_builder_parts.specs.arrays.columnar_memory.declared.Field.{Field}
-use Rattle.nested_arrays_builder_parts.specs.arrays.columns.Children.{field_slots}
-use Rattle.nested_arrays_builder_parts.specs.arrays.columns.Rows.{fresh_columns}
-use Rattle.nested_arrays_builder_parts.specs.arrays.columns.Slots.{Slot, window}
-use Rattle.nested_arrays_builder_parts.specs.arrays.columns.StoredColumns.{column_size, columns_size, in_columns, type_layer}
-use Rattle.nested_arrays_builder_parts.proofs.arrays_lemmas.columns_lemmas.FreshLengths.{Layer}
-use Rattle.nested_arrays_builder_parts.specs.growth.OpenParts.{slots_of_fields}
-use Rattle.nested_arrays_builder_parts.proofs.growth_lemmas.LayerParts.{fresh_list, fresh_large_list, fresh_fixed_list, fresh_struct}
-use Rattle.nested_arrays_builder_parts.specs.Open.{Open}
+use Rattle.nested_arrays_builder_values.specs.parts.arrays.columnar_memory.declared.DataType.{DataType}
+use Rattle.nested_arrays_builder_values.specs.parts.arrays.columnar_memory.declared.DataType.TheOpen as layer
+use Rattle.nested_arrays_builder_values.specs.parts.arrays.columnar_memory.declared.Field.{Field}
+use Rattle.nested_arrays_builder_values.specs.parts.arrays.columnar_memory.declared.IntegerType.{IntegerType}
+use Rattle.nested_arrays_builder_values.specs.parts.arrays.columns.Children.{field_slots}
+use Rattle.nested_arrays_builder_values.specs.parts.arrays.columns.Rows.{fresh_columns}
+use Rattle.nested_arrays_builder_values.specs.parts.arrays.columns.Slots.{Slot, window}
+use Rattle.nested_arrays_builder_values.specs.parts.arrays.columns.StoredColumns.{column_size, columns_size, in_columns, type_layer}
+use Rattle.nested_arrays_builder_values.proofs.parts_lemmas.arrays_lemmas.columns_lemmas.FreshLengths.{Layer}
+use Rattle.nested_arrays_builder_values.specs.parts.growth.OpenParts.{slots_of_fields}
+use Rattle.nested_arrays_builder_values.proofs.parts_lemmas.growth_lemmas.LayerParts.{fresh_list, fresh_large_list, fresh_fixed_list, fresh_struct, fresh_dictionary}
+use Rattle.nested_arrays_builder_values.specs.parts.Open.{Open}
 use Rattle.nested_arrays_builders.specs.Begun.{fields_size}
-use Rattle.nested_arrays_builders.specs.Parts.{Parts, listed, sized, of_fields, opened_each, type_size, types_size, parts_size, HoldsParts, IsKept}
+use Rattle.nested_arrays_builders.specs.Parts.{Parts, listed, sized, of_fields, keyed, opened_each, type_size, types_size, parts_size, HoldsParts, IsKept}
 
 pub list_size : (t : DataType) (item : Field) → type_layer t ≡ layer.List item → type_size t ≡ type_size item.data_type + 1
 list_size t item is = ap column_size (fresh_list t item is [])
@@ -23,6 +24,10 @@ large_list_size t item is = ap column_size (fresh_large_list t item is [])
 pub fixed_list_size : (t : DataType) (item : Field) (size : ℕ) → type_layer t ≡ layer.FixedSizeList item size
     → type_size t ≡ type_size item.data_type + 1
 fixed_list_size t item size is = ap column_size (fresh_fixed_list t item size is [])
+
+pub dictionary_size : (t : DataType) (key : IntegerType) (value : DataType) (is_ordered : Bool)
+    → type_layer t ≡ layer.Dictionary key value is_ordered → type_size t ≡ type_size value + 1
+dictionary_size t key value is_ordered is = ap column_size (fresh_dictionary t key value is_ordered is [])
 
 each_size : (us : List Field) (xs : List Slot) (a : ℕ) → columns_size (in_columns (fresh_columns us (window (field_slots []) a (length us))))
     ≡ types_size (opened_each us (window (field_slots xs) a (length us)))
@@ -51,6 +56,8 @@ layer_size t (layer.FixedSizeList item size) (sized own child) xs is held =
     fixed_list_size t item size is ∙ ap (λ (o : Open). type_size o.data_type + 1) (sym held.1)
 layer_size t (layer.Struct us) (of_fields children) xs is held =
     struct_size t us xs is ∙ ap (λ (os : List Open). types_size os + 1) (sym held)
+layer_size t (layer.Dictionary own value is_ordered) (keyed key uses known child) xs is held =
+    dictionary_size t own value is_ordered is ∙ ap (λ (o : Open). type_size o.data_type + 1) (sym held.3)
 layer_size t _ _ xs is held = absurd held
 
 pub parts_are_smaller : (t : DataType) (marks : List Bool) (parts : Parts) (xs : List Slot) → IsKept t marks parts xs

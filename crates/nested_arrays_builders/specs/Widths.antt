@@ -1,9 +1,9 @@
 -- Offsets of lists that grow, of either width.
 use Rattle.std.specs.Prelude.{◌≡◌, ◌⊎◌, ◌+◌, ◌<◌, ◌≤◌, ℕ, Bool, true, false, List, [], ◌∷◌, ◌++◌, length, Result, MatchResult}
-use Rattle.nested_arrays_builder_parts.specs.arrays.columnar_memory.declared.Error.{Error}
-use Rattle.nested_arrays_builder_parts.specs.arrays.columnar_memory.Error.{IsOutOfMemory, IsOverflow}
-use Rattle.nested_arrays_builder_parts.specs.arrays.columnar_memory.Spans.{Spans, extended, last_of}
-use Rattle.nested_arrays_builder_parts.specs.arrays.columns.Kinds.{most_slots}
+use Rattle.nested_arrays_builder_values.specs.parts.arrays.columnar_memory.declared.Error.{Error}
+use Rattle.nested_arrays_builder_values.specs.parts.arrays.columnar_memory.Error.{IsOutOfMemory, IsOverflow}
+use Rattle.nested_arrays_builder_values.specs.parts.arrays.columnar_memory.Spans.{Spans, extended, last_of}
+use Rattle.nested_arrays_builder_values.specs.parts.arrays.columns.Kinds.{most_slots}
 use Rattle.nested_arrays_builders.specs.Parts.{most_end}
 use Rattle.nested_arrays_builders.specs.declared.offsets.MutableListOffsets.{MutableListOffsets}
 use Rattle.nested_arrays_builders.specs.declared.offsets.MutableListOffsets.TheVariants as width

@@ -1,10 +1,10 @@
 //! Builders of any type.
 ghost use Rattle.std.specs.Prelude.{◌≡◌, ◌<◌, ◌≤◌, ◌↔◌, length, not, slice_index_or, true, IfErr, IsTrue};
-ghost use Rattle.nested_arrays_builder_parts.specs.arrays.columnar_memory.Error.{IsOutOfMemory};
-ghost use Rattle.nested_arrays_builder_parts.specs.arrays.columns.Cells.{fits_cell, is_null};
-ghost use Rattle.nested_arrays_builder_parts.specs.arrays.columns.Slots.{null};
-ghost use Rattle.nested_arrays_builder_parts.specs.Open.{first_slots, IsPushed, IsWithin};
-ghost use Rattle.nested_arrays_builder_parts.specs.Scalars.{scalar_slot};
+ghost use Rattle.nested_arrays_builder_values.specs.parts.arrays.columnar_memory.Error.{IsOutOfMemory};
+ghost use Rattle.nested_arrays_builder_values.specs.parts.arrays.columns.Cells.{fits_cell, is_null};
+ghost use Rattle.nested_arrays_builder_values.specs.parts.arrays.columns.Slots.{null};
+ghost use Rattle.nested_arrays_builder_values.specs.parts.Open.{first_slots, IsPushed, IsWithin};
+ghost use Rattle.nested_arrays_builder_values.specs.parts.Scalars.{scalar_slot};
 ghost use Rattle.nested_arrays_builders.specs.Nodes.{held_of};
 ghost use Rattle.nested_arrays_builders.specs.Parts.{seen, IsHeld};
 
@@ -12,8 +12,9 @@ use crate::children::{push_nested, truncate_nested};
 use crate::fitting::is_cell_of;
 use crate::offsets::MutableListOffsets;
 use crate::room::{reserve_nested, shrink_nested};
-use nested_arrays_builder_parts::columnar_memory::{DataType, Error, Result};
-use nested_arrays_builder_parts::{AnyScalar, FlatBuilder, Marks};
+use nested_arrays_builder_values::MutableKeys;
+use nested_arrays_builder_values::parts::columnar_memory::{DataType, Error, Result};
+use nested_arrays_builder_values::parts::{AnyScalar, FlatBuilder, Marks};
 use std::marker::Model;
 
 /// The data type of a builder with children, and a mark for each slot.
@@ -30,6 +31,7 @@ pub enum MutableChildren {
     List(MutableListOffsets, Box<AnyMutableArray>),
     FixedSizeList(usize, Box<AnyMutableArray>),
     Struct(Vec<AnyMutableArray>),
+    Dictionary(MutableKeys, Box<AnyMutableArray>),
 }
 
 /// A builder without children, or what one with children holds.
@@ -51,7 +53,7 @@ pub struct AnyMutableArray {
 
 impl Model for AnyMutableArray {
     ghost use Rattle.std.specs.Prelude.{◌*◌};
-    ghost use Rattle.nested_arrays_builder_parts.specs.Open.{Open, open_code};
+    ghost use Rattle.nested_arrays_builder_values.specs.parts.Open.{Open, open_code};
 
     ghost Value = { Open };
 
@@ -192,7 +194,8 @@ impl AnyMutableArray {
     ///
     /// # Errors
     /// `InvalidArgumentError`: the cell does not fit the type.
-    /// `Overflow`: the slots with this one are more than a column may have, at some depth, or their items or bytes than offsets may number.
+    /// `Overflow`: the slots with this one are more than a column may have, at some depth, or their items or bytes than offsets may number, or
+    /// the values of a dictionary than its keys tell apart.
     /// `OutOfMemory`: the slot found no memory.
     pub fn try_push_scalar(&mut self, cell: &AnyScalar) -> Result<()>
         ensures { IsPushed self.old (scalar_slot cell.now) self.new result }

@@ -1,15 +1,16 @@
 //! The builders below one with children: cut back and grown together.
 ghost use Rattle.std.specs.Prelude.{◌≡◌, ◌≤◌, length, map, take, true, All};
-ghost use Rattle.nested_arrays_builder_parts.specs.Open.{first_slots};
-ghost use Rattle.nested_arrays_builder_parts.specs.Scalars.{scalar_slot};
+ghost use Rattle.nested_arrays_builder_values.specs.parts.Open.{first_slots};
+ghost use Rattle.nested_arrays_builder_values.specs.parts.Scalars.{scalar_slot};
 ghost use Rattle.nested_arrays_builders.specs.Nodes.{parts_of};
 ghost use Rattle.nested_arrays_builders.specs.Parts.{first_parts, takes_slot, AddsSlot, HoldsCount};
 
 use crate::any::{AnyMutableArray, MutableChildren};
+use crate::keyed::{push_keyed, truncate_keyed};
 use crate::lists::{push_list, push_sized, truncate_list, truncate_sized};
 use crate::records::push_record;
-use nested_arrays_builder_parts::columnar_memory::Result;
-use nested_arrays_builder_parts::{AnyScalar, Marks};
+use nested_arrays_builder_values::parts::columnar_memory::Result;
+use nested_arrays_builder_values::parts::{AnyScalar, Marks};
 
 /// Keeps the first `len` marks alone, and below what belongs to these slots.
 #[cycle(truncating)]
@@ -23,6 +24,7 @@ pub(crate) fn truncate_nested(marks: &mut Marks, children: &mut MutableChildren,
         MutableChildren::List(offsets, values) => truncate_list(offsets, values, len),
         MutableChildren::FixedSizeList(size, values) => truncate_sized(*size, values, len),
         MutableChildren::Struct(fields) => truncate_each(fields, len),
+        MutableChildren::Dictionary(keys, values) => truncate_keyed(keys, values, len),
     }
     marks.truncate(len);
 }
@@ -53,5 +55,6 @@ pub(crate) fn push_nested(
         MutableChildren::List(offsets, values) => push_list(marks, offsets, values, cell),
         MutableChildren::FixedSizeList(size, values) => push_sized(marks, *size, values, cell),
         MutableChildren::Struct(fields) => push_record(marks, fields, cell),
+        MutableChildren::Dictionary(keys, values) => push_keyed(marks, keys, values, cell),
     }
 }

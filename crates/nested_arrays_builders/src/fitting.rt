@@ -1,16 +1,18 @@
 //! Which cells fit a data type.
 ghost use Rattle.std.specs.Prelude.{◌≡◌, map};
 ghost use Rattle.std.specs.List.{list_all};
-ghost use Rattle.nested_arrays_builder_parts.specs.arrays.columns.Cells.{fit_each, fits_cell, is_bytes, is_bytes_of, is_interval, is_list_of, is_list_of_size};
-ghost use Rattle.nested_arrays_builder_parts.specs.arrays.columns.Cells.{is_number_of, is_record_of, is_text, is_truth, is_days_and_ms, is_months_days_and_ns};
-ghost use Rattle.nested_arrays_builder_parts.specs.arrays.columns.Slots.{in_slots};
-ghost use Rattle.nested_arrays_builder_parts.specs.growth.OpenParts.{is_of_kind};
-ghost use Rattle.nested_arrays_builder_parts.specs.AnyNumbers.{slot_of_number};
-ghost use Rattle.nested_arrays_builder_parts.specs.Scalars.{scalar_slot};
+ghost use Rattle.nested_arrays_builder_values.specs.parts.arrays.columns.Cells.{fit_each, fits_cell, is_bytes, is_bytes_of, is_interval, is_list_of, is_list_of_size};
+ghost use Rattle.nested_arrays_builder_values.specs.parts.arrays.columns.Cells.{is_number_of, is_record_of, is_text, is_truth, is_days_and_ms, is_months_days_and_ns};
+ghost use Rattle.nested_arrays_builder_values.specs.parts.arrays.columns.Slots.{in_slots};
+ghost use Rattle.nested_arrays_builder_values.specs.parts.growth.OpenParts.{is_of_kind};
+ghost use Rattle.nested_arrays_builder_values.specs.parts.AnyNumbers.{slot_of_number};
+ghost use Rattle.nested_arrays_builder_values.specs.parts.Scalars.{scalar_slot};
 
-use nested_arrays_builder_parts::arrays::flat::read_bytes;
-use nested_arrays_builder_parts::columnar_memory::{DataType, Field, IntervalUnit, PrimitiveType};
-use nested_arrays_builder_parts::{AnyNumber, AnyScalar, CellPart};
+use nested_arrays_builder_values::parts::arrays::flat::read_bytes;
+use nested_arrays_builder_values::parts::columnar_memory::{
+    DataType, Field, IntervalUnit, PrimitiveType,
+};
+use nested_arrays_builder_values::parts::{AnyNumber, AnyScalar, CellPart};
 
 /// Whether a cell fits a data type: the kind is the type's, a size is met exactly, items and fields fit the types of the children, and a
 /// dictionary or an extension takes what its inner type takes. A null fits every type, and nothing else a map, a union or floats.

@@ -1,11 +1,11 @@
 //! Cells inside a cell, by their places.
 ghost use Rattle.std.specs.Prelude.{◌≡◌, ◌<◌, length, true, slice_index_or};
-ghost use Rattle.nested_arrays_builder_parts.specs.arrays.columns.Children.{field_of, fixed_items_of, items_of};
-ghost use Rattle.nested_arrays_builder_parts.specs.arrays.columns.Slots.{null};
-ghost use Rattle.nested_arrays_builder_parts.specs.Scalars.{scalar_slot};
-ghost use Rattle.nested_arrays_builder_parts.specs.growth.OpenParts.{is_list, is_list_sized, is_record_sized};
+ghost use Rattle.nested_arrays_builder_values.specs.parts.arrays.columns.Children.{field_of, fixed_items_of, items_of};
+ghost use Rattle.nested_arrays_builder_values.specs.parts.arrays.columns.Slots.{null};
+ghost use Rattle.nested_arrays_builder_values.specs.parts.Scalars.{scalar_slot};
+ghost use Rattle.nested_arrays_builder_values.specs.parts.growth.OpenParts.{is_list, is_list_sized, is_record_sized};
 
-use nested_arrays_builder_parts::AnyScalar;
+use nested_arrays_builder_values::parts::AnyScalar;
 
 /// How many items a list has, and a null none.
 pub(crate) fn item_count(cell: &AnyScalar) -> usize

@@ -5,6 +5,7 @@ mod any;
 mod children;
 mod fitting;
 mod inside;
+mod keyed;
 mod lists;
 mod new;
 mod offsets;
@@ -13,6 +14,6 @@ mod room;
 
 pub use any::{AnyMutableArray, Head, MutableChildren, MutableNode};
 pub use fitting::is_cell_of;
-pub use nested_arrays_builder_parts as parts;
-pub use nested_arrays_builder_parts::{arrays, columnar_memory};
+pub use nested_arrays_builder_values as values;
+pub use nested_arrays_builder_values::{arrays, columnar_memory, parts};
 pub use offsets::MutableListOffsets;

@@ -1,18 +1,18 @@
 //! Lists that are pushed: their items stand behind those of the others.
 ghost use Rattle.std.specs.Prelude.{◌≡◌, ◌*◌, ◌≤◌, length, true};
-ghost use Rattle.nested_arrays_builder_parts.specs.arrays.columnar_memory.Spans.{last_of};
-ghost use Rattle.nested_arrays_builder_parts.specs.arrays.columns.Cells.{fits_cell, is_list_of, is_list_of_size};
-ghost use Rattle.nested_arrays_builder_parts.specs.arrays.columns.Children.{fixed_items_of};
-ghost use Rattle.nested_arrays_builder_parts.specs.Open.{first_slots};
-ghost use Rattle.nested_arrays_builder_parts.specs.Scalars.{scalar_slot};
+ghost use Rattle.nested_arrays_builder_values.specs.parts.arrays.columnar_memory.Spans.{last_of};
+ghost use Rattle.nested_arrays_builder_values.specs.parts.arrays.columns.Cells.{fits_cell, is_list_of, is_list_of_size};
+ghost use Rattle.nested_arrays_builder_values.specs.parts.arrays.columns.Children.{fixed_items_of};
+ghost use Rattle.nested_arrays_builder_values.specs.parts.Open.{first_slots};
+ghost use Rattle.nested_arrays_builder_values.specs.parts.Scalars.{scalar_slot};
 ghost use Rattle.nested_arrays_builders.specs.Parts.{first_parts, listed, sized, AddsSlot, PushesAll, PushesSome};
 ghost use Rattle.nested_arrays_builders.specs.Widths.{is_large, spans_in, AddsList};
 
 use crate::any::AnyMutableArray;
 use crate::inside::{item_count, item_in};
 use crate::offsets::MutableListOffsets;
-use nested_arrays_builder_parts::columnar_memory::Result;
-use nested_arrays_builder_parts::{AnyScalar, Marks};
+use nested_arrays_builder_values::parts::columnar_memory::Result;
+use nested_arrays_builder_values::parts::{AnyScalar, Marks};
 
 /// Keeps the first `len` lists alone, and their items.
 #[cycle(truncating)]

@@ -1,22 +1,26 @@
 //! Builders of a data type before any slot is pushed.
 ghost use Rattle.std.specs.Prelude.{◌≡◌, []};
-ghost use Rattle.nested_arrays_builder_parts.specs.arrays.columnar_memory.declared.DataType.TheOpen as layer;
-ghost use Rattle.nested_arrays_builder_parts.specs.arrays.columns.StoredColumns.{type_layer};
+ghost use Rattle.nested_arrays_builder_values.specs.parts.arrays.columnar_memory.declared.DataType.TheOpen as layer;
+ghost use Rattle.nested_arrays_builder_values.specs.parts.arrays.columns.StoredColumns.{type_layer};
 ghost use Rattle.nested_arrays_builders.specs.Begun.{AreBegun, IsBegun, IsPlain};
 ghost use Rattle.nested_arrays_builders.specs.Nodes.{parts_of};
 ghost use Rattle.nested_arrays_builders.specs.Parts.{IsKept};
 
 use crate::any::{AnyMutableArray, Head, MutableChildren, MutableNode};
 use crate::offsets::MutableListOffsets;
-use nested_arrays_builder_parts::columnar_memory::{DataType, Error, Field, Offsets, Result};
-use nested_arrays_builder_parts::{FlatBuilder, Marks};
+use nested_arrays_builder_values::columnar_memory::{
+    DataType, Error, Field, IntegerType, Offsets, Result,
+};
+use nested_arrays_builder_values::parts::{FlatBuilder, Marks};
+use nested_arrays_builder_values::{CellMap, MutableKeys, SlotUses};
 use std::alloc::Global;
 
 impl AnyMutableArray {
     /// No slots of a data type.
     ///
     /// # Errors
-    /// `NotYetImplemented`: the type is of floats, a map, a union or a dictionary, or one of its children is.
+    /// `NotYetImplemented`: the type is of floats, a map, a union or a dictionary whose keys have the order of its values, or one of its
+    /// children is.
     /// `InvalidArgumentError`: it is of byte strings or lists of size 0 or a struct without fields, or one of its children is.
     /// `OutOfMemory`: the builder found no memory.
     // match table: an arm for each layout.
@@ -31,8 +35,8 @@ impl AnyMutableArray {
             DataType::Struct(fields) => new_struct(alloc, data_type, fields.as_slice()),
             DataType::Map(_, _) => Err(Error::NotYetImplemented("builders of maps")),
             DataType::Union(_, _, _) => Err(Error::NotYetImplemented("builders of unions")),
-            DataType::Dictionary(_, _, _) => {
-                Err(Error::NotYetImplemented("builders of dictionaries"))
+            DataType::Dictionary(key, value, is_ordered) => {
+                new_dictionary(alloc, data_type, *key, value.get(), *is_ordered)
             }
             DataType::Float16 => Err(Error::NotYetImplemented("floats")),
             DataType::Float32 => Err(Error::NotYetImplemented("floats")),
@@ -113,6 +117,29 @@ fn new_each(alloc: Global, fields: &[Field]) -> Result<Vec<AnyMutableArray>>
         builders.push(AnyMutableArray::new(alloc, &field.data_type)?)?;
     }
     Ok(builders)
+}
+
+/// A builder of dictionaries.
+#[cycle(beginning)]
+fn new_dictionary(
+    alloc: Global,
+    data_type: &DataType,
+    key: IntegerType,
+    value: &DataType,
+    is_ordered: bool,
+) -> Result<AnyMutableArray>
+    requires { type_layer data_type.now ≡ layer.Dictionary key value.now is_ordered }
+    ensures { IsBegun data_type.now result }
+{
+    if is_ordered {
+        return Err(Error::NotYetImplemented("builders of dictionaries with an order"));
+    }
+    let values = AnyMutableArray::new(alloc, value)?;
+    let values = Box::new(alloc, values)?;
+    let uses = SlotUses::new(alloc);
+    let known = CellMap::new(alloc);
+    let keys = MutableKeys { key, uses, known };
+    of_children(alloc, data_type, MutableChildren::Dictionary(keys, values))
 }
 
 /// A builder of byte strings of one size.

@@ -1,10 +1,10 @@
 //! Offsets of lists that grow.
 ghost use Rattle.std.specs.Prelude.{◌≡◌, ◌<◌, ◌≤◌, length, IfErr};
-ghost use Rattle.nested_arrays_builder_parts.specs.arrays.columnar_memory.Error.{IsOutOfMemory};
-ghost use Rattle.nested_arrays_builder_parts.specs.arrays.columnar_memory.Spans.{first_spans, last_of, shortened};
+ghost use Rattle.nested_arrays_builder_values.specs.parts.arrays.columnar_memory.Error.{IsOutOfMemory};
+ghost use Rattle.nested_arrays_builder_values.specs.parts.arrays.columnar_memory.Spans.{first_spans, last_of, shortened};
 ghost use Rattle.nested_arrays_builders.specs.Widths.{is_large, spans_in, AddsSpan};
 
-use nested_arrays_builder_parts::columnar_memory::{Index, Offset, Offsets, Result};
+use nested_arrays_builder_values::parts::columnar_memory::{Index, Offset, Offsets, Result};
 
 /// The offsets of lists, of 32 or of 64 bits.
 #[derive(Drop)]

@@ -1,15 +1,15 @@
 //! Records that are pushed: each field stands behind those of the others.
 ghost use Rattle.std.specs.Prelude.{◌≡◌, length, map, true, All};
-ghost use Rattle.nested_arrays_builder_parts.specs.arrays.columns.Cells.{fits_cell, is_record_of};
-ghost use Rattle.nested_arrays_builder_parts.specs.Scalars.{scalar_slot};
-ghost use Rattle.nested_arrays_builder_parts.specs.growth.OpenParts.{fields_of_slot};
+ghost use Rattle.nested_arrays_builder_values.specs.parts.arrays.columns.Cells.{fits_cell, is_record_of};
+ghost use Rattle.nested_arrays_builder_values.specs.parts.Scalars.{scalar_slot};
+ghost use Rattle.nested_arrays_builder_values.specs.parts.growth.OpenParts.{fields_of_slot};
 ghost use Rattle.nested_arrays_builders.specs.Parts.{of_fields, tests_of, AddsSlot, PushesEach, PushesFirst};
 
 use crate::any::AnyMutableArray;
 use crate::children::truncate_each;
 use crate::inside::field_in;
-use nested_arrays_builder_parts::columnar_memory::Result;
-use nested_arrays_builder_parts::{AnyScalar, Marks};
+use nested_arrays_builder_values::parts::columnar_memory::Result;
+use nested_arrays_builder_values::parts::{AnyScalar, Marks};
 
 /// Pushes each field of a record, or a null of a null, up to the first that is refused.
 #[cycle(pushing)]

@@ -1,13 +1,13 @@
 //! Room for what builders with children are to hold.
 ghost use Rattle.std.specs.Prelude.{◌≡◌, IfErr};
-ghost use Rattle.nested_arrays_builder_parts.specs.arrays.columnar_memory.Error.{IsOutOfMemory};
+ghost use Rattle.nested_arrays_builder_values.specs.parts.arrays.columnar_memory.Error.{IsOutOfMemory};
 ghost use Rattle.nested_arrays_builders.specs.Nodes.{parts_of};
 
 use crate::any::{AnyMutableArray, MutableChildren};
-use nested_arrays_builder_parts::Marks;
-use nested_arrays_builder_parts::columnar_memory::{Error, Result};
+use nested_arrays_builder_values::parts::Marks;
+use nested_arrays_builder_values::parts::columnar_memory::{Error, Result};
 
-/// Makes room for some more marks, and below for what so many slots bring, but for items of lists of any length.
+/// Makes room for some more marks, and below for what so many slots bring, but for items of lists of any length and values of dictionaries.
 #[cycle(reserving)]
 pub(crate) fn reserve_nested(
     marks: &mut Marks,
@@ -22,7 +22,7 @@ pub(crate) fn reserve_nested(
     reserve_below(children, additional)
 }
 
-/// Makes room below for what some more slots bring, but for items of lists of any length.
+/// Makes room below for what some more slots bring, but for items of lists of any length and values of dictionaries.
 #[cycle(reserving)]
 fn reserve_below(children: &mut MutableChildren, additional: usize) -> Result<()>
     ensures parts { parts_of children.new ≡ parts_of children.old }
@@ -35,6 +35,10 @@ fn reserve_below(children: &mut MutableChildren, additional: usize) -> Result<()
             None => Err(Error::OutOfMemory),
         },
         MutableChildren::Struct(fields) => reserve_each(fields, additional),
+        MutableChildren::Dictionary(keys, _) => match keys.uses.reserve(additional) {
+            Ok(()) => Ok(()),
+            Err(_) => Err(Error::OutOfMemory),
+        },
     }
 }
 
@@ -63,6 +67,10 @@ pub(crate) fn shrink_nested(marks: &mut Marks, children: &mut MutableChildren)
         }
         MutableChildren::FixedSizeList(_, values) => values.shrink_to_fit(),
         MutableChildren::Struct(fields) => shrink_each(fields),
+        MutableChildren::Dictionary(keys, values) => {
+            keys.uses.shrink_to_fit();
+            values.shrink_to_fit();
+        }
     }
     marks.shrink_to_fit();
 }

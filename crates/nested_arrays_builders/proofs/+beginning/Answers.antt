@@ -1,18 +1,18 @@
 use Rattle.std.proofs.Common.{rules, ◌≡◌, ◌∙◌, ◌≤◌, length, true, false, ap, sym, arith}
 use Rattle.std.specs.Prelude.{◌⊎◌}
 use Rattle.std.proofs.lemmas.Bool.{eqb-true}
-use Rattle.nested_arrays_builder_parts.specs.arrays.columnar_memory.declared.Field.{Field}
-use Rattle.nested_arrays_builder_parts.specs.arrays.columnar_memory.Error.{IsInvalidArgument, IsNotYetImplemented, IsOutOfMemory}
-use Rattle.nested_arrays_builder_parts.specs.arrays.columns.FreshLaws.{are_buildable, is_buildable}
-use Rattle.nested_arrays_builder_parts.proofs.growth_lemmas.Below.{buildable_list, buildable_large_list}
+use Rattle.nested_arrays_builder_values.specs.parts.arrays.columnar_memory.declared.Field.{Field}
+use Rattle.nested_arrays_builder_values.specs.parts.arrays.columnar_memory.Error.{IsInvalidArgument, IsNotYetImplemented, IsOutOfMemory}
+use Rattle.nested_arrays_builder_values.specs.parts.arrays.columns.FreshLaws.{are_buildable, is_buildable}
+use Rattle.nested_arrays_builder_values.proofs.parts_lemmas.growth_lemmas.Below.{buildable_dictionary, buildable_list, buildable_large_list}
 use Rattle.nested_arrays_builders.specs.Begun.{are_unbuilt, fields_size, is_unbuilt, IsNoBuilder}
 use Rattle.nested_arrays_builders.specs.Parts.{type_size}
-use Rattle.nested_arrays_builders.specs.TypeSizes.{list_size, large_list_size, fixed_list_size, struct_is_larger}
-use Rattle.nested_arrays_builders.proofs.BegunNodes.{begun_list, begun_large_list, begun_sized, begun_struct, empty_struct_fails}
+use Rattle.nested_arrays_builders.specs.TypeSizes.{dictionary_size, list_size, large_list_size, fixed_list_size, struct_is_larger}
+use Rattle.nested_arrays_builders.proofs.BegunNodes.{begun_keyed, begun_list, begun_large_list, begun_sized, begun_struct, empty_struct_fails}
 use Rattle.nested_arrays_builders.proofs.BegunNodes.{one_field, one_more_begun, one_more_can, one_refused, sized_fails, some_of, struct_refused}
 use Rattle.nested_arrays_builders.proofs.BegunNodes.{unsized_fails}
-use Rattle.nested_arrays_builders.proofs.Unbuilt.{at_list, at_large_list, at_fixed_list, at_struct, no_map, no_union}
-use Rattle.nested_arrays_builders.proofs.Unbuilt.{no_dictionary, no_half, no_single}
+use Rattle.nested_arrays_builders.proofs.Unbuilt.{at_dictionary, at_list, at_large_list, at_fixed_list, at_struct, no_map, no_union}
+use Rattle.nested_arrays_builders.proofs.Unbuilt.{no_half, no_single, unbuilt_ordered, unbuilt_unordered}
 use Rattle.nested_arrays_builders.proofs.Unbuilt.{no_double, others_are_plain, refused_as, unbuilt_list, unbuilt_large_list, unbuilt_fixed_list}
 use Rattle.nested_arrays_builders.proofs.+beginning.Goals as goal
 
@@ -77,11 +77,13 @@ any::AnyMutableArray::new-returns-in-Union t c =
     no_union c.args.data_type.now c.to_logical_type.result.now c.to_logical_type.ensures.value _ _ _ c.in-Union.is in
     search (rules, none)
 
-pub any::AnyMutableArray::new-returns-in-Dictionary : goal.any::AnyMutableArray::new-returns-in-Dictionary
-any::AnyMutableArray::new-returns-in-Dictionary t c =
-    let none : is_unbuilt c.args.data_type.now ≡ true =
-    no_dictionary c.args.data_type.now c.to_logical_type.result.now c.to_logical_type.ensures.value _ _ _ c.in-Dictionary.is in
-    search (rules, none)
+pub any::AnyMutableArray::new-new_dictionary-requires : goal.any::AnyMutableArray::new-new_dictionary-requires
+any::AnyMutableArray::new-new_dictionary-requires t c =
+    let d = c.args.data_type.now in
+    let is = at_dictionary d c.to_logical_type.result.now c.to_logical_type.ensures.value c.in-Dictionary.key c.in-Dictionary.value
+    c.in-Dictionary.is_ordered c.get-in-Dictionary.result.now c.in-Dictionary.is c.get-in-Dictionary.ensures in
+    let size = dictionary_size d c.in-Dictionary.key c.get-in-Dictionary.result.now c.in-Dictionary.is_ordered is in
+    (search (rules, size), is)
 
 pub any::AnyMutableArray::new-returns-in-Float16 : goal.any::AnyMutableArray::new-returns-in-Float16
 any::AnyMutableArray::new-returns-in-Float16 t c =
@@ -146,6 +148,30 @@ pub new::new_sized-of_children-requires : goal.new::new_sized-of_children-requir
 new::new_sized-of_children-requires t c =
     begun_sized c.args.data_type.now c.args.item.now c.in_ok-values-2.values.value (c.in_ok-values-2.ensures.ok ∙ c.in_ok-values.ensures.0)
     c.in_ok-values.ensures.1 c.args.size c.requires (omega (arith, c.if-size-eq0.false))
+
+-- ---- dictionaries
+
+pub new::new_dictionary-returns-then-is_ordered : goal.new::new_dictionary-returns-then-is_ordered
+new::new_dictionary-returns-then-is_ordered t c =
+    let none : is_unbuilt c.args.data_type.now ≡ true =
+    unbuilt_ordered c.args.data_type.now c.args.key c.args.value.now c.args.is_ordered c.requires c.if-is_ordered.true in
+    search (rules, none)
+
+pub new::new_dictionary-returns-in_err-values : goal.new::new_dictionary-returns-in_err-values
+new::new_dictionary-returns-in_err-values t c =
+    let none : IsNoBuilder c.args.data_type.now c.in_err-values.field-0.0 =
+    refused_as c.args.data_type.now c.args.value.now _
+    (unbuilt_unordered c.args.data_type.now c.args.key c.args.value.now c.args.is_ordered c.requires c.if-is_ordered.false)
+    (λ (fails : is_buildable c.args.value.now ≡ false).
+    buildable_dictionary c.args.data_type.now c.args.key c.args.value.now c.args.is_ordered c.requires ∙ fails)
+    c.in_err-values.ensures in
+    search (rules, none)
+
+pub new::new_dictionary-of_children-requires : goal.new::new_dictionary-of_children-requires
+new::new_dictionary-of_children-requires t c =
+    begun_keyed c.args.data_type.now c.args.key c.args.value.now c.args.is_ordered c.new-uses.result c.new-known.result
+    c.in_ok-values-2.values.value c.requires c.new-uses.ensures c.new-known.ensures
+    (c.in_ok-values-2.ensures.ok ∙ c.in_ok-values.ensures.0) c.in_ok-values.ensures.1
 
 -- ---- structs
 

@@ -1,5 +1,5 @@
 use Rattle.std.proofs.Common.{◌≡◌, ◌+◌, ◌*◌, take, true}
-use Rattle.nested_arrays_builder_parts.specs.arrays.columns.FreshLaws.{are_buildable}
+use Rattle.nested_arrays_builder_values.specs.parts.arrays.columns.FreshLaws.{are_buildable}
 use Rattle.nested_arrays_builders.specs.Begun.{fields_size, opened_none}
 use Rattle.nested_arrays_builders.specs.Parts.{type_size}
 use Rattle.nested_arrays_builders.proofs.+beginning.Given as goal
@@ -28,3 +28,6 @@ decreases-new::new_struct l = 4 * fields_size l.fields.now + 2
 
 abbrev pub decreases-new::new_each : goal.decreases-new::new_each
 decreases-new::new_each l = 4 * fields_size l.fields.now + 1
+
+abbrev pub decreases-new::new_dictionary : goal.decreases-new::new_dictionary
+decreases-new::new_dictionary l = 4 * type_size l.value.now + 1

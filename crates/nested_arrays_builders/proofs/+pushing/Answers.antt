@@ -1,11 +1,11 @@
 use Rattle.std.proofs.Common.{rules, ◌≡◌, ◌∙◌, ℕ, ◌<◌, ◌≤◌, length, take, get_or, true, ap, sym, arith}
 use Rattle.std.specs.Prelude.{slice_set}
-use Rattle.nested_arrays_builder_parts.specs.arrays.columns.Cells.{fits_cell}
-use Rattle.nested_arrays_builder_parts.specs.arrays.columns.Children.{fixed_items_of}
-use Rattle.nested_arrays_builder_parts.specs.arrays.columns.Slots.{null}
-use Rattle.nested_arrays_builder_parts.specs.growth.OpenParts.{fields_of_slot, is_record_sized}
-use Rattle.nested_arrays_builder_parts.specs.Open.{Open, first_slots}
-use Rattle.nested_arrays_builder_parts.specs.Scalars.{scalar_slot}
+use Rattle.nested_arrays_builder_values.specs.parts.arrays.columns.Cells.{fits_cell}
+use Rattle.nested_arrays_builder_values.specs.parts.arrays.columns.Children.{fixed_items_of}
+use Rattle.nested_arrays_builder_values.specs.parts.arrays.columns.Slots.{null}
+use Rattle.nested_arrays_builder_values.specs.parts.growth.OpenParts.{fields_of_slot, is_record_sized}
+use Rattle.nested_arrays_builder_values.specs.parts.Open.{Open, first_slots}
+use Rattle.nested_arrays_builder_values.specs.parts.Scalars.{scalar_slot}
 use Rattle.nested_arrays_builders.specs.Parts.{is_fitting, of_fields, type_size, types_size, with_each, IsShort, IsShortOfEach}
 use Rattle.nested_arrays_builders.proofs.AddedSlots.{record_refused}
 use Rattle.nested_arrays_builders.proofs.CutParts.{one_child}
@@ -15,6 +15,7 @@ use Rattle.nested_arrays_builders.proofs.PushedFields.{all_fit, each_count, each
 use Rattle.nested_arrays_builders.proofs.PushedFields.{is_short_of_each, long_enough, more_of, next, none_each, none_more_each, one_more_each}
 use Rattle.nested_arrays_builders.proofs.PushedFields.{taken_back_each}
 use Rattle.nested_arrays_builders.proofs.PushedItems.{are_items, item_fits, is_short, taken_back, no_fewer}
+use Rattle.nested_arrays_builders.proofs.PushedKeys.{new_added}
 use Rattle.nested_arrays_builders.proofs.TakenSlots.{taken_is_formed}
 use Rattle.nested_arrays_builders.proofs.+pushing.Goals as goal
 use Rattle.nested_arrays_builders.proofs.+pushing.Goals.{any::AnyMutableArray::push-in-Flat, any::AnyMutableArray::push-in-Nested}
@@ -81,6 +82,15 @@ lists::push_some-returns-in_err-push t c =
     let short : IsShort o ys c.in_err-push.field-0.0 =
     is_short o now ys c.loop-place.place s lt c.loop-place.invariant c.item_in.ensures _ fit c.in_err-push.ensures.1 in
     search (rules, back, fewer, short)
+
+-- ---- dictionaries
+
+pub keyed::push_new-returns-in-Ok : goal.keyed::push_new-returns-in-Ok
+keyed::push_new-returns-in-Ok t c =
+    new_added c.args.marks.now c.args.keys.now.key c.args.keys.now.uses c.args.keys.now.known c.args.values.now (scalar_slot c.args.cell.now)
+    c.requires.known c.requires.some c.requires.new c.most_values_of.result c.most_values_of.ensures (Unit {0}) c.learn_slot.new.known
+    c.learn_slot.new.values c.len-need.result c.add_use.new.marks c.add_use.new.uses tt c.in_ok-learn_slot.ensures.0
+    c.in_ok-learn_slot.ensures.1 c.in_ok-learn_slot.ensures.2 c.len-need.ensures c.in-Ok.ensures
 
 -- ---- records
 

@@ -1,8 +1,8 @@
 use Rattle.std.proofs.Common.{◌≡◌, ℕ, ◌<◌, ◌+◌, ◌*◌, take, length, get_or, true}
-use Rattle.nested_arrays_builder_parts.specs.arrays.columns.Children.{fixed_items_of}
-use Rattle.nested_arrays_builder_parts.specs.growth.OpenParts.{fields_of_slot}
-use Rattle.nested_arrays_builder_parts.specs.Open.{Open}
-use Rattle.nested_arrays_builder_parts.specs.Scalars.{scalar_slot}
+use Rattle.nested_arrays_builder_values.specs.parts.arrays.columns.Children.{fixed_items_of}
+use Rattle.nested_arrays_builder_values.specs.parts.growth.OpenParts.{fields_of_slot}
+use Rattle.nested_arrays_builder_values.specs.parts.Open.{Open}
+use Rattle.nested_arrays_builder_values.specs.parts.Scalars.{scalar_slot}
 use Rattle.nested_arrays_builders.specs.Nodes.{parts_of}
 use Rattle.nested_arrays_builders.specs.Parts.{is_fitting, parts_size, type_size, types_size, with_each, with_slots}
 use Rattle.nested_arrays_builders.proofs.+pushing.Given as goal
@@ -37,6 +37,15 @@ decreases-lists::push_list l = 6 * type_size l.values.now.data_type + 3
 
 abbrev pub decreases-lists::push_sized : goal.decreases-lists::push_sized
 decreases-lists::push_sized l = 6 * type_size l.values.now.data_type + 3
+
+abbrev pub decreases-keyed::learn_slot : goal.decreases-keyed::learn_slot
+decreases-keyed::learn_slot l = 6 * type_size l.values.now.data_type + 1
+
+abbrev pub decreases-keyed::push_new : goal.decreases-keyed::push_new
+decreases-keyed::push_new l = 6 * type_size l.values.now.data_type + 2
+
+abbrev pub decreases-keyed::push_keyed : goal.decreases-keyed::push_keyed
+decreases-keyed::push_keyed l = 6 * type_size l.values.now.data_type + 3
 
 abbrev pub decreases-records::push_first : goal.decreases-records::push_first
 decreases-records::push_first l = 6 * types_size l.children.now.items + 1

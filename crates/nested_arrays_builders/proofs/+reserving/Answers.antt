@@ -1,5 +1,5 @@
 use Rattle.std.proofs.Common.{rules, ◌<◌, ◌≤◌, List, length, get_or, ap, arith}
-use Rattle.nested_arrays_builder_parts.specs.Open.{Open}
+use Rattle.nested_arrays_builder_values.specs.parts.Open.{Open}
 use Rattle.nested_arrays_builders.specs.Parts.{type_size, types_size}
 use Rattle.nested_arrays_builders.proofs.CutParts.{one_child}
 use Rattle.nested_arrays_builders.proofs.HeldNodes.{leaf_held, nested_size}

@@ -1,9 +1,9 @@
-use Rattle.std.proofs.Common.{rules, ◌∙◌, ◌<◌, length, ap, arith}
+use Rattle.std.proofs.Common.{rules, ◌∙◌, ◌<◌, ◌≤◌, length, ap, sym, arith}
 use Rattle.std.specs.Prelude.{slice_set}
 use Rattle.std.proofs.lemmas.List.{get_or_default}
 use Rattle.std.proofs.lemmas.List.Edits.{map_over_more}
-use Rattle.nested_arrays_builder_parts.specs.Open.{Open, first_slots}
-use Rattle.nested_arrays_builders.proofs.CutParts.{size_over, long_over, length_over}
+use Rattle.nested_arrays_builder_values.specs.parts.Open.{Open, first_slots}
+use Rattle.nested_arrays_builders.proofs.CutParts.{size_over, long_over, length_over, named_few}
 use Rattle.nested_arrays_builders.proofs.HeldNodes.{leaf_held, leaf_cut, nested_size, nested_count, nested_length, nested_cut_held, nested_cut_seen}
 use Rattle.nested_arrays_builders.proofs.+truncating.Goals as goal
 use Rattle.nested_arrays_builders.proofs.+truncating.Goals.{any::AnyMutableArray::truncate-in-Flat, any::AnyMutableArray::truncate-in-Nested}
@@ -60,3 +60,14 @@ children::truncate_each-loop-child-preserved t c =
     let inside : k < length now = omega (arith, small, length_over f os now k c.loop-child.invariant) in
     ap (slice_set now k) c.truncate.ensures
     ∙ map_over_more f os now k _ small c.loop-child.invariant (get_or_default now k c.child-item.result _ inside)
+
+pub keyed::truncate_keyed-truncate-requires : goal.keyed::truncate_keyed-truncate-requires
+keyed::truncate_keyed-truncate-requires t c =
+    named_few c.args.keys.now.uses c.args.keys.now.known c.args.len c.truncate-named.result c.truncate-named.ensures.need
+    (c.requires.named ∙ ap length (sym c.requires.known))
+
+pub keyed::truncate_keyed-truncate-requires-2 : goal.keyed::truncate_keyed-truncate-requires-2
+keyed::truncate_keyed-truncate-requires-2 t c =
+    let few : c.truncate-named.result ≤ length c.args.values.now.slots =
+    named_few c.args.keys.now.uses c.args.values.now.slots c.args.len c.truncate-named.result c.truncate-named.ensures.need c.requires.named in
+    search (rules, few)

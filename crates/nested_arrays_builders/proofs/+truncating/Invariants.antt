@@ -1,5 +1,5 @@
 use Rattle.std.proofs.Common.{◌≡◌, ◌+◌, take, drop, map, ◌++◌, ◌*◌}
-use Rattle.nested_arrays_builder_parts.specs.Open.{first_slots}
+use Rattle.nested_arrays_builder_values.specs.parts.Open.{first_slots}
 use Rattle.nested_arrays_builders.specs.Nodes.{parts_of}
 use Rattle.nested_arrays_builders.specs.Parts.{parts_size, type_size, types_size}
 use Rattle.nested_arrays_builders.proofs.+truncating.Given as goal
@@ -22,3 +22,6 @@ decreases-lists::truncate_list l = 6 * type_size l.values.now.data_type + 1
 
 abbrev pub decreases-lists::truncate_sized : goal.decreases-lists::truncate_sized
 decreases-lists::truncate_sized l = 6 * type_size l.values.now.data_type + 1
+
+abbrev pub decreases-keyed::truncate_keyed : goal.decreases-keyed::truncate_keyed
+decreases-keyed::truncate_keyed l = 6 * type_size l.values.now.data_type + 1

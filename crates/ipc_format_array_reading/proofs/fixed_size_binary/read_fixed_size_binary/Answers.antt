@@ -12,8 +12,8 @@ use Rattle.ipc_format_column_reading.specs.Rooms.{ForBytes}
 use Rattle.ipc_format_column_reading.proofs.ColumnReads.{Marks}
 use Rattle.ipc_format_column_reading.proofs.Readings.{out_of_memory, reads_refused}
 use Rattle.ipc_format_column_reading.proofs.Skipping.{end_behind}
-use Rattle.nested_arrays.specs.Checked.{IsChecked}
-use Rattle.nested_arrays.specs.FlatColumns.{byte_width}
+use Rattle.ipc_format_chunks.specs.nested_arrays.Checked.{IsChecked}
+use Rattle.ipc_format_chunks.specs.nested_arrays.FlatColumns.{byte_width}
 use Rattle.ipc_format_array_reading.specs.TypedReads.{IsNeeded, front_array}
 use Rattle.ipc_format_array_reading.proofs.FixedColumns.{bytes_past, bytes_refused, fixed_bytes_given, fixed_bytes_next, strings_made}
 use Rattle.ipc_format_array_reading.proofs.fixed_size_binary.read_fixed_size_binary.Goals as goal
@@ -33,7 +33,8 @@ returns-in_err-marked g c =
       reads_refused (is_some c.args.compression) (g.R.Room.told c.args.reader.now) (g.R.Room.told c.read_marked.new.reader)
           (λ (found : Marks). found) (next_marked nodes c.args.limit buffers origin) (λ (some : List Slot). some)
           (λ marks room. fixed_bytes_next t (byte_width t) (drop 1 buffers) origin marks room)
-          (front_array t nodes buffers little c.args.limit origin) error (fixed_bytes_given t nodes buffers little c.args.limit origin kind) c.in_err-marked.ensures.read,
+          (front_array t nodes buffers little c.args.limit origin) error
+          (fixed_bytes_given t nodes buffers little c.args.limit origin kind) c.in_err-marked.ensures.read,
       c.in_err-marked.ensures.nodes,
       c.in_err-marked.ensures.buffers,
     ))

@@ -11,8 +11,11 @@ returns-in-Float16 g c =
     let t = c.args.data_type in
     let float : is_float (physical_type t) ≡ true = ap is_float c.requires ∙ ap (λ kind. is_float (physical.Primitive kind)) c.in-Float16.is in (
       (
-        (refl, λ room known. none_read t c.args.field_nodes.now.items c.args.buffers.now.items c.args.is_little_endian c.args.limit
-            c.args.block_offset float room),
+        (
+          refl,
+          λ room known. none_read t c.args.field_nodes.now.items c.args.buffers.now.items c.args.is_little_endian c.args.limit
+              c.args.block_offset float room,
+        ),
         (0, sym (drop_none c.args.field_nodes.now.items)),
         (0, sym (drop_none c.args.buffers.now.items)),
       ),
@@ -24,8 +27,11 @@ returns-in-Float32 g c =
     let t = c.args.data_type in
     let float : is_float (physical_type t) ≡ true = ap is_float c.requires ∙ ap (λ kind. is_float (physical.Primitive kind)) c.in-Float32.is in (
       (
-        (refl, λ room known. none_read t c.args.field_nodes.now.items c.args.buffers.now.items c.args.is_little_endian c.args.limit
-            c.args.block_offset float room),
+        (
+          refl,
+          λ room known. none_read t c.args.field_nodes.now.items c.args.buffers.now.items c.args.is_little_endian c.args.limit
+              c.args.block_offset float room,
+        ),
         (0, sym (drop_none c.args.field_nodes.now.items)),
         (0, sym (drop_none c.args.buffers.now.items)),
       ),
@@ -37,8 +43,11 @@ returns-in-Float64 g c =
     let t = c.args.data_type in
     let float : is_float (physical_type t) ≡ true = ap is_float c.requires ∙ ap (λ kind. is_float (physical.Primitive kind)) c.in-Float64.is in (
       (
-        (refl, λ room known. none_read t c.args.field_nodes.now.items c.args.buffers.now.items c.args.is_little_endian c.args.limit
-            c.args.block_offset float room),
+        (
+          refl,
+          λ room known. none_read t c.args.field_nodes.now.items c.args.buffers.now.items c.args.is_little_endian c.args.limit
+              c.args.block_offset float room,
+        ),
         (0, sym (drop_none c.args.field_nodes.now.items)),
         (0, sym (drop_none c.args.buffers.now.items)),
       ),

@@ -4,16 +4,19 @@ use Rattle.std.proofs.lemmas.Iterator.Consumers.{YieldsList-turn}
 use Rattle.nested_arrays_builders.specs.columnar_memory.Spans.{offsets_of}
 use Rattle.nested_arrays_arrays.specs.Lengths.{size_of}
 use Rattle.nested_arrays_builders.specs.columns.SoundColumns.{is_sound}
-use Rattle.nested_arrays_builders.specs.columns.StoredColumns.{fixed_lists, lists}
+use Rattle.nested_arrays_builders.specs.columns.StoredColumns.{dictionary, fixed_lists, lists}
 use Rattle.nested_arrays_builders.specs.parts.Marks.{mask_of_marks}
 use Rattle.nested_arrays_builders.specs.parts.Open.{Open, column_of}
 use Rattle.nested_arrays_builders.specs.Nodes.{parts_of}
-use Rattle.nested_arrays_builders.specs.Parts.{listed, sized, of_fields, parts_column, parts_size, type_size, types_size}
+use Rattle.nested_arrays_builders.specs.values.Uses.{keys_from}
+use Rattle.nested_arrays_builders.specs.Parts.{listed, sized, of_fields, keyed, parts_column, parts_size, type_size, types_size}
 use Rattle.nested_arrays_builders.specs.Widths.{is_large, spans_in}
 use Rattle.nested_arrays_builders.proofs.CutParts.{one_child}
 use Rattle.nested_arrays_builders.proofs.HeldNodes.{nested_size}
 use Rattle.nested_arrays_builder_arrays.proofs.KeptArrays.{answered_as, nested_column, nested_kept, kept_below, list_is}
 use Rattle.nested_arrays_builder_arrays.proofs.KeptArrays.{list_sound, list_lies, sized_is}
+use Rattle.nested_arrays_builder_arrays.proofs.FrozenParts.{keyed_by, keys_lie, mask_long}
+use Rattle.nested_arrays_builder_arrays.proofs.KeptArrays.{keyed_is, keyed_sound, keyed_lies, keyed_few}
 use Rattle.nested_arrays_builder_arrays.proofs.KeptArrays.{sized_sound, record_is, record_sound, record_long}
 use Rattle.nested_arrays_builder_arrays.proofs.frozen.+freezing.Goals as goal
 
@@ -97,6 +100,37 @@ freeze_nested-returns-in-Struct t c =
     let marks = c.args.head.marks in
     answered_as c.freeze_struct.result _ (parts_column d marks (parts_of c.args.children)) c.freeze_struct.ensures
     (record_is d marks [] c.in-Struct.fields.items ∙ ap (parts_column d marks) (sym (ap parts_of c.in-Struct.is)))
+
+pub freeze_nested-freeze_keyed-requires : goal.freeze_nested-freeze_keyed-requires
+freeze_nested-freeze_keyed-requires t c =
+    let d = c.args.head.data_type in
+    let marks = c.args.head.marks in
+    let key = c.in-Dictionary.keys.key in
+    let uses = c.in-Dictionary.keys.uses in
+    let known = c.in-Dictionary.keys.known in
+    let child = c.in-Dictionary.values.value in
+    let is = ap parts_of c.in-Dictionary.is in
+    let kept = kept_below d marks c.args.children (keyed key uses known child) is c.requires in
+    let size : type_size c.into_inner-in-Dictionary.result.data_type ≡ parts_size (parts_of c.args.children) =
+    ap (λ (o : Open). type_size o.data_type) c.into_inner-in-Dictionary.ensures ∙ sym (ap parts_size is) in (
+      search (rules, size),
+      (
+        subst (λ (o : Open). is_sound (dictionary d (mask_of_marks marks) (keys_from uses) (column_of o)) ≡ true)
+            (sym c.into_inner-in-Dictionary.ensures) (keyed_sound d marks _ key uses known child kept),
+        (keyed_lies d marks _ key uses known child kept, keyed_few d marks _ key uses known child kept),
+      ),
+    )
+
+pub freeze_nested-returns-in-Dictionary : goal.freeze_nested-returns-in-Dictionary
+freeze_nested-returns-in-Dictionary t c =
+    let d = c.args.head.data_type in
+    let marks = c.args.head.marks in
+    let key = c.in-Dictionary.keys.key in
+    let uses = c.in-Dictionary.keys.uses in
+    let known = c.in-Dictionary.keys.known in
+    answered_as c.freeze_keyed.result _ (parts_column d marks (parts_of c.args.children)) c.freeze_keyed.ensures
+    (ap (λ (o : Open). dictionary d (mask_of_marks marks) (keys_from uses) (column_of o)) c.into_inner-in-Dictionary.ensures
+    ∙ keyed_is d marks [] key uses known c.in-Dictionary.values.value ∙ ap (parts_column d marks) (sym (ap parts_of c.in-Dictionary.is)))
 
 pub freeze_each-into_array-requires : goal.freeze_each-into_array-requires
 freeze_each-into_array-requires t c =

@@ -20,6 +20,9 @@ decreases-freeze_list l = 4 * type_size l.values.data_type + 1
 abbrev pub decreases-freeze_sized : goal.decreases-freeze_sized
 decreases-freeze_sized l = 4 * type_size l.values.data_type + 1
 
+abbrev pub decreases-freeze_keyed : goal.decreases-freeze_keyed
+decreases-freeze_keyed l = 4 * type_size l.values.data_type + 1
+
 abbrev pub decreases-freeze_struct : goal.decreases-freeze_struct
 decreases-freeze_struct l = 4 * types_size l.fields.items + 2
 

@@ -3,10 +3,10 @@ use Rattle.std.specs.Prelude.{◌&&◌, ◌==◌, nat_eq}
 use Rattle.std.specs.List.{list_all}
 use Rattle.std.proofs.lemmas.Bool.{eq-eqb}
 use Rattle.std.proofs.lemmas.List.{length-map}
-use Rattle.nested_arrays_builder_parts.specs.arrays.columnar_memory.declared.Field.{Field}
-use Rattle.nested_arrays_builder_parts.specs.arrays.columns.Cells.{fit_each, fits_cell}
-use Rattle.nested_arrays_builder_parts.specs.arrays.columns.Slots.{in_slots}
-use Rattle.nested_arrays_builder_parts.specs.Scalars.{scalar_slot}
+use Rattle.nested_arrays_builder_values.specs.parts.arrays.columnar_memory.declared.Field.{Field}
+use Rattle.nested_arrays_builder_values.specs.parts.arrays.columns.Cells.{fit_each, fits_cell}
+use Rattle.nested_arrays_builder_values.specs.parts.arrays.columns.Slots.{in_slots}
+use Rattle.nested_arrays_builder_values.specs.parts.Scalars.{scalar_slot}
 use Rattle.nested_arrays_builders.proofs.CellItems.{list_fits, one_fails, record_fits, sized_list_fits, uncounted}
 use Rattle.nested_arrays_builders.proofs.fitting.+fitting.Goals as goal
 

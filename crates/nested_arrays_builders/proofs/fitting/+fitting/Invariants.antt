@@ -1,9 +1,9 @@
 use Rattle.std.proofs.Common.{◌≡◌, take, drop, length, map, true}
 use Rattle.std.specs.List.{list_all}
-use Rattle.nested_arrays_builder_parts.specs.arrays.columnar_memory.declared.Field.{Field}
-use Rattle.nested_arrays_builder_parts.specs.arrays.columns.Cells.{fit_each, fits_cell}
-use Rattle.nested_arrays_builder_parts.specs.arrays.columns.Slots.{in_slots}
-use Rattle.nested_arrays_builder_parts.specs.Scalars.{scalar_slot}
+use Rattle.nested_arrays_builder_values.specs.parts.arrays.columnar_memory.declared.Field.{Field}
+use Rattle.nested_arrays_builder_values.specs.parts.arrays.columns.Cells.{fit_each, fits_cell}
+use Rattle.nested_arrays_builder_values.specs.parts.arrays.columns.Slots.{in_slots}
+use Rattle.nested_arrays_builder_values.specs.parts.Scalars.{scalar_slot}
 use Rattle.nested_arrays_builders.proofs.fitting.+fitting.Given as goal
 
 -- the first cells fit

@@ -1,6 +1,6 @@
 use Rattle.std.proofs.Common.{rules, ◌∙◌, ◌<◌, length, get_or, ap, sym, arith}
-use Rattle.nested_arrays_builder_parts.specs.arrays.columns.Children.{field_of}
-use Rattle.nested_arrays_builder_parts.specs.Scalars.{scalar_slot}
+use Rattle.nested_arrays_builder_values.specs.parts.arrays.columns.Children.{field_of}
+use Rattle.nested_arrays_builder_values.specs.parts.Scalars.{scalar_slot}
 use Rattle.nested_arrays_builders.proofs.CellItems.{as_many_fields, field_at, no_record}
 use Rattle.nested_arrays_builders.proofs.inside.field_in.Goals as goal
 

@@ -1,5 +1,5 @@
 use Rattle.std.proofs.Common.{◌∙◌, length, ap, sym}
-use Rattle.nested_arrays_builder_parts.specs.arrays.columns.Children.{items_of}
+use Rattle.nested_arrays_builder_values.specs.parts.arrays.columns.Children.{items_of}
 use Rattle.nested_arrays_builders.proofs.CellItems.{items_many, no_list}
 use Rattle.nested_arrays_builders.proofs.inside.item_count.Goals as goal
 

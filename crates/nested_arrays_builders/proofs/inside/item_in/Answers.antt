@@ -1,5 +1,5 @@
 use Rattle.std.proofs.Common.{rules, ◌∙◌, ◌<◌, length, get_or, ap, arith}
-use Rattle.nested_arrays_builder_parts.specs.Scalars.{scalar_slot}
+use Rattle.nested_arrays_builder_values.specs.parts.Scalars.{scalar_slot}
 use Rattle.nested_arrays_builders.proofs.CellItems.{as_many, item_at, no_list, null_item, sized_is_list}
 use Rattle.nested_arrays_builders.proofs.inside.item_in.Goals as goal
 

@@ -1,7 +1,7 @@
 use Rattle.std.proofs.Common.{rules, ◌≡◌, ◌∙◌, false, ap, arith}
 use Rattle.std.specs.Prelude.{nat_le}
-use Rattle.nested_arrays_builder_parts.specs.arrays.columns.FreshLaws.{is_buildable}
-use Rattle.nested_arrays_builder_parts.proofs.growth_lemmas.Below.{buildable_fixed_binary}
+use Rattle.nested_arrays_builder_values.specs.parts.arrays.columns.FreshLaws.{is_buildable}
+use Rattle.nested_arrays_builder_values.proofs.parts_lemmas.growth_lemmas.Below.{buildable_fixed_binary}
 use Rattle.nested_arrays_builders.proofs.Unbuilt.{strings_are_plain}
 use Rattle.nested_arrays_builders.proofs.new.new_strings.Goals as goal
 

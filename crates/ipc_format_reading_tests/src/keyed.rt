@@ -1,0 +1,81 @@
+//! Columns of dictionaries' keys.
+use crate::batches::{column, no_id, one_field};
+use ipc_format_reading::childless_reading::Dictionaries;
+use ipc_format_reading::childless_reading::array_reading::column_reading::columnar_memory::{
+    Boxed, DataType, Error, IntegerType, Items,
+};
+use ipc_format_reading::childless_reading::array_reading::column_reading::messages::MetadataVersion;
+use ipc_format_reading::childless_reading::array_reading::column_reading::metadata::IpcField;
+use std::alloc::Global;
+use std::test::*;
+
+/// A dictionary's type, with keys of a byte.
+fn keyed(alloc: Global, values: DataType) -> Result<DataType, Error> {
+    Ok(DataType::Dictionary(IntegerType::Int8, Boxed::new(alloc, values)?, false))
+}
+
+/// An id beside a field, and these beside the fields below it.
+fn id(id: i64, fields: Items<IpcField>) -> IpcField {
+    IpcField {
+        fields,
+        dictionary_id: Some(id),
+    }
+}
+
+#[test]
+fn records_of_a_dictionary_in_a_dictionary(rt: HostRuntime) -> Result<(), Fail> {
+    let alloc = rt.alloc();
+    let version = MetadataVersion::V5;
+    let mut standing = Dictionaries::new(alloc);
+    let texts = column(
+        alloc,
+        DataType::Utf8,
+        &no_id(Items::new(alloc)),
+        &standing,
+        version,
+        &[(1, 0)],
+        &[(0, 0), (0, 8), (8, 1)],
+        &[0, 0, 0, 0, 1, 0, 0, 0, b'a'],
+    )?;
+    standing.insert(1, texts)?;
+    let mut below = Items::new(alloc);
+    below.push(id(1, Items::new(alloc)))?;
+    let records = DataType::Struct(one_field(alloc, keyed(alloc, DataType::Utf8)?)?);
+    let values = column(
+        alloc,
+        records.clone()?,
+        &no_id(below.clone()?),
+        &standing,
+        version,
+        &[(1, 0), (1, 0)],
+        &[(0, 0), (0, 0), (0, 1)],
+        &[0],
+    )?;
+    standing.insert(0, values)?;
+    let data_type = keyed(alloc, records)?;
+    let ids = id(0, below);
+    let place = &[(0, 0), (0, 1)];
+    let found = column(
+        alloc,
+        data_type.clone()?,
+        &ids,
+        &standing,
+        version,
+        &[(1, 0)],
+        place,
+        &[0],
+    )?;
+    assert_eq!(rt; found.len(), 1);
+    let refused = column(
+        alloc,
+        data_type,
+        &ids,
+        &standing,
+        version,
+        &[(1, 0)],
+        place,
+        &[1],
+    );
+    assert!(rt; matches!(refused, Err(Error::OutOfSpec(_))));
+    Ok(())
+}
