@@ -144,8 +144,8 @@ pub fn read_childless<R: Room>(
         field_nodes.old.items field_nodes.new.items buffers.old.items buffers.new.items result }
 {
     let copy = data_type.clone()?;
-    if let PhysicalType::Dictionary(key) = copy.to_physical_type() {
-        return read_keyed(
+    match copy.to_physical_type() {
+        PhysicalType::Dictionary(key) => read_keyed(
             alloc,
             field_nodes,
             copy,
@@ -158,17 +158,17 @@ pub fn read_childless<R: Room>(
             is_little_endian,
             limit,
             scratch,
-        );
+        ),
+        _ => read_flat(
+            alloc,
+            field_nodes,
+            copy,
+            buffers,
+            reader,
+            block_offset,
+            is_little_endian,
+            limit,
+            scratch,
+        ),
     }
-    read_flat(
-        alloc,
-        field_nodes,
-        copy,
-        buffers,
-        reader,
-        block_offset,
-        is_little_endian,
-        limit,
-        scratch,
-    )
 }

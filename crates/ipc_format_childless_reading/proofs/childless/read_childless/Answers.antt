@@ -1,5 +1,5 @@
 -- Keys by the id at the field, and columns of flat arrays whatever the ids.
-use Rattle.std.proofs.Common.{◌≡◌, ◌∙◌, ap, refl, rules, subst, sym}
+use Rattle.std.proofs.Common.{◌≡◌, ◌∙◌, ap, false, refl, rules, subst, sym}
 use Rattle.ipc_format_array_reading.specs.column_reading.columnar_memory.Layouts.{physical_type}
 use Rattle.ipc_format_array_reading.specs.column_reading.columnar_memory.declared.DataType.{DataType}
 use Rattle.ipc_format_array_reading.specs.column_reading.columnar_memory.declared.PhysicalType.TheVariants as physical
@@ -10,10 +10,11 @@ use Rattle.ipc_format_array_reading.specs.column_reading.grammar.Schemas.{ids, n
 use Rattle.ipc_format_array_reading.specs.column_reading.messages.MessageViews.{version_view}
 use Rattle.ipc_format_array_reading.specs.column_reading.metadata.Views.{ids_view}
 use Rattle.ipc_format_array_reading.specs.ArrayReads.{array_slots}
+use Rattle.ipc_format_array_reading.specs.Parts.{has_children}
 use Rattle.ipc_format_array_reading.specs.TypedReads.{front_array}
 use Rattle.ipc_format_childless_reading.specs.ReadArrays.{at_front, standing_in}
 use Rattle.ipc_format_childless_reading.proofs.ArrayReading.{TakesTyped, typed_as}
-use Rattle.ipc_format_childless_reading.proofs.ChildlessLayers.{apart_from_keys, bare_flat, buffers_are, flat_same}
+use Rattle.ipc_format_childless_reading.proofs.ChildlessLayers.{apart_from_keys, bare_flat, buffers_are, flat_same, is_keyed}
 use Rattle.ipc_format_childless_reading.proofs.KeyedReading.{keyed_same}
 use Rattle.ipc_format_childless_reading.proofs.OwnIds.{own_id_is}
 use Rattle.ipc_format_childless_reading.proofs.childless.read_childless.Goals as goal
@@ -45,7 +46,31 @@ returns-in-Dictionary g c =
     c.read_keyed.ensures)
 
 pub read_flat-requires : goal.read_flat-requires
-read_flat-requires g c = ?
+read_flat-requires g c =
+    let copy = c.in_ok-copy.copy in
+    let copied : copy ≡ c.args.data_type.now = search rules in
+    bare_flat copy (ap (λ (t : DataType). has_children (type_layer t)) copied ∙ c.requires)
+    (apart_from_keys copy (λ key is. c.in_default.not-Dictionary key (c.to_physical_type.ensures ∙ is)))
 
-pub returns : goal.returns
-returns g c = ?
+pub returns-in_default : goal.returns-in_default
+returns-in_default g c =
+    let t = c.args.data_type.now in
+    let version = version_view c.args._version in
+    let here = ids_view c.args.ipc_field.now in
+    let m = c.args.dictionaries.now in
+    let nodes = c.args.field_nodes.now.items in
+    let buffers = c.args.buffers.now.items in
+    let little = c.args.is_little_endian in
+    let copied : c.in_ok-copy.copy ≡ t = search rules in
+    let apart : is_keyed (physical_type t) ≡ false =
+    apart_from_keys t (λ key is. c.in_default.not-Dictionary key (c.to_physical_type.ensures ∙ ap physical_type copied ∙ is)) in
+    let old = g.R.Room.told c.args.reader.now in
+    let new = g.R.Room.told c.read_flat.new.reader in
+    typed_as old new t (front_array t nodes buffers little c.args.limit c.args.block_offset)
+    (λ room. array_slots t (at_front nodes buffers version little (standing_in m) c.args.limit c.args.block_offset here room)) (node_count t)
+    (buffer_count V5 t) (node_count t) (buffer_count version t) nodes c.read_flat.new.field_nodes.items buffers c.read_flat.new.buffers.items
+    c.read_flat.result
+    (flat_same t nodes buffers version little (standing_in m) c.args.limit c.args.block_offset here (bare_flat t c.requires apart) apart) refl
+    (buffers_are version t c.requires ∙ sym (buffers_are V5 t c.requires))
+    (subst (λ (u : DataType). TakesTyped old new u (front_array u nodes buffers little c.args.limit c.args.block_offset) (node_count u)
+    (buffer_count V5 u) nodes c.read_flat.new.field_nodes.items buffers c.read_flat.new.buffers.items c.read_flat.result) copied c.read_flat.ensures)

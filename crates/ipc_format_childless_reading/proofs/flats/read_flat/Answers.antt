@@ -118,3 +118,11 @@ returns-in-LargeUtf8 g c =
     c.read_utf8-in-LargeUtf8.new.field_nodes.items buffers c.read_utf8-in-LargeUtf8.new.buffers.items c.read_utf8-in-LargeUtf8.result c.any_of-in-LargeUtf8.result lies
     (all_read t nodes buffers little c.args.limit c.args.block_offset (ap has_all lies)) (nodes_are t bare)
     (buffers_are V5 t bare ∙ ap buffers_of lies) c.read_utf8-in-LargeUtf8.ensures c.any_of-in-LargeUtf8.ensures
+
+pub returns-in_default : goal.returns-in_default
+returns-in_default g c =
+    let lies = c.to_physical_type.ensures in
+    absurd (no_other (physical_type c.args.data_type) c.requires (λ kind is. c.in_default.not-Primitive kind (lies ∙ is))
+    (λ is. c.in_default.not-Null (lies ∙ is)) (λ is. c.in_default.not-Boolean (lies ∙ is)) (λ is. c.in_default.not-Binary (lies ∙ is))
+    (λ is. c.in_default.not-LargeBinary (lies ∙ is)) (λ is. c.in_default.not-FixedSizeBinary (lies ∙ is))
+    (λ is. c.in_default.not-Utf8 (lies ∙ is)) (λ is. c.in_default.not-LargeUtf8 (lies ∙ is)))

@@ -1,8 +1,9 @@
 -- The values under an id, and their type.
-use Rattle.std.proofs.Common.{◌≡◌, ◌∙◌, Bool, ap, false, option_copied, rules, sym, true}
+use Rattle.std.proofs.Common.{◌≡◌, ◌∙◌, Bool, ap, false, option_copied, rules, sym, true, w64}
 use Rattle.std.specs.Prelude.{None, Option, Some, if◌then◌else◌}
 use Rattle.std.specs.Map.{lookup}
 use Rattle.std.specs.Ordering.{int_eq}
+use Rattle.std.proofs.lemmas.Int.{to_z-of_z}
 use Rattle.ipc_format_array_reading.specs.column_reading.columns.StoredColumns.{Column, column_type, type_layer}
 use Rattle.ipc_format_array_reading.specs.column_reading.flatbuffers.Reading.{◌>>=◌}
 use Rattle.ipc_format_childless_reading.specs.Keyed.{has_values, if_values, values_for}
@@ -14,7 +15,8 @@ returns-in_err-values c =
     let m = c.args.dictionaries.now in
     let own : c.args.id ≡ Some c.in_ok-id.id = search rules in
     let none : lookup (int_eq c.in_ok-id.id) m.entries ≡ None =
-    sym c.values_under.ensures ∙ ap option_copied (c.in_err-values.was {u = tt}) in
+    ap (λ i. lookup (int_eq i) m.entries) (sym (to_z-of_z w64 c.in_ok-id.id (search rules))) ∙ sym c.values_under.ensures
+    ∙ ap option_copied (c.in_err-values.was {u = tt}) in
     ap option_copied c.from_residual-in_err-values.ensures
     ∙ sym (ap (λ i. values_for x i m) own ∙ ap (λ (r : Option Column). r >>= if_values x) none)
 
@@ -25,7 +27,8 @@ returns-then-has_values c =
     let values = c.in_ok-values.values.now in
     let own : c.args.id ≡ Some c.in_ok-id.id = search rules in
     let some : lookup (int_eq c.in_ok-id.id) m.entries ≡ Some values =
-    sym c.values_under.ensures ∙ ap option_copied (c.in_ok-values.was {u = tt}) in
+    ap (λ i. lookup (int_eq i) m.entries) (sym (to_z-of_z w64 c.in_ok-id.id (search rules))) ∙ sym c.values_under.ensures
+    ∙ ap option_copied (c.in_ok-values.was {u = tt}) in
     let typed : has_values x (column_type values) ≡ true =
     ap (has_values x) (sym c.data_type.ensures) ∙ sym c.has_values.ensures ∙ c.if-has_values.true in
     sym (ap (λ i. values_for x i m) own ∙ ap (λ (r : Option Column). r >>= if_values x) some
@@ -38,7 +41,8 @@ returns-else-has_values c =
     let values = c.in_ok-values.values.now in
     let own : c.args.id ≡ Some c.in_ok-id.id = search rules in
     let some : lookup (int_eq c.in_ok-id.id) m.entries ≡ Some values =
-    sym c.values_under.ensures ∙ ap option_copied (c.in_ok-values.was {u = tt}) in
+    ap (λ i. lookup (int_eq i) m.entries) (sym (to_z-of_z w64 c.in_ok-id.id (search rules))) ∙ sym c.values_under.ensures
+    ∙ ap option_copied (c.in_ok-values.was {u = tt}) in
     let apart : has_values x (column_type values) ≡ false =
     ap (has_values x) (sym c.data_type.ensures) ∙ sym c.has_values.ensures ∙ c.if-has_values.false in
     sym (ap (λ i. values_for x i m) own ∙ ap (λ (r : Option Column). r >>= if_values x) some
