@@ -1,10 +1,9 @@
 -- What builders with children store is sound.
 use Rattle.std.proofs.Common.{◌≡◌, ◌∙◌, ◌<◌, ◌≤◌, ℕ, List, [], ◌∷◌, length, map, Bool, true, refl, sym, ap, subst, arith}
-use Rattle.std.specs.Prelude.{◌&&◌, ◌==◌, nat_le, Result}
+use Rattle.std.specs.Prelude.{◌==◌, nat_le, Result}
 use Rattle.std.proofs.lemmas.Bool.{and_parts, eqb-true, leb-true}
 use Rattle.nested_arrays_builders.specs.columnar_memory.declared.DataType.{DataType}
 use Rattle.nested_arrays_builders.specs.columnar_memory.declared.DataType.TheOpen as layer
-use Rattle.nested_arrays_builders.specs.columnar_memory.declared.Field.{Field}
 use Rattle.nested_arrays_builders.specs.columnar_memory.declared.Error.{Error}
 use Rattle.nested_arrays_builders.specs.columnar_memory.declared.IntegerType.{IntegerType}
 use Rattle.nested_arrays_builders.specs.columnar_memory.declared.PhysicalType.TheVariants as physical

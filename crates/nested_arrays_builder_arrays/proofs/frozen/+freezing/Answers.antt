@@ -15,7 +15,6 @@ use Rattle.nested_arrays_builders.proofs.CutParts.{one_child}
 use Rattle.nested_arrays_builders.proofs.HeldNodes.{nested_size}
 use Rattle.nested_arrays_builder_arrays.proofs.KeptArrays.{answered_as, nested_column, nested_kept, kept_below, list_is}
 use Rattle.nested_arrays_builder_arrays.proofs.KeptArrays.{list_sound, list_lies, sized_is}
-use Rattle.nested_arrays_builder_arrays.proofs.FrozenParts.{keyed_by, keys_lie, mask_long}
 use Rattle.nested_arrays_builder_arrays.proofs.KeptArrays.{keyed_is, keyed_sound, keyed_lies, keyed_few}
 use Rattle.nested_arrays_builder_arrays.proofs.KeptArrays.{sized_sound, record_is, record_sound, record_long}
 use Rattle.nested_arrays_builder_arrays.proofs.frozen.+freezing.Goals as goal
