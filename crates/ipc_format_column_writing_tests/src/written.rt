@@ -20,8 +20,10 @@ fn a_mask_of_trues_is_left_out(rt: HostRuntime) -> Result<(), Fail> {
 fn a_cut_list_begins_with_the_offset_0(rt: HostRuntime) -> Result<(), Fail> {
     let alloc = rt.alloc();
     let mut array = lists(alloc)?;
+    assert!(rt; array.len() == 4);
     array.slice(2, 2);
     let found = written(alloc, &array, true)?;
+    assert!(rt; found.bytes.len() >= 76);
     assert_eq!(rt; found.nodes(alloc)?.as_slice(), &[(2, 0), (3, 0)][..]);
     assert_eq!(rt;
         &found.bytes[..12],
@@ -38,8 +40,10 @@ fn a_cut_list_begins_with_the_offset_0(rt: HostRuntime) -> Result<(), Fail> {
 fn a_cut_sparse_union_has_cut_children(rt: HostRuntime) -> Result<(), Fail> {
     let alloc = rt.alloc();
     let mut array = sparse(alloc)?;
+    assert!(rt; array.len() == 3);
     array.slice(1, 1);
     let found = written(alloc, &array, false)?;
+    assert!(rt; found.bytes.len() >= 68);
     assert_eq!(rt; found.nodes(alloc)?.as_slice(), &[(1, 0), (1, 0)][..]);
     assert_eq!(rt;
         found.buffers(alloc)?.as_slice(),

@@ -1,5 +1,6 @@
 use columnar_memory_types::{Boxed, DataType, Error, Field, IntegerType, Items, Text};
 use nested_arrays_builder_arrays::arrays::flat_arrays::Utf8Array;
+use nested_arrays_builder_arrays::arrays::parts::FlatNode;
 use nested_arrays_builder_arrays::arrays::{AnyArray, DictionaryNode, Node};
 use nested_arrays_builder_arrays::as_box;
 use nested_arrays_builder_arrays::builders::AnyMutableArray;
@@ -32,7 +33,10 @@ fn stores(array: AnyArray, keys: &[i8], texts: &[&str]) -> bool {
     let Ok(own) = own.into_array::<i8>() else {
         return false;
     };
-    let Ok(values) = Utf8Array::<i32>::try_from(Box::into_inner(values)) else {
+    let Node::Flat(values) = Box::into_inner(values).node else {
+        return false;
+    };
+    let FlatNode::Utf8(values) = values.node else {
         return false;
     };
     let found = own.values().as_slice() == keys && are_texts(&values, texts);
