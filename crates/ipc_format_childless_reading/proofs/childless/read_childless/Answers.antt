@@ -9,6 +9,7 @@ use Rattle.ipc_format_array_reading.specs.column_reading.grammar.Messages.{V5}
 use Rattle.ipc_format_array_reading.specs.column_reading.grammar.Schemas.{ids, no_ids}
 use Rattle.ipc_format_array_reading.specs.column_reading.messages.MessageViews.{version_view}
 use Rattle.ipc_format_array_reading.specs.column_reading.metadata.Views.{ids_view}
+use Rattle.ipc_format_array_reading.specs.column_reading.metadata.declared.ipc_schema.IpcField.TheViews.{out-IpcField}
 use Rattle.ipc_format_array_reading.specs.ArrayReads.{array_slots}
 use Rattle.ipc_format_array_reading.specs.Parts.{has_children}
 use Rattle.ipc_format_array_reading.specs.TypedReads.{front_array}
@@ -31,19 +32,21 @@ returns-in-Dictionary g c =
     let little = c.args.is_little_endian in
     let copied : c.in_ok-copy.copy ≡ t = search rules in
     let lies : physical_type t ≡ physical.Dictionary key = search rules in
-    let here = ids c.args.ipc_field.now.dictionary_id no_ids in
+    let here = ids (out-IpcField field).dictionary_id no_ids in
     let old = g.R.Room.told c.args.reader.now in
     let new = g.R.Room.told c.read_keyed.new.reader in
-    typed_as old new t (λ room. array_slots t (at_front nodes buffers V5 little (standing_in m) c.args.limit c.args.block_offset here room))
-    (λ room. array_slots t (at_front nodes buffers version little (standing_in m) c.args.limit c.args.block_offset (ids_view field) room))
-    (node_count t) (buffer_count V5 t) (node_count t) (buffer_count version t) nodes c.read_keyed.new.field_nodes.items buffers
-    c.read_keyed.new.buffers.items c.read_keyed.result
-    (keyed_same t key nodes buffers version little m c.args.limit c.args.block_offset (ids_view field) here (own_id_is field) lies) refl
-    (buffers_are version t c.requires ∙ sym (buffers_are V5 t c.requires))
-    (subst (λ (u : DataType). TakesTyped old new u
-    (λ room. array_slots u (at_front nodes buffers V5 little (standing_in m) c.args.limit c.args.block_offset here room)) (node_count u)
-    (buffer_count V5 u) nodes c.read_keyed.new.field_nodes.items buffers c.read_keyed.new.buffers.items c.read_keyed.result) copied
-    c.read_keyed.ensures)
+    record {
+      read = typed_as old new t (λ room. array_slots t (at_front nodes buffers V5 little (standing_in m) c.args.limit c.args.block_offset here room))
+          (λ room. array_slots t (at_front nodes buffers version little (standing_in m) c.args.limit c.args.block_offset (ids_view field) room))
+          (node_count t) (buffer_count V5 t) (node_count t) (buffer_count version t) nodes c.read_keyed.new.field_nodes.items buffers
+          c.read_keyed.new.buffers.items c.read_keyed.result
+          (keyed_same t key nodes buffers version little m c.args.limit c.args.block_offset (ids_view field) here (own_id_is field) lies) refl
+          (buffers_are version t c.requires ∙ sym (buffers_are V5 t c.requires))
+          (subst (λ (u : DataType). TakesTyped old new u
+          (λ room. array_slots u (at_front nodes buffers V5 little (standing_in m) c.args.limit c.args.block_offset here room)) (node_count u)
+          (buffer_count V5 u) nodes c.read_keyed.new.field_nodes.items buffers c.read_keyed.new.buffers.items c.read_keyed.result) copied
+          c.read_keyed.ensures);
+    }
 
 pub read_flat-requires : goal.read_flat-requires
 read_flat-requires g c =
@@ -66,11 +69,13 @@ returns-in_default g c =
     apart_from_keys t (λ key is. c.in_default.not-Dictionary key (c.to_physical_type.ensures ∙ ap physical_type copied ∙ is)) in
     let old = g.R.Room.told c.args.reader.now in
     let new = g.R.Room.told c.read_flat.new.reader in
-    typed_as old new t (front_array t nodes buffers little c.args.limit c.args.block_offset)
-    (λ room. array_slots t (at_front nodes buffers version little (standing_in m) c.args.limit c.args.block_offset here room)) (node_count t)
-    (buffer_count V5 t) (node_count t) (buffer_count version t) nodes c.read_flat.new.field_nodes.items buffers c.read_flat.new.buffers.items
-    c.read_flat.result
-    (flat_same t nodes buffers version little (standing_in m) c.args.limit c.args.block_offset here (bare_flat t c.requires apart) apart) refl
-    (buffers_are version t c.requires ∙ sym (buffers_are V5 t c.requires))
-    (subst (λ (u : DataType). TakesTyped old new u (front_array u nodes buffers little c.args.limit c.args.block_offset) (node_count u)
-    (buffer_count V5 u) nodes c.read_flat.new.field_nodes.items buffers c.read_flat.new.buffers.items c.read_flat.result) copied c.read_flat.ensures)
+    record {
+      read = typed_as old new t (front_array t nodes buffers little c.args.limit c.args.block_offset)
+          (λ room. array_slots t (at_front nodes buffers version little (standing_in m) c.args.limit c.args.block_offset here room)) (node_count t)
+          (buffer_count V5 t) (node_count t) (buffer_count version t) nodes c.read_flat.new.field_nodes.items buffers c.read_flat.new.buffers.items
+          c.read_flat.result
+          (flat_same t nodes buffers version little (standing_in m) c.args.limit c.args.block_offset here (bare_flat t c.requires apart) apart) refl
+          (buffers_are version t c.requires ∙ sym (buffers_are V5 t c.requires))
+          (subst (λ (u : DataType). TakesTyped old new u (front_array u nodes buffers little c.args.limit c.args.block_offset) (node_count u)
+          (buffer_count V5 u) nodes c.read_flat.new.field_nodes.items buffers c.read_flat.new.buffers.items c.read_flat.result) copied c.read_flat.ensures);
+    }
