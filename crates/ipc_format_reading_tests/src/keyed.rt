@@ -6,6 +6,7 @@ use ipc_format_reading::childless_reading::array_reading::column_reading::column
 };
 use ipc_format_reading::childless_reading::array_reading::column_reading::messages::MetadataVersion;
 use ipc_format_reading::childless_reading::array_reading::column_reading::metadata::IpcField;
+use ipc_format_reading::childless_reading::array_reading::nested_arrays::AnyArray;
 use std::alloc::Global;
 use std::test::*;
 
@@ -22,60 +23,64 @@ fn id(id: i64, fields: Items<IpcField>) -> IpcField {
     }
 }
 
+/// The array of one text, a.
+fn texts(alloc: Global) -> Result<AnyArray, Error> {
+    column(
+        alloc,
+        DataType::Utf8,
+        &no_id(Items::new(alloc)),
+        &Dictionaries::new(alloc),
+        MetadataVersion::V5,
+        &[(1, 0)],
+        &[(0, 0), (0, 8), (8, 1)],
+        &[0, 0, 0, 0, 1, 0, 0, 0, b'a'],
+    )
+}
+
+/// The array of one record, whose field is the first value of dictionary 1.
+fn records(
+    alloc: Global,
+    data_type: DataType,
+    below: Items<IpcField>,
+    standing: &Dictionaries,
+) -> Result<AnyArray, Error> {
+    column(
+        alloc,
+        data_type,
+        &no_id(below),
+        standing,
+        MetadataVersion::V5,
+        &[(1, 0), (1, 0)],
+        &[(0, 0), (0, 0), (0, 1)],
+        &[0],
+    )
+}
+
 #[test]
 fn records_of_a_dictionary_in_a_dictionary(rt: HostRuntime) -> Result<(), Fail> {
     let alloc = rt.alloc();
     let version = MetadataVersion::V5;
     let mut standing = Dictionaries::new(alloc);
-    let texts = column(
-        alloc,
-        DataType::Utf8,
-        &no_id(Items::new(alloc)),
-        &standing,
-        version,
-        &[(1, 0)],
-        &[(0, 0), (0, 8), (8, 1)],
-        &[0, 0, 0, 0, 1, 0, 0, 0, b'a'],
-    )?;
-    standing.insert(1, texts)?;
+    standing.insert(1, texts(alloc)?)?;
     let mut below = Items::new(alloc);
     below.push(id(1, Items::new(alloc)))?;
-    let records = DataType::Struct(one_field(alloc, keyed(alloc, DataType::Utf8)?)?);
-    let values = column(
-        alloc,
-        records.clone()?,
-        &no_id(below.clone()?),
-        &standing,
-        version,
-        &[(1, 0), (1, 0)],
-        &[(0, 0), (0, 0), (0, 1)],
-        &[0],
-    )?;
-    standing.insert(0, values)?;
-    let data_type = keyed(alloc, records)?;
-    let ids = id(0, below);
-    let place = &[(0, 0), (0, 1)];
+    let values = DataType::Struct(one_field(alloc, keyed(alloc, DataType::Utf8)?)?);
+    let first = records(alloc, values.clone()?, below.clone()?, &standing)?;
+    standing.insert(0, first)?;
+    let (data_type, ids, place) = (keyed(alloc, values)?, id(0, below), &[(0, 0), (0, 1)]);
+    let one = &[(1, 0)];
     let found = column(
         alloc,
         data_type.clone()?,
         &ids,
         &standing,
         version,
-        &[(1, 0)],
+        one,
         place,
         &[0],
     )?;
     assert_eq!(rt; found.len(), 1);
-    let refused = column(
-        alloc,
-        data_type,
-        &ids,
-        &standing,
-        version,
-        &[(1, 0)],
-        place,
-        &[1],
-    );
+    let refused = column(alloc, data_type, &ids, &standing, version, one, place, &[1]);
     assert!(rt; matches!(refused, Err(Error::OutOfSpec(_))));
     Ok(())
 }
