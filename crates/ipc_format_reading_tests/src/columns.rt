@@ -1,5 +1,5 @@
 //! Columns with columns below them.
-use crate::batches::{column, list_of, no_ids, one_field};
+use crate::batches::{column, field, list_of, no_ids, one_field};
 use ipc_format_reading::childless_reading::Dictionaries;
 use ipc_format_reading::childless_reading::array_reading::column_reading::columnar_memory::{
     Boxed, DataType, Error, UnionMode,
@@ -50,8 +50,7 @@ fn lists_of_nulls_are_as_many_as_their_nodes_say(rt: HostRuntime) -> Result<(), 
     let alloc = rt.alloc();
     let (ids, none) = (no_ids(alloc)?, Dictionaries::new(alloc));
     let version = MetadataVersion::V5;
-    let nulls = one_field(alloc, DataType::Null)?;
-    let item = Boxed::new(alloc, nulls.as_slice()[0].clone()?)?;
+    let item = Boxed::new(alloc, field(alloc, DataType::Null)?)?;
     let lists = DataType::FixedSizeList(item, 2_147_483_647);
     let many = &[(4_294_967_296, 0), (9_223_372_032_559_808_512, 0)];
     let found = column(
