@@ -1,0 +1,2 @@
+pub mod BatchReads
+pub use Rattle.ipc_format_batches.specs as batches

@@ -1,0 +1,2 @@
+pub mod Pushes
+pub use Rattle.nested_arrays_builder_cells.specs as cells
