@@ -1,2 +1,0 @@
-pub mod BatchReads
-pub use Rattle.ipc_format_batches.specs as batches

@@ -1,2 +1,0 @@
-pub mod Pushes
-pub use Rattle.nested_arrays_builder_cells.specs as cells
