@@ -6,37 +6,37 @@ use Rattle.std.specs.List.{list_all}
 use Rattle.std.proofs.Math.Nat.{mul_comm, mul-div_cancel_left}
 use Rattle.std.proofs.lemmas.Bool.{cases_Bool, eq-eqb, leb-true, lt-ltb, ltb-true, true≢false}
 use Rattle.std.proofs.lemmas.List.{length-drop, length-take-le}
-use Rattle.ipc_format_column_reading.specs.Flat.{IsMaskOf}
-use Rattle.ipc_format_column_reading.specs.columnar_memory.Layouts.{physical_type}
-use Rattle.ipc_format_column_reading.specs.columnar_memory.declared.DataType.{DataType}
-use Rattle.ipc_format_column_reading.specs.columnar_memory.declared.Error.{Error}
-use Rattle.ipc_format_column_reading.specs.columnar_memory.declared.DataType.TheOpen as layer
-use Rattle.ipc_format_column_reading.specs.columnar_memory.declared.IntervalUnit.TheVariants as intervals
-use Rattle.ipc_format_column_reading.specs.columnar_memory.declared.PhysicalType.{PhysicalType}
-use Rattle.ipc_format_column_reading.specs.columnar_memory.declared.PhysicalType.TheVariants as physical
-use Rattle.ipc_format_column_reading.specs.columns.Slots.{Slot, bytes, null, window}
-use Rattle.ipc_format_column_reading.specs.columns.SoundColumns.{is_byte, is_null_type, is_sound, mask_fits}
-use Rattle.ipc_format_column_reading.specs.columns.StoredColumns.{Column, column_type, fixed_bytes, flat, nulls, slots, type_layer}
-use Rattle.ipc_format_column_reading.specs.flatbuffers.Reading.{◌>>=◌, guard, window_at}
-use Rattle.ipc_format_column_reading.specs.grammar.Columns.{Marked, Place, marked_in, buffer_at, fixed_bytes_slots, fixed_slots, null_slots, slots_by, slots_in}
-use Rattle.ipc_format_column_reading.specs.grammar.Messages.{natural}
-use Rattle.ipc_format_column_reading.specs.grammar.Values.{element_bytes}
-use Rattle.ipc_format_column_reading.specs.grammar.Schemas.{Ids}
-use Rattle.ipc_format_column_reading.specs.messages.declared.values.Buffer.{Buffer}
-use Rattle.ipc_format_column_reading.specs.messages.declared.values.FieldNode.{FieldNode}
-use Rattle.ipc_format_column_reading.specs.Buffers.{buffer_of, next_window, taken_in}
-use Rattle.ipc_format_column_reading.specs.Reads.{ReadsColumn, front, front_slots, next_marked}
-use Rattle.ipc_format_column_reading.specs.Rooms.{ForBytes, ReadsAs, Told}
-use Rattle.ipc_format_column_reading.proofs.ColumnReads.{Marks, takes_behind, values_behind, values_refused}
-use Rattle.ipc_format_column_reading.proofs.Marks.{column_made, front_made, later_window, mask_of, marks_of}
-use Rattle.ipc_format_column_reading.proofs.Readings.{out_of_spec, through_found}
-use Rattle.ipc_format_column_reading.proofs.columns_lemmas.TypeLayers.{Layer, is_extension, layer_layout, layout_is}
+use Rattle.ipc_format_column_writing.specs.column_reading.Flat.{IsMaskOf}
+use Rattle.ipc_format_column_writing.specs.column_reading.columnar_memory.Layouts.{physical_type}
+use Rattle.ipc_format_column_writing.specs.column_reading.columnar_memory.declared.DataType.{DataType}
+use Rattle.ipc_format_column_writing.specs.column_reading.columnar_memory.declared.Error.{Error}
+use Rattle.ipc_format_column_writing.specs.column_reading.columnar_memory.declared.DataType.TheOpen as layer
+use Rattle.ipc_format_column_writing.specs.column_reading.columnar_memory.declared.IntervalUnit.TheVariants as intervals
+use Rattle.ipc_format_column_writing.specs.column_reading.columnar_memory.declared.PhysicalType.{PhysicalType}
+use Rattle.ipc_format_column_writing.specs.column_reading.columnar_memory.declared.PhysicalType.TheVariants as physical
+use Rattle.ipc_format_column_writing.specs.column_reading.columns.Slots.{Slot, bytes, null, window}
+use Rattle.ipc_format_column_writing.specs.column_reading.columns.SoundColumns.{is_byte, is_null_type, is_sound, mask_fits}
+use Rattle.ipc_format_column_writing.specs.column_reading.columns.StoredColumns.{Column, column_type, fixed_bytes, flat, nulls, slots, type_layer}
+use Rattle.ipc_format_column_writing.specs.column_reading.flatbuffers.Reading.{◌>>=◌, guard, window_at}
+use Rattle.ipc_format_column_writing.specs.column_reading.grammar.Columns.{Marked, Place, marked_in, buffer_at, fixed_bytes_slots, fixed_slots, null_slots, slots_by, slots_in}
+use Rattle.ipc_format_column_writing.specs.column_reading.grammar.Messages.{natural}
+use Rattle.ipc_format_column_writing.specs.column_reading.grammar.Values.{element_bytes}
+use Rattle.ipc_format_column_writing.specs.column_reading.grammar.Schemas.{Ids}
+use Rattle.ipc_format_column_writing.specs.column_reading.messages.declared.values.Buffer.{Buffer}
+use Rattle.ipc_format_column_writing.specs.column_reading.messages.declared.values.FieldNode.{FieldNode}
+use Rattle.ipc_format_column_writing.specs.column_reading.Buffers.{buffer_of, next_window, taken_in}
+use Rattle.ipc_format_column_writing.specs.column_reading.Reads.{ReadsColumn, front, front_slots, next_marked}
+use Rattle.ipc_format_column_writing.specs.column_reading.Rooms.{ForBytes, ReadsAs, Told}
+use Rattle.ipc_format_column_writing.proofs.reading_lemmas.ColumnReads.{Marks, takes_behind, values_behind, values_refused}
+use Rattle.ipc_format_column_writing.proofs.reading_lemmas.Marks.{column_made, front_made, later_window, mask_of, marks_of}
+use Rattle.ipc_format_column_writing.proofs.reading_lemmas.Readings.{out_of_spec, through_found}
+use Rattle.ipc_format_column_writing.proofs.reading_lemmas.columns_lemmas.TypeLayers.{Layer, is_extension, layer_layout, layout_is}
 use Rattle.ipc_format_array_reading.specs.ArrayReads.{Test, is_readable}
 use Rattle.ipc_format_array_reading.specs.TypedReads.{IsNeeded, ReadsNulls, StatesSmall, front_array}
 use Rattle.ipc_format_array_reading.proofs.Layers.{layer_plain, layer_reads, layer_tests, read_layer, test_layer}
-use Rattle.ipc_format_chunks.specs.nested_arrays.Checked.{IsChecked}
-use Rattle.ipc_format_chunks.specs.nested_arrays.FlatColumns.{byte_width, layer_width}
-use Rattle.ipc_format_chunks.proofs.nested_lemmas.flat_lemmas.FixedWidths.{fixed_parts, fixed_sound}
+use Rattle.ipc_format_column_writing.specs.chunks.nested_arrays.Checked.{IsChecked}
+use Rattle.ipc_format_column_writing.specs.chunks.nested_arrays.FlatColumns.{byte_width, layer_width}
+use Rattle.ipc_format_column_writing.proofs.chunk_lemmas.nested_lemmas.flat_lemmas.FixedWidths.{fixed_parts, fixed_sound}
 
 -- nothing follows, whatever there is
 pub nothing_follows : {A B : Type 0} (r : Option A) (f : A → Option B) → ((x : A) → f x ≡ None) → (r >>= f) ≡ None

@@ -1,17 +1,17 @@
 -- A column is read, and its nodes and buffers are counted, by its type's layer once the extensions are taken off.
 use Rattle.std.proofs.Common.{◌≡◌, ◌∙◌, ℕ, ◌+◌, false, [], ◌∷◌, refl, sym, ap, subst, arith}
-use Rattle.ipc_format_column_reading.specs.columnar_memory.declared.DataType.{DataType, map-DataType}
-use Rattle.ipc_format_column_reading.specs.columnar_memory.declared.DataType.TheOpen as layer
-use Rattle.ipc_format_column_reading.specs.columnar_memory.declared.DataType.TheViews.{roll-DataType, roll-Field, out-Field, roll-out-Field}
-use Rattle.ipc_format_column_reading.specs.columnar_memory.declared.DataType.TheFolds.{fold-Field, para-Field, fold-roll-DataType, para-roll-DataType, fold-roll-Field}
-use Rattle.ipc_format_column_reading.specs.columnar_memory.declared.DataType.TheFolds.{para-roll-Field, ind-DataType}
-use Rattle.ipc_format_column_reading.specs.columnar_memory.declared.Field.{Field}
-use Rattle.ipc_format_column_reading.specs.columns.StoredColumns.{type_layer}
-use Rattle.ipc_format_column_reading.proofs.columns_lemmas.Claims.{LayerWith, NoClaim, bare_layer}
-use Rattle.ipc_format_column_reading.proofs.columns_lemmas.TypeLayers.{Layer, is_extension, layer_itself, layer_within}
-use Rattle.ipc_format_column_reading.specs.grammar.Messages.{Version}
-use Rattle.ipc_format_column_reading.specs.grammar.Layouts.{total, node_step, node_count, buffer_step, buffer_count}
-use Rattle.ipc_format_column_reading.specs.grammar.Columns.{Reader, read_step, read_field_step, slots_in}
+use Rattle.ipc_format_column_writing.specs.column_reading.columnar_memory.declared.DataType.{DataType, map-DataType}
+use Rattle.ipc_format_column_writing.specs.column_reading.columnar_memory.declared.DataType.TheOpen as layer
+use Rattle.ipc_format_column_writing.specs.column_reading.columnar_memory.declared.DataType.TheViews.{roll-DataType, roll-Field, out-Field, roll-out-Field}
+use Rattle.ipc_format_column_writing.specs.column_reading.columnar_memory.declared.DataType.TheFolds.{fold-Field, para-Field, fold-roll-DataType, para-roll-DataType, fold-roll-Field}
+use Rattle.ipc_format_column_writing.specs.column_reading.columnar_memory.declared.DataType.TheFolds.{para-roll-Field, ind-DataType}
+use Rattle.ipc_format_column_writing.specs.column_reading.columnar_memory.declared.Field.{Field}
+use Rattle.ipc_format_column_writing.specs.column_reading.columns.StoredColumns.{type_layer}
+use Rattle.ipc_format_column_writing.proofs.reading_lemmas.columns_lemmas.Claims.{LayerWith, NoClaim, bare_layer}
+use Rattle.ipc_format_column_writing.proofs.reading_lemmas.columns_lemmas.TypeLayers.{Layer, is_extension, layer_itself, layer_within}
+use Rattle.ipc_format_column_writing.specs.column_reading.grammar.Messages.{Version}
+use Rattle.ipc_format_column_writing.specs.column_reading.grammar.Layouts.{total, node_step, node_count, buffer_step, buffer_count}
+use Rattle.ipc_format_column_writing.specs.column_reading.grammar.Columns.{Reader, read_step, read_field_step, slots_in}
 use Rattle.ipc_format_array_reading.specs.ArrayReads.{Test, readable_step, is_readable}
 use denote.Hole.Carrier
 

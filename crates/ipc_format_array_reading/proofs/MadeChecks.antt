@@ -3,25 +3,25 @@ use Rattle.std.proofs.Common.{◌≡◌, ◌∙◌, ◌*◌, ◌==◌, ◌&&◌,
 use Rattle.std.specs.Prelude.{Option, Some, None, Result, Ok, Err, if◌then◌else◌}
 use Rattle.std.specs.List.{list_all}
 use Rattle.std.proofs.lemmas.Bool.{and_parts, eq-eqb, eqb-true, true≢false}
-use Rattle.ipc_format_column_reading.specs.columnar_memory.Error.{IsOutOfMemory, IsOutOfSpec}
-use Rattle.ipc_format_column_reading.specs.columnar_memory.Layouts.{physical_type}
-use Rattle.ipc_format_column_reading.specs.columnar_memory.Spans as memory
-use Rattle.ipc_format_column_reading.specs.columnar_memory.Spans.{Spans, offsets_of}
-use Rattle.ipc_format_column_reading.specs.columnar_memory.declared.DataType.{DataType}
-use Rattle.ipc_format_column_reading.specs.columnar_memory.declared.PhysicalType.TheVariants as physical
-use Rattle.ipc_format_column_reading.specs.grammar.Columns.{last_of}
-use Rattle.ipc_format_column_reading.proofs.ColumnReads.{last_is}
-use Rattle.ipc_format_chunks.specs.nested_arrays.ListTypes.{list_layout}
-use Rattle.ipc_format_column_reading.specs.columnar_memory.declared.DataType.TheOpen as layer
-use Rattle.ipc_format_column_reading.specs.columnar_memory.declared.Error.{Error}
-use Rattle.ipc_format_column_reading.specs.columnar_memory.declared.PhysicalType.{PhysicalType}
-use Rattle.ipc_format_column_reading.specs.columns.SoundColumns.{are_sound, has_field_types, have_len, is_sound, mask_fits}
-use Rattle.ipc_format_column_reading.specs.columns.StoredColumns.{Column, column_len, fixed_lists, in_columns, lists, records, type_layer}
-use Rattle.ipc_format_column_reading.specs.flatbuffers.Reading.{◌>>=◌}
-use Rattle.ipc_format_column_reading.proofs.columns_lemmas.TypeLayers.{Layer, layer_layout, layout_is}
-use Rattle.ipc_format_chunks.specs.nested_arrays.Answers.{IsChecked, IsCheckedAs}
-use Rattle.ipc_format_chunks.specs.nested_arrays.FlatLayouts.{layout_in}
-use Rattle.ipc_format_chunks.specs.nested_arrays.Lengths.{layer_size, size_of, struct_len}
+use Rattle.ipc_format_column_writing.specs.column_reading.columnar_memory.Error.{IsOutOfMemory, IsOutOfSpec}
+use Rattle.ipc_format_column_writing.specs.column_reading.columnar_memory.Layouts.{physical_type}
+use Rattle.ipc_format_column_writing.specs.column_reading.columnar_memory.Spans as memory
+use Rattle.ipc_format_column_writing.specs.column_reading.columnar_memory.Spans.{Spans, offsets_of}
+use Rattle.ipc_format_column_writing.specs.column_reading.columnar_memory.declared.DataType.{DataType}
+use Rattle.ipc_format_column_writing.specs.column_reading.columnar_memory.declared.PhysicalType.TheVariants as physical
+use Rattle.ipc_format_column_writing.specs.column_reading.grammar.Columns.{last_of}
+use Rattle.ipc_format_column_writing.proofs.reading_lemmas.ColumnReads.{last_is}
+use Rattle.ipc_format_column_writing.specs.chunks.nested_arrays.ListTypes.{list_layout}
+use Rattle.ipc_format_column_writing.specs.column_reading.columnar_memory.declared.DataType.TheOpen as layer
+use Rattle.ipc_format_column_writing.specs.column_reading.columnar_memory.declared.Error.{Error}
+use Rattle.ipc_format_column_writing.specs.column_reading.columnar_memory.declared.PhysicalType.{PhysicalType}
+use Rattle.ipc_format_column_writing.specs.column_reading.columns.SoundColumns.{are_sound, has_field_types, have_len, is_sound, mask_fits}
+use Rattle.ipc_format_column_writing.specs.column_reading.columns.StoredColumns.{Column, column_len, fixed_lists, in_columns, lists, records, type_layer}
+use Rattle.ipc_format_column_writing.specs.column_reading.flatbuffers.Reading.{◌>>=◌}
+use Rattle.ipc_format_column_writing.proofs.reading_lemmas.columns_lemmas.TypeLayers.{Layer, layer_layout, layout_is}
+use Rattle.ipc_format_column_writing.specs.chunks.nested_arrays.Answers.{IsChecked, IsCheckedAs}
+use Rattle.ipc_format_column_writing.specs.chunks.nested_arrays.FlatLayouts.{layout_in}
+use Rattle.ipc_format_column_writing.specs.chunks.nested_arrays.Lengths.{layer_size, size_of, struct_len}
 use Rattle.ipc_format_array_reading.specs.Parts.{Makes, beginning_of, checked, has_children, if_long, made_column, marked_column, marks, single}
 use Rattle.ipc_format_array_reading.specs.Parts.{sound_column, spans}
 use Rattle.ipc_format_array_reading.specs.declared.begun.Beginning.{Beginning}

@@ -4,11 +4,11 @@ use Rattle.std.specs.Prelude.{Option, Some, None, IfSome, slice_get}
 use Rattle.std.proofs.lemmas.Bool.{cases_lt}
 use Rattle.std.proofs.lemmas.List.{length-map}
 use Rattle.std.proofs.lemmas.Option.{slice_get_within}
-use Rattle.ipc_format_column_reading.specs.flatbuffers.Reading.{◌>>=◌}
-use Rattle.ipc_format_column_reading.specs.grammar.Messages.{natural}
-use Rattle.ipc_format_column_reading.specs.grammar.Messages as format
-use Rattle.ipc_format_column_reading.specs.messages.declared.values.FieldNode.{FieldNode}
-use Rattle.ipc_format_column_reading.specs.Buffers.{node_of, taken_in}
+use Rattle.ipc_format_column_writing.specs.column_reading.flatbuffers.Reading.{◌>>=◌}
+use Rattle.ipc_format_column_writing.specs.column_reading.grammar.Messages.{natural}
+use Rattle.ipc_format_column_writing.specs.column_reading.grammar.Messages as format
+use Rattle.ipc_format_column_writing.specs.column_reading.messages.declared.values.FieldNode.{FieldNode}
+use Rattle.ipc_format_column_writing.specs.column_reading.Buffers.{node_of, taken_in}
 use Rattle.ipc_format_array_reading.specs.Limits.{AreSmall}
 
 abbrev pub SmallBelow : ℕ → List format.FieldNode → Type 0

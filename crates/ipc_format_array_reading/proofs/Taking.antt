@@ -1,14 +1,14 @@
 -- Calls that take nodes and buffers off the queues, one after another.
 use Rattle.std.proofs.Common.{◌≡◌, ◌∙◌, ◌+◌, ◌≤◌, ℕ, List, [], ◌∷◌, length, drop, Bool, false, refl, sym, subst, arith}
 use Rattle.std.specs.Prelude.{Option, Some, None, Result, Ok, Err}
-use Rattle.ipc_format_column_reading.specs.columnar_memory.declared.Error.{Error}
-use Rattle.ipc_format_column_reading.specs.flatbuffers.Reading.{◌>>=◌}
-use Rattle.ipc_format_column_reading.specs.Queues.{IsEnd, TakesOff}
-use Rattle.ipc_format_column_reading.specs.Rooms.{Told, ForBytes, IsRefusal, ReadsAs}
-use Rattle.ipc_format_column_reading.proofs.ColumnReads.{takes_behind}
-use Rattle.ipc_format_column_reading.proofs.NextBuffers.{refusal_for}
-use Rattle.ipc_format_column_reading.proofs.Readings.{reads_behind, reads_made, reads_refused}
-use Rattle.ipc_format_column_reading.proofs.Skipping.{end_behind}
+use Rattle.ipc_format_column_writing.specs.column_reading.columnar_memory.declared.Error.{Error}
+use Rattle.ipc_format_column_writing.specs.column_reading.flatbuffers.Reading.{◌>>=◌}
+use Rattle.ipc_format_column_writing.specs.column_reading.Queues.{IsEnd, TakesOff}
+use Rattle.ipc_format_column_writing.specs.column_reading.Rooms.{Told, ForBytes, IsRefusal, ReadsAs}
+use Rattle.ipc_format_column_writing.proofs.reading_lemmas.ColumnReads.{takes_behind}
+use Rattle.ipc_format_column_writing.proofs.reading_lemmas.NextBuffers.{refusal_for}
+use Rattle.ipc_format_column_writing.proofs.reading_lemmas.Readings.{reads_behind, reads_made, reads_refused}
+use Rattle.ipc_format_column_writing.proofs.reading_lemmas.Skipping.{end_behind}
 use Rattle.ipc_format_array_reading.specs.ArrayReads.{Takes}
 
 pub drop_none : {A : Type 0} (xs : List A) → drop 0 xs ≡ xs

@@ -3,21 +3,21 @@ use Rattle.std.proofs.Common.{◌≡◌, ◌∙◌, ◌+◌, ◌-◌, ◌≤◌,
 use Rattle.std.specs.Prelude.{Option, Some, None, Result, Ok, Err, slice_get}
 use Rattle.std.proofs.lemmas.Bool.{true≢false}
 use Rattle.std.proofs.lemmas.List.{drop-drop, length-append, length-drop}
-use Rattle.ipc_format_column_reading.specs.columnar_memory.Numbers.{Numbers, first_number, one}
-use Rattle.ipc_format_column_reading.specs.columnar_memory.declared.DataType.TheOpen as layer
-use Rattle.ipc_format_column_reading.specs.columnar_memory.declared.Error.{Error}
-use Rattle.ipc_format_column_reading.specs.columnar_memory.declared.PrimitiveType.TheVariants as kinds
-use Rattle.ipc_format_column_reading.specs.columnar_memory.declared.UnionMode.{UnionMode}
-use Rattle.ipc_format_column_reading.specs.columnar_memory.declared.UnionMode.TheVariants as modes
-use Rattle.ipc_format_column_reading.specs.flatbuffers.Reading.{◌>>=◌}
-use Rattle.ipc_format_column_reading.specs.grammar.Layouts.{before_V5, mode_parts}
-use Rattle.ipc_format_column_reading.specs.grammar.Messages.{Version, natural}
-use Rattle.ipc_format_column_reading.specs.messages.declared.values.Buffer.{Buffer}
-use Rattle.ipc_format_column_reading.specs.messages.declared.values.FieldNode.{FieldNode}
-use Rattle.ipc_format_column_reading.specs.Buffers.{next_values, taken_in}
-use Rattle.ipc_format_column_reading.specs.Queues.{TakesOff}
-use Rattle.ipc_format_column_reading.proofs.Skipping.{end_behind}
-use Rattle.ipc_format_column_reading.proofs.columns_lemmas.TypeLayers.{Layer}
+use Rattle.ipc_format_column_writing.specs.column_reading.columnar_memory.Numbers.{Numbers, first_number, one}
+use Rattle.ipc_format_column_writing.specs.column_reading.columnar_memory.declared.DataType.TheOpen as layer
+use Rattle.ipc_format_column_writing.specs.column_reading.columnar_memory.declared.Error.{Error}
+use Rattle.ipc_format_column_writing.specs.column_reading.columnar_memory.declared.PrimitiveType.TheVariants as kinds
+use Rattle.ipc_format_column_writing.specs.column_reading.columnar_memory.declared.UnionMode.{UnionMode}
+use Rattle.ipc_format_column_writing.specs.column_reading.columnar_memory.declared.UnionMode.TheVariants as modes
+use Rattle.ipc_format_column_writing.specs.column_reading.flatbuffers.Reading.{◌>>=◌}
+use Rattle.ipc_format_column_writing.specs.column_reading.grammar.Layouts.{before_V5, mode_parts}
+use Rattle.ipc_format_column_writing.specs.column_reading.grammar.Messages.{Version, natural}
+use Rattle.ipc_format_column_writing.specs.column_reading.messages.declared.values.Buffer.{Buffer}
+use Rattle.ipc_format_column_writing.specs.column_reading.messages.declared.values.FieldNode.{FieldNode}
+use Rattle.ipc_format_column_writing.specs.column_reading.Buffers.{next_values, taken_in}
+use Rattle.ipc_format_column_writing.specs.column_reading.Queues.{TakesOff}
+use Rattle.ipc_format_column_writing.proofs.reading_lemmas.Skipping.{end_behind}
+use Rattle.ipc_format_column_writing.proofs.reading_lemmas.columns_lemmas.TypeLayers.{Layer}
 use Rattle.ipc_format_array_reading.specs.Parts.{Parts, beginning_of, choices, next_choices, next_parts, next_places, own_buffers, place_buffers}
 use Rattle.ipc_format_array_reading.specs.declared.begun.Beginning.{Beginning}
 use Rattle.ipc_format_array_reading.specs.declared.begun.Beginning.TheVariants as beginnings

@@ -1,19 +1,19 @@
 -- Which array is read of a column of any type at the fronts of the queues of nodes and buffers (Arrow IPC, "RecordBatch message",
 -- "Dictionary Messages"; Arrow columnar format, "Physical Memory Layout").
 use Rattle.std.specs.Prelude.{Bool, true, false, nat_lt, ◌&&◌, ℕ, List, [], ◌∷◌, length, Option, Result}
-use Rattle.ipc_format_column_reading.specs.columnar_memory.declared.DataType.{DataType}
-use Rattle.ipc_format_column_reading.specs.columnar_memory.declared.DataType.TheFolds.{para-DataType}
-use Rattle.ipc_format_column_reading.specs.columnar_memory.declared.DataType.TheOpen as layer
-use Rattle.ipc_format_column_reading.specs.columnar_memory.declared.DataType.TheViews.{out-DataType}
-use Rattle.ipc_format_column_reading.specs.columnar_memory.declared.Error.{Error}
-use Rattle.ipc_format_column_reading.specs.columnar_memory.declared.Field.{Field}
-use Rattle.ipc_format_column_reading.specs.columns.Slots.{Slot}
-use Rattle.ipc_format_column_reading.specs.columns.SoundColumns.{has_an_id_each, is_entry}
-use Rattle.ipc_format_column_reading.specs.flatbuffers.Reading.{◌>>=◌, guard}
-use Rattle.ipc_format_column_reading.specs.grammar.Columns.{Place, ids_below, slots_in}
-use Rattle.ipc_format_column_reading.specs.grammar.Schemas.{Ids, IdsList, no_ids, ids_then}
-use Rattle.ipc_format_column_reading.specs.Queues.{TakesOff}
-use Rattle.ipc_format_column_reading.specs.Rooms.{Told, ReadsAs}
+use Rattle.ipc_format_column_writing.specs.column_reading.columnar_memory.declared.DataType.{DataType}
+use Rattle.ipc_format_column_writing.specs.column_reading.columnar_memory.declared.DataType.TheFolds.{para-DataType}
+use Rattle.ipc_format_column_writing.specs.column_reading.columnar_memory.declared.DataType.TheOpen as layer
+use Rattle.ipc_format_column_writing.specs.column_reading.columnar_memory.declared.DataType.TheViews.{out-DataType}
+use Rattle.ipc_format_column_writing.specs.column_reading.columnar_memory.declared.Error.{Error}
+use Rattle.ipc_format_column_writing.specs.column_reading.columnar_memory.declared.Field.{Field}
+use Rattle.ipc_format_column_writing.specs.column_reading.columns.Slots.{Slot}
+use Rattle.ipc_format_column_writing.specs.column_reading.columns.SoundColumns.{has_an_id_each, is_entry}
+use Rattle.ipc_format_column_writing.specs.column_reading.flatbuffers.Reading.{◌>>=◌, guard}
+use Rattle.ipc_format_column_writing.specs.column_reading.grammar.Columns.{Place, ids_below, slots_in}
+use Rattle.ipc_format_column_writing.specs.column_reading.grammar.Schemas.{Ids, IdsList, no_ids, ids_then}
+use Rattle.ipc_format_column_writing.specs.column_reading.Queues.{TakesOff}
+use Rattle.ipc_format_column_writing.specs.column_reading.Rooms.{Told, ReadsAs}
 
 -- ---- types that have arrays
 

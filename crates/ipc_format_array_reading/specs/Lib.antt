@@ -2,6 +2,7 @@ pub mod ArrayReads
 pub mod Limits
 pub mod Parts
 pub mod TypedReads
-pub use Rattle.ipc_format_column_reading.specs as column_reading
-pub use Rattle.ipc_format_chunks.specs as chunks
-pub use Rattle.ipc_format_chunks.specs.nested_arrays
+pub use Rattle.ipc_format_column_writing.specs as column_writing
+pub use Rattle.ipc_format_column_writing.specs.column_reading
+pub use Rattle.ipc_format_column_writing.specs.chunks
+pub use Rattle.ipc_format_column_writing.specs.chunks.nested_arrays

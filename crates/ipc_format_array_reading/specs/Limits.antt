@@ -1,6 +1,6 @@
 -- Limits of slots that take the same of each column.
 use Rattle.std.specs.Prelude.{◌≡◌, ◌⊎◌, ℕ, ◌^◌, ◌<◌, ◌≤◌, List, Option, Some, None, slice_get}
-use Rattle.ipc_format_column_reading.specs.grammar.Messages.{FieldNode, natural}
+use Rattle.ipc_format_column_writing.specs.column_reading.grammar.Messages.{FieldNode, natural}
 
 -- no node has 2^63 slots or more
 abbrev pub AreSmall : List FieldNode → Type 0

@@ -2,31 +2,31 @@
 use Rattle.std.specs.Prelude.{◌≡◌, ◌⊎◌, ℕ, ◌*◌, ◌-◌, ◌^◌, ◌≤◌, ℤ, Bool, true, false, ◌==◌, List, [], ◌∷◌, length, drop, map}
 use Rattle.std.specs.Prelude.{Option, Some, None, Result, Ok, Err, slice_get, if◌then◌else◌}
 use Rattle.std.specs.List.{list_all}
-use Rattle.ipc_format_column_reading.specs.Flat.{IsMaskOf}
-use Rattle.ipc_format_column_reading.specs.columnar_memory.Error.{IsOutOfMemory, IsOutOfSpec}
-use Rattle.ipc_format_column_reading.specs.columnar_memory.Numbers.{first_number}
-use Rattle.ipc_format_column_reading.specs.columnar_memory.Spans as memory
-use Rattle.ipc_format_column_reading.specs.columnar_memory.Spans.{offsets_of}
-use Rattle.ipc_format_column_reading.specs.columnar_memory.declared.DataType.{DataType}
-use Rattle.ipc_format_column_reading.specs.columnar_memory.declared.DataType.TheOpen as layer
-use Rattle.ipc_format_column_reading.specs.columnar_memory.declared.Error.{Error}
-use Rattle.ipc_format_column_reading.specs.columnar_memory.declared.Field.{Field}
-use Rattle.ipc_format_column_reading.specs.columnar_memory.declared.PrimitiveType.TheVariants as kinds
-use Rattle.ipc_format_column_reading.specs.columnar_memory.declared.UnionMode.{UnionMode}
-use Rattle.ipc_format_column_reading.specs.columnar_memory.declared.UnionMode.TheVariants as modes
-use Rattle.ipc_format_column_reading.specs.columns.Kinds.{is_signed}
-use Rattle.ipc_format_column_reading.specs.columns.SoundColumns.{is_sound}
-use Rattle.ipc_format_column_reading.specs.columns.StoredColumns.{Column, lists, fixed_lists, records, unions, column_len, cut}
-use Rattle.ipc_format_column_reading.specs.columns.StoredColumns.{in_columns, type_layer}
-use Rattle.ipc_format_column_reading.specs.flatbuffers.Reading.{◌>>=◌}
-use Rattle.ipc_format_column_reading.specs.grammar.Columns.{last_of, limit_times, taken_of}
-use Rattle.ipc_format_column_reading.specs.grammar.Layouts as layouts
-use Rattle.ipc_format_column_reading.specs.grammar.Layouts.{before_V5}
-use Rattle.ipc_format_column_reading.specs.grammar.Messages.{Version, natural}
-use Rattle.ipc_format_column_reading.specs.messages.declared.values.Buffer.{Buffer}
-use Rattle.ipc_format_column_reading.specs.messages.declared.values.FieldNode.{FieldNode}
-use Rattle.ipc_format_column_reading.specs.Buffers.{next_values}
-use Rattle.ipc_format_column_reading.specs.Reads.{next_marked, next_offsets}
+use Rattle.ipc_format_column_writing.specs.column_reading.Flat.{IsMaskOf}
+use Rattle.ipc_format_column_writing.specs.column_reading.columnar_memory.Error.{IsOutOfMemory, IsOutOfSpec}
+use Rattle.ipc_format_column_writing.specs.column_reading.columnar_memory.Numbers.{first_number}
+use Rattle.ipc_format_column_writing.specs.column_reading.columnar_memory.Spans as memory
+use Rattle.ipc_format_column_writing.specs.column_reading.columnar_memory.Spans.{offsets_of}
+use Rattle.ipc_format_column_writing.specs.column_reading.columnar_memory.declared.DataType.{DataType}
+use Rattle.ipc_format_column_writing.specs.column_reading.columnar_memory.declared.DataType.TheOpen as layer
+use Rattle.ipc_format_column_writing.specs.column_reading.columnar_memory.declared.Error.{Error}
+use Rattle.ipc_format_column_writing.specs.column_reading.columnar_memory.declared.Field.{Field}
+use Rattle.ipc_format_column_writing.specs.column_reading.columnar_memory.declared.PrimitiveType.TheVariants as kinds
+use Rattle.ipc_format_column_writing.specs.column_reading.columnar_memory.declared.UnionMode.{UnionMode}
+use Rattle.ipc_format_column_writing.specs.column_reading.columnar_memory.declared.UnionMode.TheVariants as modes
+use Rattle.ipc_format_column_writing.specs.column_reading.columns.Kinds.{is_signed}
+use Rattle.ipc_format_column_writing.specs.column_reading.columns.SoundColumns.{is_sound}
+use Rattle.ipc_format_column_writing.specs.column_reading.columns.StoredColumns.{Column, lists, fixed_lists, records, unions, column_len, cut}
+use Rattle.ipc_format_column_writing.specs.column_reading.columns.StoredColumns.{in_columns, type_layer}
+use Rattle.ipc_format_column_writing.specs.column_reading.flatbuffers.Reading.{◌>>=◌}
+use Rattle.ipc_format_column_writing.specs.column_reading.grammar.Columns.{last_of, limit_times, taken_of}
+use Rattle.ipc_format_column_writing.specs.column_reading.grammar.Layouts as layouts
+use Rattle.ipc_format_column_writing.specs.column_reading.grammar.Layouts.{before_V5}
+use Rattle.ipc_format_column_writing.specs.column_reading.grammar.Messages.{Version, natural}
+use Rattle.ipc_format_column_writing.specs.column_reading.messages.declared.values.Buffer.{Buffer}
+use Rattle.ipc_format_column_writing.specs.column_reading.messages.declared.values.FieldNode.{FieldNode}
+use Rattle.ipc_format_column_writing.specs.column_reading.Buffers.{next_values}
+use Rattle.ipc_format_column_writing.specs.column_reading.Reads.{next_marked, next_offsets}
 use Rattle.ipc_format_array_reading.specs.declared.begun.Beginning.{Beginning}
 use Rattle.ipc_format_array_reading.specs.declared.begun.Beginning.TheVariants as beginnings
 use Rattle.ipc_format_array_reading.specs.declared.begun.Begun.{Begun}

@@ -1,17 +1,17 @@
 -- What calls answer that read a column without children at the fronts of the queues.
 use Rattle.std.specs.Prelude.{◌≡◌, ◌⊎◌, ℕ, ◌^◌, ◌<◌, ◌≤◌, Bool, List, [], ◌∷◌, Option, Some, None, Result, Ok, Err}
-use Rattle.ipc_format_column_reading.specs.columnar_memory.Error.{IsOutOfSpec}
-use Rattle.ipc_format_column_reading.specs.columnar_memory.Layouts.{physical_type}
-use Rattle.ipc_format_column_reading.specs.columnar_memory.declared.DataType.{DataType}
-use Rattle.ipc_format_column_reading.specs.columnar_memory.declared.Error.{Error}
-use Rattle.ipc_format_column_reading.specs.columnar_memory.declared.PhysicalType.TheVariants as layouts
-use Rattle.ipc_format_column_reading.specs.columns.Slots.{Slot}
-use Rattle.ipc_format_column_reading.specs.columns.StoredColumns.{Column, column_type, slots}
-use Rattle.ipc_format_column_reading.specs.grammar.Messages.{natural}
-use Rattle.ipc_format_column_reading.specs.messages.declared.values.Buffer.{Buffer}
-use Rattle.ipc_format_column_reading.specs.messages.declared.values.FieldNode.{FieldNode}
-use Rattle.ipc_format_column_reading.specs.Queues.{IsEnd, TakesOff}
-use Rattle.ipc_format_column_reading.specs.Reads.{front}
+use Rattle.ipc_format_column_writing.specs.column_reading.columnar_memory.Error.{IsOutOfSpec}
+use Rattle.ipc_format_column_writing.specs.column_reading.columnar_memory.Layouts.{physical_type}
+use Rattle.ipc_format_column_writing.specs.column_reading.columnar_memory.declared.DataType.{DataType}
+use Rattle.ipc_format_column_writing.specs.column_reading.columnar_memory.declared.Error.{Error}
+use Rattle.ipc_format_column_writing.specs.column_reading.columnar_memory.declared.PhysicalType.TheVariants as layouts
+use Rattle.ipc_format_column_writing.specs.column_reading.columns.Slots.{Slot}
+use Rattle.ipc_format_column_writing.specs.column_reading.columns.StoredColumns.{Column, column_type, slots}
+use Rattle.ipc_format_column_writing.specs.column_reading.grammar.Messages.{natural}
+use Rattle.ipc_format_column_writing.specs.column_reading.messages.declared.values.Buffer.{Buffer}
+use Rattle.ipc_format_column_writing.specs.column_reading.messages.declared.values.FieldNode.{FieldNode}
+use Rattle.ipc_format_column_writing.specs.column_reading.Queues.{IsEnd, TakesOff}
+use Rattle.ipc_format_column_writing.specs.column_reading.Reads.{front}
 use Rattle.ipc_format_array_reading.specs.ArrayReads.{array_slots}
 
 -- the slots of an array at the fronts of the queues, without dictionaries

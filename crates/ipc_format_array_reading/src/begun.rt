@@ -1,24 +1,24 @@
 //! What is read of a column with children before these: its node, and its own buffers.
 ghost use Rattle.std.specs.Prelude.{◌≡◌, ◌+◌, ◌≤◌, drop, length, map, false, true, IfOk};
-ghost use Rattle.ipc_format_column_reading.specs.Flat.{IsMaskOf};
-ghost use Rattle.ipc_format_column_reading.specs.columnar_memory.Spans.{last_of, offsets_of};
-ghost use Rattle.ipc_format_column_reading.specs.columns.StoredColumns.{type_layer};
-ghost use Rattle.ipc_format_column_reading.specs.grammar.Columns.{limit_times};
-ghost use Rattle.ipc_format_column_reading.specs.grammar.Layouts.{before_V5};
-ghost use Rattle.ipc_format_column_reading.specs.messages.MessageViews.{version_view};
-ghost use Rattle.ipc_format_column_reading.specs.Buffers.{node_of};
-ghost use Rattle.ipc_format_column_reading.specs.Queues.{TakesOff};
-ghost use Rattle.ipc_format_column_reading.specs.Rooms.{ReadsAs};
+ghost use Rattle.ipc_format_column_writing.specs.column_reading.Flat.{IsMaskOf};
+ghost use Rattle.ipc_format_column_writing.specs.column_reading.columnar_memory.Spans.{last_of, offsets_of};
+ghost use Rattle.ipc_format_column_writing.specs.column_reading.columns.StoredColumns.{type_layer};
+ghost use Rattle.ipc_format_column_writing.specs.column_reading.grammar.Columns.{limit_times};
+ghost use Rattle.ipc_format_column_writing.specs.column_reading.grammar.Layouts.{before_V5};
+ghost use Rattle.ipc_format_column_writing.specs.column_reading.messages.MessageViews.{version_view};
+ghost use Rattle.ipc_format_column_writing.specs.column_reading.Buffers.{node_of};
+ghost use Rattle.ipc_format_column_writing.specs.column_reading.Queues.{TakesOff};
+ghost use Rattle.ipc_format_column_writing.specs.column_reading.Rooms.{ReadsAs};
 ghost use Rattle.ipc_format_array_reading.specs.ArrayReads.{Takes};
 ghost use Rattle.ipc_format_array_reading.specs.Limits.{Agree, AreSmall};
 ghost use Rattle.ipc_format_array_reading.specs.Parts.{AreParts, HasPlaces, beginning_of, choices, fixed_size, has_children, limit_below, next_choices};
 ghost use Rattle.ipc_format_array_reading.specs.Parts.{next_parts, next_places, next_spans, own_buffers, parts_in, place_buffers, spans};
 
-use ipc_format_column_reading::columnar_memory::{
+use ipc_format_column_writing::column_reading::columnar_memory::{
     Buffer, DataType, Error, Index, Offset, OffsetsBuffer, Result, UnionMode,
 };
-use ipc_format_column_reading::messages::{FieldNode, MetadataVersion};
-use ipc_format_column_reading::{
+use ipc_format_column_writing::column_reading::messages::{FieldNode, MetadataVersion};
+use ipc_format_column_writing::column_reading::{
     Marked, Room, messages as ipc, read_buffer, read_marked, read_offsets, slots_taken,
 };
 use std::alloc::Global;

@@ -1,16 +1,18 @@
 //! Columns of byte strings of one length.
 ghost use Rattle.std.specs.Prelude.{◌≡◌, ◌*◌, is_some, true};
 ghost use Rattle.std.specs.List.{list_all};
-ghost use Rattle.ipc_format_column_reading.specs.columnar_memory.Layouts.{physical_type};
-ghost use Rattle.ipc_format_column_reading.specs.columnar_memory.declared.PhysicalType.TheVariants as layouts;
-ghost use Rattle.ipc_format_column_reading.specs.columns.SoundColumns.{is_byte};
-ghost use Rattle.ipc_format_column_reading.specs.Reads.{ReadsColumn};
+ghost use Rattle.ipc_format_column_writing.specs.column_reading.columnar_memory.Layouts.{physical_type};
+ghost use Rattle.ipc_format_column_writing.specs.column_reading.columnar_memory.declared.PhysicalType.TheVariants as layouts;
+ghost use Rattle.ipc_format_column_writing.specs.column_reading.columns.SoundColumns.{is_byte};
+ghost use Rattle.ipc_format_column_writing.specs.column_reading.Reads.{ReadsColumn};
 ghost use Rattle.ipc_format_array_reading.specs.TypedReads.{IsNeeded, StatesSmall, front_array};
 
-use ipc_format_chunks::nested_arrays::FixedSizeBinaryArray;
-use ipc_format_column_reading::columnar_memory::{Buffer, DataType, Error, PhysicalType, Result};
-use ipc_format_column_reading::messages::{BodyCompressionRef, FieldNode};
-use ipc_format_column_reading::{Room, messages as ipc, read_bytes, read_marked};
+use ipc_format_column_writing::chunks::nested_arrays::FixedSizeBinaryArray;
+use ipc_format_column_writing::column_reading::columnar_memory::{
+    Buffer, DataType, Error, PhysicalType, Result,
+};
+use ipc_format_column_writing::column_reading::messages::{BodyCompressionRef, FieldNode};
+use ipc_format_column_writing::column_reading::{Room, messages as ipc, read_bytes, read_marked};
 use std::alloc::Global;
 use std::collections::VecDeque;
 

@@ -1,26 +1,26 @@
 //! Arrays made of what stands before their children, and of these.
 ghost use Rattle.std.specs.Prelude.{◌≡◌, ◌*◌, ◌==◌, ◌↔◌, IsTrue, None, true};
 ghost use Rattle.std.specs.List.{list_all};
-ghost use Rattle.ipc_format_chunks.specs.nested_arrays.Lengths.{size_of};
-ghost use Rattle.ipc_format_chunks.specs.nested_arrays.ListTypes.{list_layout};
-ghost use Rattle.ipc_format_column_reading.specs.columnar_memory.Layouts.{physical_type};
-ghost use Rattle.ipc_format_column_reading.specs.columnar_memory.Spans as memory;
-ghost use Rattle.ipc_format_column_reading.specs.columnar_memory.Spans.{offsets_of};
-ghost use Rattle.ipc_format_column_reading.specs.columnar_memory.declared.PhysicalType.TheVariants as layouts;
-ghost use Rattle.ipc_format_column_reading.specs.columns.Kinds.{is_signed};
-ghost use Rattle.ipc_format_column_reading.specs.columns.SoundColumns.{are_sound};
-ghost use Rattle.ipc_format_column_reading.specs.columns.StoredColumns.{column_len, fixed_lists, in_columns, lists, records, type_layer, unions};
-ghost use Rattle.ipc_format_column_reading.specs.grammar.Columns.{last_of, taken_of};
+ghost use Rattle.ipc_format_column_writing.specs.chunks.nested_arrays.Lengths.{size_of};
+ghost use Rattle.ipc_format_column_writing.specs.chunks.nested_arrays.ListTypes.{list_layout};
+ghost use Rattle.ipc_format_column_writing.specs.column_reading.columnar_memory.Layouts.{physical_type};
+ghost use Rattle.ipc_format_column_writing.specs.column_reading.columnar_memory.Spans as memory;
+ghost use Rattle.ipc_format_column_writing.specs.column_reading.columnar_memory.Spans.{offsets_of};
+ghost use Rattle.ipc_format_column_writing.specs.column_reading.columnar_memory.declared.PhysicalType.TheVariants as layouts;
+ghost use Rattle.ipc_format_column_writing.specs.column_reading.columns.Kinds.{is_signed};
+ghost use Rattle.ipc_format_column_writing.specs.column_reading.columns.SoundColumns.{are_sound};
+ghost use Rattle.ipc_format_column_writing.specs.column_reading.columns.StoredColumns.{column_len, fixed_lists, in_columns, lists, records, type_layer, unions};
+ghost use Rattle.ipc_format_column_writing.specs.column_reading.grammar.Columns.{last_of, taken_of};
 ghost use Rattle.ipc_format_array_reading.specs.Parts.{AreInRange, AreParts, Makes, beginning_of, checked, choices, has_children};
 ghost use Rattle.ipc_format_array_reading.specs.Parts.{made_column, marks, parts_in, single, sound_column, spans};
 ghost use Rattle.ipc_format_array_reading.specs.declared.begun.Beginning.TheVariants as beginnings;
 
 use crate::begun::Begun;
-use ipc_format_chunks::nested_arrays::{
+use ipc_format_column_writing::chunks::nested_arrays::{
     AnyArray, FixedSizeListArray, ListArray, MapArray, StructArray, ToBoxed, UnionArray,
 };
-use ipc_format_column_reading::Marked;
-use ipc_format_column_reading::columnar_memory::{
+use ipc_format_column_writing::column_reading::Marked;
+use ipc_format_column_writing::column_reading::columnar_memory::{
     Bitmap, Buffer, DataType, Error, Index, Offset, OffsetsBuffer, PhysicalType, Result,
 };
 use std::alloc::Global;

@@ -1,12 +1,14 @@
 //! Columns of nulls.
 ghost use Rattle.std.specs.Prelude.{[], true};
-ghost use Rattle.ipc_format_column_reading.specs.Reads.{front_slots};
+ghost use Rattle.ipc_format_column_writing.specs.column_reading.Reads.{front_slots};
 ghost use Rattle.ipc_format_array_reading.specs.TypedReads.{ReadsNulls};
 
-use ipc_format_chunks::nested_arrays::NullArray;
-use ipc_format_column_reading::columnar_memory::{DataType, Error, PhysicalType, Result};
-use ipc_format_column_reading::messages::FieldNode;
-use ipc_format_column_reading::slots_taken;
+use ipc_format_column_writing::chunks::nested_arrays::NullArray;
+use ipc_format_column_writing::column_reading::columnar_memory::{
+    DataType, Error, PhysicalType, Result,
+};
+use ipc_format_column_writing::column_reading::messages::FieldNode;
+use ipc_format_column_writing::column_reading::slots_taken;
 use std::collections::VecDeque;
 
 /// Reads a column of nulls: a node, and no buffer.

@@ -13,7 +13,8 @@ use Rattle.ipc_format_array_reading.specs.column_reading.columnar_memory.declare
 use Rattle.ipc_format_array_reading.specs.column_reading.columnar_memory.declared.PrimitiveType.TheVariants as kinds
 use Rattle.ipc_format_array_reading.specs.column_reading.columns.StoredColumns.{type_layer}
 use Rattle.ipc_format_array_reading.specs.column_reading.flatbuffers.Reading.{◌>>=◌, guard}
-use Rattle.ipc_format_array_reading.specs.column_reading.grammar.Columns.{Dictionary, buffer_at, byte_slots, fixed_slots, marked_in, offsets_in, slots_in, validity_in}
+use Rattle.ipc_format_array_reading.specs.column_reading.grammar.Columns.{Dictionary, buffer_at, byte_slots, fixed_slots}
+use Rattle.ipc_format_array_reading.specs.column_reading.grammar.Columns.{marked_in, offsets_in, slots_in, validity_in}
 use Rattle.ipc_format_array_reading.specs.column_reading.grammar.Layouts.{buffer_count, node_count}
 use Rattle.ipc_format_array_reading.specs.column_reading.grammar.Messages.{Version}
 use Rattle.ipc_format_array_reading.specs.column_reading.grammar.Schemas.{Ids, ids, no_ids}
@@ -24,7 +25,8 @@ use Rattle.ipc_format_array_reading.specs.nested_arrays.Childless.{is_childless}
 use Rattle.ipc_format_array_reading.specs.ArrayReads.{Test, array_slots, is_readable}
 use Rattle.ipc_format_array_reading.specs.Parts.{has_children}
 use Rattle.ipc_format_array_reading.specs.TypedReads.{front_array}
-use Rattle.ipc_format_array_reading.proofs.Layers.{layer_buffers, layer_nodes, layer_plain, layer_reads, layer_tests, read_layer, test_layer, type_buffers}
+use Rattle.ipc_format_array_reading.proofs.Layers.{layer_buffers, layer_nodes, layer_plain, layer_reads}
+use Rattle.ipc_format_array_reading.proofs.Layers.{layer_tests, read_layer, test_layer, type_buffers}
 use Rattle.ipc_format_array_reading.proofs.Layers.{type_nodes}
 use Rattle.ipc_format_array_reading.proofs.column_lemmas.columns_lemmas.TypeLayers.{Layer, is_extension, layer_layout, layout_is}
 use Rattle.ipc_format_childless_reading.specs.Flats.{has_all}

@@ -17,9 +17,11 @@ use Rattle.ipc_format_array_reading.specs.column_reading.columnar_memory.declare
 use Rattle.ipc_format_array_reading.specs.column_reading.columnar_memory.declared.PhysicalType.TheVariants as physical
 use Rattle.ipc_format_array_reading.specs.column_reading.columnar_memory.declared.PrimitiveType.{PrimitiveType}
 use Rattle.ipc_format_array_reading.specs.column_reading.columns.Kinds.{is_key}
-use Rattle.ipc_format_array_reading.specs.column_reading.columns.SoundColumns.{has_size, has_value_at, has_value_type, holds_below, is_sound, is_stored_as}
+use Rattle.ipc_format_array_reading.specs.column_reading.columns.SoundColumns.{has_size, has_value_at, has_value_type}
+use Rattle.ipc_format_array_reading.specs.column_reading.columns.SoundColumns.{holds_below, is_sound, is_stored_as}
 use Rattle.ipc_format_array_reading.specs.column_reading.columns.SoundColumns.{mask_fits}
-use Rattle.ipc_format_array_reading.specs.column_reading.columns.StoredColumns.{Column, column_len, column_type, dictionary, flat, stored_len, type_layer}
+use Rattle.ipc_format_array_reading.specs.column_reading.columns.StoredColumns.{Column, column_len, column_type}
+use Rattle.ipc_format_array_reading.specs.column_reading.columns.StoredColumns.{dictionary, flat, stored_len, type_layer}
 use Rattle.ipc_format_array_reading.specs.nested_arrays.Answers.{IsCheckedAs}
 use Rattle.ipc_format_array_reading.specs.nested_arrays.FlatColumns.{stored_numbers}
 use Rattle.ipc_format_array_reading.specs.nested_arrays.Keys.{kind_of_keys}
@@ -42,7 +44,8 @@ stored_in_range integers.UInt16 values h = (and_parts true (list_all (is_key int
 stored_in_range integers.UInt32 values h = (and_parts true (list_all (is_key integers.UInt32) (map first_number values)) h).1
 stored_in_range integers.UInt64 values h = (and_parts true (list_all (is_key integers.UInt64) (map first_number values)) h).1
 
-stored_keys_len : (key : IntegerType) (values : List Numbers) → stored_len (stored_numbers (kind_of_keys key) values) ≡ length (map first_number values)
+stored_keys_len : (key : IntegerType) (values : List Numbers) → stored_len (stored_numbers (kind_of_keys key) values) ≡ length
+    (map first_number values)
 stored_keys_len integers.Int8 values = refl
 stored_keys_len integers.Int16 values = refl
 stored_keys_len integers.Int32 values = refl

@@ -24,11 +24,14 @@ use Rattle.ipc_format_array_reading.specs.column_reading.columnar_memory.declare
 use Rattle.ipc_format_array_reading.specs.column_reading.columnar_memory.declared.PrimitiveType.{PrimitiveType}
 use Rattle.ipc_format_array_reading.specs.column_reading.columns.Slots.{Slot, null}
 use Rattle.ipc_format_array_reading.specs.column_reading.columns.SoundColumns.{has_value_at, holds_below}
-use Rattle.ipc_format_array_reading.specs.column_reading.columns.StoredColumns.{Column, column_len, column_type, dictionary, is_valid_at, place_of, slot_at, slots}
+use Rattle.ipc_format_array_reading.specs.column_reading.columns.StoredColumns.{Column, column_len, column_type, dictionary}
+use Rattle.ipc_format_array_reading.specs.column_reading.columns.StoredColumns.{is_valid_at, place_of, slot_at, slots}
 use Rattle.ipc_format_array_reading.specs.column_reading.columns.StoredColumns.{type_layer, unless_null}
 use Rattle.ipc_format_array_reading.specs.column_reading.flatbuffers.Reading.{◌>>=◌, guard}
-use Rattle.ipc_format_array_reading.specs.column_reading.grammar.Columns.{Dictionary, Marked, Place, Validity, all_valid, bitmap, buffer_at, dictionary_slots}
-use Rattle.ipc_format_array_reading.specs.column_reading.grammar.Columns.{is_valid_in, marked_in, names_value, own_id, slot_by, slot_of_key, slots_by, slots_in}
+use Rattle.ipc_format_array_reading.specs.column_reading.grammar.Columns.{Dictionary, Marked, Place, Validity}
+use Rattle.ipc_format_array_reading.specs.column_reading.grammar.Columns.{all_valid, bitmap, buffer_at, dictionary_slots}
+use Rattle.ipc_format_array_reading.specs.column_reading.grammar.Columns.{is_valid_in, marked_in, names_value, own_id}
+use Rattle.ipc_format_array_reading.specs.column_reading.grammar.Columns.{slot_by, slot_of_key, slots_by, slots_in}
 use Rattle.ipc_format_array_reading.specs.column_reading.grammar.Columns.{standing_for, validity_in}
 use Rattle.ipc_format_array_reading.specs.column_reading.grammar.Messages.{Version}
 use Rattle.ipc_format_array_reading.specs.column_reading.grammar.Schemas.{Ids}

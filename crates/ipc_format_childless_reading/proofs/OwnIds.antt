@@ -19,7 +19,8 @@ use Rattle.ipc_format_array_reading.specs.column_reading.grammar.Schemas.{Ids}
 use Rattle.ipc_format_array_reading.specs.column_reading.metadata.Views.{ids_step, ids_view}
 use Rattle.ipc_format_array_reading.specs.column_reading.metadata.declared.ipc_schema.IpcField.{IpcField}
 use Rattle.ipc_format_array_reading.specs.column_reading.metadata.declared.ipc_schema.IpcField.TheFolds.{fold-roll-IpcField}
-use Rattle.ipc_format_array_reading.specs.column_reading.metadata.declared.ipc_schema.IpcField.TheViews.{out-IpcField, roll-IpcField, roll-out-IpcField}
+use Rattle.ipc_format_array_reading.specs.column_reading.metadata.declared.ipc_schema.IpcField.TheViews.{out-IpcField}
+use Rattle.ipc_format_array_reading.specs.column_reading.metadata.declared.ipc_schema.IpcField.TheViews.{roll-IpcField, roll-out-IpcField}
 
 -- the own id beside a field
 pub own_id_is : (field : IpcField) → own_id (ids_view field) ≡ (out-IpcField field).dictionary_id

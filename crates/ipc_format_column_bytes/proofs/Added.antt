@@ -4,7 +4,7 @@ use Rattle.std.specs.List.{flat_map}
 use Rattle.std.specs.Prelude.{Result, Ok, Err, min}
 use Rattle.std.proofs.lemmas.List.{append_assoc, flat_map_more, length-take, take_more, take-take}
 use Rattle.std.proofs.Math.Seq.{take-append_seam, take-length}
-use Rattle.ipc_format_messages.specs.columnar_memory.declared.Error.{Error}
+use Rattle.ipc_format_streams.specs.columnar_memory.declared.Error.{Error}
 use Rattle.ipc_format_column_bytes.specs.Appends.{Appends, BeginsWith}
 
 pub begins_with_itself : {A : Type 0} (old new : List A) → new ≡ old → BeginsWith old new

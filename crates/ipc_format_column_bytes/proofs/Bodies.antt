@@ -11,15 +11,15 @@ use Rattle.std.proofs.lemmas.List.{append_assoc, append-nil, drop-replicate, len
 use Rattle.std.proofs.lemmas.List.{take-append-drop, take-replicate}
 use Rattle.std.proofs.lemmas.List.Folds.{list_any-append}
 use Rattle.std.proofs.Math.Seq.{take-append_seam, drop-append_seam, take-length}
-use Rattle.ipc_format_messages.specs.columnar_memory.Error.{IsOutOfMemory}
-use Rattle.ipc_format_messages.specs.columnar_memory.declared.Error.{Error}
-use Rattle.ipc_format_messages.specs.columnar_memory.declared.Error.TheVariants.{Overflow, OutOfMemory}
-use Rattle.ipc_format_messages.specs.grammar.Encoding.{Encoded}
-use Rattle.ipc_format_messages.specs.grammar.StoredEncoding.{mask_bytes, mask_nulls}
-use Rattle.ipc_format_messages.specs.grammar.WrittenMessages.{body_bytes, buffer_places, padded_buffer}
-use Rattle.ipc_format_messages.specs.declared.FieldNode.{FieldNode}
-use Rattle.ipc_format_messages.specs.declared.Buffer.{Buffer}
-use Rattle.ipc_format_messages.specs.columns.StoredColumns.{place_of}
+use Rattle.ipc_format_streams.specs.columnar_memory.Error.{IsOutOfMemory}
+use Rattle.ipc_format_streams.specs.columnar_memory.declared.Error.{Error}
+use Rattle.ipc_format_streams.specs.columnar_memory.declared.Error.TheVariants.{Overflow, OutOfMemory}
+use Rattle.ipc_format_streams.specs.grammar.Encoding.{Encoded}
+use Rattle.ipc_format_streams.specs.grammar.StoredEncoding.{mask_bytes, mask_nulls}
+use Rattle.ipc_format_streams.specs.grammar.WrittenMessages.{body_bytes, buffer_places, padded_buffer}
+use Rattle.ipc_format_streams.specs.messages.declared.FieldNode.{FieldNode}
+use Rattle.ipc_format_streams.specs.messages.declared.Buffer.{Buffer}
+use Rattle.ipc_format_streams.specs.columns.StoredColumns.{place_of}
 use Rattle.ipc_format_column_bytes.specs.Appends.{BeginsWith}
 use Rattle.ipc_format_column_bytes.proofs.Added.{begins_through}
 use Rattle.ipc_format_column_bytes.specs.declared.body.Body.{Body}

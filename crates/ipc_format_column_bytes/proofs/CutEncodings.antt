@@ -3,15 +3,15 @@ use Rattle.std.proofs.Common.{◌≡◌, ℕ, ◌+◌, ◌-◌, ◌*◌, ◌≤�
 use Rattle.std.specs.Prelude.{Option, Some, None, slice_index}
 use Rattle.std.specs.Int.{w8, w32}
 use Rattle.std.proofs.Math.Nat.{mul-add, mul-le-mul_left}
-use Rattle.ipc_format_messages.specs.columns.SoundColumns.{is_sound}
-use Rattle.ipc_format_messages.specs.columns.StoredColumns.{Stored, bits, numbers, pairs, triples, texts, byte_strings, fixed_bytes, Column, Columns}
-use Rattle.ipc_format_messages.specs.columns.StoredColumns.{nulls, flat, lists, fixed_lists, records, unions, dictionary, no_column, column_then}
-use Rattle.ipc_format_messages.specs.columns.StoredColumns.{cut_list, cut_mask, cut_stored, column_len, cut, cut_each, type_layer}
-use Rattle.ipc_format_messages.proofs.columns_lemmas.Windows.{cut_list-cut_list}
-use Rattle.ipc_format_messages.proofs.columns_lemmas.CutLengths.{column_len-cut}
-use Rattle.ipc_format_messages.specs.grammar.Encoding.{column_over}
-use Rattle.ipc_format_messages.specs.grammar.StoredEncoding.{encode_range, encode_ranges, encode_wholes, encode_stored, integer_bytes, key_bytes}
-use Rattle.ipc_format_messages.specs.grammar.StoredEncoding.{last_offset, mask_bytes, moved_bytes, node_over, offset_width, stored_buffers}
+use Rattle.ipc_format_streams.specs.columns.SoundColumns.{is_sound}
+use Rattle.ipc_format_streams.specs.columns.StoredColumns.{Stored, bits, numbers, pairs, triples, texts, byte_strings, fixed_bytes, Column, Columns}
+use Rattle.ipc_format_streams.specs.columns.StoredColumns.{nulls, flat, lists, fixed_lists, records, unions, dictionary, no_column, column_then}
+use Rattle.ipc_format_streams.specs.columns.StoredColumns.{cut_list, cut_mask, cut_stored, column_len, cut, cut_each, type_layer}
+use Rattle.ipc_format_streams.proofs.columns_lemmas.Windows.{cut_list-cut_list}
+use Rattle.ipc_format_streams.proofs.columns_lemmas.CutLengths.{column_len-cut}
+use Rattle.ipc_format_streams.specs.grammar.Encoding.{column_over}
+use Rattle.ipc_format_streams.specs.grammar.StoredEncoding.{encode_range, encode_ranges, encode_wholes, encode_stored, integer_bytes, key_bytes}
+use Rattle.ipc_format_streams.specs.grammar.StoredEncoding.{last_offset, mask_bytes, moved_bytes, node_over, offset_width, stored_buffers}
 
 mask_twice : (mask : Option (List Bool)) (o n p q : ℕ) → p + q ≤ n → cut_mask (cut_mask mask o n) p q ≡ cut_mask mask (o + p) q
 mask_twice None o n p q h = refl

@@ -12,20 +12,20 @@ use Rattle.flat_arrays.specs.Fits.{binary_layout, text_layout}
 use Rattle.flat_arrays.specs.Fits as fits
 use Rattle.flat_arrays.specs.Flat as flats
 use Rattle.flat_arrays.specs.Flat.{Flat}
-use Rattle.ipc_format_messages.specs.columnar_memory.Layouts.{physical_type}
-use Rattle.ipc_format_messages.specs.columnar_memory.Numbers.{Numbers, first_number}
-use Rattle.ipc_format_messages.specs.columnar_memory.Spans.{Spans, ends_from, last_of, offset_at, offsets_of, spans_between}
-use Rattle.ipc_format_messages.specs.columnar_memory.declared.DataType.{DataType}
-use Rattle.ipc_format_messages.specs.columnar_memory.declared.PrimitiveType.{PrimitiveType}
-use Rattle.ipc_format_messages.specs.columnar_memory.declared.PrimitiveType.TheVariants as kinds
-use Rattle.ipc_format_messages.specs.columns.Slots.{number, pair, triple}
-use Rattle.ipc_format_messages.specs.columns.StoredColumns.{Stored, flat, bits, texts, byte_strings}
-use Rattle.ipc_format_messages.specs.columns.StoredColumns.{column_len, cut_list, cut_mask, cut_stored, stored_len, type_layer}
-use Rattle.ipc_format_messages.specs.grammar.Buffers.{bitmap_bytes}
-use Rattle.ipc_format_messages.specs.grammar.StoredEncoding.{between_offsets, encode_range, last_offset, mask_bytes, moved_bytes}
-use Rattle.ipc_format_messages.specs.grammar.StoredEncoding.{node_over, offset_width, ordered_value, stored_buffers}
-use Rattle.ipc_format_messages.proofs.columnar_memory_lemmas.buffer_lemmas.Runs.{length-ends_from, offset_at-all, offset_at-le-last_of, sum-cons}
-use Rattle.ipc_format_messages.proofs.columnar_memory_lemmas.buffer_lemmas.Slices.{offset_at-spans_between}
+use Rattle.ipc_format_streams.specs.columnar_memory.Layouts.{physical_type}
+use Rattle.ipc_format_streams.specs.columnar_memory.Numbers.{Numbers, first_number}
+use Rattle.ipc_format_streams.specs.columnar_memory.Spans.{Spans, ends_from, last_of, offset_at, offsets_of, spans_between}
+use Rattle.ipc_format_streams.specs.columnar_memory.declared.DataType.{DataType}
+use Rattle.ipc_format_streams.specs.columnar_memory.declared.PrimitiveType.{PrimitiveType}
+use Rattle.ipc_format_streams.specs.columnar_memory.declared.PrimitiveType.TheVariants as kinds
+use Rattle.ipc_format_streams.specs.columns.Slots.{number, pair, triple}
+use Rattle.ipc_format_streams.specs.columns.StoredColumns.{Stored, flat, bits, texts, byte_strings}
+use Rattle.ipc_format_streams.specs.columns.StoredColumns.{column_len, cut_list, cut_mask, cut_stored, stored_len, type_layer}
+use Rattle.ipc_format_streams.specs.grammar.Buffers.{bitmap_bytes}
+use Rattle.ipc_format_streams.specs.grammar.StoredEncoding.{between_offsets, encode_range, last_offset, mask_bytes, moved_bytes}
+use Rattle.ipc_format_streams.specs.grammar.StoredEncoding.{node_over, offset_width, ordered_value, stored_buffers}
+use Rattle.ipc_format_streams.proofs.columnar_memory_lemmas.buffer_lemmas.Runs.{length-ends_from, offset_at-all, offset_at-le-last_of, sum-cons}
+use Rattle.ipc_format_streams.proofs.columnar_memory_lemmas.buffer_lemmas.Slices.{offset_at-spans_between}
 use Rattle.ipc_format_column_bytes.specs.Bodies.{both, of_buffers, of_slots}
 use Rattle.ipc_format_column_bytes.specs.FlatColumns.{binary_column, boolean_column, pair_of, primitive_column}
 use Rattle.ipc_format_column_bytes.specs.FlatColumns.{stored_numbers, text_column, triple_of}

@@ -1,18 +1,18 @@
 -- How wide offsets are, by how arrays of a type lie in memory.
 use Rattle.std.proofs.Common.{◌≡◌, ◌∙◌, false, refl, sym, ap, subst}
 use Rattle.std.specs.Int.{Width, w32, w64}
-use Rattle.ipc_format_messages.specs.columnar_memory.Layouts.{physical_type}
-use Rattle.ipc_format_messages.specs.columnar_memory.declared.DataType.{DataType}
-use Rattle.ipc_format_messages.specs.columnar_memory.declared.DataType.TheOpen as layer
-use Rattle.ipc_format_messages.specs.columnar_memory.declared.DataType.TheViews.{roll-DataType}
-use Rattle.ipc_format_messages.specs.columnar_memory.declared.DataType.TheFolds.{ind-DataType}
-use Rattle.ipc_format_messages.specs.columnar_memory.declared.IntervalUnit.TheVariants as interval
-use Rattle.ipc_format_messages.specs.columnar_memory.declared.PhysicalType.{PhysicalType}
-use Rattle.ipc_format_messages.specs.columnar_memory.declared.PhysicalType.TheVariants as physical
-use Rattle.ipc_format_messages.specs.columns.StoredColumns.{type_layer}
-use Rattle.ipc_format_messages.specs.grammar.StoredEncoding.{offset_width}
-use Rattle.ipc_format_messages.proofs.columns_lemmas.Claims.{LayerWith, NoClaim, bare_layer}
-use Rattle.ipc_format_messages.proofs.columns_lemmas.TypeLayers.{Layer, is_extension, layer_itself, layer_layout, layer_within, layout_is}
+use Rattle.ipc_format_streams.specs.columnar_memory.Layouts.{physical_type}
+use Rattle.ipc_format_streams.specs.columnar_memory.declared.DataType.{DataType}
+use Rattle.ipc_format_streams.specs.columnar_memory.declared.DataType.TheOpen as layer
+use Rattle.ipc_format_streams.specs.columnar_memory.declared.DataType.TheViews.{roll-DataType}
+use Rattle.ipc_format_streams.specs.columnar_memory.declared.DataType.TheFolds.{ind-DataType}
+use Rattle.ipc_format_streams.specs.columnar_memory.declared.IntervalUnit.TheVariants as interval
+use Rattle.ipc_format_streams.specs.columnar_memory.declared.PhysicalType.{PhysicalType}
+use Rattle.ipc_format_streams.specs.columnar_memory.declared.PhysicalType.TheVariants as physical
+use Rattle.ipc_format_streams.specs.columns.StoredColumns.{type_layer}
+use Rattle.ipc_format_streams.specs.grammar.StoredEncoding.{offset_width}
+use Rattle.ipc_format_streams.proofs.columns_lemmas.Claims.{LayerWith, NoClaim, bare_layer}
+use Rattle.ipc_format_streams.proofs.columns_lemmas.TypeLayers.{Layer, is_extension, layer_itself, layer_layout, layer_within, layout_is}
 
 -- ---- a type's layer is no extension
 

@@ -6,13 +6,13 @@ use Rattle.std.specs.List.{flat_map, All}
 use Rattle.std.proofs.lemmas.Int.{ints}
 use Rattle.std.proofs.lemmas.List.Folds.{flat_map-map}
 use Rattle.std.proofs.lemmas.List.Elements.{All-cons, All-nil}
-use Rattle.ipc_format_messages.specs.columnar_memory.Numbers.{Numbers, one, bytes_of}
-use Rattle.ipc_format_messages.specs.columnar_memory.Spans.{Spans, AreOffsets, ends_from, number_of, offset_at, offsets_of, spans_between}
-use Rattle.ipc_format_messages.specs.columnar_memory.declared.PrimitiveType.{PrimitiveType}
-use Rattle.ipc_format_messages.specs.columnar_memory.declared.PrimitiveType.TheVariants as kinds
-use Rattle.ipc_format_messages.specs.columns.StoredColumns.{cut_list}
-use Rattle.ipc_format_messages.specs.grammar.StoredEncoding.{moved_bytes, ordered_bytes}
-use Rattle.ipc_format_messages.proofs.columnar_memory_lemmas.buffer_lemmas.Runs.{AreOffsets-window, sum-cons, value-AreOffsets}
+use Rattle.ipc_format_streams.specs.columnar_memory.Numbers.{Numbers, one, bytes_of}
+use Rattle.ipc_format_streams.specs.columnar_memory.Spans.{Spans, AreOffsets, ends_from, number_of, offset_at, offsets_of, spans_between}
+use Rattle.ipc_format_streams.specs.columnar_memory.declared.PrimitiveType.{PrimitiveType}
+use Rattle.ipc_format_streams.specs.columnar_memory.declared.PrimitiveType.TheVariants as kinds
+use Rattle.ipc_format_streams.specs.columns.StoredColumns.{cut_list}
+use Rattle.ipc_format_streams.specs.grammar.StoredEncoding.{moved_bytes, ordered_bytes}
+use Rattle.ipc_format_streams.proofs.columnar_memory_lemmas.buffer_lemmas.Runs.{AreOffsets-window, sum-cons, value-AreOffsets}
 use Rattle.ipc_format_column_bytes.specs.Numbers.{width_of}
 
 -- the bytes of an offset

@@ -6,17 +6,17 @@ use Rattle.std.proofs.lemmas.Bool.{cases_lt}
 use Rattle.std.specs.Prelude.{slice_range}
 use Rattle.std.proofs.lemmas.List.{drop-append-le, drop_all, length-append, length-drop, length-take-le, take-append-le, take_all}
 use Rattle.std.proofs.Math.Seq.{take-append_seam, drop-append_seam}
-use Rattle.ipc_format_messages.specs.columnar_memory.Bits.{IsPacked, bit_at, bits_of, bytes_for}
-use Rattle.ipc_format_messages.specs.columnar_memory.Windows.{window}
-use Rattle.ipc_format_messages.specs.columnar_memory.Words.{word}
-use Rattle.ipc_format_messages.proofs.columnar_memory_lemmas.bits_lemmas.Appends.{bit_at_behind, bit_at_beyond}
-use Rattle.ipc_format_messages.proofs.columnar_memory_lemmas.bits_lemmas.Words.{word_of_bytes}
-use Rattle.ipc_format_messages.proofs.columnar_memory_lemmas.bits_lemmas.Bits.{digit_first}
-use Rattle.ipc_format_messages.proofs.columnar_memory_lemmas.bits_lemmas.Windows.{length_window, window_append, window_same}
-use Rattle.ipc_format_messages.proofs.columnar_memory_lemmas.bitmap_lemmas.Lists.{slice_range-window}
-use Rattle.ipc_format_messages.proofs.columnar_memory_lemmas.bitmap_lemmas.Places.{bits_of-range, bits_of-take}
-use Rattle.ipc_format_messages.specs.columns.StoredColumns.{cut_list}
-use Rattle.ipc_format_messages.specs.grammar.Buffers.{bits_by, bitmap_by, bitmap_bytes}
+use Rattle.ipc_format_streams.specs.columnar_memory.Bits.{IsPacked, bit_at, bits_of, bytes_for}
+use Rattle.ipc_format_streams.specs.columnar_memory.Windows.{window}
+use Rattle.ipc_format_streams.specs.columnar_memory.Words.{word}
+use Rattle.ipc_format_streams.proofs.columnar_memory_lemmas.bits_lemmas.Appends.{bit_at_behind, bit_at_beyond}
+use Rattle.ipc_format_streams.proofs.columnar_memory_lemmas.bits_lemmas.Words.{word_of_bytes}
+use Rattle.ipc_format_streams.proofs.columnar_memory_lemmas.bits_lemmas.Bits.{digit_first}
+use Rattle.ipc_format_streams.proofs.columnar_memory_lemmas.bits_lemmas.Windows.{length_window, window_append, window_same}
+use Rattle.ipc_format_streams.proofs.columnar_memory_lemmas.bitmap_lemmas.Lists.{slice_range-window}
+use Rattle.ipc_format_streams.proofs.columnar_memory_lemmas.bitmap_lemmas.Places.{bits_of-range, bits_of-take}
+use Rattle.ipc_format_streams.specs.columns.StoredColumns.{cut_list}
+use Rattle.ipc_format_streams.specs.grammar.Buffers.{bits_by, bitmap_by, bitmap_bytes}
 
 word_of_bits : (bits : List Bool) → bits_by (λ (b : Bool). b) bits ≡ word bits
 word_of_bits [] = refl

@@ -3,10 +3,10 @@ use Rattle.std.proofs.Common.{◌≡◌, ◌/◌, ◌%◌, ◌^◌, ◌++◌, Bo
 use Rattle.std.specs.Prelude.{ℤ, pos, negsuc}
 use Rattle.std.specs.Int.{w128, to_le_bytes, to_be_bytes}
 use Rattle.std.proofs.lemmas.Int.{ints}
-use Rattle.ipc_format_messages.specs.columnar_memory.Numbers.{Numbers, one, two, three, IsNative, FitsWide, bytes_of, wide_bits}
-use Rattle.ipc_format_messages.specs.columnar_memory.declared.PrimitiveType.{PrimitiveType}
-use Rattle.ipc_format_messages.specs.columnar_memory.declared.PrimitiveType.TheVariants as kinds
-use Rattle.ipc_format_messages.specs.grammar.Buffers.{wide_number}
+use Rattle.ipc_format_streams.specs.columnar_memory.Numbers.{Numbers, one, two, three, IsNative, FitsWide, bytes_of, wide_bits}
+use Rattle.ipc_format_streams.specs.columnar_memory.declared.PrimitiveType.{PrimitiveType}
+use Rattle.ipc_format_streams.specs.columnar_memory.declared.PrimitiveType.TheVariants as kinds
+use Rattle.ipc_format_streams.specs.grammar.Buffers.{wide_number}
 use Rattle.ipc_format_column_bytes.specs.Numbers.{value_bytes}
 
 same_wide : (z : ℤ) → FitsWide z → wide_bits z ≡ wide_number z

@@ -5,11 +5,11 @@ use Rattle.std.specs.Int.{w8, w32}
 use Rattle.std.specs.List.{list_all}
 use Rattle.std.proofs.lemmas.Bool.{and_parts, eqb-true, false≢true}
 use Rattle.std.proofs.lemmas.List.{append_assoc, append-nil, take_all}
-use Rattle.ipc_format_messages.specs.columnar_memory.Layouts.{physical_type}
-use Rattle.ipc_format_messages.specs.columnar_memory.declared.PhysicalType.{PhysicalType}
-use Rattle.ipc_format_messages.specs.columnar_memory.declared.PhysicalType.TheVariants as physical
-use Rattle.ipc_format_messages.specs.columns.Kinds.{is_signed, most_offset}
-use Rattle.ipc_format_messages.specs.columns.SoundColumns.{
+use Rattle.ipc_format_streams.specs.columnar_memory.Layouts.{physical_type}
+use Rattle.ipc_format_streams.specs.columnar_memory.declared.PhysicalType.{PhysicalType}
+use Rattle.ipc_format_streams.specs.columnar_memory.declared.PhysicalType.TheVariants as physical
+use Rattle.ipc_format_streams.specs.columns.Kinds.{is_signed, most_offset}
+use Rattle.ipc_format_streams.specs.columns.SoundColumns.{
   are_offsets,
   are_pieces,
   are_sound,
@@ -18,16 +18,16 @@ use Rattle.ipc_format_messages.specs.columns.SoundColumns.{
   has_child_types,
   has_field_types,
 }
-use Rattle.ipc_format_messages.specs.columns.SoundColumns.{has_fixed_item_type, has_item_type, has_places, has_size, has_value_at, has_value_type}
-use Rattle.ipc_format_messages.specs.columns.SoundColumns.{have_len, holds_below, is_byte, is_offset, is_sound, is_stored_as, mask_fits}
-use Rattle.ipc_format_messages.specs.columns.StoredColumns.{Stored, bits, numbers, pairs, triples, texts, byte_strings, fixed_bytes, Column, Columns}
-use Rattle.ipc_format_messages.specs.columns.StoredColumns.{nulls, flat, lists, fixed_lists, records, unions, dictionary, no_column, column_then}
-use Rattle.ipc_format_messages.specs.columns.StoredColumns.{cut_list, cut_mask, cut_stored, column_len, column_type, in_columns, stored_len}
-use Rattle.ipc_format_messages.specs.columns.StoredColumns.{type_layer}
-use Rattle.ipc_format_messages.proofs.columns_lemmas.Conditions.{parts_of_3, parts_of_4, parts_of_5}
-use Rattle.ipc_format_messages.specs.grammar.Encoding.{Encoded, column_over, joined}
-use Rattle.ipc_format_messages.specs.grammar.StoredEncoding.{encode_range, encode_ranges, encode_stored, encode_wholes, integer_bytes, key_bytes}
-use Rattle.ipc_format_messages.specs.grammar.StoredEncoding.{last_offset, mask_bytes, moved_bytes, node_over, offset_width, stored_buffers}
+use Rattle.ipc_format_streams.specs.columns.SoundColumns.{has_fixed_item_type, has_item_type, has_places, has_size, has_value_at, has_value_type}
+use Rattle.ipc_format_streams.specs.columns.SoundColumns.{have_len, holds_below, is_byte, is_offset, is_sound, is_stored_as, mask_fits}
+use Rattle.ipc_format_streams.specs.columns.StoredColumns.{Stored, bits, numbers, pairs, triples, texts, byte_strings, fixed_bytes, Column, Columns}
+use Rattle.ipc_format_streams.specs.columns.StoredColumns.{nulls, flat, lists, fixed_lists, records, unions, dictionary, no_column, column_then}
+use Rattle.ipc_format_streams.specs.columns.StoredColumns.{cut_list, cut_mask, cut_stored, column_len, column_type, in_columns, stored_len}
+use Rattle.ipc_format_streams.specs.columns.StoredColumns.{type_layer}
+use Rattle.ipc_format_streams.proofs.columns_lemmas.Conditions.{parts_of_3, parts_of_4, parts_of_5}
+use Rattle.ipc_format_streams.specs.grammar.Encoding.{Encoded, column_over, joined}
+use Rattle.ipc_format_streams.specs.grammar.StoredEncoding.{encode_range, encode_ranges, encode_stored, encode_wholes, integer_bytes, key_bytes}
+use Rattle.ipc_format_streams.specs.grammar.StoredEncoding.{last_offset, mask_bytes, moved_bytes, node_over, offset_width, stored_buffers}
 use Rattle.ipc_format_column_bytes.specs.Bodies.{both, of_buffers, of_node}
 use Rattle.ipc_format_column_bytes.specs.WholeColumns.{behind_node, behind_own, below, node_nulls, own_buffers}
 

@@ -1,7 +1,7 @@
 -- What a call that adds bytes behind some bytes answers.
 use Rattle.std.specs.Prelude.{◌≡◌, ℕ, List, ◌++◌, length, take, Result, Ok, Err}
-use Rattle.ipc_format_messages.specs.columnar_memory.Error.{IsOutOfMemory}
-use Rattle.ipc_format_messages.specs.columnar_memory.declared.Error.{Error}
+use Rattle.ipc_format_streams.specs.columnar_memory.Error.{IsOutOfMemory}
+use Rattle.ipc_format_streams.specs.columnar_memory.declared.Error.{Error}
 
 -- the new items begin with the old ones
 abbrev pub BeginsWith : {A : Type 0} → List A → List A → Type 0

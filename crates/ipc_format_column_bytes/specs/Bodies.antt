@@ -2,14 +2,14 @@
 use Rattle.std.specs.Prelude.{◌≡◌, ◌⊎◌, ℕ, ◌+◌, ◌≤◌, ◌^◌, ◌||◌, ℤ, pos, ◌+ℤ◌, Bool, true, List, [], ◌∷◌, ◌++◌, length, map, nat_le, take, drop}
 use Rattle.std.specs.Prelude.{Option, Result, Ok, Err}
 use Rattle.std.specs.List.{list_any}
-use Rattle.ipc_format_messages.specs.columnar_memory.declared.Error.{Error}
-use Rattle.ipc_format_messages.specs.columnar_memory.declared.Error.TheVariants.{Overflow, OutOfMemory}
-use Rattle.ipc_format_messages.specs.columns.StoredColumns.{place_of}
-use Rattle.ipc_format_messages.specs.grammar.Encoding.{Encoded}
-use Rattle.ipc_format_messages.specs.grammar.StoredEncoding.{mask_bytes, node_over}
-use Rattle.ipc_format_messages.specs.grammar.WrittenMessages.{body_bytes, buffer_places}
-use Rattle.ipc_format_messages.specs.declared.FieldNode.{FieldNode}
-use Rattle.ipc_format_messages.specs.declared.Buffer.{Buffer}
+use Rattle.ipc_format_streams.specs.columnar_memory.declared.Error.{Error}
+use Rattle.ipc_format_streams.specs.columnar_memory.declared.Error.TheVariants.{Overflow, OutOfMemory}
+use Rattle.ipc_format_streams.specs.columns.StoredColumns.{place_of}
+use Rattle.ipc_format_streams.specs.grammar.Encoding.{Encoded}
+use Rattle.ipc_format_streams.specs.grammar.StoredEncoding.{mask_bytes, node_over}
+use Rattle.ipc_format_streams.specs.grammar.WrittenMessages.{body_bytes, buffer_places}
+use Rattle.ipc_format_streams.specs.messages.declared.FieldNode.{FieldNode}
+use Rattle.ipc_format_streams.specs.messages.declared.Buffer.{Buffer}
 use Rattle.ipc_format_column_bytes.specs.Appends.{BeginsWith}
 use Rattle.ipc_format_column_bytes.specs.declared.body.Body.{Body}
 use Rattle.ipc_format_column_bytes.specs.declared.body.Lengths.{Lengths}

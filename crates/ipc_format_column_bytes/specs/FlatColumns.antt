@@ -2,11 +2,11 @@
 use Rattle.std.specs.Prelude.{ℤ, Bool, List, map}
 use Rattle.flat_arrays.specs.ByteStrings.{ByteStrings}
 use Rattle.flat_arrays.specs.Flat.{Flat}
-use Rattle.ipc_format_messages.specs.columnar_memory.Numbers.{Numbers, first_number, second_number, third_number}
-use Rattle.ipc_format_messages.specs.columnar_memory.Spans.{offsets_of}
-use Rattle.ipc_format_messages.specs.columnar_memory.declared.PrimitiveType.{PrimitiveType}
-use Rattle.ipc_format_messages.specs.columnar_memory.declared.PrimitiveType.TheVariants as kinds
-use Rattle.ipc_format_messages.specs.columns.StoredColumns.{Column, Stored, flat, bits, numbers, pairs, triples, texts, byte_strings}
+use Rattle.ipc_format_streams.specs.columnar_memory.Numbers.{Numbers, first_number, second_number, third_number}
+use Rattle.ipc_format_streams.specs.columnar_memory.Spans.{offsets_of}
+use Rattle.ipc_format_streams.specs.columnar_memory.declared.PrimitiveType.{PrimitiveType}
+use Rattle.ipc_format_streams.specs.columnar_memory.declared.PrimitiveType.TheVariants as kinds
+use Rattle.ipc_format_streams.specs.columns.StoredColumns.{Column, Stored, flat, bits, numbers, pairs, triples, texts, byte_strings}
 
 abbrev pub pair_of : Numbers → ℤ × ℤ
 pair_of n = (first_number n, second_number n)

@@ -3,9 +3,12 @@ pub mod Bodies
 pub mod FlatColumns
 pub mod Numbers
 pub mod WholeColumns
-pub use Rattle.ipc_format_messages.specs as messages
-pub use Rattle.ipc_format_messages.specs.columnar_memory
-pub use Rattle.ipc_format_messages.specs.flatbuffers
-pub use Rattle.ipc_format_messages.specs.columns
-pub use Rattle.ipc_format_messages.specs.grammar
-pub use Rattle.ipc_format_messages.specs.metadata
+pub mod Placing
+pub use Rattle.flat_arrays.specs as flat_arrays
+pub use Rattle.ipc_format_streams.specs as streams
+pub use Rattle.ipc_format_streams.specs.messages
+pub use Rattle.ipc_format_streams.specs.columnar_memory
+pub use Rattle.ipc_format_streams.specs.flatbuffers
+pub use Rattle.ipc_format_streams.specs.columns
+pub use Rattle.ipc_format_streams.specs.grammar
+pub use Rattle.ipc_format_streams.specs.metadata

@@ -1,11 +1,11 @@
 -- The bytes of the values of arrays (Arrow columnar format, "Fixed-size Primitive Layout", "Byte Order (Endianness)").
 use Rattle.std.specs.Prelude.{ℕ, Bool, true, false, List}
 use Rattle.std.specs.Int.{Width, w32, w64}
-use Rattle.ipc_format_messages.specs.columnar_memory.Numbers.{Numbers, first_number, second_number, third_number}
-use Rattle.ipc_format_messages.specs.columnar_memory.declared.PrimitiveType.{PrimitiveType}
-use Rattle.ipc_format_messages.specs.columnar_memory.declared.PrimitiveType.TheVariants as kinds
-use Rattle.ipc_format_messages.specs.columns.Slots.{number, pair, triple}
-use Rattle.ipc_format_messages.specs.grammar.StoredEncoding.{ordered_value}
+use Rattle.ipc_format_streams.specs.columnar_memory.Numbers.{Numbers, first_number, second_number, third_number}
+use Rattle.ipc_format_streams.specs.columnar_memory.declared.PrimitiveType.{PrimitiveType}
+use Rattle.ipc_format_streams.specs.columnar_memory.declared.PrimitiveType.TheVariants as kinds
+use Rattle.ipc_format_streams.specs.columns.Slots.{number, pair, triple}
+use Rattle.ipc_format_streams.specs.grammar.StoredEncoding.{ordered_value}
 
 -- a value of a kind, each of its numbers with its lowest or its highest byte first
 abbrev pub value_bytes : Bool → PrimitiveType → Numbers → List ℕ

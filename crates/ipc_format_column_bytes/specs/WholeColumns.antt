@@ -1,10 +1,10 @@
 -- A whole stored column as it is written: its node, its own buffers, and the columns below it (Arrow IPC, "RecordBatch message").
 use Rattle.std.specs.Prelude.{ℕ, ◌-◌, Bool, List, [], ◌∷◌, drop, Some, None, slice_index}
 use Rattle.std.specs.Int.{w8, w32}
-use Rattle.ipc_format_messages.specs.columns.StoredColumns.{Column, nulls, flat, lists, fixed_lists, records, unions, dictionary, type_layer}
-use Rattle.ipc_format_messages.specs.grammar.Encoding.{Encoded, joined}
-use Rattle.ipc_format_messages.specs.grammar.StoredEncoding.{encode_range, encode_stored, encode_wholes, integer_bytes, key_bytes, last_offset}
-use Rattle.ipc_format_messages.specs.grammar.StoredEncoding.{mask_bytes, mask_nulls, moved_bytes, offset_width, stored_buffers}
+use Rattle.ipc_format_streams.specs.columns.StoredColumns.{Column, nulls, flat, lists, fixed_lists, records, unions, dictionary, type_layer}
+use Rattle.ipc_format_streams.specs.grammar.Encoding.{Encoded, joined}
+use Rattle.ipc_format_streams.specs.grammar.StoredEncoding.{encode_range, encode_stored, encode_wholes, integer_bytes, key_bytes, last_offset}
+use Rattle.ipc_format_streams.specs.grammar.StoredEncoding.{mask_bytes, mask_nulls, moved_bytes, offset_width, stored_buffers}
 use Rattle.ipc_format_column_bytes.specs.Bodies.{both, of_buffers}
 
 -- how many slots a column's node says are null: all of nulls alone, none of a union, and else those that the mask says

@@ -1,11 +1,11 @@
 //! The bytes of bits (Arrow columnar format, "Validity bitmaps").
 ghost use Rattle.std.specs.Prelude.{◌+◌, ◌*◌, ◌≤◌, length};
 ghost use Rattle.ipc_format_column_bytes.specs.Appends.{Appends};
-ghost use Rattle.ipc_format_messages.specs.columns.StoredColumns.{cut_list};
-ghost use Rattle.ipc_format_messages.specs.grammar.Buffers.{bitmap_bytes};
-ghost use Rattle.ipc_format_messages.specs.columnar_memory.Bits.{IsPacked, bits_of};
+ghost use Rattle.ipc_format_streams.specs.columns.StoredColumns.{cut_list};
+ghost use Rattle.ipc_format_streams.specs.grammar.Buffers.{bitmap_bytes};
+ghost use Rattle.ipc_format_streams.specs.columnar_memory.Bits.{IsPacked, bits_of};
 
-use ipc_format_messages::columnar_memory::{Bitmap, MutableBitmap, Result};
+use ipc_format_streams::columnar_memory::{Bitmap, MutableBitmap, Result};
 
 /// Adds the bytes of the `count` bits from bit `first` on behind some bytes, the least significant bit of a byte first, and zeros to the end
 /// of the last byte. Bits that begin with a byte go out by one copy.

@@ -5,18 +5,18 @@ ghost use Rattle.std.specs.Prelude.{◌≡◌, ◌+◌, ◌-◌, ◌%◌, ◌≤
 ghost use Rattle.ipc_format_column_bytes.specs.Appends.{Appends};
 ghost use Rattle.ipc_format_column_bytes.specs.Bodies.{Adds, EndsBuffer, GivesBack, of_buffers, of_node, of_slots, parts, parts_of};
 ghost use Rattle.ipc_format_column_bytes.specs.Numbers.{value_bytes, width_of};
-ghost use Rattle.ipc_format_messages.specs.columnar_memory.Spans.{offsets_of};
-ghost use Rattle.ipc_format_messages.specs.columns.StoredColumns.{cut_list, cut_mask};
-ghost use Rattle.ipc_format_messages.specs.grammar.Buffers.{bitmap_bytes};
-ghost use Rattle.ipc_format_messages.specs.grammar.StoredEncoding.{mask_bytes, mask_nulls, moved_bytes};
+ghost use Rattle.ipc_format_streams.specs.columnar_memory.Spans.{offsets_of};
+ghost use Rattle.ipc_format_streams.specs.columns.StoredColumns.{cut_list, cut_mask};
+ghost use Rattle.ipc_format_streams.specs.grammar.Buffers.{bitmap_bytes};
+ghost use Rattle.ipc_format_streams.specs.grammar.StoredEncoding.{mask_bytes, mask_nulls, moved_bytes};
 
 use crate::bitmaps::append_bitmap;
 use crate::numbers::append_numbers;
 use crate::offsets::append_offsets;
-use ipc_format_messages::columnar_memory::{
+use ipc_format_streams::columnar_memory::{
     Bitmap, Error, NativeType, Offset, OffsetsBuffer, Result,
 };
-use ipc_format_messages::{Buffer, FieldNode};
+use ipc_format_streams::messages::{Buffer, FieldNode};
 use std::mem::replace;
 
 /// Buffers begin at multiples of this.

@@ -4,14 +4,14 @@ ghost use Rattle.flat_arrays.specs.ByteStrings.{len_of};
 ghost use Rattle.ipc_format_column_bytes.specs.Bodies.{Adds, of_buffers, parts_of};
 ghost use Rattle.ipc_format_column_bytes.specs.FlatColumns.{binary_column, boolean_column, primitive_column, text_column};
 ghost use Rattle.ipc_format_column_bytes.specs.Numbers.{width_of};
-ghost use Rattle.ipc_format_messages.specs.columnar_memory.Spans.{last_of, offsets_of};
-ghost use Rattle.ipc_format_messages.specs.columns.StoredColumns.{cut_list};
-ghost use Rattle.ipc_format_messages.specs.grammar.StoredEncoding.{between_offsets, encode_range, encode_stored, moved_bytes};
+ghost use Rattle.ipc_format_streams.specs.columnar_memory.Spans.{last_of, offsets_of};
+ghost use Rattle.ipc_format_streams.specs.columns.StoredColumns.{cut_list};
+ghost use Rattle.ipc_format_streams.specs.grammar.StoredEncoding.{between_offsets, encode_range, encode_stored, moved_bytes};
 
 use crate::body::Body;
 use crate::offsets::offset_at;
 use flat_arrays::{BinaryArray, BooleanArray, PrimitiveArray, Utf8Array};
-use ipc_format_messages::columnar_memory::{NativeType, Offset, OffsetsBuffer, Result};
+use ipc_format_streams::columnar_memory::{NativeType, Offset, OffsetsBuffer, Result};
 
 impl Body {
     /// Adds the `count` slots from slot `first` on of an array of numbers: the node, the mask and the values.

@@ -4,7 +4,7 @@ ghost use Rattle.std.specs.Prelude.{true, false};
 ghost use Rattle.ipc_format_column_bytes.specs.Appends.{Appends};
 ghost use Rattle.ipc_format_column_bytes.specs.Numbers.{value_bytes};
 
-use ipc_format_messages::columnar_memory::{Error, NativeType, Result};
+use ipc_format_streams::columnar_memory::{Error, NativeType, Result};
 use std::convert::AsSlice;
 
 /// Adds the bytes of numbers behind some bytes, each number by itself in the byte order.

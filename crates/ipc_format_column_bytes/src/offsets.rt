@@ -3,11 +3,11 @@ ghost use Rattle.std.specs.List.{flat_map, All};
 ghost use Rattle.std.specs.Prelude.{◌≡◌, ◌+◌, ◌-◌, ◌≤◌, ◌≤ℤ◌, length, pos, true, false};
 ghost use Rattle.ipc_format_column_bytes.specs.Appends.{Appends};
 ghost use Rattle.ipc_format_column_bytes.specs.Numbers.{width_of};
-ghost use Rattle.ipc_format_messages.specs.columns.StoredColumns.{cut_list};
-ghost use Rattle.ipc_format_messages.specs.grammar.StoredEncoding.{moved_bytes, ordered_bytes};
-ghost use Rattle.ipc_format_messages.specs.columnar_memory.Spans.{number_of, offset_at, offsets_of};
+ghost use Rattle.ipc_format_streams.specs.columns.StoredColumns.{cut_list};
+ghost use Rattle.ipc_format_streams.specs.grammar.StoredEncoding.{moved_bytes, ordered_bytes};
+ghost use Rattle.ipc_format_streams.specs.columnar_memory.Spans.{number_of, offset_at, offsets_of};
 
-use ipc_format_messages::columnar_memory::{Error, Offset, OffsetsBuffer, Result};
+use ipc_format_streams::columnar_memory::{Error, Offset, OffsetsBuffer, Result};
 use std::convert::AsSlice;
 
 /// Where the span of a place begins; at the number of spans, where the last one ends.

@@ -2,15 +2,15 @@
 use Rattle.std.proofs.Common.{◌≡◌, ◌∙◌, ◌+◌, ◌-◌, ◌≤◌, ℕ, List, [], ◌∷◌, Bool, length, drop, sum, refl, sym, ap, subst, arith, length-drop}
 use Rattle.std.specs.Prelude.{Option, Some, Result, Ok, Err, ℤ, pos}
 use Rattle.std.proofs.lemmas.List.{drop-drop}
-use Rattle.ipc_format_streams.specs.columnar_memory.Spans as spans
-use Rattle.ipc_format_streams.specs.columnar_memory.Spans.{Spans, ends_from, number_of, offsets_of}
-use Rattle.ipc_format_streams.specs.columnar_memory.declared.Error.{Error}
-use Rattle.ipc_format_streams.specs.columns.Slots.{Slot}
-use Rattle.ipc_format_streams.specs.flatbuffers.Reading.{◌>>=◌}
-use Rattle.ipc_format_streams.specs.grammar.Columns.{last_of}
-use Rattle.ipc_format_streams.specs.messages.declared.values.Buffer.{Buffer}
-use Rattle.ipc_format_streams.specs.messages.declared.values.FieldNode.{FieldNode}
-use Rattle.ipc_format_streams.proofs.columnar_memory_lemmas.buffer_lemmas.Runs.{sum-cons}
+use Rattle.ipc_format_column_bytes.specs.streams.columnar_memory.Spans as spans
+use Rattle.ipc_format_column_bytes.specs.streams.columnar_memory.Spans.{Spans, ends_from, number_of, offsets_of}
+use Rattle.ipc_format_column_bytes.specs.streams.columnar_memory.declared.Error.{Error}
+use Rattle.ipc_format_column_bytes.specs.streams.columns.Slots.{Slot}
+use Rattle.ipc_format_column_bytes.specs.streams.flatbuffers.Reading.{◌>>=◌}
+use Rattle.ipc_format_column_bytes.specs.streams.grammar.Columns.{last_of}
+use Rattle.ipc_format_column_bytes.specs.streams.messages.declared.values.Buffer.{Buffer}
+use Rattle.ipc_format_column_bytes.specs.streams.messages.declared.values.FieldNode.{FieldNode}
+use Rattle.ipc_format_column_bytes.proofs.streams_lemmas.columnar_memory_lemmas.buffer_lemmas.Runs.{sum-cons}
 use Rattle.ipc_format_column_reading.specs.Buffers.{next_window}
 use Rattle.ipc_format_column_reading.specs.Reads.{Strings, strings_of, next_marked, next_offsets, next_strings}
 use Rattle.ipc_format_column_reading.specs.Rooms.{Told, ReadsAs}

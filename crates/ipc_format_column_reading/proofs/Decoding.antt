@@ -3,11 +3,11 @@ use Rattle.std.proofs.Common.{◌≡◌, ◌∙◌, ◌+◌, ◌*◌, ◌<◌, �
 use Rattle.std.proofs.Common.{length-append}
 use Rattle.std.proofs.lemmas.List.{append-nil, append_assoc, drop-drop, drop_at, map-append, take_at}
 use Rattle.std.proofs.Math.Nat.{suc-mul}
-use Rattle.ipc_format_streams.specs.columnar_memory.Numbers.{kind_size}
-use Rattle.ipc_format_streams.specs.columnar_memory.Windows.{window}
-use Rattle.ipc_format_streams.specs.columnar_memory.declared.PrimitiveType.{PrimitiveType}
-use Rattle.ipc_format_streams.specs.columnar_memory.declared.PrimitiveType.TheVariants as kinds
-use Rattle.ipc_format_streams.specs.grammar.Values.{element_bytes}
+use Rattle.ipc_format_column_bytes.specs.streams.columnar_memory.Numbers.{kind_size}
+use Rattle.ipc_format_column_bytes.specs.streams.columnar_memory.Windows.{window}
+use Rattle.ipc_format_column_bytes.specs.streams.columnar_memory.declared.PrimitiveType.{PrimitiveType}
+use Rattle.ipc_format_column_bytes.specs.streams.columnar_memory.declared.PrimitiveType.TheVariants as kinds
+use Rattle.ipc_format_column_bytes.specs.streams.grammar.Values.{element_bytes}
 
 -- the elements of so many bytes each, by a function
 unfoldable pub elements : {A : Type 0} → (List ℕ → A) → ℕ → ℕ → List ℕ → List A

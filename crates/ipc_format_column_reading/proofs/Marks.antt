@@ -1,19 +1,19 @@
 -- How many slots are taken at the fronts of the queues, and which of them are valid, as a mask.
 use Rattle.std.proofs.Common.{◌≡◌, ◌∙◌, ◌+◌, ◌/◌, ◌<◌, ℕ, zero, suc, List, [], ◌∷◌, Bool, true, false, map, drop, refl, sym, ap, arith}
 use Rattle.std.specs.Prelude.{Option, Some, None, slice_get, int_lt, pos, if◌then◌else◌}
-use Rattle.ipc_format_streams.specs.columnar_memory.Bits as memory
-use Rattle.ipc_format_streams.specs.columnar_memory.Bits.{bits_of}
-use Rattle.ipc_format_streams.specs.columnar_memory.Windows.{window}
-use Rattle.ipc_format_streams.specs.columnar_memory.declared.DataType.{DataType}
-use Rattle.ipc_format_streams.specs.columns.Slots.{Slot, null}
-use Rattle.ipc_format_streams.specs.columns.StoredColumns.{Stored, flat, is_valid_at, unless_null, stored_at, stored_len, slots}
-use Rattle.ipc_format_streams.specs.flatbuffers.Reading.{◌>>=◌}
-use Rattle.ipc_format_streams.specs.grammar.Columns.{Marked, Validity, all_valid, bitmap, marked_in, validity_in, buffer_at, offsets_in, is_valid_in}
-use Rattle.ipc_format_streams.specs.grammar.Columns.{slots_by, slot_by}
-use Rattle.ipc_format_streams.specs.grammar.Values.{bit_at}
-use Rattle.ipc_format_streams.specs.messages.declared.values.Buffer.{Buffer}
-use Rattle.ipc_format_streams.specs.messages.declared.values.FieldNode.{FieldNode}
-use Rattle.ipc_format_streams.proofs.columnar_memory_lemmas.bitmap_lemmas.Lists.{get_or-window, window_same}
+use Rattle.ipc_format_column_bytes.specs.streams.columnar_memory.Bits as memory
+use Rattle.ipc_format_column_bytes.specs.streams.columnar_memory.Bits.{bits_of}
+use Rattle.ipc_format_column_bytes.specs.streams.columnar_memory.Windows.{window}
+use Rattle.ipc_format_column_bytes.specs.streams.columnar_memory.declared.DataType.{DataType}
+use Rattle.ipc_format_column_bytes.specs.streams.columns.Slots.{Slot, null}
+use Rattle.ipc_format_column_bytes.specs.streams.columns.StoredColumns.{Stored, flat, is_valid_at, unless_null, stored_at, stored_len, slots}
+use Rattle.ipc_format_column_bytes.specs.streams.flatbuffers.Reading.{◌>>=◌}
+use Rattle.ipc_format_column_bytes.specs.streams.grammar.Columns.{Marked, Validity, all_valid, bitmap, marked_in, validity_in, buffer_at, offsets_in, is_valid_in}
+use Rattle.ipc_format_column_bytes.specs.streams.grammar.Columns.{slots_by, slot_by}
+use Rattle.ipc_format_column_bytes.specs.streams.grammar.Values.{bit_at}
+use Rattle.ipc_format_column_bytes.specs.streams.messages.declared.values.Buffer.{Buffer}
+use Rattle.ipc_format_column_bytes.specs.streams.messages.declared.values.FieldNode.{FieldNode}
+use Rattle.ipc_format_column_bytes.proofs.streams_lemmas.columnar_memory_lemmas.bitmap_lemmas.Lists.{get_or-window, window_same}
 use Rattle.ipc_format_column_reading.specs.Buffers.{source_of, buffer_of, taken_in, next_bits, next_window}
 use Rattle.ipc_format_column_reading.specs.Reads.{front, next_marked, next_offsets, offset_width}
 use Rattle.ipc_format_column_reading.proofs.Readings.{through, through_two}

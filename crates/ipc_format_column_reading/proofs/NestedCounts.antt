@@ -2,15 +2,15 @@
 use Rattle.std.proofs.Common.{◌≡◌, ◌+◌, ℕ, List, map}
 use Rattle.std.specs.Prelude.{Option, ℤ, length}
 use denote.Hole.Carrier
-use Rattle.ipc_format_streams.specs.columnar_memory.declared.DataType.{DataType, map-DataType}
-use Rattle.ipc_format_streams.specs.columnar_memory.declared.DataType.TheOpen as layer
-use Rattle.ipc_format_streams.specs.columnar_memory.declared.DataType.TheVariants as types
-use Rattle.ipc_format_streams.specs.columnar_memory.declared.DataType.TheViews.{roll-DataType}
-use Rattle.ipc_format_streams.specs.columnar_memory.declared.DataType.TheFolds.{fold-roll-DataType}
-use Rattle.ipc_format_streams.specs.columnar_memory.declared.Field.{Field}
-use Rattle.ipc_format_streams.specs.columnar_memory.declared.UnionMode.{UnionMode}
-use Rattle.ipc_format_streams.specs.grammar.Layouts.{node_step, buffer_step, node_count, buffer_count, union_parts, total}
-use Rattle.ipc_format_streams.specs.grammar.Messages.{Version}
+use Rattle.ipc_format_column_bytes.specs.streams.columnar_memory.declared.DataType.{DataType, map-DataType}
+use Rattle.ipc_format_column_bytes.specs.streams.columnar_memory.declared.DataType.TheOpen as layer
+use Rattle.ipc_format_column_bytes.specs.streams.columnar_memory.declared.DataType.TheVariants as types
+use Rattle.ipc_format_column_bytes.specs.streams.columnar_memory.declared.DataType.TheViews.{roll-DataType}
+use Rattle.ipc_format_column_bytes.specs.streams.columnar_memory.declared.DataType.TheFolds.{fold-roll-DataType}
+use Rattle.ipc_format_column_bytes.specs.streams.columnar_memory.declared.Field.{Field}
+use Rattle.ipc_format_column_bytes.specs.streams.columnar_memory.declared.UnionMode.{UnionMode}
+use Rattle.ipc_format_column_bytes.specs.streams.grammar.Layouts.{node_step, buffer_step, node_count, buffer_count, union_parts, total}
+use Rattle.ipc_format_column_bytes.specs.streams.grammar.Messages.{Version}
 use Rattle.ipc_format_column_reading.specs.Queues.{field_nodes_of, field_buffers_of}
 
 nodes : (x : layer.DataType-F DataType Field)

@@ -2,12 +2,12 @@
 use Rattle.std.proofs.Common.{◌≡◌, ◌∙◌, ◌+◌, ◌<◌, ◌≤◌, ℕ, List, [], ◌∷◌, Bool, true, false, refl, ap, arith}
 use Rattle.std.specs.Prelude.{Option, Some, None, nat_le}
 use Rattle.std.proofs.lemmas.Bool.Decides.{nat_tests}
-use Rattle.ipc_format_streams.specs.columnar_memory.declared.Error.{Error}
-use Rattle.ipc_format_streams.specs.columnar_memory.declared.Error.TheVariants as errors
-use Rattle.ipc_format_streams.specs.flatbuffers.Reading.{◌>>=◌, guard, window_at}
-use Rattle.ipc_format_streams.specs.grammar.Messages.{natural}
-use Rattle.ipc_format_streams.specs.grammar.Columns.{buffer_at}
-use Rattle.ipc_format_streams.specs.messages.declared.values.Buffer.{Buffer}
+use Rattle.ipc_format_column_bytes.specs.streams.columnar_memory.declared.Error.{Error}
+use Rattle.ipc_format_column_bytes.specs.streams.columnar_memory.declared.Error.TheVariants as errors
+use Rattle.ipc_format_column_bytes.specs.streams.flatbuffers.Reading.{◌>>=◌, guard, window_at}
+use Rattle.ipc_format_column_bytes.specs.streams.grammar.Messages.{natural}
+use Rattle.ipc_format_column_bytes.specs.streams.grammar.Columns.{buffer_at}
+use Rattle.ipc_format_column_bytes.specs.streams.messages.declared.values.Buffer.{Buffer}
 use Rattle.ipc_format_column_reading.specs.Buffers.{next_stated, next_window}
 use Rattle.ipc_format_column_reading.specs.Rooms.{Told, IsRefusal}
 

@@ -2,12 +2,12 @@
 use Rattle.std.proofs.Common.{◌≡◌, ◌∙◌, ◌*◌, ℕ, List, Bool, length, map, sym, ap}
 use Rattle.std.specs.Prelude.{Option, Some}
 use Rattle.std.proofs.lemmas.List.{length-map}
-use Rattle.ipc_format_streams.specs.columnar_memory.Numbers.{Numbers, kind_size, numbers_in}
-use Rattle.ipc_format_streams.specs.columnar_memory.declared.PrimitiveType.{PrimitiveType}
-use Rattle.ipc_format_streams.specs.flatbuffers.Reading.{◌>>=◌}
-use Rattle.ipc_format_streams.specs.grammar.Values.{element_bytes}
-use Rattle.ipc_format_streams.specs.messages.declared.values.Buffer.{Buffer}
-use Rattle.ipc_format_streams.proofs.columnar_memory_lemmas.bitmap_lemmas.Lists.{length-window}
+use Rattle.ipc_format_column_bytes.specs.streams.columnar_memory.Numbers.{Numbers, kind_size, numbers_in}
+use Rattle.ipc_format_column_bytes.specs.streams.columnar_memory.declared.PrimitiveType.{PrimitiveType}
+use Rattle.ipc_format_column_bytes.specs.streams.flatbuffers.Reading.{◌>>=◌}
+use Rattle.ipc_format_column_bytes.specs.streams.grammar.Values.{element_bytes}
+use Rattle.ipc_format_column_bytes.specs.streams.messages.declared.values.Buffer.{Buffer}
+use Rattle.ipc_format_column_bytes.proofs.streams_lemmas.columnar_memory_lemmas.bitmap_lemmas.Lists.{length-window}
 use Rattle.ipc_format_column_reading.specs.Buffers.{next_values, next_window, values_in}
 
 -- the values of the bytes that are given

@@ -2,24 +2,24 @@
 use Rattle.std.proofs.Common.{◌≡◌, ◌∙◌, ◌+◌, ◌*◌, ◌/◌, ◌<◌, ℕ, List, Bool, true, false, length, drop, get_or, refl, sym, ap, arith}
 use Rattle.std.specs.Prelude.{Option, Some, pos}
 use Rattle.std.proofs.lemmas.List.{get_or-map, length-map}
-use Rattle.ipc_format_streams.specs.columnar_memory.Bits as memory
-use Rattle.ipc_format_streams.specs.columnar_memory.Bits.{bits_of}
-use Rattle.ipc_format_streams.specs.columnar_memory.Layouts.{physical_type}
-use Rattle.ipc_format_streams.specs.columnar_memory.Numbers as memory_numbers
-use Rattle.ipc_format_streams.specs.columnar_memory.Numbers.{Numbers, IsNative, zeros, one, first_number, second_number, third_number, numbers_in}
-use Rattle.ipc_format_streams.specs.columnar_memory.Windows.{window}
-use Rattle.ipc_format_streams.specs.columnar_memory.declared.DataType.{DataType}
-use Rattle.ipc_format_streams.specs.columnar_memory.declared.PhysicalType.TheVariants as physical
-use Rattle.ipc_format_streams.specs.columnar_memory.declared.PrimitiveType.{PrimitiveType}
-use Rattle.ipc_format_streams.specs.columnar_memory.declared.PrimitiveType.TheVariants as kinds
-use Rattle.ipc_format_streams.specs.columns.Slots.{Slot, number, pair, triple, truth}
-use Rattle.ipc_format_streams.specs.columns.StoredColumns.{flat, bits, stored_at, stored_len, slots, pair_slot, triple_slot}
-use Rattle.ipc_format_streams.specs.flatbuffers.Reading.{◌>>=◌}
-use Rattle.ipc_format_streams.specs.grammar.Columns.{Marked, buffer_at, fixed_slots, slots_by}
-use Rattle.ipc_format_streams.specs.grammar.Values.{bit_at, element_bytes, kind_size, value_of, value_at}
-use Rattle.ipc_format_streams.specs.messages.declared.values.Buffer.{Buffer}
-use Rattle.ipc_format_streams.specs.messages.declared.values.FieldNode.{FieldNode}
-use Rattle.ipc_format_streams.proofs.columnar_memory_lemmas.bitmap_lemmas.Lists.{get_or-window, length-window}
+use Rattle.ipc_format_column_bytes.specs.streams.columnar_memory.Bits as memory
+use Rattle.ipc_format_column_bytes.specs.streams.columnar_memory.Bits.{bits_of}
+use Rattle.ipc_format_column_bytes.specs.streams.columnar_memory.Layouts.{physical_type}
+use Rattle.ipc_format_column_bytes.specs.streams.columnar_memory.Numbers as memory_numbers
+use Rattle.ipc_format_column_bytes.specs.streams.columnar_memory.Numbers.{Numbers, IsNative, zeros, one, first_number, second_number, third_number, numbers_in}
+use Rattle.ipc_format_column_bytes.specs.streams.columnar_memory.Windows.{window}
+use Rattle.ipc_format_column_bytes.specs.streams.columnar_memory.declared.DataType.{DataType}
+use Rattle.ipc_format_column_bytes.specs.streams.columnar_memory.declared.PhysicalType.TheVariants as physical
+use Rattle.ipc_format_column_bytes.specs.streams.columnar_memory.declared.PrimitiveType.{PrimitiveType}
+use Rattle.ipc_format_column_bytes.specs.streams.columnar_memory.declared.PrimitiveType.TheVariants as kinds
+use Rattle.ipc_format_column_bytes.specs.streams.columns.Slots.{Slot, number, pair, triple, truth}
+use Rattle.ipc_format_column_bytes.specs.streams.columns.StoredColumns.{flat, bits, stored_at, stored_len, slots, pair_slot, triple_slot}
+use Rattle.ipc_format_column_bytes.specs.streams.flatbuffers.Reading.{◌>>=◌}
+use Rattle.ipc_format_column_bytes.specs.streams.grammar.Columns.{Marked, buffer_at, fixed_slots, slots_by}
+use Rattle.ipc_format_column_bytes.specs.streams.grammar.Values.{bit_at, element_bytes, kind_size, value_of, value_at}
+use Rattle.ipc_format_column_bytes.specs.streams.messages.declared.values.Buffer.{Buffer}
+use Rattle.ipc_format_column_bytes.specs.streams.messages.declared.values.FieldNode.{FieldNode}
+use Rattle.ipc_format_column_bytes.proofs.streams_lemmas.columnar_memory_lemmas.bitmap_lemmas.Lists.{get_or-window, length-window}
 use Rattle.ipc_format_column_reading.specs.Buffers.{source_of, next_bits, next_values, next_window, values_in}
 use Rattle.ipc_format_column_reading.specs.FlatColumns.{pair_of, triple_of, stored_numbers}
 use Rattle.ipc_format_column_reading.specs.Reads.{front_slots, next_marked}

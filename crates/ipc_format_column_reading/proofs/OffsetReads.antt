@@ -6,21 +6,21 @@ use Rattle.std.specs.Int.{byte_len}
 use Rattle.std.proofs.lemmas.Bool.{and_parts, cases_Bool, le-leb}
 use Rattle.std.proofs.lemmas.Bool.Decides.{nat_tests}
 use mathlib.Core.Logic.{inl, inr}
-use Rattle.ipc_format_streams.specs.columnar_memory.Error.{IsOutOfMemory}
-use Rattle.ipc_format_streams.specs.columnar_memory.Growth.{IsChecked}
-use Rattle.ipc_format_streams.specs.columnar_memory.declared.Error.{Error}
-use Rattle.ipc_format_streams.specs.columnar_memory.Numbers.{Numbers, first_number, one, kind_size, numbers_in}
-use Rattle.ipc_format_streams.specs.columnar_memory.Spans.{Spans, AreOffsets, IsWhole, NeverFalls, ends_from, offsets_of, no_spans}
-use Rattle.ipc_format_streams.specs.columnar_memory.Windows.{window}
-use Rattle.ipc_format_streams.specs.columnar_memory.declared.PrimitiveType.{PrimitiveType}
-use Rattle.ipc_format_streams.specs.columnar_memory.declared.PrimitiveType.TheVariants as kinds
-use Rattle.ipc_format_streams.specs.flatbuffers.Reading.{◌>>=◌, guard}
-use Rattle.ipc_format_streams.specs.grammar.Columns.{buffer_at, offsets_in, rising}
-use Rattle.ipc_format_streams.specs.grammar.Messages.{natural}
-use Rattle.ipc_format_streams.specs.grammar.Values.{element_bytes, signed_of}
-use Rattle.ipc_format_streams.specs.messages.declared.values.Buffer.{Buffer}
-use Rattle.ipc_format_streams.proofs.columnar_memory_lemmas.bits_lemmas.Windows.{map_window}
-use Rattle.ipc_format_streams.proofs.columnar_memory_lemmas.buffer_lemmas.Runs.{length-AreOffsets}
+use Rattle.ipc_format_column_bytes.specs.streams.columnar_memory.Error.{IsOutOfMemory}
+use Rattle.ipc_format_column_bytes.specs.streams.columnar_memory.Growth.{IsChecked}
+use Rattle.ipc_format_column_bytes.specs.streams.columnar_memory.declared.Error.{Error}
+use Rattle.ipc_format_column_bytes.specs.streams.columnar_memory.Numbers.{Numbers, first_number, one, kind_size, numbers_in}
+use Rattle.ipc_format_column_bytes.specs.streams.columnar_memory.Spans.{Spans, AreOffsets, IsWhole, NeverFalls, ends_from, offsets_of, no_spans}
+use Rattle.ipc_format_column_bytes.specs.streams.columnar_memory.Windows.{window}
+use Rattle.ipc_format_column_bytes.specs.streams.columnar_memory.declared.PrimitiveType.{PrimitiveType}
+use Rattle.ipc_format_column_bytes.specs.streams.columnar_memory.declared.PrimitiveType.TheVariants as kinds
+use Rattle.ipc_format_column_bytes.specs.streams.flatbuffers.Reading.{◌>>=◌, guard}
+use Rattle.ipc_format_column_bytes.specs.streams.grammar.Columns.{buffer_at, offsets_in, rising}
+use Rattle.ipc_format_column_bytes.specs.streams.grammar.Messages.{natural}
+use Rattle.ipc_format_column_bytes.specs.streams.grammar.Values.{element_bytes, signed_of}
+use Rattle.ipc_format_column_bytes.specs.streams.messages.declared.values.Buffer.{Buffer}
+use Rattle.ipc_format_column_bytes.proofs.streams_lemmas.columnar_memory_lemmas.bits_lemmas.Windows.{map_window}
+use Rattle.ipc_format_column_bytes.proofs.streams_lemmas.columnar_memory_lemmas.buffer_lemmas.Runs.{length-AreOffsets}
 use Rattle.ipc_format_column_reading.specs.Buffers.{next_values, values_in, source_of}
 use Rattle.ipc_format_column_reading.specs.Reads.{is_below, next_offsets, offset_width, states_less}
 use Rattle.ipc_format_column_reading.specs.Queues.{TakesOff}

@@ -1,10 +1,10 @@
 -- Reads one after another.
 use Rattle.std.proofs.Common.{◌≡◌, ◌∙◌, ◌<◌, ◌≤◌, ℕ, List, Bool, false, refl, ap, arith}
 use Rattle.std.specs.Prelude.{Option, Some, None, Result, Ok, Err}
-use Rattle.ipc_format_streams.specs.columnar_memory.Error.{IsOutOfMemory, IsOutOfSpec}
-use Rattle.ipc_format_streams.specs.columnar_memory.declared.Error.{Error}
-use Rattle.ipc_format_streams.specs.columnar_memory.declared.Error.TheVariants as errors
-use Rattle.ipc_format_streams.specs.flatbuffers.Reading.{◌>>=◌}
+use Rattle.ipc_format_column_bytes.specs.streams.columnar_memory.Error.{IsOutOfMemory, IsOutOfSpec}
+use Rattle.ipc_format_column_bytes.specs.streams.columnar_memory.declared.Error.{Error}
+use Rattle.ipc_format_column_bytes.specs.streams.columnar_memory.declared.Error.TheVariants as errors
+use Rattle.ipc_format_column_bytes.specs.streams.flatbuffers.Reading.{◌>>=◌}
 use Rattle.ipc_format_column_reading.specs.Queues.{TakesOff}
 use Rattle.ipc_format_column_reading.specs.Rooms.{Told, Stays, ForBytes, IsRefusal, ReadsAs}
 use Rattle.ipc_format_column_reading.proofs.NextBuffers.{refusal_for}

@@ -4,8 +4,8 @@ use Rattle.std.proofs.Common.{length-drop}
 use Rattle.std.specs.Prelude.{Result, Ok, Err, ◌⊎◌}
 use Rattle.std.proofs.lemmas.List.{drop-drop, map-append, take-append-drop, take_more}
 use Rattle.std.proofs.lemmas.List.Sums.{sum_by-append}
-use Rattle.ipc_format_streams.specs.columnar_memory.declared.Error.{Error}
-use Rattle.ipc_format_streams.specs.grammar.Layouts.{total}
+use Rattle.ipc_format_column_bytes.specs.streams.columnar_memory.declared.Error.{Error}
+use Rattle.ipc_format_column_bytes.specs.streams.grammar.Layouts.{total}
 use Rattle.ipc_format_column_reading.specs.Queues.{IsEnd, Skips}
 
 -- an end of an end is an end

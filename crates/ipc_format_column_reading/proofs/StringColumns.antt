@@ -7,21 +7,21 @@ use Rattle.std.specs.Str.{is_utf8}
 use Rattle.std.proofs.lemmas.Bool.{and_parts, and_from, cases_Bool}
 use Rattle.std.proofs.lemmas.Str.{is_utf8-from_IsUtf8, IsUtf8-from_is_utf8}
 use mathlib.Core.Logic.{inl, inr}
-use Rattle.flat_arrays.specs.ByteStrings.{ByteStrings, cut_by, len_of, values_of}
-use Rattle.flat_arrays.specs.Fits.{binary_layout, text_layout}
-use Rattle.flat_arrays.specs.Texts.{AllTexts}
-use Rattle.flat_arrays.proofs.bytes_lemmas.Places.{value_between}
-use Rattle.ipc_format_streams.specs.columnar_memory.Layouts.{physical_type}
-use Rattle.ipc_format_streams.specs.columnar_memory.Spans.{Spans, ends_from, offsets_of, offset_at}
-use Rattle.ipc_format_streams.specs.columnar_memory.Windows.{window}
-use Rattle.ipc_format_streams.specs.columnar_memory.declared.DataType.{DataType}
-use Rattle.ipc_format_streams.specs.columns.Slots.{Slot, text, bytes}
-use Rattle.ipc_format_streams.specs.columns.StoredColumns.{unless_null, slots}
-use Rattle.ipc_format_streams.specs.flatbuffers.Reading.{◌>>=◌, guard}
-use Rattle.ipc_format_streams.specs.grammar.Columns.{Marked, buffer_at, offsets_in, byte_slots, slots_by, piece_at, last_of}
-use Rattle.ipc_format_streams.specs.messages.declared.values.Buffer.{Buffer}
-use Rattle.ipc_format_streams.specs.messages.declared.values.FieldNode.{FieldNode}
-use Rattle.ipc_format_streams.proofs.columnar_memory_lemmas.buffer_lemmas.Runs.{length-ends_from, sum-cons}
+use Rattle.ipc_format_column_bytes.specs.flat_arrays.ByteStrings.{ByteStrings, cut_by, len_of, values_of}
+use Rattle.ipc_format_column_bytes.specs.flat_arrays.Fits.{binary_layout, text_layout}
+use Rattle.ipc_format_column_bytes.specs.flat_arrays.Texts.{AllTexts}
+use Rattle.ipc_format_column_bytes.proofs.flat_lemmas.bytes_lemmas.Places.{value_between}
+use Rattle.ipc_format_column_bytes.specs.streams.columnar_memory.Layouts.{physical_type}
+use Rattle.ipc_format_column_bytes.specs.streams.columnar_memory.Spans.{Spans, ends_from, offsets_of, offset_at}
+use Rattle.ipc_format_column_bytes.specs.streams.columnar_memory.Windows.{window}
+use Rattle.ipc_format_column_bytes.specs.streams.columnar_memory.declared.DataType.{DataType}
+use Rattle.ipc_format_column_bytes.specs.streams.columns.Slots.{Slot, text, bytes}
+use Rattle.ipc_format_column_bytes.specs.streams.columns.StoredColumns.{unless_null, slots}
+use Rattle.ipc_format_column_bytes.specs.streams.flatbuffers.Reading.{◌>>=◌, guard}
+use Rattle.ipc_format_column_bytes.specs.streams.grammar.Columns.{Marked, buffer_at, offsets_in, byte_slots, slots_by, piece_at, last_of}
+use Rattle.ipc_format_column_bytes.specs.streams.messages.declared.values.Buffer.{Buffer}
+use Rattle.ipc_format_column_bytes.specs.streams.messages.declared.values.FieldNode.{FieldNode}
+use Rattle.ipc_format_column_bytes.proofs.streams_lemmas.columnar_memory_lemmas.buffer_lemmas.Runs.{length-ends_from, sum-cons}
 use Rattle.ipc_format_column_reading.specs.Buffers.{source_of, next_window}
 use Rattle.ipc_format_column_reading.specs.FlatColumns.{binary_column, text_column}
 use Rattle.ipc_format_column_reading.specs.Reads.{Strings, strings_of, front, front_slots, next_marked, next_offsets, next_strings, offset_width}

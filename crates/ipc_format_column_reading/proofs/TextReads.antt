@@ -2,15 +2,15 @@
 use Rattle.std.proofs.Common.{◌≡◌, ◌∙◌, ◌≤◌, ℕ, List, Bool, length, drop, refl, sym, ap, inl}
 use Rattle.std.specs.Prelude.{Option, Some, None, Result, Ok, Err}
 use Rattle.std.specs.Str.{is_utf8}
-use Rattle.flat_arrays.specs.ByteStrings.{ByteStrings}
-use Rattle.flat_arrays.specs.Fits as strings
-use Rattle.flat_arrays.specs.Fits.{Fits, IsChecked, IsText, text_layout}
-use Rattle.flat_arrays.specs.Flat.{IsMaskOf}
-use Rattle.ipc_format_streams.specs.columnar_memory.declared.DataType.{DataType}
-use Rattle.ipc_format_streams.specs.columnar_memory.declared.Error.{Error}
-use Rattle.ipc_format_streams.specs.columns.Slots.{Slot, text}
-use Rattle.ipc_format_streams.specs.columns.StoredColumns.{slots}
-use Rattle.ipc_format_streams.specs.flatbuffers.Reading.{◌>>=◌}
+use Rattle.ipc_format_column_bytes.specs.flat_arrays.ByteStrings.{ByteStrings}
+use Rattle.ipc_format_column_bytes.specs.flat_arrays.Fits as strings
+use Rattle.ipc_format_column_bytes.specs.flat_arrays.Fits.{Fits, IsChecked, IsText, text_layout}
+use Rattle.ipc_format_column_bytes.specs.flat_arrays.Flat.{IsMaskOf}
+use Rattle.ipc_format_column_bytes.specs.streams.columnar_memory.declared.DataType.{DataType}
+use Rattle.ipc_format_column_bytes.specs.streams.columnar_memory.declared.Error.{Error}
+use Rattle.ipc_format_column_bytes.specs.streams.columns.Slots.{Slot, text}
+use Rattle.ipc_format_column_bytes.specs.streams.columns.StoredColumns.{slots}
+use Rattle.ipc_format_column_bytes.specs.streams.flatbuffers.Reading.{◌>>=◌}
 use Rattle.ipc_format_column_reading.specs.FlatColumns.{text_column}
 use Rattle.ipc_format_column_reading.specs.Reads.{ReadsColumn, Strings}
 use Rattle.ipc_format_column_reading.specs.Rooms.{Told, ForBytes, ReadsAs}

@@ -1,19 +1,19 @@
 -- How a type whose arrays lie flat in memory is read, by its layout.
 use Rattle.std.proofs.Common.{◌≡◌, map, refl, subst}
 use Rattle.std.specs.Int.{w32, w64}
-use Rattle.ipc_format_streams.specs.columnar_memory.Layouts.{physical_type, physical_step}
-use Rattle.ipc_format_streams.specs.columnar_memory.declared.DataType.{DataType, map-DataType}
-use Rattle.ipc_format_streams.specs.columnar_memory.declared.DataType.TheOpen as layer
-use Rattle.ipc_format_streams.specs.columnar_memory.declared.DataType.TheViews.{roll-DataType}
-use Rattle.ipc_format_streams.specs.columnar_memory.declared.DataType.TheFolds.{fold-Field, para-Field, fold-roll-DataType, para-roll-DataType}
-use Rattle.ipc_format_streams.specs.columnar_memory.declared.DataType.TheFolds.{ind-DataType}
-use Rattle.ipc_format_streams.specs.columnar_memory.declared.Field.{Field}
-use Rattle.ipc_format_streams.specs.columnar_memory.declared.IntervalUnit.TheVariants as intervals
-use Rattle.ipc_format_streams.specs.columnar_memory.declared.PhysicalType.{PhysicalType}
-use Rattle.ipc_format_streams.specs.columnar_memory.declared.PhysicalType.TheVariants as physical
-use Rattle.ipc_format_streams.specs.columnar_memory.declared.PrimitiveType.{PrimitiveType}
-use Rattle.ipc_format_streams.specs.grammar.Columns.{Place, Reader, read_step, read_field_step, slots_in, truth_slots, number_slots}
-use Rattle.ipc_format_streams.specs.grammar.Columns.{binary_slots, text_slots}
+use Rattle.ipc_format_column_bytes.specs.streams.columnar_memory.Layouts.{physical_type, physical_step}
+use Rattle.ipc_format_column_bytes.specs.streams.columnar_memory.declared.DataType.{DataType, map-DataType}
+use Rattle.ipc_format_column_bytes.specs.streams.columnar_memory.declared.DataType.TheOpen as layer
+use Rattle.ipc_format_column_bytes.specs.streams.columnar_memory.declared.DataType.TheViews.{roll-DataType}
+use Rattle.ipc_format_column_bytes.specs.streams.columnar_memory.declared.DataType.TheFolds.{fold-Field, para-Field, fold-roll-DataType, para-roll-DataType}
+use Rattle.ipc_format_column_bytes.specs.streams.columnar_memory.declared.DataType.TheFolds.{ind-DataType}
+use Rattle.ipc_format_column_bytes.specs.streams.columnar_memory.declared.Field.{Field}
+use Rattle.ipc_format_column_bytes.specs.streams.columnar_memory.declared.IntervalUnit.TheVariants as intervals
+use Rattle.ipc_format_column_bytes.specs.streams.columnar_memory.declared.PhysicalType.{PhysicalType}
+use Rattle.ipc_format_column_bytes.specs.streams.columnar_memory.declared.PhysicalType.TheVariants as physical
+use Rattle.ipc_format_column_bytes.specs.streams.columnar_memory.declared.PrimitiveType.{PrimitiveType}
+use Rattle.ipc_format_column_bytes.specs.streams.grammar.Columns.{Place, Reader, read_step, read_field_step, slots_in, truth_slots, number_slots}
+use Rattle.ipc_format_column_bytes.specs.streams.grammar.Columns.{binary_slots, text_slots}
 
 -- a type of a layout is read so
 abbrev IsReadAs : PhysicalType → Reader → Type 0

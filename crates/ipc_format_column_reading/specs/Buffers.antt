@@ -1,18 +1,18 @@
 -- The buffers of a queue as the format has them, and the values in their bytes.
 use Rattle.std.specs.Prelude.{ℕ, ◌+◌, ◌*◌, ◌/◌, Bool, true, List, [], ◌∷◌, map, Option, Some, None, int_lt, pos, slice_get}
 use Rattle.std.specs.Prelude.{if◌then◌else◌}
-use Rattle.ipc_format_streams.specs.columnar_memory.Bits.{bits_of}
-use Rattle.ipc_format_streams.specs.columnar_memory.Windows.{window}
-use Rattle.ipc_format_streams.specs.columnar_memory.Numbers.{Numbers, numbers_in, kind_size}
-use Rattle.ipc_format_streams.specs.columnar_memory.declared.PrimitiveType.{PrimitiveType}
-use Rattle.ipc_format_streams.specs.flatbuffers.Reading.{◌>>=◌}
-use Rattle.ipc_format_streams.specs.grammar.Messages as format
-use Rattle.ipc_format_streams.specs.grammar.Messages.{V5, natural}
-use Rattle.ipc_format_streams.specs.grammar.Columns as columns
-use Rattle.ipc_format_streams.specs.grammar.Columns.{Source, buffer_at}
-use Rattle.ipc_format_streams.specs.grammar.Values.{element_bytes}
-use Rattle.ipc_format_streams.specs.messages.declared.values.Buffer.{Buffer}
-use Rattle.ipc_format_streams.specs.messages.declared.values.FieldNode.{FieldNode}
+use Rattle.ipc_format_column_bytes.specs.streams.columnar_memory.Bits.{bits_of}
+use Rattle.ipc_format_column_bytes.specs.streams.columnar_memory.Windows.{window}
+use Rattle.ipc_format_column_bytes.specs.streams.columnar_memory.Numbers.{Numbers, numbers_in, kind_size}
+use Rattle.ipc_format_column_bytes.specs.streams.columnar_memory.declared.PrimitiveType.{PrimitiveType}
+use Rattle.ipc_format_column_bytes.specs.streams.flatbuffers.Reading.{◌>>=◌}
+use Rattle.ipc_format_column_bytes.specs.streams.grammar.Messages as format
+use Rattle.ipc_format_column_bytes.specs.streams.grammar.Messages.{V5, natural}
+use Rattle.ipc_format_column_bytes.specs.streams.grammar.Columns as columns
+use Rattle.ipc_format_column_bytes.specs.streams.grammar.Columns.{Source, buffer_at}
+use Rattle.ipc_format_column_bytes.specs.streams.grammar.Values.{element_bytes}
+use Rattle.ipc_format_column_bytes.specs.streams.messages.declared.values.Buffer.{Buffer}
+use Rattle.ipc_format_column_bytes.specs.streams.messages.declared.values.FieldNode.{FieldNode}
 
 abbrev pub buffer_of : Buffer → format.Buffer
 buffer_of buffer = record { offset = buffer.offset; length = buffer.length }

@@ -1,14 +1,14 @@
 -- The nodes and buffers of a batch as queues, from whose fronts each column takes its own (Arrow IPC, "RecordBatch message").
 use Rattle.std.specs.Prelude.{◌≡◌, ◌⊎◌, ℕ, ◌<◌, ◌≤◌, Bool, true, false, List, length, drop, Result, Ok, Err}
-use Rattle.ipc_format_streams.specs.columnar_memory.declared.DataType.{DataType}
-use Rattle.ipc_format_streams.specs.columnar_memory.declared.DataType.TheFolds.{fold-Field}
-use Rattle.ipc_format_streams.specs.columnar_memory.declared.Field.{Field}
-use Rattle.ipc_format_streams.specs.columnar_memory.declared.PhysicalType.{PhysicalType}
-use Rattle.ipc_format_streams.specs.columnar_memory.declared.PhysicalType.TheVariants as physical
-use Rattle.ipc_format_streams.specs.columnar_memory.declared.Error.{Error}
-use Rattle.ipc_format_streams.specs.columnar_memory.Error.{IsOutOfSpec}
-use Rattle.ipc_format_streams.specs.grammar.Layouts.{node_step, buffer_step, node_count, buffer_count}
-use Rattle.ipc_format_streams.specs.grammar.Messages.{Version}
+use Rattle.ipc_format_column_bytes.specs.streams.columnar_memory.declared.DataType.{DataType}
+use Rattle.ipc_format_column_bytes.specs.streams.columnar_memory.declared.DataType.TheFolds.{fold-Field}
+use Rattle.ipc_format_column_bytes.specs.streams.columnar_memory.declared.Field.{Field}
+use Rattle.ipc_format_column_bytes.specs.streams.columnar_memory.declared.PhysicalType.{PhysicalType}
+use Rattle.ipc_format_column_bytes.specs.streams.columnar_memory.declared.PhysicalType.TheVariants as physical
+use Rattle.ipc_format_column_bytes.specs.streams.columnar_memory.declared.Error.{Error}
+use Rattle.ipc_format_column_bytes.specs.streams.columnar_memory.Error.{IsOutOfSpec}
+use Rattle.ipc_format_column_bytes.specs.streams.grammar.Layouts.{node_step, buffer_step, node_count, buffer_count}
+use Rattle.ipc_format_column_bytes.specs.streams.grammar.Messages.{Version}
 
 -- a queue holds an end of what it held
 abbrev pub IsEnd : {A : Type 0} → List A → List A → Type 0

@@ -1,17 +1,17 @@
 -- A column that is read from the fronts of the queues of nodes and buffers, and what a call that reads one answers.
 use Rattle.std.specs.Prelude.{◌≡◌, ◌⊎◌, ℕ, Bool, false, nat_lt, List, [], ◌∷◌, drop, Option, Some, None, Result, Ok, Err, slice_get, if◌then◌else◌}
 use Rattle.std.specs.Int.{Width, w32, w64}
-use Rattle.ipc_format_streams.specs.columnar_memory.declared.DataType.{DataType}
-use Rattle.ipc_format_streams.specs.columnar_memory.declared.Error.{Error}
-use Rattle.ipc_format_streams.specs.columnar_memory.Error.{IsOutOfSpec}
-use Rattle.ipc_format_streams.specs.columns.StoredColumns.{Column, column_type, slots}
-use Rattle.ipc_format_streams.specs.columns.Slots.{Slot}
-use Rattle.ipc_format_streams.specs.flatbuffers.Reading.{◌>>=◌}
-use Rattle.ipc_format_streams.specs.grammar.Columns.{Place, slots_in, offsets_in, last_of}
-use Rattle.ipc_format_streams.specs.grammar.Messages.{natural}
-use Rattle.ipc_format_streams.specs.grammar.Schemas.{ids, no_ids}
-use Rattle.ipc_format_streams.specs.messages.declared.values.Buffer.{Buffer}
-use Rattle.ipc_format_streams.specs.messages.declared.values.FieldNode.{FieldNode}
+use Rattle.ipc_format_column_bytes.specs.streams.columnar_memory.declared.DataType.{DataType}
+use Rattle.ipc_format_column_bytes.specs.streams.columnar_memory.declared.Error.{Error}
+use Rattle.ipc_format_column_bytes.specs.streams.columnar_memory.Error.{IsOutOfSpec}
+use Rattle.ipc_format_column_bytes.specs.streams.columns.StoredColumns.{Column, column_type, slots}
+use Rattle.ipc_format_column_bytes.specs.streams.columns.Slots.{Slot}
+use Rattle.ipc_format_column_bytes.specs.streams.flatbuffers.Reading.{◌>>=◌}
+use Rattle.ipc_format_column_bytes.specs.streams.grammar.Columns.{Place, slots_in, offsets_in, last_of}
+use Rattle.ipc_format_column_bytes.specs.streams.grammar.Messages.{natural}
+use Rattle.ipc_format_column_bytes.specs.streams.grammar.Schemas.{ids, no_ids}
+use Rattle.ipc_format_column_bytes.specs.streams.messages.declared.values.Buffer.{Buffer}
+use Rattle.ipc_format_column_bytes.specs.streams.messages.declared.values.FieldNode.{FieldNode}
 use Rattle.ipc_format_column_reading.specs.Buffers.{source_of, taken_in, next_validity, next_window}
 use Rattle.ipc_format_column_reading.specs.Queues.{TakesOff}
 use Rattle.ipc_format_column_reading.specs.Rooms.{Told, ReadsAs}

@@ -1,8 +1,8 @@
 -- Where the buffers of batches stand, and what a call that reads there answers.
 use Rattle.std.specs.Prelude.{◌≡◌, ℕ, ◌<◌, ◌≤◌, Bool, true, false, List, length, Option, Some, None, Result, Ok, Err}
-use Rattle.ipc_format_streams.specs.columnar_memory.declared.Error.{Error}
-use Rattle.ipc_format_streams.specs.columnar_memory.declared.Error.TheVariants as errors
-use Rattle.ipc_format_streams.specs.flatbuffers.Reading.{window_at}
+use Rattle.ipc_format_column_bytes.specs.streams.columnar_memory.declared.Error.{Error}
+use Rattle.ipc_format_column_bytes.specs.streams.columnar_memory.declared.Error.TheVariants as errors
+use Rattle.ipc_format_column_bytes.specs.streams.flatbuffers.Reading.{window_at}
 
 -- what a room tells of itself: all its bytes, where they stand in memory, and how often it has failed
 pub record Told : Type 0 where

@@ -1,7 +1,7 @@
 //! Columns of byte strings.
 ghost use Rattle.std.specs.Prelude.{◌≡◌, is_some};
-ghost use Rattle.flat_arrays.specs.Fits.{binary_layout};
-ghost use Rattle.ipc_format_streams.specs.columnar_memory.Layouts.{physical_type};
+ghost use Rattle.ipc_format_column_bytes.specs.flat_arrays.Fits.{binary_layout};
+ghost use Rattle.ipc_format_column_bytes.specs.streams.columnar_memory.Layouts.{physical_type};
 ghost use Rattle.ipc_format_column_reading.specs.FlatColumns.{binary_column};
 ghost use Rattle.ipc_format_column_reading.specs.Queues.{Skips};
 ghost use Rattle.ipc_format_column_reading.specs.Reads.{ReadsColumn, front_slots};
@@ -9,10 +9,12 @@ ghost use Rattle.ipc_format_column_reading.specs.Reads.{ReadsColumn, front_slots
 use crate::queues::skip_own;
 use crate::room::Room;
 use crate::strings::read_strings;
-use flat_arrays::BinaryArray;
-use ipc_format_streams::columnar_memory::{DataType, Error, Offset, PhysicalType, Result};
-use ipc_format_streams::messages as ipc;
-use ipc_format_streams::messages::{BodyCompressionRef, Buffer, FieldNode};
+use ipc_format_column_bytes::flat_arrays::BinaryArray;
+use ipc_format_column_bytes::streams::columnar_memory::{
+    DataType, Error, Offset, PhysicalType, Result,
+};
+use ipc_format_column_bytes::streams::messages as ipc;
+use ipc_format_column_bytes::streams::messages::{BodyCompressionRef, Buffer, FieldNode};
 use std::alloc::Global;
 use std::collections::VecDeque;
 

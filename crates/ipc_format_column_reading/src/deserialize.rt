@@ -1,8 +1,8 @@
 //! Columns of every type.
 ghost use Rattle.std.specs.Prelude.{◌≡◌, ◌+◌, length, map};
 ghost use Rattle.columnar_memory_types.specs.declared.data_type.Field.{out-Field};
-ghost use Rattle.ipc_format_streams.specs.grammar.Layouts.{node_count, buffer_count, total, union_parts};
-ghost use Rattle.ipc_format_streams.specs.messages.MessageViews.{version_view};
+ghost use Rattle.ipc_format_column_bytes.specs.streams.grammar.Layouts.{node_count, buffer_count, total, union_parts};
+ghost use Rattle.ipc_format_column_bytes.specs.streams.messages.MessageViews.{version_view};
 ghost use Rattle.ipc_format_column_reading.specs.Queues.{Skips, field_nodes_of, field_buffers_of};
 
 use crate::binary::skip_binary;
@@ -12,8 +12,8 @@ use crate::fixed_size_binary::skip_fixed_size_binary;
 use crate::primitive::skip_primitive;
 use crate::queues::skip_own;
 use crate::utf8::skip_utf8;
-use ipc_format_streams::columnar_memory::{DataType, Field, Result, UnionMode};
-use ipc_format_streams::messages::{Buffer, FieldNode, MetadataVersion};
+use ipc_format_column_bytes::streams::columnar_memory::{DataType, Field, Result, UnionMode};
+use ipc_format_column_bytes::streams::messages::{Buffer, FieldNode, MetadataVersion};
 use std::collections::VecDeque;
 
 /// How many buffers of its own a union has. Before V5 it has a first one more.

@@ -2,8 +2,8 @@
 ghost use Rattle.ipc_format_column_reading.specs.Queues.{Skips};
 
 use crate::queues::skip_own;
-use ipc_format_streams::columnar_memory::Result;
-use ipc_format_streams::messages::{Buffer, FieldNode};
+use ipc_format_column_bytes::streams::columnar_memory::Result;
+use ipc_format_column_bytes::streams::messages::{Buffer, FieldNode};
 use std::collections::VecDeque;
 
 /// Passes over a column of keys: a node and two buffers.

@@ -1,11 +1,11 @@
 //! Columns of lists of one length.
-ghost use Rattle.ipc_format_streams.specs.columnar_memory.Layouts.{physical_type};
-ghost use Rattle.ipc_format_streams.specs.messages.MessageViews.{version_view};
+ghost use Rattle.ipc_format_column_bytes.specs.streams.columnar_memory.Layouts.{physical_type};
+ghost use Rattle.ipc_format_column_bytes.specs.streams.messages.MessageViews.{version_view};
 ghost use Rattle.ipc_format_column_reading.specs.Queues.{SkipsKind, is_fixed_size_list};
 
 use crate::deserialize::skip;
-use ipc_format_streams::columnar_memory::{DataType, Error, PhysicalType, Result};
-use ipc_format_streams::messages::{Buffer, FieldNode, MetadataVersion};
+use ipc_format_column_bytes::streams::columnar_memory::{DataType, Error, PhysicalType, Result};
+use ipc_format_column_bytes::streams::messages::{Buffer, FieldNode, MetadataVersion};
 use std::collections::VecDeque;
 
 /// Passes over a column of lists of one length, and the columns below it.

@@ -1,11 +1,13 @@
 //! Columns of lists.
-ghost use Rattle.ipc_format_streams.specs.columnar_memory.Layouts.{physical_type};
-ghost use Rattle.ipc_format_streams.specs.messages.MessageViews.{version_view};
+ghost use Rattle.ipc_format_column_bytes.specs.streams.columnar_memory.Layouts.{physical_type};
+ghost use Rattle.ipc_format_column_bytes.specs.streams.messages.MessageViews.{version_view};
 ghost use Rattle.ipc_format_column_reading.specs.Queues.{SkipsKind, is_list};
 
 use crate::deserialize::skip;
-use ipc_format_streams::columnar_memory::{DataType, Error, Offset, PhysicalType, Result};
-use ipc_format_streams::messages::{Buffer, FieldNode, MetadataVersion};
+use ipc_format_column_bytes::streams::columnar_memory::{
+    DataType, Error, Offset, PhysicalType, Result,
+};
+use ipc_format_column_bytes::streams::messages::{Buffer, FieldNode, MetadataVersion};
 use std::collections::VecDeque;
 
 /// Passes over a column of lists whose offsets are of the type `O`, and the columns below it.

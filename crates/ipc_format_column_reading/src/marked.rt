@@ -1,15 +1,15 @@
 //! What the readers of columns begin with: how many slots are taken, and which of them are valid.
 ghost use Rattle.std.specs.Prelude.{◌<◌, ◌^◌, is_some, IfOk};
-ghost use Rattle.flat_arrays.specs.Flat.{IsMaskOf};
+ghost use Rattle.ipc_format_column_bytes.specs.flat_arrays.Flat.{IsMaskOf};
 ghost use Rattle.ipc_format_column_reading.specs.Queues.{TakesOff};
 ghost use Rattle.ipc_format_column_reading.specs.Reads.{next_marked};
 ghost use Rattle.ipc_format_column_reading.specs.Rooms.{ReadsAs};
 
 use crate::read_basic::{read_validity, slots_taken};
 use crate::room::Room;
-use ipc_format_streams::columnar_memory::{Bitmap, Error, Result};
-use ipc_format_streams::messages as ipc;
-use ipc_format_streams::messages::{BodyCompressionRef, FieldNode};
+use ipc_format_column_bytes::streams::columnar_memory::{Bitmap, Error, Result};
+use ipc_format_column_bytes::streams::messages as ipc;
+use ipc_format_column_bytes::streams::messages::{BodyCompressionRef, FieldNode};
 use std::alloc::Global;
 use std::collections::VecDeque;
 

@@ -2,8 +2,8 @@
 ghost use Rattle.std.specs.Prelude.{[]};
 ghost use Rattle.ipc_format_column_reading.specs.Queues.{SkipsNodes};
 
-use ipc_format_streams::columnar_memory::{Error, Result};
-use ipc_format_streams::messages::FieldNode;
+use ipc_format_column_bytes::streams::columnar_memory::{Error, Result};
+use ipc_format_column_bytes::streams::messages::FieldNode;
 use std::collections::VecDeque;
 
 /// Passes over a column of nulls: a node.

@@ -1,15 +1,15 @@
 //! The offsets of byte strings and of lists.
 ghost use Rattle.std.specs.Prelude.{◌≡◌, ◌<◌, ◌^◌, ◌==◌, ◌&&◌, is_some, IfOk, length};
-ghost use Rattle.ipc_format_streams.specs.columnar_memory.Spans.{offsets_of};
+ghost use Rattle.ipc_format_column_bytes.specs.streams.columnar_memory.Spans.{offsets_of};
 ghost use Rattle.ipc_format_column_reading.specs.Queues.{TakesOff};
 ghost use Rattle.ipc_format_column_reading.specs.Reads.{next_offsets, states_less};
 ghost use Rattle.ipc_format_column_reading.specs.Rooms.{ReadsAs};
 
 use crate::read_basic::read_buffer;
 use crate::room::Room;
-use ipc_format_streams::columnar_memory::{Error, Offset, OffsetsBuffer, Result};
-use ipc_format_streams::messages as ipc;
-use ipc_format_streams::messages::BodyCompressionRef;
+use ipc_format_column_bytes::streams::columnar_memory::{Error, Offset, OffsetsBuffer, Result};
+use ipc_format_column_bytes::streams::messages as ipc;
+use ipc_format_column_bytes::streams::messages::BodyCompressionRef;
 use std::alloc::Global;
 use std::collections::VecDeque;
 

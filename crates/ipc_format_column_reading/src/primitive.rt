@@ -1,8 +1,8 @@
 //! Columns of values of one width.
 ghost use Rattle.std.specs.Prelude.{◌≡◌, is_some};
-ghost use Rattle.ipc_format_streams.specs.columnar_memory.Layouts.{physical_type};
-ghost use Rattle.ipc_format_streams.specs.columnar_memory.Numbers.{IsNative, zeros};
-ghost use Rattle.ipc_format_streams.specs.columnar_memory.declared.PhysicalType.TheVariants as layouts;
+ghost use Rattle.ipc_format_column_bytes.specs.streams.columnar_memory.Layouts.{physical_type};
+ghost use Rattle.ipc_format_column_bytes.specs.streams.columnar_memory.Numbers.{IsNative, zeros};
+ghost use Rattle.ipc_format_column_bytes.specs.streams.columnar_memory.declared.PhysicalType.TheVariants as layouts;
 ghost use Rattle.ipc_format_column_reading.specs.FlatColumns.{primitive_column};
 ghost use Rattle.ipc_format_column_reading.specs.Queues.{Skips};
 ghost use Rattle.ipc_format_column_reading.specs.Reads.{ReadsColumn, front_slots};
@@ -11,10 +11,10 @@ use crate::marked::read_marked;
 use crate::queues::skip_own;
 use crate::read_basic::read_buffer;
 use crate::room::Room;
-use flat_arrays::PrimitiveArray;
-use ipc_format_streams::columnar_memory::{DataType, Error, NativeType, Result};
-use ipc_format_streams::messages as ipc;
-use ipc_format_streams::messages::{BodyCompressionRef, Buffer, FieldNode};
+use ipc_format_column_bytes::flat_arrays::PrimitiveArray;
+use ipc_format_column_bytes::streams::columnar_memory::{DataType, Error, NativeType, Result};
+use ipc_format_column_bytes::streams::messages as ipc;
+use ipc_format_column_bytes::streams::messages::{BodyCompressionRef, Buffer, FieldNode};
 use std::alloc::Global;
 use std::collections::VecDeque;
 

@@ -1,8 +1,8 @@
 //! The queues of a batch's nodes and buffers, from whose fronts each column takes its own.
 ghost use Rattle.ipc_format_column_reading.specs.Queues.{Skips};
 
-use ipc_format_streams::columnar_memory::{Error, Result};
-use ipc_format_streams::messages::{Buffer, FieldNode};
+use ipc_format_column_bytes::streams::columnar_memory::{Error, Result};
+use ipc_format_column_bytes::streams::messages::{Buffer, FieldNode};
 use std::collections::VecDeque;
 
 /// Takes a node and `count` buffers off the fronts.

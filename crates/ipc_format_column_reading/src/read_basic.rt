@@ -1,16 +1,18 @@
 //! The buffers of a column: their bytes as values, as bits, as bytes.
 ghost use Rattle.std.specs.Prelude.{◌≡◌, ◌+◌, ◌*◌, ◌/◌, ◌<◌, ◌^◌, [], length, drop, map, is_some, vec_items, IfOk, IfSome, Some};
 ghost use Rattle.std.specs.Option.{ForSome, option_map};
-ghost use Rattle.flat_arrays.specs.Flat.{IsMaskOf};
-ghost use Rattle.ipc_format_streams.specs.columnar_memory.Error.{IsOutOfMemory};
+ghost use Rattle.ipc_format_column_bytes.specs.flat_arrays.Flat.{IsMaskOf};
+ghost use Rattle.ipc_format_column_bytes.specs.streams.columnar_memory.Error.{IsOutOfMemory};
 ghost use Rattle.ipc_format_column_reading.specs.Queues.{TakesOff};
 ghost use Rattle.ipc_format_column_reading.specs.Buffers.{next_bits, next_stated, next_validity, next_values, next_window, taken_in, values_in};
 ghost use Rattle.ipc_format_column_reading.specs.Rooms.{ReadsAs};
 
 use crate::room::{Room, window_from};
-use ipc_format_streams::columnar_memory::{Bitmap, Buffer, Error, NativeType, Result};
-use ipc_format_streams::messages as ipc;
-use ipc_format_streams::messages::{BodyCompressionRef, FieldNode};
+use ipc_format_column_bytes::streams::columnar_memory::{
+    Bitmap, Buffer, Error, NativeType, Result,
+};
+use ipc_format_column_bytes::streams::messages as ipc;
+use ipc_format_column_bytes::streams::messages::{BodyCompressionRef, FieldNode};
 use std::alloc::{AllocError, Global};
 use std::collections::VecDeque;
 

@@ -1,12 +1,12 @@
 //! Where the buffers of batches stand: in memory, or on a device.
 ghost use Rattle.std.specs.Prelude.{◌≡◌, ◌+◌, length, OnOk};
 ghost use Rattle.std.specs.Option.{option_copied};
-ghost use Rattle.ipc_format_streams.specs.flatbuffers.Reading.{window_at};
+ghost use Rattle.ipc_format_column_bytes.specs.streams.flatbuffers.Reading.{window_at};
 ghost use Rattle.ipc_format_column_reading.specs.Rooms.{FillsFrom, IsFault};
 
-use ipc_format_streams::Faults;
-use ipc_format_streams::columnar_memory::{Error, Result};
-use ipc_format_streams::flatbuffers::window;
+use ipc_format_column_bytes::streams::Faults;
+use ipc_format_column_bytes::streams::columnar_memory::{Error, Result};
+use ipc_format_column_bytes::streams::flatbuffers::window;
 use std::io;
 use std::io::{ErrorKind, Read, Seek, SeekFrom};
 

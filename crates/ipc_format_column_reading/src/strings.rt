@@ -1,7 +1,7 @@
 //! What columns of byte strings and of texts share: validity, offsets and bytes.
 ghost use Rattle.std.specs.Prelude.{◌≡◌, ◌≤◌, is_some, length, IfOk};
-ghost use Rattle.flat_arrays.specs.Flat.{IsMaskOf};
-ghost use Rattle.ipc_format_streams.specs.columnar_memory.Spans.{last_of, offsets_of};
+ghost use Rattle.ipc_format_column_bytes.specs.flat_arrays.Flat.{IsMaskOf};
+ghost use Rattle.ipc_format_column_bytes.specs.streams.columnar_memory.Spans.{last_of, offsets_of};
 ghost use Rattle.ipc_format_column_reading.specs.Queues.{TakesOff};
 ghost use Rattle.ipc_format_column_reading.specs.Reads.{next_strings, strings_of};
 ghost use Rattle.ipc_format_column_reading.specs.Rooms.{ReadsAs};
@@ -10,9 +10,11 @@ use crate::marked::read_marked;
 use crate::offsets::read_offsets;
 use crate::read_basic::read_bytes;
 use crate::room::Room;
-use ipc_format_streams::columnar_memory::{Bitmap, Buffer, Offset, OffsetsBuffer, Result};
-use ipc_format_streams::messages as ipc;
-use ipc_format_streams::messages::{BodyCompressionRef, FieldNode};
+use ipc_format_column_bytes::streams::columnar_memory::{
+    Bitmap, Buffer, Offset, OffsetsBuffer, Result,
+};
+use ipc_format_column_bytes::streams::messages as ipc;
+use ipc_format_column_bytes::streams::messages::{BodyCompressionRef, FieldNode};
 use std::alloc::Global;
 use std::collections::VecDeque;
 

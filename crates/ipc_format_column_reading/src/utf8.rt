@@ -1,7 +1,7 @@
 //! Columns of texts.
 ghost use Rattle.std.specs.Prelude.{◌≡◌, is_some};
-ghost use Rattle.flat_arrays.specs.Fits.{text_layout};
-ghost use Rattle.ipc_format_streams.specs.columnar_memory.Layouts.{physical_type};
+ghost use Rattle.ipc_format_column_bytes.specs.flat_arrays.Fits.{text_layout};
+ghost use Rattle.ipc_format_column_bytes.specs.streams.columnar_memory.Layouts.{physical_type};
 ghost use Rattle.ipc_format_column_reading.specs.FlatColumns.{text_column};
 ghost use Rattle.ipc_format_column_reading.specs.Queues.{Skips};
 ghost use Rattle.ipc_format_column_reading.specs.Reads.{ReadsColumn, front_slots};
@@ -9,10 +9,12 @@ ghost use Rattle.ipc_format_column_reading.specs.Reads.{ReadsColumn, front_slots
 use crate::queues::skip_own;
 use crate::room::Room;
 use crate::strings::read_strings;
-use flat_arrays::Utf8Array;
-use ipc_format_streams::columnar_memory::{DataType, Error, Offset, PhysicalType, Result};
-use ipc_format_streams::messages as ipc;
-use ipc_format_streams::messages::{BodyCompressionRef, Buffer, FieldNode};
+use ipc_format_column_bytes::flat_arrays::Utf8Array;
+use ipc_format_column_bytes::streams::columnar_memory::{
+    DataType, Error, Offset, PhysicalType, Result,
+};
+use ipc_format_column_bytes::streams::messages as ipc;
+use ipc_format_column_bytes::streams::messages::{BodyCompressionRef, Buffer, FieldNode};
 use std::alloc::Global;
 use std::collections::VecDeque;
 

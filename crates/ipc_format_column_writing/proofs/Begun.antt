@@ -3,17 +3,17 @@ use Rattle.std.proofs.Common.{◌≡◌, ◌∙◌, ℕ, ◌+◌, ◌-◌, ◌*�
 use Rattle.std.specs.Int.{Width}
 use Rattle.std.specs.Prelude.{IfOk, Option, Result, Ok, Err, slice_index}
 use Rattle.std.proofs.lemmas.List.{append_assoc, append-nil}
-use Rattle.nested_arrays.specs.Parts.{column_children}
-use Rattle.ipc_format_column_bytes.specs.Bodies.{Parts, Adds, both, of_buffers, of_slots, parts_of, with_column}
-use Rattle.ipc_format_column_bytes.specs.columnar_memory.Spans.{Spans, last_of, offsets_of}
-use Rattle.ipc_format_column_bytes.specs.columnar_memory.declared.DataType.{DataType}
-use Rattle.ipc_format_column_bytes.specs.columnar_memory.declared.Error.{Error}
-use Rattle.ipc_format_column_bytes.specs.columns.StoredColumns.{Column, Columns, lists, fixed_lists, records, cut_list, cut_mask, type_layer}
-use Rattle.ipc_format_column_bytes.specs.declared.body.Body.{Body}
-use Rattle.ipc_format_column_bytes.specs.grammar.Encoding.{Encoded, column_over, joined}
-use Rattle.ipc_format_column_bytes.specs.grammar.StoredEncoding.{encode_range, encode_ranges, last_offset, mask_bytes, moved_bytes, node_over}
-use Rattle.ipc_format_column_bytes.specs.grammar.StoredEncoding.{offset_width}
-use Rattle.ipc_format_column_bytes.proofs.Bodies.{added_then, refused_first, with_both}
+use Rattle.ipc_format_chunks.specs.nested_arrays.Parts.{column_children}
+use Rattle.ipc_format_column_reading.specs.column_bytes.Bodies.{Parts, Adds, both, of_buffers, of_slots, parts_of, with_column}
+use Rattle.ipc_format_column_reading.specs.column_bytes.columnar_memory.Spans.{Spans, last_of, offsets_of}
+use Rattle.ipc_format_column_reading.specs.column_bytes.columnar_memory.declared.DataType.{DataType}
+use Rattle.ipc_format_column_reading.specs.column_bytes.columnar_memory.declared.Error.{Error}
+use Rattle.ipc_format_column_reading.specs.column_bytes.columns.StoredColumns.{Column, Columns, lists, fixed_lists, records, cut_list, cut_mask, type_layer}
+use Rattle.ipc_format_column_reading.specs.column_bytes.declared.body.Body.{Body}
+use Rattle.ipc_format_column_reading.specs.column_bytes.grammar.Encoding.{Encoded, column_over, joined}
+use Rattle.ipc_format_column_reading.specs.column_bytes.grammar.StoredEncoding.{encode_range, encode_ranges, last_offset, mask_bytes, moved_bytes, node_over}
+use Rattle.ipc_format_column_reading.specs.column_bytes.grammar.StoredEncoding.{offset_width}
+use Rattle.ipc_format_column_reading.proofs.bytes_lemmas.Bodies.{added_then, refused_first, with_both}
 use Rattle.ipc_format_column_writing.specs.Parts.{items_column}
 use Rattle.ipc_format_column_writing.specs.Written.{IsBegun, Begins, AddsSpans}
 

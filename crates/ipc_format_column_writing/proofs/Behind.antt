@@ -1,15 +1,15 @@
 -- What structs and unions have behind their nodes.
 use Rattle.std.proofs.Common.{◌≡◌, ◌∙◌, ℕ, Bool, true, List, [], ◌∷◌, sym, ap, subst, arith}
 use Rattle.std.specs.Prelude.{Option}
-use Rattle.nested_arrays.specs.Parts.{column_children}
-use Rattle.nested_arrays.specs.Places.{HaveRange}
-use Rattle.ipc_format_column_bytes.specs.Bodies.{both, of_buffers}
-use Rattle.ipc_format_column_bytes.specs.WholeColumns.{behind_node}
-use Rattle.ipc_format_column_bytes.specs.columnar_memory.declared.DataType.{DataType}
-use Rattle.ipc_format_column_bytes.specs.columns.SoundColumns.{is_sound}
-use Rattle.ipc_format_column_bytes.specs.columns.StoredColumns.{Column, Columns, records, column_len, cut_mask}
-use Rattle.ipc_format_column_bytes.specs.grammar.Encoding.{joined}
-use Rattle.ipc_format_column_bytes.specs.grammar.StoredEncoding.{encode_range, encode_ranges, encode_stored, mask_bytes}
+use Rattle.ipc_format_chunks.specs.nested_arrays.Parts.{column_children}
+use Rattle.ipc_format_chunks.specs.nested_arrays.Places.{HaveRange}
+use Rattle.ipc_format_column_reading.specs.column_bytes.Bodies.{both, of_buffers}
+use Rattle.ipc_format_column_reading.specs.column_bytes.WholeColumns.{behind_node}
+use Rattle.ipc_format_column_reading.specs.column_bytes.columnar_memory.declared.DataType.{DataType}
+use Rattle.ipc_format_column_reading.specs.column_bytes.columns.SoundColumns.{is_sound}
+use Rattle.ipc_format_column_reading.specs.column_bytes.columns.StoredColumns.{Column, Columns, records, column_len, cut_mask}
+use Rattle.ipc_format_column_reading.specs.column_bytes.grammar.Encoding.{joined}
+use Rattle.ipc_format_column_reading.specs.column_bytes.grammar.StoredEncoding.{encode_range, encode_ranges, encode_stored, mask_bytes}
 use Rattle.ipc_format_column_writing.proofs.Within.{named_fields}
 
 -- a struct's mask and fields

@@ -1,8 +1,8 @@
 -- Children that are written one behind the other.
 use Rattle.std.proofs.Common.{◌≡◌, Bool, refl, List, ◌∷◌, subst, sym}
-use Rattle.ipc_format_column_bytes.specs.Bodies.{both}
-use Rattle.ipc_format_column_bytes.specs.columns.StoredColumns.{Column, Columns, column_then, in_columns}
-use Rattle.ipc_format_column_bytes.specs.grammar.Encoding.{joined}
+use Rattle.ipc_format_column_reading.specs.column_bytes.Bodies.{both}
+use Rattle.ipc_format_column_reading.specs.column_bytes.columns.StoredColumns.{Column, Columns, column_then, in_columns}
+use Rattle.ipc_format_column_reading.specs.column_bytes.grammar.Encoding.{joined}
 use Rattle.ipc_format_column_writing.specs.Parts.{HasPart, HaveParts, encode_part, encode_parts}
 use Rattle.ipc_format_column_writing.specs.declared.parts.Part.{Part}
 use Rattle.ipc_format_column_writing.specs.declared.parts.Part.TheVariants.{All, Range}

@@ -1,11 +1,11 @@
 -- What ranges of byte strings of one size are written as.
 use Rattle.std.proofs.Common.{◌≡◌, ◌∙◌, ℕ, ◌+◌, ◌*◌, ◌/◌, ◌≤◌, Bool, List, [], ◌∷◌, length, refl, sym, ap, arith}
 use Rattle.std.specs.Prelude.{Option, slice_range}
-use Rattle.ipc_format_column_bytes.specs.Bodies.{both, of_buffers, of_slots}
-use Rattle.ipc_format_column_bytes.specs.columnar_memory.declared.DataType.{DataType}
-use Rattle.ipc_format_column_bytes.specs.columns.StoredColumns.{Column, flat, fixed_bytes, column_len, cut_mask}
-use Rattle.ipc_format_column_bytes.specs.grammar.StoredEncoding.{encode_range}
-use Rattle.ipc_format_column_bytes.proofs.FlatRanges.{flat_range}
+use Rattle.ipc_format_column_reading.specs.column_bytes.Bodies.{both, of_buffers, of_slots}
+use Rattle.ipc_format_column_reading.specs.column_bytes.columnar_memory.declared.DataType.{DataType}
+use Rattle.ipc_format_column_reading.specs.column_bytes.columns.StoredColumns.{Column, flat, fixed_bytes, column_len, cut_mask}
+use Rattle.ipc_format_column_reading.specs.column_bytes.grammar.StoredEncoding.{encode_range}
+use Rattle.ipc_format_column_reading.proofs.bytes_lemmas.FlatRanges.{flat_range}
 use Rattle.ipc_format_column_writing.proofs.Within.{pieces_within}
 
 -- the bytes of some of the strings are within all bytes

@@ -3,28 +3,28 @@ use Rattle.std.proofs.Common.{◌≡◌, ◌∙◌, ℕ, Bool, true, false, List
 use Rattle.std.specs.Int.{w8, w32}
 use Rattle.std.specs.List.{flat_map}
 use Rattle.std.specs.Prelude.{ℤ, Option}
-use Rattle.nested_arrays.specs.Keys.{AreKeysOf, keyed, kind_of_keys}
-use Rattle.ipc_format_column_bytes.specs.Numbers.{value_bytes}
-use Rattle.ipc_format_column_bytes.specs.columnar_memory.Layouts.{physical_type}
-use Rattle.ipc_format_column_bytes.specs.columnar_memory.Numbers.{one}
-use Rattle.ipc_format_column_bytes.specs.columnar_memory.declared.DataType.{DataType}
-use Rattle.ipc_format_column_bytes.specs.columnar_memory.declared.DataType.TheOpen as layer
-use Rattle.ipc_format_column_bytes.specs.columnar_memory.declared.IntegerType.{IntegerType}
-use Rattle.ipc_format_column_bytes.specs.columnar_memory.declared.IntegerType.TheVariants as integers
-use Rattle.ipc_format_column_bytes.specs.columnar_memory.declared.IntervalUnit.TheVariants as interval
-use Rattle.ipc_format_column_bytes.specs.columnar_memory.declared.PhysicalType.{PhysicalType}
-use Rattle.ipc_format_column_bytes.specs.columnar_memory.declared.PhysicalType.TheVariants as physical
-use Rattle.ipc_format_column_bytes.specs.columnar_memory.declared.PrimitiveType.{PrimitiveType}
-use Rattle.ipc_format_column_bytes.specs.columnar_memory.declared.PrimitiveType.TheVariants as kinds
-use Rattle.ipc_format_column_bytes.specs.columns.Slots.{number}
-use Rattle.ipc_format_column_bytes.specs.columns.StoredColumns.{Column, flat}
-use Rattle.ipc_format_column_bytes.specs.columns.StoredColumns.{bits, numbers, pairs, triples, texts, byte_strings, fixed_bytes}
-use Rattle.ipc_format_column_bytes.specs.columns.StoredColumns.{cut_list, cut_mask, type_layer}
-use Rattle.ipc_format_column_bytes.specs.grammar.Buffers.{key_width}
-use Rattle.ipc_format_column_bytes.specs.grammar.Encoding.{column_over}
-use Rattle.ipc_format_column_bytes.specs.grammar.StoredEncoding.{encode_range, integer_bytes, key_bytes, mask_bytes, node_over, ordered_value}
-use Rattle.ipc_format_column_bytes.proofs.LayerWidths.{plain_layer}
-use Rattle.ipc_format_column_bytes.proofs.columns_lemmas.TypeLayers.{Layer, is_extension, layer_layout, layout_is}
+use Rattle.ipc_format_chunks.specs.nested_arrays.Keys.{AreKeysOf, keyed, kind_of_keys}
+use Rattle.ipc_format_column_reading.specs.column_bytes.Numbers.{value_bytes}
+use Rattle.ipc_format_column_reading.specs.column_bytes.columnar_memory.Layouts.{physical_type}
+use Rattle.ipc_format_column_reading.specs.column_bytes.columnar_memory.Numbers.{one}
+use Rattle.ipc_format_column_reading.specs.column_bytes.columnar_memory.declared.DataType.{DataType}
+use Rattle.ipc_format_column_reading.specs.column_bytes.columnar_memory.declared.DataType.TheOpen as layer
+use Rattle.ipc_format_column_reading.specs.column_bytes.columnar_memory.declared.IntegerType.{IntegerType}
+use Rattle.ipc_format_column_reading.specs.column_bytes.columnar_memory.declared.IntegerType.TheVariants as integers
+use Rattle.ipc_format_column_reading.specs.column_bytes.columnar_memory.declared.IntervalUnit.TheVariants as interval
+use Rattle.ipc_format_column_reading.specs.column_bytes.columnar_memory.declared.PhysicalType.{PhysicalType}
+use Rattle.ipc_format_column_reading.specs.column_bytes.columnar_memory.declared.PhysicalType.TheVariants as physical
+use Rattle.ipc_format_column_reading.specs.column_bytes.columnar_memory.declared.PrimitiveType.{PrimitiveType}
+use Rattle.ipc_format_column_reading.specs.column_bytes.columnar_memory.declared.PrimitiveType.TheVariants as kinds
+use Rattle.ipc_format_column_reading.specs.column_bytes.columns.Slots.{number}
+use Rattle.ipc_format_column_reading.specs.column_bytes.columns.StoredColumns.{Column, flat}
+use Rattle.ipc_format_column_reading.specs.column_bytes.columns.StoredColumns.{bits, numbers, pairs, triples, texts, byte_strings, fixed_bytes}
+use Rattle.ipc_format_column_reading.specs.column_bytes.columns.StoredColumns.{cut_list, cut_mask, type_layer}
+use Rattle.ipc_format_column_reading.specs.column_bytes.grammar.Buffers.{key_width}
+use Rattle.ipc_format_column_reading.specs.column_bytes.grammar.Encoding.{column_over}
+use Rattle.ipc_format_column_reading.specs.column_bytes.grammar.StoredEncoding.{encode_range, integer_bytes, key_bytes, mask_bytes, node_over, ordered_value}
+use Rattle.ipc_format_column_reading.proofs.bytes_lemmas.LayerWidths.{plain_layer}
+use Rattle.ipc_format_column_reading.proofs.bytes_lemmas.columns_lemmas.TypeLayers.{Layer, is_extension, layer_layout, layout_is}
 
 -- the ids of a union's slots
 pub id_bytes : (little : Bool) (ids : List ℤ) → flat_map (λ n. value_bytes little kinds.Int8 (one n)) ids ≡ integer_bytes little w8 ids

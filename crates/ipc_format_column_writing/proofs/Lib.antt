@@ -8,3 +8,5 @@ pub mod Settled
 pub mod Unions
 pub mod Widths
 pub mod Within
+pub use Rattle.ipc_format_column_reading.proofs as reading_lemmas
+pub use Rattle.ipc_format_chunks.proofs as chunk_lemmas

@@ -1,2 +1,2 @@
 -- Lemmas that attributes name.
-pub use Rattle.ipc_format_column_bytes.proofs.FlatRanges.{primitive_len, strings_len}
+pub use Rattle.ipc_format_column_reading.proofs.bytes_lemmas.FlatRanges.{primitive_len, strings_len}

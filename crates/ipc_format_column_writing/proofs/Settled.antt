@@ -2,13 +2,13 @@
 use Rattle.std.proofs.Common.{◌≡◌, ℕ, List, length, subst, arith}
 use Rattle.std.specs.Prelude.{ℤ, pos, negsuc, ◌≤ℤ◌, Result}
 use Rattle.std.proofs.lemmas.Int.{ints}
-use Rattle.ipc_format_column_bytes.specs.Bodies.{Parts, Adds, GivesBack, Settles, parts}
-use Rattle.ipc_format_column_bytes.specs.columnar_memory.declared.Error.{Error}
-use Rattle.ipc_format_column_bytes.specs.declared.body.Lengths.{Lengths}
-use Rattle.ipc_format_column_bytes.specs.grammar.Encoding.{Encoded}
-use Rattle.ipc_format_column_bytes.specs.messages.declared.Buffer.{Buffer}
-use Rattle.ipc_format_column_bytes.specs.messages.declared.FieldNode.{FieldNode}
-use Rattle.ipc_format_column_bytes.proofs.Bodies.{settled}
+use Rattle.ipc_format_column_reading.specs.column_bytes.Bodies.{Parts, Adds, GivesBack, Settles, parts}
+use Rattle.ipc_format_column_reading.specs.column_bytes.columnar_memory.declared.Error.{Error}
+use Rattle.ipc_format_column_reading.specs.column_bytes.declared.body.Lengths.{Lengths}
+use Rattle.ipc_format_column_reading.specs.column_bytes.grammar.Encoding.{Encoded}
+use Rattle.ipc_format_column_reading.specs.column_bytes.messages.declared.Buffer.{Buffer}
+use Rattle.ipc_format_column_reading.specs.column_bytes.messages.declared.FieldNode.{FieldNode}
+use Rattle.ipc_format_column_reading.proofs.bytes_lemmas.Bodies.{settled}
 
 -- under an offset that is not negative
 pub settled_at : (answer result : Result (Unit {0}) Error) (nodes : List FieldNode) (buffers : List Buffer) (bytes : List ℕ) (o : ℤ)

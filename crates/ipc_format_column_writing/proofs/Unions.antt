@@ -2,21 +2,21 @@
 use Rattle.std.proofs.Common.{◌≡◌, ◌∙◌, ℕ, ◌+◌, ◌≤◌, Bool, List, [], ◌∷◌, length, refl, sym, ap, subst, arith}
 use Rattle.std.specs.List.{flat_map}
 use Rattle.std.specs.Prelude.{ℤ, true, Option, Some, None, Err}
-use Rattle.nested_arrays.specs.Parts.{column_children}
-use Rattle.nested_arrays.specs.Places.{HaveRange}
-use Rattle.ipc_format_column_bytes.specs.Bodies.{Parts, Adds, both, of_buffers, of_node, parts_of, with_column}
-use Rattle.ipc_format_column_bytes.specs.Numbers.{value_bytes}
-use Rattle.ipc_format_column_bytes.specs.WholeColumns.{behind_node}
-use Rattle.ipc_format_column_bytes.specs.columnar_memory.Numbers.{one}
-use Rattle.ipc_format_column_bytes.specs.columnar_memory.declared.DataType.{DataType}
-use Rattle.ipc_format_column_bytes.specs.columnar_memory.declared.Error.{Error}
-use Rattle.ipc_format_column_bytes.specs.columnar_memory.declared.PrimitiveType.TheVariants as kinds
-use Rattle.ipc_format_column_bytes.specs.columns.SoundColumns.{is_sound}
-use Rattle.ipc_format_column_bytes.specs.columns.StoredColumns.{Column, Columns, unions, column_len, cut_list}
-use Rattle.ipc_format_column_bytes.specs.declared.body.Body.{Body}
-use Rattle.ipc_format_column_bytes.specs.grammar.Encoding.{Encoded, joined}
-use Rattle.ipc_format_column_bytes.specs.grammar.StoredEncoding.{encode_range, encode_ranges, encode_wholes}
-use Rattle.ipc_format_column_bytes.proofs.Bodies.{added_then, refused_first, with_both}
+use Rattle.ipc_format_chunks.specs.nested_arrays.Parts.{column_children}
+use Rattle.ipc_format_chunks.specs.nested_arrays.Places.{HaveRange}
+use Rattle.ipc_format_column_reading.specs.column_bytes.Bodies.{Parts, Adds, both, of_buffers, of_node, parts_of, with_column}
+use Rattle.ipc_format_column_reading.specs.column_bytes.Numbers.{value_bytes}
+use Rattle.ipc_format_column_reading.specs.column_bytes.WholeColumns.{behind_node}
+use Rattle.ipc_format_column_reading.specs.column_bytes.columnar_memory.Numbers.{one}
+use Rattle.ipc_format_column_reading.specs.column_bytes.columnar_memory.declared.DataType.{DataType}
+use Rattle.ipc_format_column_reading.specs.column_bytes.columnar_memory.declared.Error.{Error}
+use Rattle.ipc_format_column_reading.specs.column_bytes.columnar_memory.declared.PrimitiveType.TheVariants as kinds
+use Rattle.ipc_format_column_reading.specs.column_bytes.columns.SoundColumns.{is_sound}
+use Rattle.ipc_format_column_reading.specs.column_bytes.columns.StoredColumns.{Column, Columns, unions, column_len, cut_list}
+use Rattle.ipc_format_column_reading.specs.column_bytes.declared.body.Body.{Body}
+use Rattle.ipc_format_column_reading.specs.column_bytes.grammar.Encoding.{Encoded, joined}
+use Rattle.ipc_format_column_reading.specs.column_bytes.grammar.StoredEncoding.{encode_range, encode_ranges, encode_wholes}
+use Rattle.ipc_format_column_reading.proofs.bytes_lemmas.Bodies.{added_then, refused_first, with_both}
 use Rattle.ipc_format_column_writing.specs.Parts.{encode_parts}
 use Rattle.ipc_format_column_writing.specs.Written.{IsBegun}
 use Rattle.ipc_format_column_writing.specs.declared.parts.Part.TheVariants.{All, Range}

@@ -1,15 +1,15 @@
 -- How wide the offsets of lists are, by their types.
 use Rattle.std.proofs.Common.{◌≡◌, ◌∙◌, refl, sym}
 use Rattle.std.specs.Int.{w32}
-use Rattle.nested_arrays.specs.Widths.{layout_of}
-use Rattle.nested_arrays.specs.declared.ListOffsets.{ListOffsets}
-use Rattle.nested_arrays.specs.declared.ListOffsets.TheVariants as width
-use Rattle.ipc_format_column_bytes.specs.columnar_memory.Layouts.{physical_type}
-use Rattle.ipc_format_column_bytes.specs.columnar_memory.declared.DataType.{DataType}
-use Rattle.ipc_format_column_bytes.specs.columnar_memory.declared.PhysicalType.TheVariants as physical
-use Rattle.ipc_format_column_bytes.specs.columns.StoredColumns.{type_layer}
-use Rattle.ipc_format_column_bytes.specs.grammar.StoredEncoding.{offset_width}
-use Rattle.ipc_format_column_bytes.proofs.LayerWidths.{layout_width, width_is}
+use Rattle.ipc_format_chunks.specs.nested_arrays.Widths.{layout_of}
+use Rattle.ipc_format_chunks.specs.nested_arrays.declared.ListOffsets.{ListOffsets}
+use Rattle.ipc_format_chunks.specs.nested_arrays.declared.ListOffsets.TheVariants as width
+use Rattle.ipc_format_column_reading.specs.column_bytes.columnar_memory.Layouts.{physical_type}
+use Rattle.ipc_format_column_reading.specs.column_bytes.columnar_memory.declared.DataType.{DataType}
+use Rattle.ipc_format_column_reading.specs.column_bytes.columnar_memory.declared.PhysicalType.TheVariants as physical
+use Rattle.ipc_format_column_reading.specs.column_bytes.columns.StoredColumns.{type_layer}
+use Rattle.ipc_format_column_reading.specs.column_bytes.grammar.StoredEncoding.{offset_width}
+use Rattle.ipc_format_column_reading.proofs.bytes_lemmas.LayerWidths.{layout_width, width_is}
 use Rattle.ipc_format_column_writing.specs.Written.{list_width}
 
 width_of_layout : (offsets : ListOffsets) → list_width offsets ≡ layout_width (layout_of offsets)

@@ -5,19 +5,19 @@ use Rattle.std.specs.Prelude.{ℤ, [], Option, Some, None, min, unwrap_or, ◌==
 use Rattle.std.specs.List.{list_all}
 use Rattle.std.proofs.lemmas.Bool.{and_parts, eqb-true}
 use Rattle.std.proofs.Math.Nat.{mul-add, mul-le-mul_left}
-use Rattle.ipc_format_column_bytes.specs.columnar_memory.Layouts.{physical_type}
-use Rattle.ipc_format_column_bytes.specs.columnar_memory.Spans.{Spans, last_of, offsets_of}
-use Rattle.ipc_format_column_bytes.specs.columnar_memory.declared.DataType.{DataType}
-use Rattle.ipc_format_column_bytes.specs.columns.Kinds.{is_signed, most_offset}
-use Rattle.ipc_format_column_bytes.specs.columns.SoundColumns.{are_offsets, are_pieces, are_sound, column_lens, has_child_at, has_child_types}
-use Rattle.ipc_format_column_bytes.specs.columns.SoundColumns.{has_field_types, has_fixed_item_type, has_item_type, has_places, have_len, holds_below}
-use Rattle.ipc_format_column_bytes.specs.columns.SoundColumns.{is_offset, is_sound, mask_fits}
-use Rattle.ipc_format_column_bytes.specs.columns.StoredColumns.{Column, Columns, lists, fixed_lists, records, unions, no_column, column_then}
-use Rattle.ipc_format_column_bytes.specs.columns.StoredColumns.{column_len, column_type, type_layer}
-use Rattle.ipc_format_column_bytes.proofs.columns_lemmas.Conditions.{parts_of_4, parts_of_5}
-use Rattle.nested_arrays.specs.Parts.{column_children}
-use Rattle.nested_arrays.specs.Places.{HaveRange}
-use Rattle.nested_arrays.proofs.parts_lemmas.OffsetLists.{offsets_end_within}
+use Rattle.ipc_format_column_reading.specs.column_bytes.columnar_memory.Layouts.{physical_type}
+use Rattle.ipc_format_column_reading.specs.column_bytes.columnar_memory.Spans.{Spans, last_of, offsets_of}
+use Rattle.ipc_format_column_reading.specs.column_bytes.columnar_memory.declared.DataType.{DataType}
+use Rattle.ipc_format_column_reading.specs.column_bytes.columns.Kinds.{is_signed, most_offset}
+use Rattle.ipc_format_column_reading.specs.column_bytes.columns.SoundColumns.{are_offsets, are_pieces, are_sound, column_lens, has_child_at, has_child_types}
+use Rattle.ipc_format_column_reading.specs.column_bytes.columns.SoundColumns.{has_field_types, has_fixed_item_type, has_item_type, has_places, have_len, holds_below}
+use Rattle.ipc_format_column_reading.specs.column_bytes.columns.SoundColumns.{is_offset, is_sound, mask_fits}
+use Rattle.ipc_format_column_reading.specs.column_bytes.columns.StoredColumns.{Column, Columns, lists, fixed_lists, records, unions, no_column, column_then}
+use Rattle.ipc_format_column_reading.specs.column_bytes.columns.StoredColumns.{column_len, column_type, type_layer}
+use Rattle.ipc_format_column_reading.proofs.bytes_lemmas.columns_lemmas.Conditions.{parts_of_4, parts_of_5}
+use Rattle.ipc_format_chunks.specs.nested_arrays.Parts.{column_children}
+use Rattle.ipc_format_chunks.specs.nested_arrays.Places.{HaveRange}
+use Rattle.ipc_format_chunks.proofs.nested_lemmas.parts_lemmas.OffsetLists.{offsets_end_within}
 use Rattle.ipc_format_column_writing.specs.Parts.{items_column}
 
 -- ---- masks

@@ -1,15 +1,15 @@
 -- What calls that write columns answer.
 use Rattle.std.specs.Prelude.{◌≡◌, ◌+◌, ◌-◌, ◌≤◌, ℕ, Bool, [], ◌∷◌, Option, Some, None, Result, Ok, Err, slice_index}
 use Rattle.std.specs.Int.{Width, w32, w64}
-use Rattle.nested_arrays.specs.declared.ListOffsets.{ListOffsets}
-use Rattle.nested_arrays.specs.declared.ListOffsets.TheVariants as width
-use Rattle.ipc_format_column_bytes.specs.Bodies.{Parts, Adds, Settles, both, of_buffers, with_column}
-use Rattle.ipc_format_column_bytes.specs.columnar_memory.Error.{IsNotYetImplemented}
-use Rattle.ipc_format_column_bytes.specs.columnar_memory.Spans.{Spans, last_of, offsets_of}
-use Rattle.ipc_format_column_bytes.specs.columnar_memory.declared.Error.{Error}
-use Rattle.ipc_format_column_bytes.specs.columns.StoredColumns.{cut_list}
-use Rattle.ipc_format_column_bytes.specs.grammar.Encoding.{Encoded}
-use Rattle.ipc_format_column_bytes.specs.grammar.StoredEncoding.{last_offset, moved_bytes}
+use Rattle.ipc_format_chunks.specs.nested_arrays.declared.ListOffsets.{ListOffsets}
+use Rattle.ipc_format_chunks.specs.nested_arrays.declared.ListOffsets.TheVariants as width
+use Rattle.ipc_format_column_reading.specs.column_bytes.Bodies.{Parts, Adds, Settles, both, of_buffers, with_column}
+use Rattle.ipc_format_column_reading.specs.column_bytes.columnar_memory.Error.{IsNotYetImplemented}
+use Rattle.ipc_format_column_reading.specs.column_bytes.columnar_memory.Spans.{Spans, last_of, offsets_of}
+use Rattle.ipc_format_column_reading.specs.column_bytes.columnar_memory.declared.Error.{Error}
+use Rattle.ipc_format_column_reading.specs.column_bytes.columns.StoredColumns.{cut_list}
+use Rattle.ipc_format_column_reading.specs.column_bytes.grammar.Encoding.{Encoded}
+use Rattle.ipc_format_column_reading.specs.column_bytes.grammar.StoredEncoding.{last_offset, moved_bytes}
 use Rattle.ipc_format_column_writing.specs.declared.serialize.Compression.{Compression}
 
 -- a column's own part stands behind others, and with the rest of it that is to come it is the whole

@@ -7,6 +7,8 @@ mod own;
 mod parts;
 mod serialize;
 
-pub use ipc_format_column_bytes as column_bytes;
-pub use nested_arrays;
+pub use ipc_format_chunks as chunks;
+pub use ipc_format_chunks::nested_arrays;
+pub use ipc_format_column_reading as column_reading;
+pub use ipc_format_column_reading::column_bytes;
 pub use serialize::{Compression, write, write_struct, write_union};

@@ -1,17 +1,17 @@
 //! Writing of arrays behind what stands in the body of a record batch (Arrow IPC, "RecordBatch message").
 ghost use Rattle.std.specs.Prelude.{◌≤ℤ◌, pos};
-ghost use Rattle.ipc_format_column_bytes.specs.Bodies.{Adds, Settles, parts, parts_of};
-ghost use Rattle.ipc_format_column_bytes.specs.WholeColumns.{behind_node};
-ghost use Rattle.ipc_format_column_bytes.specs.grammar.StoredEncoding.{encode_stored};
+ghost use Rattle.ipc_format_column_reading.specs.column_bytes.Bodies.{Adds, Settles, parts, parts_of};
+ghost use Rattle.ipc_format_column_reading.specs.column_bytes.WholeColumns.{behind_node};
+ghost use Rattle.ipc_format_column_reading.specs.column_bytes.grammar.StoredEncoding.{encode_stored};
 ghost use Rattle.ipc_format_column_writing.specs.Written.{Writes};
 
 use crate::columns::{write_children, write_range};
 use crate::own::add_union_buffers;
 use crate::parts::Part;
-use ipc_format_column_bytes::columnar_memory::{Error, Result};
-use ipc_format_column_bytes::messages::{Buffer, FieldNode};
-use ipc_format_column_bytes::{Body, Lengths};
-use nested_arrays::{AnyArray, StructArray, UnionArray};
+use ipc_format_chunks::nested_arrays::{AnyArray, StructArray, UnionArray};
+use ipc_format_column_reading::column_bytes::columnar_memory::{Error, Result};
+use ipc_format_column_reading::column_bytes::messages::{Buffer, FieldNode};
+use ipc_format_column_reading::column_bytes::{Body, Lengths};
 
 /// How the buffers of a body are compressed (Arrow IPC, "Compression").
 #[derive(Clone, Copy, PartialEq, Eq, Hash, Debug)]

@@ -7,8 +7,8 @@ use Rattle.std.specs.Int.{w8, w16, w64, to_le_bytes, cast_signed, cast_unsigned}
 use Rattle.std.proofs.lemmas.Int.{to_z_pos}
 use Rattle.std.proofs.Math.Facts.{Fits-of_z, Fits-lt-pow}
 use Rattle.std.proofs.lemmas.List.Sums.{sum_by-cons}
-use Rattle.ipc_format_flatbuffers.specs.FlatBuffers.{Table, Vector, signed_at, number_field, signed_field, table_field, vector_field, root_of}
-use Rattle.ipc_format_flatbuffers.specs.Objects.{Object, Fields, table, laid, no_field, absent_then, number_then, refers_then}
+use Rattle.ipc_format_grammar.specs.flatbuffers.FlatBuffers.{Table, Vector, signed_at, number_field, signed_field, table_field, vector_field, root_of}
+use Rattle.ipc_format_grammar.specs.flatbuffers.Objects.{Object, Fields, table, laid, no_field, absent_then, number_then, refers_then}
 use Rattle.ipc_format_laws.specs.Spelling.{Spells, SpellsFields, SpellsReference}
 use Rattle.ipc_format_laws.specs.Theorem.{Fits, SpellsRoot}
 use Rattle.ipc_format_laws.proofs.Places.{Stands, front, back}

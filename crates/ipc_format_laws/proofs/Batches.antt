@@ -8,17 +8,17 @@ use Rattle.std.proofs.lemmas.Bool.{and_parts, ltb-true, leb-true, le-leb, eq-eqb
 use Rattle.std.proofs.lemmas.List.Elements.{All-nil, All-cons, All-head, All-tail, All-append}
 use Rattle.std.proofs.lemmas.List.Sums.{sum_by-cons, count_by-le-length}
 use denote.Hole.Carrier
-use Rattle.ipc_format_flatbuffers.specs.Reading.{window_at}
-use Rattle.ipc_format_flatbuffers.specs.FlatBuffers.{Table}
+use Rattle.ipc_format_grammar.specs.flatbuffers.Reading.{window_at}
+use Rattle.ipc_format_grammar.specs.flatbuffers.FlatBuffers.{Table}
 use Rattle.ipc_format_laws.proofs.Places.{window_stands}
-use Rattle.columnar_memory.specs.declared.DataType.TheOpen as layer
-use Rattle.columnar_memory.specs.declared.DataType.TheViews.{roll-DataType}
-use Rattle.columnar_memory.specs.declared.DataType.TheFolds.{fold-roll-DataType}
-use Rattle.columnar_memory.specs.declared.DataType.TheVariants as types
-use Rattle.columnar_memory.specs.declared.Field.{Field}
-use Rattle.columnar_memory.specs.declared.PrimitiveType.TheVariants as kinds
-use Rattle.nested_arrays_columns.specs.Slots.{Slot}
-use Rattle.nested_arrays_columns.specs.Cells.{is_null, fits_cell}
+use Rattle.ipc_format_grammar.specs.columnar_memory.declared.DataType.TheOpen as layer
+use Rattle.ipc_format_grammar.specs.columnar_memory.declared.DataType.TheViews.{roll-DataType}
+use Rattle.ipc_format_grammar.specs.columnar_memory.declared.DataType.TheFolds.{fold-roll-DataType}
+use Rattle.ipc_format_grammar.specs.columnar_memory.declared.DataType.TheVariants as types
+use Rattle.ipc_format_grammar.specs.columnar_memory.declared.Field.{Field}
+use Rattle.ipc_format_grammar.specs.columnar_memory.declared.PrimitiveType.TheVariants as kinds
+use Rattle.ipc_format_grammar.specs.columns.Slots.{Slot}
+use Rattle.ipc_format_grammar.specs.columns.Cells.{is_null, fits_cell}
 use Rattle.ipc_format_grammar.specs.Messages as message
 use Rattle.ipc_format_grammar.specs.Messages.{V5, record_batch_in}
 use Rattle.ipc_format_laws.specs.BatchMessages.{AreSigned, IsRecordBatch, stated_node, stated_buffer}

@@ -9,11 +9,11 @@ use Rattle.std.specs.Int.{next_multiple_of}
 use Rattle.std.proofs.lemmas.Bool.{cases_lt, lt-ltb, le-ltb, le-leb}
 use Rattle.std.proofs.lemmas.Grind.{flat_map-append}
 use Rattle.std.proofs.lemmas.List.Sums.{sum_by-cons}
-use Rattle.ipc_format_flatbuffers.specs.Reading.{window_at}
+use Rattle.ipc_format_grammar.specs.flatbuffers.Reading.{window_at}
 use Rattle.ipc_format_laws.proofs.Places.{Stands, front, back, window_stands}
 use Rattle.ipc_format_laws.proofs.Contents.{stands_window}
-use Rattle.nested_arrays_columns.specs.Slots.{Slot, null, window}
-use Rattle.nested_arrays_columns.specs.Cells.{is_null}
+use Rattle.ipc_format_grammar.specs.columns.Slots.{Slot, null, window}
+use Rattle.ipc_format_grammar.specs.columns.Cells.{is_null}
 use Rattle.ipc_format_laws.specs.BatchMessages.{stated_node, stated_buffer}
 use Rattle.ipc_format_grammar.specs.Columns.{Source, Place, Validity, all_valid, bitmap, is_valid_in, slot_by, buffer_at}
 use Rattle.ipc_format_grammar.specs.Columns.{taken_of, validity_in, marked_in}

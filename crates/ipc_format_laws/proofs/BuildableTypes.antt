@@ -5,18 +5,18 @@ use Rattle.std.specs.List.{list_all}
 use Rattle.std.proofs.lemmas.Bool.{and_parts, and_from, or_parts}
 use Rattle.std.proofs.lemmas.List.{length-map}
 use denote.Hole.Carrier
-use Rattle.columnar_memory.specs.declared.DataType.{DataType, map-DataType}
-use Rattle.columnar_memory.specs.declared.DataType.TheOpen as layer
-use Rattle.columnar_memory.specs.declared.DataType.TheFolds.{fold-Field, fold-roll-DataType, para-roll-DataType, fold-roll-Field}
-use Rattle.columnar_memory.specs.declared.DataType.TheFolds.{para-roll-Field, ind-DataType}
-use Rattle.columnar_memory.specs.declared.DataType.TheViews.{roll-DataType, roll-Field, out-DataType, out-roll-DataType}
-use Rattle.columnar_memory.specs.declared.Field.{Field, map-Field}
-use Rattle.nested_arrays_columns.specs.FreshLaws.{buildable_step, is_buildable}
-use Rattle.nested_arrays_columns.specs.SoundColumns.{is_entry}
-use Rattle.nested_arrays_columns.proofs.Claims.{TypeWith, FieldWith, LayerWith, bare_layer}
-use Rattle.nested_arrays_columns.proofs.FreshLengths.{answers, can_all}
-use Rattle.nested_arrays_columns.proofs.FreshLengths.{buildable_field, buildable_layer, unlike}
-use Rattle.nested_arrays_columns.proofs.TypeLayers.{Layer}
+use Rattle.ipc_format_grammar.specs.columnar_memory.declared.DataType.{DataType, map-DataType}
+use Rattle.ipc_format_grammar.specs.columnar_memory.declared.DataType.TheOpen as layer
+use Rattle.ipc_format_grammar.specs.columnar_memory.declared.DataType.TheFolds.{fold-Field, fold-roll-DataType, para-roll-DataType, fold-roll-Field}
+use Rattle.ipc_format_grammar.specs.columnar_memory.declared.DataType.TheFolds.{para-roll-Field, ind-DataType}
+use Rattle.ipc_format_grammar.specs.columnar_memory.declared.DataType.TheViews.{roll-DataType, roll-Field, out-DataType, out-roll-DataType}
+use Rattle.ipc_format_grammar.specs.columnar_memory.declared.Field.{Field, map-Field}
+use Rattle.ipc_format_grammar.specs.columns.FreshLaws.{buildable_step, is_buildable}
+use Rattle.ipc_format_grammar.specs.columns.SoundColumns.{is_entry}
+use Rattle.ipc_format_grammar.proofs.columns_lemmas.Claims.{TypeWith, FieldWith, LayerWith, bare_layer}
+use Rattle.ipc_format_grammar.proofs.columns_lemmas.FreshLengths.{answers, can_all}
+use Rattle.ipc_format_grammar.proofs.columns_lemmas.FreshLengths.{buildable_field, buildable_layer, unlike}
+use Rattle.ipc_format_grammar.proofs.columns_lemmas.TypeLayers.{Layer}
 use Rattle.ipc_format_grammar.specs.Encoding.{any_of, union_step, has_union}
 use Rattle.ipc_format_grammar.specs.Writable.{Report, report_step, field_step, report_of, is_struct_of_two, is_size, fits_i32}
 use Rattle.ipc_format_laws.specs.FreshEncodings.{WritableIsBuildable}

@@ -6,9 +6,9 @@ use Rattle.std.proofs.lemmas.Nat.{from_le_bytes-to_le_bytes_2, from_le_bytes-to_
 use Rattle.std.proofs.lemmas.Int.{to_z_pos}
 use Rattle.std.proofs.lemmas.Bool.{le-leb, lt-leb, ne_eqb}
 use Rattle.std.specs.Str.{is_utf8}
-use Rattle.ipc_format_flatbuffers.specs.Reading.{window_at}
-use Rattle.ipc_format_flatbuffers.specs.FlatBuffers.{Table, number_at, signed_at, table_at, field_at, reference_at, reference_field, vector_at}
-use Rattle.ipc_format_flatbuffers.specs.FlatBuffers.{string_at}
+use Rattle.ipc_format_grammar.specs.flatbuffers.Reading.{window_at}
+use Rattle.ipc_format_grammar.specs.flatbuffers.FlatBuffers.{Table, number_at, signed_at, table_at, field_at, reference_at, reference_field, vector_at}
+use Rattle.ipc_format_grammar.specs.flatbuffers.FlatBuffers.{string_at}
 use Rattle.ipc_format_laws.specs.Theorem.{FitsWidth}
 use Rattle.ipc_format_laws.proofs.Places.{Stands, window_stands}
 

@@ -6,8 +6,8 @@ use Rattle.std.specs.List.{flat_map, list_all}
 use Rattle.std.specs.Str.{is_utf8, chars}
 use lib.Utf8.{encode as encode_characters}
 use mir.Val.{hbits}
-use Rattle.nested_arrays_columns.specs.Slots.{Slot, null, text, bytes, window}
-use Rattle.nested_arrays_columns.specs.Cells.{is_text, is_bytes}
+use Rattle.ipc_format_grammar.specs.columns.Slots.{Slot, null, text, bytes, window}
+use Rattle.ipc_format_grammar.specs.columns.Cells.{is_text, is_bytes}
 use Rattle.ipc_format_grammar.specs.Columns.{Place, buffer_at, taken_of, last_of, piece_at, slot_by, byte_slots}
 use Rattle.ipc_format_grammar.specs.Buffers.{is_valid, validity_bytes, content_of, offset_bytes}
 use Rattle.ipc_format_grammar.specs.Encoding.{Encoded, bytes_column}

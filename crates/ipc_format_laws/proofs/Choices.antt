@@ -7,11 +7,11 @@ use Rattle.std.specs.List.{list_all}
 use Rattle.std.proofs.Math.Nat.{min-eq_left, min-eq_right, min-le_right}
 use Rattle.std.proofs.lemmas.Bool.{cases_lt, ltb-true, lt-ltb}
 use Rattle.std.proofs.lemmas.List.{length-map, length-take, take-map, take_all, take_min}
-use Rattle.ipc_format_flatbuffers.specs.Reading.{guard}
-use Rattle.columnar_memory.specs.declared.Schema.{Schema}
-use Rattle.nested_arrays_columns.specs.Slots.{Slot}
-use Rattle.nested_arrays_columns.specs.Tables.{Table, rows_of_columns, row_at, batch_rows, rows_of_batches, chosen, choice_within}
-use Rattle.nested_arrays_columns.proofs.Windows.{length-window}
+use Rattle.ipc_format_grammar.specs.flatbuffers.Reading.{guard}
+use Rattle.ipc_format_grammar.specs.columnar_memory.declared.Schema.{Schema}
+use Rattle.ipc_format_grammar.specs.columns.Slots.{Slot}
+use Rattle.ipc_format_grammar.specs.columns.Tables.{Table, rows_of_columns, row_at, batch_rows, rows_of_batches, chosen, choice_within}
+use Rattle.ipc_format_grammar.proofs.columns_lemmas.Windows.{length-window}
 use Rattle.ipc_format_grammar.specs.Messages as message
 use Rattle.ipc_format_grammar.specs.Writable.{normalised}
 use Rattle.ipc_format_grammar.specs.Columns.{Dictionary, taken_of}

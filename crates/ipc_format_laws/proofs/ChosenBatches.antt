@@ -5,12 +5,12 @@ use Rattle.std.specs.Prelude.{Option, Some, None, slice_get, slice_index_or}
 use Rattle.std.specs.List.{list_all, cons_option}
 use Rattle.std.proofs.lemmas.Bool.{and_parts, and_from, eq-eqb, eqb-true, ltb-true}
 use Rattle.std.proofs.lemmas.List.{length-take-le, get_or-take}
-use Rattle.ipc_format_flatbuffers.specs.Reading.{guard}
-use Rattle.ipc_format_flatbuffers.specs.FlatBuffers as flat
-use Rattle.columnar_memory.specs.declared.Field.{Field}
-use Rattle.nested_arrays_columns.specs.Slots.{Slot, null, window}
-use Rattle.nested_arrays_columns.specs.Tables.{rows_of_columns, row_at, batch_rows, chosen}
-use Rattle.nested_arrays_columns.proofs.Windows.{window_same}
+use Rattle.ipc_format_grammar.specs.flatbuffers.Reading.{guard}
+use Rattle.ipc_format_grammar.specs.flatbuffers.FlatBuffers as flat
+use Rattle.ipc_format_grammar.specs.columnar_memory.declared.Field.{Field}
+use Rattle.ipc_format_grammar.specs.columns.Slots.{Slot, null, window}
+use Rattle.ipc_format_grammar.specs.columns.Tables.{rows_of_columns, row_at, batch_rows, chosen}
+use Rattle.ipc_format_grammar.proofs.columns_lemmas.Windows.{window_same}
 use Rattle.ipc_format_grammar.specs.Columns.{Source, Dictionary, taken_of, have_length}
 use Rattle.ipc_format_grammar.specs.Dictionaries.{Entry, Layout, source_in}
 use Rattle.ipc_format_grammar.specs.Tables.{column_place, column_in, columns_from, agree_in_length, batch_in, chosen_columns, chosen_batch_in}

@@ -6,8 +6,8 @@ use Rattle.std.specs.Int.{Width, to_le_bytes, cast_signed}
 use Rattle.std.proofs.lemmas.Bool.{leb-true}
 use Rattle.std.proofs.lemmas.Option.{cond_some}
 use Rattle.std.proofs.lemmas.List.{take-append-drop, length-take-le}
-use Rattle.ipc_format_flatbuffers.specs.Reading.{window_at}
-use Rattle.ipc_format_flatbuffers.specs.FlatBuffers.{signed_at}
+use Rattle.ipc_format_grammar.specs.flatbuffers.Reading.{window_at}
+use Rattle.ipc_format_grammar.specs.flatbuffers.FlatBuffers.{signed_at}
 use Rattle.ipc_format_laws.specs.Theorem.{FitsWidth}
 use Rattle.ipc_format_laws.specs.Answers.{ContentsRead}
 use Rattle.ipc_format_laws.proofs.Places.{Stands, front, back}

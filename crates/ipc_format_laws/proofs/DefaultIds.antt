@@ -4,12 +4,12 @@ use Rattle.std.specs.Prelude.{◌&&◌, pos, not, sum_by, nat_le, Some, None}
 use Rattle.std.specs.List.{list_all}
 use Rattle.std.proofs.lemmas.Bool.{and_parts, and_from, both_ways}
 use Rattle.std.proofs.lemmas.List.Sums.{sum_by-cons}
-use Rattle.columnar_memory.specs.declared.DataType.{DataType, map-DataType}
-use Rattle.columnar_memory.specs.declared.DataType.TheOpen as layer
-use Rattle.columnar_memory.specs.declared.DataType.TheFolds.{fold-Field, fold-roll-DataType, fold-roll-Field, ind-DataType}
-use Rattle.columnar_memory.specs.declared.DataType.TheViews.{roll-DataType, roll-Field}
-use Rattle.columnar_memory.specs.declared.Field.{Field, map-Field}
-use Rattle.columnar_memory.specs.declared.Schema.{Schema}
+use Rattle.ipc_format_grammar.specs.columnar_memory.declared.DataType.{DataType, map-DataType}
+use Rattle.ipc_format_grammar.specs.columnar_memory.declared.DataType.TheOpen as layer
+use Rattle.ipc_format_grammar.specs.columnar_memory.declared.DataType.TheFolds.{fold-Field, fold-roll-DataType, fold-roll-Field, ind-DataType}
+use Rattle.ipc_format_grammar.specs.columnar_memory.declared.DataType.TheViews.{roll-DataType, roll-Field}
+use Rattle.ipc_format_grammar.specs.columnar_memory.declared.Field.{Field, map-Field}
+use Rattle.ipc_format_grammar.specs.columnar_memory.declared.Schema.{Schema}
 use Rattle.ipc_format_grammar.specs.Schemas.{Ids, IdsList, ids, no_ids}
 use Rattle.ipc_format_grammar.specs.Writable.{Report, Shape, plain, dictionary, extension, struct_of_two, is_plain, is_dictionary}
 use Rattle.ipc_format_grammar.specs.Writable.{is_struct_of_two, is_size, over_all, report_step, field_step, report_of, reports_of}

@@ -6,7 +6,7 @@ use Rattle.std.proofs.lemmas.Bool.{and_parts, and_from}
 use Rattle.std.proofs.lemmas.List.Sums.{AllPass-from_list_all}
 use Rattle.std.specs.List.{flat_map, list_all, slice_get}
 use Rattle.std.specs.Prelude.{Some}
-use Rattle.nested_arrays_columns.specs.Slots.{window}
+use Rattle.ipc_format_grammar.specs.columns.Slots.{window}
 use Rattle.ipc_format_laws.specs.Columns.{StandsAt}
 
 -- ---- parts

@@ -6,12 +6,12 @@ use Rattle.std.specs.Str.{is_utf8, chars}
 use lib.Utf8.{encode as encode_characters}
 use Rattle.std.specs.Cmp.Lexicographic.{pointwise}
 use denote.Hole.Carrier
-use Rattle.ipc_format_flatbuffers.specs.Objects.{Object, references, text, no_field, number_then, refers_then}
+use Rattle.ipc_format_grammar.specs.flatbuffers.Objects.{Object, references, text, no_field, number_then, refers_then}
 use Rattle.ipc_format_laws.specs.Theorem.{Fits, FitsObjects, FitsTable}
-use Rattle.columnar_memory.specs.declared.DataType.{DataType}
-use Rattle.columnar_memory.specs.declared.DataType.TheOpen as layer
-use Rattle.columnar_memory.specs.declared.DataType.TheViews.{roll-DataType, out-DataType, out-roll-DataType}
-use Rattle.columnar_memory.specs.declared.IntegerType.{IntegerType}
+use Rattle.ipc_format_grammar.specs.columnar_memory.declared.DataType.{DataType}
+use Rattle.ipc_format_grammar.specs.columnar_memory.declared.DataType.TheOpen as layer
+use Rattle.ipc_format_grammar.specs.columnar_memory.declared.DataType.TheViews.{roll-DataType, out-DataType, out-roll-DataType}
+use Rattle.ipc_format_grammar.specs.columnar_memory.declared.IntegerType.{IntegerType}
 use Rattle.ipc_format_grammar.specs.Schemas.{IdsList, ids, FieldIn, extension_name_key, extension_metadata_key}
 use Rattle.ipc_format_grammar.specs.SchemaObjects.{Told, truth, refers_if, metadata_object, extension_pairs, written_pairs, encoding_object}
 use Rattle.ipc_format_grammar.specs.SchemaObjects.{field_table, told_field_step}

@@ -3,16 +3,16 @@ use Rattle.std.proofs.Common.{◌≡◌, ℕ, suc, ◌+◌, ◌-◌, ◌≤◌, 
 use Rattle.std.proofs.Common.{arith}
 use Rattle.std.specs.Prelude.{Option, Some, None}
 use Rattle.std.specs.Int.{w8, w16, w64, cast_unsigned}
-use Rattle.ipc_format_flatbuffers.specs.FlatBuffers.{Table, Vector, signed_field, table_field}
-use Rattle.ipc_format_flatbuffers.specs.Objects.{Object, Fields, Objects, table, references, text, no_field, number_then, refers_then, no_object}
-use Rattle.ipc_format_flatbuffers.specs.Objects.{object_then}
+use Rattle.ipc_format_grammar.specs.flatbuffers.FlatBuffers.{Table, Vector, signed_field, table_field}
+use Rattle.ipc_format_grammar.specs.flatbuffers.Objects.{Object, Fields, Objects, table, references, text, no_field, number_then, refers_then, no_object}
+use Rattle.ipc_format_grammar.specs.flatbuffers.Objects.{object_then}
 use Rattle.ipc_format_laws.specs.Spelling.{Spells, SpellsFields, SpellsObjects, SpellsNumber, SpellsReference, SpellsElement, count_of}
 use Rattle.ipc_format_laws.specs.Answers.{ElementAnswers}
 use Rattle.ipc_format_laws.proofs.Readers.{absent_reads, numbers_read, texts_read, tables_read, each_read}
-use Rattle.columnar_memory.specs.declared.DataType.{DataType}
-use Rattle.columnar_memory.specs.declared.DataType.TheVariants as types
-use Rattle.columnar_memory.specs.declared.IntegerType.{IntegerType}
-use Rattle.columnar_memory.specs.declared.IntegerType.TheVariants as integers
+use Rattle.ipc_format_grammar.specs.columnar_memory.declared.DataType.{DataType}
+use Rattle.ipc_format_grammar.specs.columnar_memory.declared.DataType.TheVariants as types
+use Rattle.ipc_format_grammar.specs.columnar_memory.declared.IntegerType.{IntegerType}
+use Rattle.ipc_format_grammar.specs.columnar_memory.declared.IntegerType.TheVariants as integers
 use Rattle.ipc_format_grammar.specs.Types.{Tag, tag_of, integer_in, integer_of}
 use Rattle.ipc_format_grammar.specs.Schemas.{IdsList, ids, FieldIn, type_in, field_in, each_of, encoded_by, extended}
 use Rattle.ipc_format_grammar.specs.SchemaObjects.{Told, truth, refers_if, metadata_object, written_pairs, id_number, encoding_object}

@@ -4,8 +4,8 @@ use Rattle.std.proofs.Common.{nat_le}
 use Rattle.std.specs.Prelude.{Option, Some, None, slice_get, int_lt, if◌then◌else◌}
 use Rattle.std.proofs.lemmas.Bool.{le-leb, leb-true}
 use Rattle.std.proofs.lemmas.List.{take-take}
-use Rattle.ipc_format_flatbuffers.specs.Reading.{◌>>=◌, guard, window_at}
-use Rattle.nested_arrays_columns.specs.Slots.{Slot, null, window}
+use Rattle.ipc_format_grammar.specs.flatbuffers.Reading.{◌>>=◌, guard, window_at}
+use Rattle.ipc_format_grammar.specs.columns.Slots.{Slot, null, window}
 use Rattle.ipc_format_grammar.specs.Messages.{FieldNode, Buffer, natural}
 use Rattle.ipc_format_grammar.specs.Columns.{Source, Place, Validity, all_valid, bitmap, is_valid_in, slot_by, Marked, buffer_at, taken_of, taken_in}
 use Rattle.ipc_format_grammar.specs.Columns.{validity_in, marked_in}

@@ -6,12 +6,12 @@ use Rattle.std.specs.Int.{Width, w8}
 use Rattle.std.proofs.Math.Nat.{mul_comm, mul-le-mul_right, min-eq_left, min-eq_right}
 use Rattle.std.proofs.lemmas.Bool.{and_parts, and_from, cases_lt, eq-eqb, eqb-true}
 use Rattle.std.proofs.lemmas.List.{length-take-le, get_or-take, take-take}
-use Rattle.ipc_format_flatbuffers.specs.Reading.{guard}
-use Rattle.columnar_memory.specs.declared.Field.{Field}
-use Rattle.columnar_memory.specs.declared.UnionMode.{UnionMode}
-use Rattle.nested_arrays_columns.specs.Slots.{Slot, null, items, fields, in_slots, window}
-use Rattle.nested_arrays_columns.specs.Tables.{row_at}
-use Rattle.nested_arrays_columns.proofs.Windows.{length-window}
+use Rattle.ipc_format_grammar.specs.flatbuffers.Reading.{guard}
+use Rattle.ipc_format_grammar.specs.columnar_memory.declared.Field.{Field}
+use Rattle.ipc_format_grammar.specs.columnar_memory.declared.UnionMode.{UnionMode}
+use Rattle.ipc_format_grammar.specs.columns.Slots.{Slot, null, items, fields, in_slots, window}
+use Rattle.ipc_format_grammar.specs.columns.Tables.{row_at}
+use Rattle.ipc_format_grammar.proofs.columns_lemmas.Windows.{length-window}
 use Rattle.ipc_format_grammar.specs.Messages.{FieldNode, natural}
 use Rattle.ipc_format_grammar.specs.Schemas.{IdsList}
 use Rattle.ipc_format_grammar.specs.Values.{signed_of, element_bytes}

@@ -7,13 +7,13 @@ use Rattle.std.specs.List.{list_all}
 use Rattle.std.proofs.Math.Nat.{mul-le-mul_right}
 use Rattle.std.proofs.lemmas.Bool.{and_parts, and_from}
 use Rattle.std.proofs.lemmas.List.{length-replicate}
-use Rattle.ipc_format_flatbuffers.specs.Reading.{guard}
+use Rattle.ipc_format_grammar.specs.flatbuffers.Reading.{guard}
 use Rattle.columnar_memory_types.specs.Equality.{same_type}
-use Rattle.columnar_memory.specs.declared.DataType.{DataType}
-use Rattle.columnar_memory.specs.declared.IntegerType.{IntegerType}
-use Rattle.columnar_memory.specs.declared.PrimitiveType.{PrimitiveType}
-use Rattle.nested_arrays_columns.specs.Slots.{Slot, null, truth, bytes, window}
-use Rattle.nested_arrays_columns.proofs.Windows.{length-window}
+use Rattle.ipc_format_grammar.specs.columnar_memory.declared.DataType.{DataType}
+use Rattle.ipc_format_grammar.specs.columnar_memory.declared.IntegerType.{IntegerType}
+use Rattle.ipc_format_grammar.specs.columnar_memory.declared.PrimitiveType.{PrimitiveType}
+use Rattle.ipc_format_grammar.specs.columns.Slots.{Slot, null, truth, bytes, window}
+use Rattle.ipc_format_grammar.proofs.columns_lemmas.Windows.{length-window}
 use Rattle.ipc_format_grammar.specs.Messages.{FieldNode, natural}
 use Rattle.ipc_format_grammar.specs.Values.{bit_at, kind_size, value_of, value_at, element_bytes, key_of, key_at, key_size}
 use Rattle.ipc_format_grammar.specs.Columns.{Place, Reader, Dictionary, Validity, Marked, taken_of, taken_in, is_valid_in, slot_by, marked_in}

@@ -6,9 +6,9 @@ use Rattle.std.specs.Int.{Width, byte_len}
 use Rattle.std.proofs.Math.Nat.{mul-le-mul_right}
 use Rattle.std.proofs.lemmas.Bool.{and_parts, leb-true, le-ltb, eqb-true}
 use Rattle.std.proofs.lemmas.List.{length-take-le, take_all}
-use Rattle.ipc_format_flatbuffers.specs.Reading.{◌>>=◌, guard}
-use Rattle.nested_arrays_columns.specs.Slots.{window}
-use Rattle.nested_arrays_columns.proofs.Windows.{length-window}
+use Rattle.ipc_format_grammar.specs.flatbuffers.Reading.{◌>>=◌, guard}
+use Rattle.ipc_format_grammar.specs.columns.Slots.{window}
+use Rattle.ipc_format_grammar.proofs.columns_lemmas.Windows.{length-window}
 use Rattle.ipc_format_grammar.specs.Messages.{Buffer, natural}
 use Rattle.ipc_format_grammar.specs.Values.{signed_of, element_bytes}
 use Rattle.ipc_format_grammar.specs.Columns.{Source, buffer_at, rising, offsets_in, last_of, piece_at}

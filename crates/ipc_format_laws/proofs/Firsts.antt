@@ -6,9 +6,9 @@ use Rattle.std.specs.List.{list_all}
 use Rattle.std.proofs.Math.Nat.{mul_comm, mul-le-mul_right, min-eq_left, min-eq_right, min-le_right}
 use Rattle.std.proofs.lemmas.Bool.{and_parts, and_from, cases_lt}
 use Rattle.std.proofs.lemmas.List.{get_or-take, drop-take, take-take}
-use Rattle.ipc_format_flatbuffers.specs.Reading.{◌>>=◌, guard}
-use Rattle.nested_arrays_columns.specs.Slots.{window}
-use Rattle.nested_arrays_columns.proofs.Windows.{window_same}
+use Rattle.ipc_format_grammar.specs.flatbuffers.Reading.{◌>>=◌, guard}
+use Rattle.ipc_format_grammar.specs.columns.Slots.{window}
+use Rattle.ipc_format_grammar.proofs.columns_lemmas.Windows.{window_same}
 use Rattle.ipc_format_grammar.specs.Values.{bit_at, element_bytes}
 use Rattle.ipc_format_grammar.specs.Columns.{taken_of}
 

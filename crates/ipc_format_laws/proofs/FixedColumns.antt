@@ -5,10 +5,10 @@ use Rattle.std.specs.Prelude.{Some, ◌==◌, slice_get}
 use Rattle.std.specs.List.{flat_map, list_all}
 use Rattle.std.proofs.lemmas.Bool.{and_parts, eqb-true}
 use Rattle.std.proofs.lemmas.List.{length-replicate}
-use Rattle.columnar_memory.specs.declared.PrimitiveType.{PrimitiveType}
-use Rattle.nested_arrays_columns.specs.Slots.{Slot, null, truth, bytes, window}
-use Rattle.nested_arrays_columns.specs.Cells.{is_null, is_truth, is_bytes_of}
-use Rattle.nested_arrays_columns.specs.SoundColumns.{is_byte}
+use Rattle.ipc_format_grammar.specs.columnar_memory.declared.PrimitiveType.{PrimitiveType}
+use Rattle.ipc_format_grammar.specs.columns.Slots.{Slot, null, truth, bytes, window}
+use Rattle.ipc_format_grammar.specs.columns.Cells.{is_null, is_truth, is_bytes_of}
+use Rattle.ipc_format_grammar.specs.columns.SoundColumns.{is_byte}
 use Rattle.ipc_format_grammar.specs.Values.{bit_at, kind_size, value_of, value_at, element_bytes}
 use Rattle.ipc_format_grammar.specs.Columns.{Place, buffer_at, taken_of, slot_by, fixed_slots, truth_slots, number_slots}
 use Rattle.ipc_format_grammar.specs.Columns.{fixed_bytes_slots, null_slots}

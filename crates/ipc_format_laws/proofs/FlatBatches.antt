@@ -2,14 +2,14 @@
 use Rattle.std.proofs.Common.{◌≡◌, ℕ, true, false, Bool, ◌&&◌, List, [], ◌∷◌, length, map, refl, subst}
 use Rattle.std.specs.Prelude.{◌==◌, not}
 use Rattle.std.specs.List.{list_all}
-use Rattle.columnar_memory.specs.declared.DataType.{DataType, map-DataType}
-use Rattle.columnar_memory.specs.declared.DataType.TheOpen as layer
-use Rattle.columnar_memory.specs.declared.DataType.TheViews.{roll-DataType}
-use Rattle.columnar_memory.specs.declared.DataType.TheFolds.{fold-Field, ind-DataType, fold-roll-DataType}
-use Rattle.columnar_memory.specs.declared.Field.{Field}
-use Rattle.nested_arrays_columns.specs.Cells.{fits_step, fits_cell}
-use Rattle.nested_arrays_columns.specs.OpenBatch.{is_within}
-use Rattle.nested_arrays_columns.specs.Slots.{Slot}
+use Rattle.ipc_format_grammar.specs.columnar_memory.declared.DataType.{DataType, map-DataType}
+use Rattle.ipc_format_grammar.specs.columnar_memory.declared.DataType.TheOpen as layer
+use Rattle.ipc_format_grammar.specs.columnar_memory.declared.DataType.TheViews.{roll-DataType}
+use Rattle.ipc_format_grammar.specs.columnar_memory.declared.DataType.TheFolds.{fold-Field, ind-DataType, fold-roll-DataType}
+use Rattle.ipc_format_grammar.specs.columnar_memory.declared.Field.{Field}
+use Rattle.ipc_format_grammar.specs.columns.Cells.{fits_step, fits_cell}
+use Rattle.ipc_format_grammar.specs.columns.OpenBatch.{is_within}
+use Rattle.ipc_format_grammar.specs.columns.Slots.{Slot}
 use Rattle.ipc_format_grammar.specs.Columns.{have_length}
 use Rattle.ipc_format_grammar.specs.Encoding.{has_union}
 use Rattle.ipc_format_grammar.specs.Tables.{agree_in_length}

@@ -10,13 +10,13 @@ use Rattle.std.proofs.lemmas.List.Sums.{sum_by-cons}
 use Rattle.std.proofs.Math.Nat.{mul-suc}
 use Rattle.std.specs.Cmp.{unsigned_Decides}
 use mathlib.Core.Logic.{inl, inr}
-use Rattle.nested_arrays_columns.specs.Cells.{is_null}
-use Rattle.nested_arrays_columns.specs.Slots.{Slot, null, window}
-use Rattle.nested_arrays_columns.specs.SoundColumns.{mask_fits}
-use Rattle.nested_arrays_columns.specs.StoredColumns.{Stored, bits, numbers, pairs, triples, texts, byte_strings, fixed_bytes, is_valid_at}
-use Rattle.nested_arrays_columns.specs.StoredColumns.{unless_null, stored_at, stored_len, cut_list, cut_mask}
-use Rattle.nested_arrays_columns.proofs.Conditions.{holds_at}
-use Rattle.nested_arrays_columns.proofs.Windows.{length-window}
+use Rattle.ipc_format_grammar.specs.columns.Cells.{is_null}
+use Rattle.ipc_format_grammar.specs.columns.Slots.{Slot, null, window}
+use Rattle.ipc_format_grammar.specs.columns.SoundColumns.{mask_fits}
+use Rattle.ipc_format_grammar.specs.columns.StoredColumns.{Stored, bits, numbers, pairs, triples, texts, byte_strings, fixed_bytes, is_valid_at}
+use Rattle.ipc_format_grammar.specs.columns.StoredColumns.{unless_null, stored_at, stored_len, cut_list, cut_mask}
+use Rattle.ipc_format_grammar.proofs.columns_lemmas.Conditions.{holds_at}
+use Rattle.ipc_format_grammar.proofs.columns_lemmas.Windows.{length-window}
 use Rattle.ipc_format_grammar.specs.Buffers.{bits_by, bitmap_by, bitmap_of, bitmap_bytes, is_valid, null_count, validity_bytes}
 use Rattle.ipc_format_grammar.specs.Encoding.{column_over, node_of}
 use Rattle.ipc_format_grammar.specs.StoredEncoding.{mask_nulls, mask_bytes, node_over}

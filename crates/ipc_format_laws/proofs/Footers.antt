@@ -7,17 +7,17 @@ use Rattle.std.proofs.lemmas.Int.{to_z_pos}
 use Rattle.std.specs.Prelude.{Option, Some, nat_le}
 use Rattle.std.specs.List.{flat_map}
 use Rattle.std.specs.Int.{w16, w32, w64, to_le_bytes}
-use Rattle.ipc_format_flatbuffers.specs.Reading.{window_at}
-use Rattle.ipc_format_flatbuffers.specs.FlatBuffers.{Table, Vector, signed_at, signed_field, table_field, vector_field, root_of}
-use Rattle.ipc_format_flatbuffers.specs.Objects.{Object, Fields, Objects, table, references, no_field, absent_then, number_then, refers_then}
-use Rattle.ipc_format_flatbuffers.specs.Objects.{piece_of, laid}
+use Rattle.ipc_format_grammar.specs.flatbuffers.Reading.{window_at}
+use Rattle.ipc_format_grammar.specs.flatbuffers.FlatBuffers.{Table, Vector, signed_at, signed_field, table_field, vector_field, root_of}
+use Rattle.ipc_format_grammar.specs.flatbuffers.Objects.{Object, Fields, Objects, table, references, no_field, absent_then, number_then, refers_then}
+use Rattle.ipc_format_grammar.specs.flatbuffers.Objects.{piece_of, laid}
 use Rattle.ipc_format_laws.specs.Spelling.{Spells, SpellsFields, SpellsReference}
 use Rattle.ipc_format_laws.specs.Theorem.{Fits, SpellsRoot}
 use Rattle.ipc_format_laws.proofs.Places.{Stands, front, back, window_stands}
 use Rattle.ipc_format_laws.proofs.Contents.{signed_stands, stands_window}
 use Rattle.ipc_format_laws.proofs.Readers.{numbers_read, tables_read, elements_read, roots_read}
 use Rattle.ipc_format_laws.proofs.Objects.{laid_reads_back}
-use Rattle.columnar_memory.specs.declared.Schema.{Schema}
+use Rattle.ipc_format_grammar.specs.columnar_memory.declared.Schema.{Schema}
 use Rattle.ipc_format_grammar.specs.Messages.{V5, version_in}
 use Rattle.ipc_format_grammar.specs.Schemas.{IdsList}
 use Rattle.ipc_format_grammar.specs.SchemaObjects.{schema_object, objects_of, field_object, refers_if, metadata_object}

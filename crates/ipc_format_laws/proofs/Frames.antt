@@ -4,7 +4,7 @@ use Rattle.std.specs.Prelude.{Some, nat_lt}
 use Rattle.std.specs.Int.{w32, to_le_bytes}
 use Rattle.std.proofs.lemmas.Bool.{le-ltb}
 use Rattle.std.proofs.lemmas.Int.{to_z_pos}
-use Rattle.ipc_format_flatbuffers.specs.FlatBuffers.{signed_at}
+use Rattle.ipc_format_grammar.specs.flatbuffers.FlatBuffers.{signed_at}
 use Rattle.ipc_format_laws.proofs.Places.{Stands, front, back, ends_within, window_stands}
 use Rattle.ipc_format_laws.proofs.Contents.{signed_stands}
 use Rattle.ipc_format_grammar.specs.Framing as reading

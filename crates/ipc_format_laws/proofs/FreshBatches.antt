@@ -1,12 +1,12 @@
 -- What is written of rows is what is written of the columns that a batch of them becomes.
 use Rattle.std.proofs.Common.{◌≡◌, ℕ, ◌+◌, true, List, [], ◌∷◌, ◌++◌, length, map, refl}
 use Rattle.std.proofs.lemmas.Bool.{and_parts}
-use Rattle.columnar_memory.specs.declared.Field.{Field}
-use Rattle.nested_arrays_columns.specs.FreshLaws.{is_buildable, are_buildable}
-use Rattle.nested_arrays_columns.specs.OpenBatch.{fits}
-use Rattle.nested_arrays_columns.specs.Rows.{column_of_rows, columns_fit, fresh_columns}
-use Rattle.nested_arrays_columns.specs.Slots.{Slot, window}
-use Rattle.nested_arrays_columns.proofs.FreshSlots.{fresh_lengths}
+use Rattle.ipc_format_grammar.specs.columnar_memory.declared.Field.{Field}
+use Rattle.ipc_format_grammar.specs.columns.FreshLaws.{is_buildable, are_buildable}
+use Rattle.ipc_format_grammar.specs.columns.OpenBatch.{fits}
+use Rattle.ipc_format_grammar.specs.columns.Rows.{column_of_rows, columns_fit, fresh_columns}
+use Rattle.ipc_format_grammar.specs.columns.Slots.{Slot, window}
+use Rattle.ipc_format_grammar.proofs.columns_lemmas.FreshSlots.{fresh_lengths}
 use Rattle.ipc_format_grammar.specs.Columns.{first_ids, other_ids}
 use Rattle.ipc_format_grammar.specs.Schemas.{IdsList}
 use Rattle.ipc_format_grammar.specs.StoredEncoding.{encode_stored}

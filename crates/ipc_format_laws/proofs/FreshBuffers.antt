@@ -8,17 +8,17 @@ use Rattle.std.proofs.lemmas.Bool.{or_parts, cases_Bool}
 use Rattle.std.proofs.lemmas.List.{length-map}
 use Rattle.std.proofs.lemmas.List.Sums.{sum_by-cons}
 use mathlib.Core.Logic.{inl, inr}
-use Rattle.columnar_memory.specs.declared.DataType.{DataType}
-use Rattle.columnar_memory.specs.declared.IntegerType.{IntegerType}
-use Rattle.columnar_memory.specs.declared.PrimitiveType.{PrimitiveType}
-use Rattle.columnar_memory.specs.declared.PrimitiveType.TheVariants as kinds
-use Rattle.nested_arrays_columns.specs.Cells.{is_null}
-use Rattle.nested_arrays_columns.specs.Children.{dictionary_values}
-use Rattle.nested_arrays_columns.specs.FreshColumns.{is_valid, number_of, pair_of, triple_of, mask_of, sums_from, numbers_as, key_among}
-use Rattle.nested_arrays_columns.specs.FreshColumns.{content_of}
-use Rattle.nested_arrays_columns.specs.Slots.{Slot, number, pair, triple}
-use Rattle.nested_arrays_columns.specs.StoredColumns.{Stored, flat, stored_len, cut_list, cut_mask, cut_stored, type_layer}
-use Rattle.nested_arrays_columns.proofs.FreshLengths.{sums_length}
+use Rattle.ipc_format_grammar.specs.columnar_memory.declared.DataType.{DataType}
+use Rattle.ipc_format_grammar.specs.columnar_memory.declared.IntegerType.{IntegerType}
+use Rattle.ipc_format_grammar.specs.columnar_memory.declared.PrimitiveType.{PrimitiveType}
+use Rattle.ipc_format_grammar.specs.columnar_memory.declared.PrimitiveType.TheVariants as kinds
+use Rattle.ipc_format_grammar.specs.columns.Cells.{is_null}
+use Rattle.ipc_format_grammar.specs.columns.Children.{dictionary_values}
+use Rattle.ipc_format_grammar.specs.columns.FreshColumns.{is_valid, number_of, pair_of, triple_of, mask_of, sums_from, numbers_as, key_among}
+use Rattle.ipc_format_grammar.specs.columns.FreshColumns.{content_of}
+use Rattle.ipc_format_grammar.specs.columns.Slots.{Slot, number, pair, triple}
+use Rattle.ipc_format_grammar.specs.columns.StoredColumns.{Stored, flat, stored_len, cut_list, cut_mask, cut_stored, type_layer}
+use Rattle.ipc_format_grammar.proofs.columns_lemmas.FreshLengths.{sums_length}
 use Rattle.ipc_format_grammar.specs.Buffers.{null_count, validity_bytes, bitmap_of, number_bytes, wide_bytes, days_and_ms_bytes}
 use Rattle.ipc_format_grammar.specs.Buffers.{months_days_and_ns_bytes, kind_bytes, key_width, offset_bytes}
 use Rattle.ipc_format_grammar.specs.Encoding.{Encoded, column_over, node_of, flat_column}

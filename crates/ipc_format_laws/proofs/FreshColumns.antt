@@ -7,25 +7,25 @@ use Rattle.std.specs.Int.{Width, w32, w64}
 use Rattle.std.specs.Cmp.{unsigned_Decides, signed_Decides}
 use Rattle.std.specs.Cmp.Lexicographic.{bytes_decides}
 use Rattle.std.proofs.lemmas.Bool.{and_parts, both_ways, not-true}
-use Rattle.columnar_memory.specs.declared.DataType.{DataType, map-DataType}
-use Rattle.columnar_memory.specs.declared.DataType.TheOpen as layer
-use Rattle.columnar_memory.specs.declared.DataType.TheFolds.{fold-Field, fold-roll-DataType, ind-DataType}
-use Rattle.columnar_memory.specs.declared.DataType.TheViews.{roll-DataType}
-use Rattle.columnar_memory.specs.declared.Field.{Field}
-use Rattle.columnar_memory.specs.declared.IntervalUnit.TheVariants as intervals
-use Rattle.columnar_memory.specs.declared.PhysicalType.{PhysicalType}
-use Rattle.columnar_memory.specs.declared.PhysicalType.TheVariants as physical
-use Rattle.columnar_memory.specs.declared.PrimitiveType.{PrimitiveType}
-use Rattle.columnar_memory.specs.declared.PrimitiveType.TheVariants as kinds
-use Rattle.columnar_memory.specs.Layouts.{physical_step, physical_type}
-use Rattle.nested_arrays_columns.specs.Kinds.{same_kind, numbers_of_kind, in_kind}
-use Rattle.nested_arrays_columns.specs.Slots.{null, number, pair, triple}
-use Rattle.nested_arrays_columns.specs.SoundColumns.{mask_fits, holds_below, are_strings, is_text_at, is_stored_as, has_size, are_pieces, are_pairs}
-use Rattle.nested_arrays_columns.specs.SoundColumns.{are_triples, is_byte}
-use Rattle.nested_arrays_columns.specs.StoredColumns.{string_at, Stored, bits, numbers, pairs, triples, texts, byte_strings, fixed_bytes}
-use Rattle.nested_arrays_columns.specs.StoredColumns.{stored_len, pair_slot, triple_slot, type_layer, cut_mask, cut_list, cut_stored}
-use Rattle.nested_arrays_columns.proofs.TypeLayers.{is_extension, layer_itself, layer_within}
-use Rattle.nested_arrays_columns.proofs.SameSlotsDecide.{same_kind-implies}
+use Rattle.ipc_format_grammar.specs.columnar_memory.declared.DataType.{DataType, map-DataType}
+use Rattle.ipc_format_grammar.specs.columnar_memory.declared.DataType.TheOpen as layer
+use Rattle.ipc_format_grammar.specs.columnar_memory.declared.DataType.TheFolds.{fold-Field, fold-roll-DataType, ind-DataType}
+use Rattle.ipc_format_grammar.specs.columnar_memory.declared.DataType.TheViews.{roll-DataType}
+use Rattle.ipc_format_grammar.specs.columnar_memory.declared.Field.{Field}
+use Rattle.ipc_format_grammar.specs.columnar_memory.declared.IntervalUnit.TheVariants as intervals
+use Rattle.ipc_format_grammar.specs.columnar_memory.declared.PhysicalType.{PhysicalType}
+use Rattle.ipc_format_grammar.specs.columnar_memory.declared.PhysicalType.TheVariants as physical
+use Rattle.ipc_format_grammar.specs.columnar_memory.declared.PrimitiveType.{PrimitiveType}
+use Rattle.ipc_format_grammar.specs.columnar_memory.declared.PrimitiveType.TheVariants as kinds
+use Rattle.ipc_format_grammar.specs.columnar_memory.Layouts.{physical_step, physical_type}
+use Rattle.ipc_format_grammar.specs.columns.Kinds.{same_kind, numbers_of_kind, in_kind}
+use Rattle.ipc_format_grammar.specs.columns.Slots.{null, number, pair, triple}
+use Rattle.ipc_format_grammar.specs.columns.SoundColumns.{mask_fits, holds_below, are_strings, is_text_at, is_stored_as, has_size, are_pieces, are_pairs}
+use Rattle.ipc_format_grammar.specs.columns.SoundColumns.{are_triples, is_byte}
+use Rattle.ipc_format_grammar.specs.columns.StoredColumns.{string_at, Stored, bits, numbers, pairs, triples, texts, byte_strings, fixed_bytes}
+use Rattle.ipc_format_grammar.specs.columns.StoredColumns.{stored_len, pair_slot, triple_slot, type_layer, cut_mask, cut_list, cut_stored}
+use Rattle.ipc_format_grammar.proofs.columns_lemmas.TypeLayers.{is_extension, layer_itself, layer_within}
+use Rattle.ipc_format_grammar.proofs.columns_lemmas.SameSlotsDecide.{same_kind-implies}
 use Rattle.ipc_format_grammar.specs.Buffers.{content_of, bitmap_of, bitmap_bytes, is_true, kind_bytes, fixed_content_of}
 use Rattle.ipc_format_grammar.specs.Encoding.{Encoded, Encoder, encode, encode_step, column_over, flat_column, values_column, number_column}
 use Rattle.ipc_format_grammar.specs.Encoding.{bytes_column}

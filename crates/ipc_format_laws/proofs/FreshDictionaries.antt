@@ -3,29 +3,29 @@ use Rattle.std.proofs.Common.{◌≡◌, ◌∙◌, ℕ, suc, Bool, true, List, 
 use Rattle.std.specs.Prelude.{nat_le, None}
 use Rattle.std.specs.List.{list_all}
 use Rattle.std.proofs.lemmas.Bool.{and_parts}
-use Rattle.columnar_memory.specs.declared.DataType.{DataType, map-DataType}
-use Rattle.columnar_memory.specs.declared.DataType.TheOpen as layer
-use Rattle.columnar_memory.specs.declared.DataType.TheFolds.{para-Field, fold-roll-DataType, para-roll-DataType, fold-roll-Field}
-use Rattle.columnar_memory.specs.declared.DataType.TheFolds.{para-roll-Field, ind-DataType}
-use Rattle.columnar_memory.specs.declared.DataType.TheViews.{roll-DataType, roll-Field, out-DataType}
-use Rattle.columnar_memory.specs.declared.Field.{Field, map-Field}
-use Rattle.columnar_memory.specs.declared.IntervalUnit.TheVariants as intervals
-use Rattle.nested_arrays_columns.specs.Cells.{fits_step, fits_cell}
-use Rattle.nested_arrays_columns.specs.Children.{joined_items, joined_fixed_items, field_slots, dictionary_values}
-use Rattle.nested_arrays_columns.specs.FreshColumns.{Maker, MakerUnder, fresh_fields, fresh_step, fresh_field_step, fresh_under, fresh}
-use Rattle.nested_arrays_columns.specs.FreshLaws.{buildable_step, is_buildable}
-use Rattle.nested_arrays_columns.specs.OpenBatch.{is_within}
-use Rattle.nested_arrays_columns.specs.Slots.{Slot, null}
-use Rattle.nested_arrays_columns.specs.SoundColumns.{is_entry}
-use Rattle.nested_arrays_columns.specs.StoredColumns.{column_type, slots}
-use Rattle.nested_arrays_columns.proofs.Claims.{TypeWith, FieldWith, LayerWith, bare_layer}
-use Rattle.nested_arrays_columns.proofs.Fitting.{null_fits}
-use Rattle.nested_arrays_columns.proofs.FreshBelow.{items_fit, no_items, fixed_items_fit, values_fit, TakeNull, fields_pass, fields_fit}
-use Rattle.nested_arrays_columns.proofs.FreshLengths.{makers_of, answers, can_all}
-use Rattle.nested_arrays_columns.proofs.FreshLengths.{Layer, buildable_field, fresh_field, cell_field, buildable_layer, fresh_layer, cell_layer}
-use Rattle.nested_arrays_columns.proofs.FreshLengths.{unlike}
-use Rattle.nested_arrays_columns.proofs.FreshSlots.{fresh_keeps}
-use Rattle.nested_arrays_columns.proofs.FreshTypes.{fresh_type}
+use Rattle.ipc_format_grammar.specs.columnar_memory.declared.DataType.{DataType, map-DataType}
+use Rattle.ipc_format_grammar.specs.columnar_memory.declared.DataType.TheOpen as layer
+use Rattle.ipc_format_grammar.specs.columnar_memory.declared.DataType.TheFolds.{para-Field, fold-roll-DataType, para-roll-DataType, fold-roll-Field}
+use Rattle.ipc_format_grammar.specs.columnar_memory.declared.DataType.TheFolds.{para-roll-Field, ind-DataType}
+use Rattle.ipc_format_grammar.specs.columnar_memory.declared.DataType.TheViews.{roll-DataType, roll-Field, out-DataType}
+use Rattle.ipc_format_grammar.specs.columnar_memory.declared.Field.{Field, map-Field}
+use Rattle.ipc_format_grammar.specs.columnar_memory.declared.IntervalUnit.TheVariants as intervals
+use Rattle.ipc_format_grammar.specs.columns.Cells.{fits_step, fits_cell}
+use Rattle.ipc_format_grammar.specs.columns.Children.{joined_items, joined_fixed_items, field_slots, dictionary_values}
+use Rattle.ipc_format_grammar.specs.columns.FreshColumns.{Maker, MakerUnder, fresh_fields, fresh_step, fresh_field_step, fresh_under, fresh}
+use Rattle.ipc_format_grammar.specs.columns.FreshLaws.{buildable_step, is_buildable}
+use Rattle.ipc_format_grammar.specs.columns.OpenBatch.{is_within}
+use Rattle.ipc_format_grammar.specs.columns.Slots.{Slot, null}
+use Rattle.ipc_format_grammar.specs.columns.SoundColumns.{is_entry}
+use Rattle.ipc_format_grammar.specs.columns.StoredColumns.{column_type, slots}
+use Rattle.ipc_format_grammar.proofs.columns_lemmas.Claims.{TypeWith, FieldWith, LayerWith, bare_layer}
+use Rattle.ipc_format_grammar.proofs.columns_lemmas.Fitting.{null_fits}
+use Rattle.ipc_format_grammar.proofs.columns_lemmas.FreshBelow.{items_fit, no_items, fixed_items_fit, values_fit, TakeNull, fields_pass, fields_fit}
+use Rattle.ipc_format_grammar.proofs.columns_lemmas.FreshLengths.{makers_of, answers, can_all}
+use Rattle.ipc_format_grammar.proofs.columns_lemmas.FreshLengths.{Layer, buildable_field, fresh_field, cell_field, buildable_layer, fresh_layer, cell_layer}
+use Rattle.ipc_format_grammar.proofs.columns_lemmas.FreshLengths.{unlike}
+use Rattle.ipc_format_grammar.proofs.columns_lemmas.FreshSlots.{fresh_keeps}
+use Rattle.ipc_format_grammar.proofs.columns_lemmas.FreshTypes.{fresh_type}
 use Rattle.ipc_format_grammar.specs.Columns.{first_ids, other_ids, ids_below, own_id}
 use Rattle.ipc_format_grammar.specs.StoredEncoding.{encode_stored}
 use Rattle.ipc_format_grammar.specs.GivenDictionaries.{id_or_0, Giver, given_fields, given_values, givers, give_step, give_field_step}

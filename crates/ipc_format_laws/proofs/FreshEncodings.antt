@@ -6,36 +6,36 @@ use Rattle.std.specs.Int.{Width, w32, w64}
 use Rattle.std.proofs.lemmas.Bool.{and_parts}
 use Rattle.std.proofs.lemmas.List.{length-map}
 use Rattle.std.proofs.lemmas.List.Sums.{sum_by-cons}
-use Rattle.columnar_memory.specs.declared.DataType.{DataType, map-DataType}
-use Rattle.columnar_memory.specs.declared.DataType.TheOpen as layer
-use Rattle.columnar_memory.specs.declared.DataType.TheFolds.{fold-Field, fold-roll-DataType, para-roll-DataType, fold-roll-Field}
-use Rattle.columnar_memory.specs.declared.DataType.TheFolds.{para-roll-Field, ind-DataType}
-use Rattle.columnar_memory.specs.declared.DataType.TheViews.{roll-DataType, roll-Field, out-DataType}
-use Rattle.columnar_memory.specs.declared.Field.{Field, map-Field}
-use Rattle.columnar_memory.specs.declared.IntegerType.{IntegerType}
-use Rattle.columnar_memory.specs.declared.IntervalUnit.TheVariants as intervals
-use Rattle.columnar_memory.specs.declared.PrimitiveType.{PrimitiveType}
-use Rattle.columnar_memory.specs.declared.PrimitiveType.TheVariants as kinds
-use Rattle.nested_arrays_columns.specs.Cells.{is_null, is_bytes_of, is_list_of_size, fits_step, fits_cell}
-use Rattle.nested_arrays_columns.specs.Children.{items_of, fixed_items_of, joined_items, joined_fixed_items, field_of, field_slots, dictionary_values}
-use Rattle.nested_arrays_columns.specs.FreshColumns.{is_true, content_of, fixed_content_of, key_among, mask_of, numbers_as}
-use Rattle.nested_arrays_columns.specs.FreshColumns.{content_offsets}
-use Rattle.nested_arrays_columns.specs.FreshColumns.{item_offsets, Maker, MakerUnder, fresh_fields, fresh_lists, fresh_keys, fresh_step}
-use Rattle.nested_arrays_columns.specs.FreshColumns.{fresh_field_step, fresh_under, fresh}
-use Rattle.nested_arrays_columns.specs.FreshLaws.{buildable_step, is_buildable}
-use Rattle.nested_arrays_columns.specs.OpenBatch.{is_within}
-use Rattle.nested_arrays_columns.specs.Slots.{Slot, null}
-use Rattle.nested_arrays_columns.specs.SoundColumns.{is_entry}
-use Rattle.nested_arrays_columns.specs.StoredColumns.{bits, texts, byte_strings, fixed_bytes, flat, fixed_lists, column_len, type_layer, cut_list}
-use Rattle.nested_arrays_columns.specs.StoredColumns.{stored_len}
-use Rattle.nested_arrays_columns.proofs.Claims.{TypeWith, FieldWith, LayerWith, bare_layer}
-use Rattle.nested_arrays_columns.proofs.FreshBelow.{items_fit, no_items, fixed_items_fit, pieces_length, fixed_piece, TakeNull, fields_pass}
-use Rattle.nested_arrays_columns.proofs.FreshBelow.{fields_fit}
-use Rattle.nested_arrays_columns.proofs.FreshLengths.{makers_of, answers, can_all}
-use Rattle.nested_arrays_columns.proofs.FreshLengths.{buildable_field, fresh_field, cell_field, buildable_layer, fresh_layer, cell_layer, unlike}
-use Rattle.nested_arrays_columns.proofs.FreshLengths.{offsets_count, content_piece, of_size, fresh_counts}
-use Rattle.nested_arrays_columns.proofs.Fitting.{null_fits}
-use Rattle.nested_arrays_columns.proofs.TypeLayers.{Layer, is_extension, layer_itself, layer_within}
+use Rattle.ipc_format_grammar.specs.columnar_memory.declared.DataType.{DataType, map-DataType}
+use Rattle.ipc_format_grammar.specs.columnar_memory.declared.DataType.TheOpen as layer
+use Rattle.ipc_format_grammar.specs.columnar_memory.declared.DataType.TheFolds.{fold-Field, fold-roll-DataType, para-roll-DataType, fold-roll-Field}
+use Rattle.ipc_format_grammar.specs.columnar_memory.declared.DataType.TheFolds.{para-roll-Field, ind-DataType}
+use Rattle.ipc_format_grammar.specs.columnar_memory.declared.DataType.TheViews.{roll-DataType, roll-Field, out-DataType}
+use Rattle.ipc_format_grammar.specs.columnar_memory.declared.Field.{Field, map-Field}
+use Rattle.ipc_format_grammar.specs.columnar_memory.declared.IntegerType.{IntegerType}
+use Rattle.ipc_format_grammar.specs.columnar_memory.declared.IntervalUnit.TheVariants as intervals
+use Rattle.ipc_format_grammar.specs.columnar_memory.declared.PrimitiveType.{PrimitiveType}
+use Rattle.ipc_format_grammar.specs.columnar_memory.declared.PrimitiveType.TheVariants as kinds
+use Rattle.ipc_format_grammar.specs.columns.Cells.{is_null, is_bytes_of, is_list_of_size, fits_step, fits_cell}
+use Rattle.ipc_format_grammar.specs.columns.Children.{items_of, fixed_items_of, joined_items, joined_fixed_items, field_of, field_slots, dictionary_values}
+use Rattle.ipc_format_grammar.specs.columns.FreshColumns.{is_true, content_of, fixed_content_of, key_among, mask_of, numbers_as}
+use Rattle.ipc_format_grammar.specs.columns.FreshColumns.{content_offsets}
+use Rattle.ipc_format_grammar.specs.columns.FreshColumns.{item_offsets, Maker, MakerUnder, fresh_fields, fresh_lists, fresh_keys, fresh_step}
+use Rattle.ipc_format_grammar.specs.columns.FreshColumns.{fresh_field_step, fresh_under, fresh}
+use Rattle.ipc_format_grammar.specs.columns.FreshLaws.{buildable_step, is_buildable}
+use Rattle.ipc_format_grammar.specs.columns.OpenBatch.{is_within}
+use Rattle.ipc_format_grammar.specs.columns.Slots.{Slot, null}
+use Rattle.ipc_format_grammar.specs.columns.SoundColumns.{is_entry}
+use Rattle.ipc_format_grammar.specs.columns.StoredColumns.{bits, texts, byte_strings, fixed_bytes, flat, fixed_lists, column_len, type_layer, cut_list}
+use Rattle.ipc_format_grammar.specs.columns.StoredColumns.{stored_len}
+use Rattle.ipc_format_grammar.proofs.columns_lemmas.Claims.{TypeWith, FieldWith, LayerWith, bare_layer}
+use Rattle.ipc_format_grammar.proofs.columns_lemmas.FreshBelow.{items_fit, no_items, fixed_items_fit, pieces_length, fixed_piece, TakeNull, fields_pass}
+use Rattle.ipc_format_grammar.proofs.columns_lemmas.FreshBelow.{fields_fit}
+use Rattle.ipc_format_grammar.proofs.columns_lemmas.FreshLengths.{makers_of, answers, can_all}
+use Rattle.ipc_format_grammar.proofs.columns_lemmas.FreshLengths.{buildable_field, fresh_field, cell_field, buildable_layer, fresh_layer, cell_layer, unlike}
+use Rattle.ipc_format_grammar.proofs.columns_lemmas.FreshLengths.{offsets_count, content_piece, of_size, fresh_counts}
+use Rattle.ipc_format_grammar.proofs.columns_lemmas.Fitting.{null_fits}
+use Rattle.ipc_format_grammar.proofs.columns_lemmas.TypeLayers.{Layer, is_extension, layer_itself, layer_within}
 use Rattle.ipc_format_grammar.specs.Buffers.{bitmap_of, bitmap_bytes, null_count, validity_bytes, kind_bytes, offset_bytes}
 use Rattle.ipc_format_grammar.specs.Encoding.{Encoder, encode, encode_step, column_over, node_of, values_column, bytes_column}
 use Rattle.ipc_format_grammar.specs.Encoding.{list_column, dictionary_column, field_columns}

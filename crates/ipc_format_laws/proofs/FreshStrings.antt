@@ -8,13 +8,13 @@ use Rattle.std.specs.Cmp.{unsigned_Decides}
 use Rattle.std.proofs.lemmas.Bool.{and_parts, both_ways, leb-true}
 use Rattle.std.proofs.lemmas.List.{append_cancel_right}
 use Rattle.std.proofs.lemmas.List.Folds.{drop_split}
-use Rattle.columnar_memory.specs.declared.PhysicalType.{PhysicalType}
-use Rattle.nested_arrays_columns.specs.Kinds.{most_offset}
-use Rattle.nested_arrays_columns.specs.Slots.{Slot, window}
-use Rattle.nested_arrays_columns.specs.SoundColumns.{holds_below, rises_at, are_offsets, are_strings, is_byte}
-use Rattle.nested_arrays_columns.specs.StoredColumns.{string_at, cut_list}
-use Rattle.nested_arrays_columns.proofs.Conditions.{holds_at}
-use Rattle.nested_arrays_columns.proofs.Windows.{length-cut_list}
+use Rattle.ipc_format_grammar.specs.columnar_memory.declared.PhysicalType.{PhysicalType}
+use Rattle.ipc_format_grammar.specs.columns.Kinds.{most_offset}
+use Rattle.ipc_format_grammar.specs.columns.Slots.{Slot, window}
+use Rattle.ipc_format_grammar.specs.columns.SoundColumns.{holds_below, rises_at, are_offsets, are_strings, is_byte}
+use Rattle.ipc_format_grammar.specs.columns.StoredColumns.{string_at, cut_list}
+use Rattle.ipc_format_grammar.proofs.columns_lemmas.Conditions.{holds_at}
+use Rattle.ipc_format_grammar.proofs.columns_lemmas.Windows.{length-cut_list}
 use Rattle.ipc_format_grammar.specs.Buffers.{content_of, sums_from, offset_bytes}
 use Rattle.ipc_format_grammar.specs.StoredEncoding.{moved_offsets, moved_bytes, between_offsets}
 use Rattle.ipc_format_laws.proofs.FlatColumns.{next_place, this_place, later, first_is, whole_cut}

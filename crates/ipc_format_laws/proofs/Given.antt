@@ -1,7 +1,7 @@
 -- What is known of the value that some reading gives, if it gives one.
 use Rattle.std.proofs.Common.{◌≡◌, Bool, true, false, subst}
 use Rattle.std.specs.Prelude.{Option, Some, None, if◌then◌else◌}
-use Rattle.ipc_format_flatbuffers.specs.Reading.{◌>>=◌}
+use Rattle.ipc_format_grammar.specs.flatbuffers.Reading.{◌>>=◌}
 
 -- whatever is given has a property
 abbrev pub Gives : {A : Type 0} → (A → Type 0) → Option A → Type 0

@@ -4,15 +4,15 @@ use Rattle.std.specs.Prelude.{Option, Some, None, FitsSigned}
 use Rattle.std.specs.Int.{w64}
 use Rattle.std.specs.List.{All}
 use Rattle.std.proofs.lemmas.List.Elements.{All-nil, All-cons, All-append}
-use Rattle.columnar_memory.specs.declared.DataType.{DataType, map-DataType}
-use Rattle.columnar_memory.specs.declared.DataType.TheOpen as layer
-use Rattle.columnar_memory.specs.declared.DataType.TheViews.{roll-DataType, roll-Field}
-use Rattle.columnar_memory.specs.declared.DataType.TheFolds.{para-Field, ind-DataType, para-roll-DataType, para-roll-Field}
-use Rattle.columnar_memory.specs.declared.Field.{Field}
-use Rattle.nested_arrays_columns.specs.Slots.{Slot}
-use Rattle.nested_arrays_columns.specs.Children.{joined_items, joined_fixed_items, field_slots, dictionary_values}
-use Rattle.nested_arrays_columns.specs.StoredColumns.{Column, Columns, nulls, flat, lists, fixed_lists, records, unions, dictionary, no_column}
-use Rattle.nested_arrays_columns.specs.StoredColumns.{column_then, column_type, slots}
+use Rattle.ipc_format_grammar.specs.columnar_memory.declared.DataType.{DataType, map-DataType}
+use Rattle.ipc_format_grammar.specs.columnar_memory.declared.DataType.TheOpen as layer
+use Rattle.ipc_format_grammar.specs.columnar_memory.declared.DataType.TheViews.{roll-DataType, roll-Field}
+use Rattle.ipc_format_grammar.specs.columnar_memory.declared.DataType.TheFolds.{para-Field, ind-DataType, para-roll-DataType, para-roll-Field}
+use Rattle.ipc_format_grammar.specs.columnar_memory.declared.Field.{Field}
+use Rattle.ipc_format_grammar.specs.columns.Slots.{Slot}
+use Rattle.ipc_format_grammar.specs.columns.Children.{joined_items, joined_fixed_items, field_slots, dictionary_values}
+use Rattle.ipc_format_grammar.specs.columns.StoredColumns.{Column, Columns, nulls, flat, lists, fixed_lists, records, unions, dictionary, no_column}
+use Rattle.ipc_format_grammar.specs.columns.StoredColumns.{column_then, column_type, slots}
 use Rattle.ipc_format_grammar.specs.Schemas.{Ids, IdsList, ids, no_ids, ids_then}
 use Rattle.ipc_format_grammar.specs.Columns.{first_ids, other_ids, ids_below, own_id}
 use Rattle.ipc_format_grammar.specs.Encoding.{encode}

@@ -1,14 +1,14 @@
 -- Each type and each field reads back.
 use Rattle.std.proofs.Common.{Bool, true, false, not, map, refl, subst, arith}
 use denote.Hole.Carrier
-use Rattle.columnar_memory.specs.declared.DataType.{DataType, map-DataType}
-use Rattle.columnar_memory.specs.declared.DataType.TheOpen as layer
-use Rattle.columnar_memory.specs.declared.DataType.TheVariants as types
-use Rattle.columnar_memory.specs.declared.DataType.TheViews.{roll-DataType, roll-Field}
-use Rattle.columnar_memory.specs.declared.DataType.TheFolds.{ind-Field, fold-DataType, fold-Field, fold-roll-DataType, fold-roll-Field}
-use Rattle.columnar_memory.specs.declared.Field.{Field, map-Field}
-use Rattle.columnar_memory.specs.declared.IntegerType.TheVariants as integers
-use Rattle.ipc_format_flatbuffers.specs.Objects.{Object, table}
+use Rattle.ipc_format_grammar.specs.columnar_memory.declared.DataType.{DataType, map-DataType}
+use Rattle.ipc_format_grammar.specs.columnar_memory.declared.DataType.TheOpen as layer
+use Rattle.ipc_format_grammar.specs.columnar_memory.declared.DataType.TheVariants as types
+use Rattle.ipc_format_grammar.specs.columnar_memory.declared.DataType.TheViews.{roll-DataType, roll-Field}
+use Rattle.ipc_format_grammar.specs.columnar_memory.declared.DataType.TheFolds.{ind-Field, fold-DataType, fold-Field, fold-roll-DataType, fold-roll-Field}
+use Rattle.ipc_format_grammar.specs.columnar_memory.declared.Field.{Field, map-Field}
+use Rattle.ipc_format_grammar.specs.columnar_memory.declared.IntegerType.TheVariants as integers
+use Rattle.ipc_format_grammar.specs.flatbuffers.Objects.{Object, table}
 use Rattle.ipc_format_grammar.specs.Schemas.{Ids, IdsList, type_in}
 use Rattle.ipc_format_grammar.specs.Types as kind
 use Rattle.ipc_format_grammar.specs.SchemaObjects.{Told, told_of, told_step, told_field_step, short_table, long_table, unit_number, interval_number}

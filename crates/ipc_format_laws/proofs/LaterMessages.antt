@@ -4,7 +4,7 @@ use Rattle.std.specs.Prelude.{Some, nat_le, nat_lt}
 use Rattle.std.specs.List.{All, list_all}
 use Rattle.std.proofs.lemmas.Bool.{leb-true, ltb-true, lt-ltb}
 use Rattle.std.proofs.lemmas.List.Elements.{All-head, All-tail, All-nil, All-cons}
-use Rattle.ipc_format_flatbuffers.specs.FlatBuffers.{Table}
+use Rattle.ipc_format_grammar.specs.flatbuffers.FlatBuffers.{Table}
 use Rattle.ipc_format_grammar.specs.Messages as grammar
 use Rattle.ipc_format_grammar.specs.Messages.{Header, message_in}
 use Rattle.ipc_format_grammar.specs.Framing.{Framed}

@@ -68,3 +68,7 @@ pub mod ChosenBatches
 pub mod Choices
 pub mod FlatBatches
 pub mod Runs
+pub use Rattle.ipc_format_grammar.proofs as grammar_lemmas
+pub use Rattle.ipc_format_grammar.proofs.columnar_memory_lemmas
+pub use Rattle.ipc_format_grammar.proofs.flatbuffers_lemmas
+pub use Rattle.ipc_format_grammar.proofs.columns_lemmas

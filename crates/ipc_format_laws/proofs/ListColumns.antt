@@ -10,10 +10,10 @@ use Rattle.std.proofs.Math.Nat.{mul-le-mul_right, min-eq_left, min-eq_right, min
 use Rattle.std.proofs.lemmas.Bool.{and_parts, and_from, eq-eqb, eqb-true}
 use Rattle.std.proofs.lemmas.List.{length-replicate}
 use Rattle.std.proofs.lemmas.List.Folds.{list_all-append}
-use Rattle.columnar_memory.specs.declared.Field.{Field}
-use Rattle.nested_arrays_columns.specs.Slots.{Slot, Slots, null, items, no_slot, slot_then, in_slots, slot_list, window}
-use Rattle.nested_arrays_columns.specs.Cells.{is_null, is_list_of, is_list_of_size}
-use Rattle.nested_arrays_columns.specs.Children.{items_of, fixed_items_of, joined_items, joined_fixed_items}
+use Rattle.ipc_format_grammar.specs.columnar_memory.declared.Field.{Field}
+use Rattle.ipc_format_grammar.specs.columns.Slots.{Slot, Slots, null, items, no_slot, slot_then, in_slots, slot_list, window}
+use Rattle.ipc_format_grammar.specs.columns.Cells.{is_null, is_list_of, is_list_of_size}
+use Rattle.ipc_format_grammar.specs.columns.Children.{items_of, fixed_items_of, joined_items, joined_fixed_items}
 use Rattle.ipc_format_grammar.specs.Messages.{V5}
 use Rattle.ipc_format_grammar.specs.Columns.{Place, Reader, taken_of, last_of, piece_at, slot_by, list_slots, fixed_list_slots}
 use Rattle.ipc_format_grammar.specs.Columns.{limit_times, first_below}

@@ -1,11 +1,11 @@
 -- What the pairs of custom metadata give back.
 use Rattle.std.proofs.Common.{◌≡◌, ℕ, ◌+◌, List, [], ◌∷◌, refl, add-one}
 use Rattle.std.specs.Prelude.{Some}
-use Rattle.ipc_format_flatbuffers.specs.FlatBuffers.{Table, Vector}
-use Rattle.ipc_format_flatbuffers.specs.Objects.{Fields, text, no_field, refers_then}
+use Rattle.ipc_format_grammar.specs.flatbuffers.FlatBuffers.{Table, Vector}
+use Rattle.ipc_format_grammar.specs.flatbuffers.Objects.{Fields, text, no_field, refers_then}
 use Rattle.ipc_format_laws.specs.Spelling.{SpellsFields, SpellsObjects, count_of}
 use Rattle.ipc_format_laws.proofs.Readers.{absent_reads, texts_read, each_read, references_read}
-use Rattle.columnar_memory.specs.Pairs.{with_pair}
+use Rattle.ipc_format_grammar.specs.columnar_memory.Pairs.{with_pair}
 use Rattle.ipc_format_grammar.specs.Schemas.{pairs_from, metadata_in}
 use Rattle.ipc_format_grammar.specs.SchemaObjects.{refers_if, pair_objects, metadata_object}
 

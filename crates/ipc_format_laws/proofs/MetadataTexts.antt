@@ -7,10 +7,10 @@ use Rattle.std.specs.Ordering.{is_lt, nat_cmp}
 use Rattle.std.specs.Cmp.Lexicographic.{slice_cmp, pointwise}
 use Rattle.std.specs.Str.{is_utf8}
 use Rattle.std.proofs.lemmas.Bool.{and_parts}
-use Rattle.columnar_memory.specs.Pairs.{value_at, with_pair}
-use Rattle.ipc_format_flatbuffers.specs.Reading.{◌>>=◌, guard, window_at}
-use Rattle.ipc_format_flatbuffers.specs.FlatBuffers.{Table, Vector, number_at, reference_field, string_at, string_field, element_at}
-use Rattle.ipc_format_flatbuffers.specs.FlatBuffers.{vector_field, if_present}
+use Rattle.ipc_format_grammar.specs.columnar_memory.Pairs.{value_at, with_pair}
+use Rattle.ipc_format_grammar.specs.flatbuffers.Reading.{◌>>=◌, guard, window_at}
+use Rattle.ipc_format_grammar.specs.flatbuffers.FlatBuffers.{Table, Vector, number_at, reference_field, string_at, string_field, element_at}
+use Rattle.ipc_format_grammar.specs.flatbuffers.FlatBuffers.{vector_field, if_present}
 use Rattle.std.specs.Int.{w32}
 use Rattle.ipc_format_grammar.specs.Schemas.{with_found, pairs_from, pairs_of, metadata_in}
 use Rattle.ipc_format_laws.specs.Schemas.{is_text_or_none, are_texts, is_below, is_ascending}

@@ -2,10 +2,10 @@
 use Rattle.std.proofs.Common.{◌≡◌, ℕ, ◌+◌, ◌*◌, ◌≤◌, ◌<◌, ◌^◌, List, [], ◌++◌, length, replicate, refl, sym, arith, append-nil}
 use Rattle.std.specs.List.{flat_map}
 use Rattle.std.specs.Int.{w32, to_le_bytes, next_multiple_of}
-use Rattle.ipc_format_flatbuffers.specs.FlatBuffers.{Table, Vector}
-use Rattle.ipc_format_flatbuffers.specs.Laying.{Piece, number, refers, after, table_end, child_bytes, message_bytes}
-use Rattle.ipc_format_flatbuffers.specs.Objects.{Object, Fields, Objects, table, references, elements, text, no_field, absent_then, number_then}
-use Rattle.ipc_format_flatbuffers.specs.Objects.{refers_then, no_object, object_then, piece_of, slots_of, pieces_of, laid}
+use Rattle.ipc_format_grammar.specs.flatbuffers.FlatBuffers.{Table, Vector}
+use Rattle.ipc_format_grammar.specs.flatbuffers.Laying.{Piece, number, refers, after, table_end, child_bytes, message_bytes}
+use Rattle.ipc_format_grammar.specs.flatbuffers.Objects.{Object, Fields, Objects, table, references, elements, text, no_field, absent_then, number_then}
+use Rattle.ipc_format_grammar.specs.flatbuffers.Objects.{refers_then, no_object, object_then, piece_of, slots_of, pieces_of, laid}
 use Rattle.ipc_format_laws.specs.Spelling.{Spells, SpellsFields, SpellsObjects, count_of}
 use Rattle.ipc_format_laws.specs.Theorem.{Fits, FitsFields, FitsObjects, LaidReadsBack}
 use Rattle.ipc_format_laws.proofs.Places.{Stands, front, back, ends_within}

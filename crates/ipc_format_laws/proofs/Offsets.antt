@@ -12,9 +12,9 @@ use Rattle.std.proofs.Math.ListN.{get_or-map}
 use Rattle.std.proofs.lemmas.List.{length-map}
 use Rattle.std.proofs.Math.Seq.{take-append_seam, drop-append_seam}
 use Rattle.std.proofs.lemmas.Bool.{and_from, lt-ltb, ltb-true, le-leb, le-ltb}
-use Rattle.ipc_format_flatbuffers.proofs.Numbers.{length-to_le_bytes}
-use Rattle.columnar_memory.specs.NumberLaws.{signed_in-number_bytes}
-use Rattle.nested_arrays_columns.specs.Slots.{Slot, null, window}
+use Rattle.ipc_format_grammar.proofs.flatbuffers_lemmas.Numbers.{length-to_le_bytes}
+use Rattle.ipc_format_grammar.specs.columnar_memory.NumberLaws.{signed_in-number_bytes}
+use Rattle.ipc_format_grammar.specs.columns.Slots.{Slot, null, window}
 use Rattle.ipc_format_grammar.specs.Values.{signed_of, element_bytes}
 use Rattle.ipc_format_grammar.specs.Columns.{Source, buffer_at, rising, offsets_in, last_of, piece_at}
 use Rattle.ipc_format_grammar.specs.Buffers.{sums_from, offset_bytes}

@@ -8,8 +8,8 @@ use Rattle.std.specs.Cmp.Lexicographic.{slice_cmp, pointwise, texts_ties, bytes_
 use Rattle.std.specs.List.Sorted.{IsStrictlySortedBy}
 use Rattle.std.specs.List.{AllByRecursion}
 use Rattle.std.specs.Map.{keys_of}
-use Rattle.columnar_memory.specs.Pairs.{with_pair, value_at}
-use Rattle.columnar_memory.specs.declared.DataType.{DataType}
+use Rattle.ipc_format_grammar.specs.columnar_memory.Pairs.{with_pair, value_at}
+use Rattle.ipc_format_grammar.specs.columnar_memory.declared.DataType.{DataType}
 use Rattle.ipc_format_grammar.specs.Schemas.{extension_name_key, extension_metadata_key, extended}
 use Rattle.ipc_format_grammar.specs.Writable.{without_key, with_extension}
 use Rattle.ipc_format_laws.specs.Schemas.{is_below, is_ascending}

@@ -8,7 +8,7 @@ use Rattle.std.specs.Cmp.Lexicographic.{pointwise, slice_cmp, nat_list_cmp_total
 use Rattle.std.specs.List.{list_all}
 use Rattle.std.proofs.lemmas.Bool.{cases_Bool, and_parts, and_from, both_ways}
 use mathlib.Core.Logic.{inl, inr}
-use Rattle.columnar_memory.specs.Pairs.{with_pair}
+use Rattle.ipc_format_grammar.specs.columnar_memory.Pairs.{with_pair}
 use Rattle.ipc_format_grammar.specs.Writable.{without_key}
 use Rattle.ipc_format_laws.specs.NormalForm.{are_sorted}
 

@@ -5,12 +5,12 @@ use Rattle.std.specs.Prelude.{Some}
 use Rattle.std.specs.List.{flat_map}
 use Rattle.std.specs.Int.{w16, w32, to_le_bytes, next_multiple_of}
 use Rattle.std.specs.Str.{is_utf8}
-use Rattle.ipc_format_flatbuffers.specs.FlatBuffers.{Table, Vector, number_at, table_at, vector_at, string_at}
-use Rattle.ipc_format_flatbuffers.specs.Laying.{Slot, Piece, padded, table_end, entries, child_bytes, fields, vtable, table_bytes, table_piece}
-use Rattle.ipc_format_flatbuffers.specs.Laying.{reference_bytes, references_piece, elements_piece, text_piece}
-use Rattle.ipc_format_flatbuffers.proofs.Numbers.{length-padded}
-use Rattle.ipc_format_flatbuffers.proofs.Slots.{length-vtable, length-table_bytes, table_end_after}
-use Rattle.ipc_format_flatbuffers.proofs.References.{length-reference_bytes}
+use Rattle.ipc_format_grammar.specs.flatbuffers.FlatBuffers.{Table, Vector, number_at, table_at, vector_at, string_at}
+use Rattle.ipc_format_grammar.specs.flatbuffers.Laying.{Slot, Piece, padded, table_end, entries, child_bytes, fields, vtable, table_bytes, table_piece}
+use Rattle.ipc_format_grammar.specs.flatbuffers.Laying.{reference_bytes, references_piece, elements_piece, text_piece}
+use Rattle.ipc_format_grammar.proofs.flatbuffers_lemmas.Numbers.{length-padded}
+use Rattle.ipc_format_grammar.proofs.flatbuffers_lemmas.Slots.{length-vtable, length-table_bytes, table_end_after}
+use Rattle.ipc_format_grammar.proofs.flatbuffers_lemmas.References.{length-reference_bytes}
 use Rattle.ipc_format_laws.specs.Spelling.{SpellsElements, SpellsElement}
 use Rattle.ipc_format_laws.proofs.Places.{Stands, front, back, ends_within, window_stands}
 use Rattle.ipc_format_laws.proofs.ByAddress.{number_stands, table_stands, reference_stands, vector_stands, string_stands}

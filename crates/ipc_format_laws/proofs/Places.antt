@@ -3,7 +3,7 @@ use Rattle.std.proofs.Common.{◌≡◌, ℕ, ◌+◌, ◌≤◌, List, ◌++◌
 use Rattle.std.proofs.Math.Seq.{take-append_seam, drop-append_seam}
 use Rattle.std.specs.Prelude.{Some, nat_le}
 use Rattle.std.proofs.lemmas.Bool.{le-leb}
-use Rattle.ipc_format_flatbuffers.specs.Reading.{window_at}
+use Rattle.ipc_format_grammar.specs.flatbuffers.Reading.{window_at}
 
 pub record Stands (bytes : List ℕ) (place : ℕ) (part : List ℕ) : Type 0 where
   pub before : List ℕ

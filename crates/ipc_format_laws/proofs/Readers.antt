@@ -2,8 +2,8 @@
 use Rattle.std.proofs.Common.{◌≡◌, ℕ, ◌+◌, ◌*◌, ◌≤◌, ℤ, length, refl, ap, ◌∙◌, to_z-of_z}
 use Rattle.std.specs.Prelude.{Some, FitsSigned}
 use Rattle.std.specs.Int.{Width, byte_len, cast_signed, cast_unsigned}
-use Rattle.ipc_format_flatbuffers.specs.FlatBuffers.{number_field, signed_field, signed_at, truth_field, table_field, reference_field, vector_field}
-use Rattle.ipc_format_flatbuffers.specs.FlatBuffers.{string_field, element_at, root_of}
+use Rattle.ipc_format_grammar.specs.flatbuffers.FlatBuffers.{number_field, signed_field, signed_at, truth_field, table_field, reference_field, vector_field}
+use Rattle.ipc_format_grammar.specs.flatbuffers.FlatBuffers.{string_field, element_at, root_of}
 use Rattle.ipc_format_laws.specs.Answers.{AbsentReads, NumbersRead, TruthsRead, TablesRead, ReferencesRead, ElementsRead, TextsRead, EachRead}
 use Rattle.ipc_format_laws.specs.Answers.{RootsRead}
 

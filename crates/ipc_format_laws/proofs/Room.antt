@@ -5,7 +5,7 @@ use Rattle.std.specs.Int.{w64}
 use Rattle.std.specs.List.{All, list_all}
 use Rattle.std.proofs.lemmas.Bool.{ltb-true}
 use Rattle.std.proofs.lemmas.List.Elements.{All-head, All-tail, All-nil, All-cons}
-use Rattle.nested_arrays_columns.specs.Kinds.{is_signed}
+use Rattle.ipc_format_grammar.specs.columns.Kinds.{is_signed}
 use Rattle.ipc_format_grammar.specs.Limits.{length_limit, most_dictionaries}
 use Rattle.ipc_format_grammar.specs.Schemas.{Ids, IdsList, ids, no_ids, ids_then}
 use Rattle.ipc_format_grammar.specs.Encoding.{joined}

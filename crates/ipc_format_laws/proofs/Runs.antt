@@ -4,7 +4,7 @@ use Rattle.std.specs.Prelude.{Option, Some, None, if◌then◌else◌}
 use Rattle.std.specs.List.{list_all}
 use Rattle.std.proofs.lemmas.List.{append-nil}
 use Rattle.std.proofs.lemmas.List.Folds.{list_all-append}
-use Rattle.columnar_memory.specs.declared.Schema.{Schema}
+use Rattle.ipc_format_grammar.specs.columnar_memory.declared.Schema.{Schema}
 use Rattle.ipc_format_grammar.specs.Schemas.{IdsList}
 use Rattle.ipc_format_grammar.specs.Tables.{Form, stream, file}
 use Rattle.ipc_format_grammar.specs.GivenDictionaries.{Given, agree, last_under, stands_for, written_after}

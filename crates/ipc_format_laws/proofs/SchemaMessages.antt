@@ -6,19 +6,19 @@ use Rattle.std.specs.Int.{w16}
 use Rattle.std.proofs.lemmas.Bool.{leb-true}
 use Rattle.std.proofs.lemmas.List.{map-id}
 use denote.Hole.Carrier
-use Rattle.ipc_format_flatbuffers.specs.FlatBuffers.{Table}
-use Rattle.ipc_format_flatbuffers.specs.Laying.{Piece, message_bytes}
-use Rattle.ipc_format_flatbuffers.specs.Objects.{Object, Fields, Objects, table, references, no_field, absent_then, number_then, refers_then}
-use Rattle.ipc_format_flatbuffers.specs.Objects.{piece_of, laid}
+use Rattle.ipc_format_grammar.specs.flatbuffers.FlatBuffers.{Table}
+use Rattle.ipc_format_grammar.specs.flatbuffers.Laying.{Piece, message_bytes}
+use Rattle.ipc_format_grammar.specs.flatbuffers.Objects.{Object, Fields, Objects, table, references, no_field, absent_then, number_then, refers_then}
+use Rattle.ipc_format_grammar.specs.flatbuffers.Objects.{piece_of, laid}
 use Rattle.ipc_format_laws.specs.Spelling.{SpellsFields}
 use Rattle.ipc_format_laws.specs.Theorem.{Fits, FitsObjects, FitsTable}
 use Rattle.ipc_format_laws.proofs.Readers.{references_read}
 use Rattle.ipc_format_laws.proofs.Objects.{laid_reads_back}
-use Rattle.columnar_memory.specs.declared.DataType.{DataType}
-use Rattle.columnar_memory.specs.declared.DataType.TheViews.{roll-DataType}
-use Rattle.columnar_memory.specs.declared.DataType.TheFolds.{fold-roll-Field}
-use Rattle.columnar_memory.specs.declared.Field.{Field}
-use Rattle.columnar_memory.specs.declared.Schema.{Schema}
+use Rattle.ipc_format_grammar.specs.columnar_memory.declared.DataType.{DataType}
+use Rattle.ipc_format_grammar.specs.columnar_memory.declared.DataType.TheViews.{roll-DataType}
+use Rattle.ipc_format_grammar.specs.columnar_memory.declared.DataType.TheFolds.{fold-roll-Field}
+use Rattle.ipc_format_grammar.specs.columnar_memory.declared.Field.{Field}
+use Rattle.ipc_format_grammar.specs.columnar_memory.declared.Schema.{Schema}
 use Rattle.ipc_format_grammar.specs.Messages as grammar
 use Rattle.ipc_format_grammar.specs.Messages.{message_in}
 use Rattle.ipc_format_grammar.specs.Schemas.{Ids, IdsList, ids, any_schema_in}

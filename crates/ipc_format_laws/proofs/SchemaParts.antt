@@ -5,18 +5,18 @@ use Rattle.std.specs.Int.{next_multiple_of}
 use Rattle.std.specs.Str.{is_utf8}
 use Rattle.std.specs.List.{flat_map}
 use Rattle.std.proofs.Math.Facts.{Fits-of_z, Fits-lt-pow}
-use Rattle.ipc_format_flatbuffers.specs.Laying.{Piece, Slot, child_bytes, table_piece, references_piece}
-use Rattle.ipc_format_flatbuffers.proofs.Slots.{length-vtable}
-use Rattle.ipc_format_flatbuffers.proofs.References.{length-references_piece}
-use Rattle.ipc_format_flatbuffers.specs.Objects.{Object, Fields, Objects, table, references, elements, text, no_field, absent_then, number_then}
-use Rattle.ipc_format_flatbuffers.specs.Objects.{refers_then, no_object, object_then, piece_of, slots_of, pieces_of}
+use Rattle.ipc_format_grammar.specs.flatbuffers.Laying.{Piece, Slot, child_bytes, table_piece, references_piece}
+use Rattle.ipc_format_grammar.proofs.flatbuffers_lemmas.Slots.{length-vtable}
+use Rattle.ipc_format_grammar.proofs.flatbuffers_lemmas.References.{length-references_piece}
+use Rattle.ipc_format_grammar.specs.flatbuffers.Objects.{Object, Fields, Objects, table, references, elements, text, no_field, absent_then, number_then}
+use Rattle.ipc_format_grammar.specs.flatbuffers.Objects.{refers_then, no_object, object_then, piece_of, slots_of, pieces_of}
 use Rattle.ipc_format_laws.proofs.Pieces.{length-table_piece}
 use Rattle.ipc_format_laws.specs.Theorem.{Fits, FitsFields, FitsObjects}
-use Rattle.columnar_memory.specs.declared.DataType.{DataType}
-use Rattle.columnar_memory.specs.declared.Field.{Field}
-use Rattle.columnar_memory.specs.declared.IntegerType.{IntegerType}
-use Rattle.columnar_memory.specs.declared.IntegerType.TheVariants as integers
-use Rattle.columnar_memory.specs.declared.DataType.TheViews.{out-DataType}
+use Rattle.ipc_format_grammar.specs.columnar_memory.declared.DataType.{DataType}
+use Rattle.ipc_format_grammar.specs.columnar_memory.declared.Field.{Field}
+use Rattle.ipc_format_grammar.specs.columnar_memory.declared.IntegerType.{IntegerType}
+use Rattle.ipc_format_grammar.specs.columnar_memory.declared.IntegerType.TheVariants as integers
+use Rattle.ipc_format_grammar.specs.columnar_memory.declared.DataType.TheViews.{out-DataType}
 use Rattle.ipc_format_grammar.specs.Schemas.{Ids, IdsList}
 use Rattle.ipc_format_grammar.specs.SchemaObjects.{Told, truth, refers_if, pair_objects, metadata_object, id_number, encoding_object}
 use Rattle.ipc_format_grammar.specs.SchemaObjects.{int_object, integer_object}

@@ -2,19 +2,19 @@
 use Rattle.std.proofs.Common.{◌≡◌, ℕ, ◌≤◌, ◌<◌, ◌^◌, pos, Bool, true, false, not, ◌&&◌, List, refl, ap, subst, ◌∙◌, arith}
 use Rattle.std.specs.Prelude.{Option, Some, None, nat_le}
 use Rattle.std.proofs.lemmas.Bool.{leb-true, ltb-true}
-use Rattle.columnar_memory.specs.declared.IntegerType.{IntegerType}
-use Rattle.ipc_format_flatbuffers.specs.FlatBuffers.{Table}
-use Rattle.ipc_format_flatbuffers.specs.Objects.{Object, Objects, no_object, table}
+use Rattle.ipc_format_grammar.specs.columnar_memory.declared.IntegerType.{IntegerType}
+use Rattle.ipc_format_grammar.specs.flatbuffers.FlatBuffers.{Table}
+use Rattle.ipc_format_grammar.specs.flatbuffers.Objects.{Object, Objects, no_object, table}
 use Rattle.ipc_format_laws.specs.Theorem.{Fits, FitsObjects}
-use Rattle.columnar_memory.specs.declared.DataType.{DataType}
-use Rattle.columnar_memory.specs.declared.DataType.TheOpen as layer
-use Rattle.columnar_memory.specs.declared.DataType.TheVariants as types
-use Rattle.columnar_memory.specs.declared.DataType.TheViews.{roll-DataType, out-roll-DataType}
-use Rattle.columnar_memory.specs.declared.Field.{Field}
-use Rattle.columnar_memory.specs.declared.TimeUnit.{TimeUnit}
-use Rattle.columnar_memory.specs.declared.TimeUnit.TheVariants as units
-use Rattle.columnar_memory.specs.declared.IntervalUnit.{IntervalUnit}
-use Rattle.columnar_memory.specs.declared.IntervalUnit.TheVariants as intervals
+use Rattle.ipc_format_grammar.specs.columnar_memory.declared.DataType.{DataType}
+use Rattle.ipc_format_grammar.specs.columnar_memory.declared.DataType.TheOpen as layer
+use Rattle.ipc_format_grammar.specs.columnar_memory.declared.DataType.TheVariants as types
+use Rattle.ipc_format_grammar.specs.columnar_memory.declared.DataType.TheViews.{roll-DataType, out-roll-DataType}
+use Rattle.ipc_format_grammar.specs.columnar_memory.declared.Field.{Field}
+use Rattle.ipc_format_grammar.specs.columnar_memory.declared.TimeUnit.{TimeUnit}
+use Rattle.ipc_format_grammar.specs.columnar_memory.declared.TimeUnit.TheVariants as units
+use Rattle.ipc_format_grammar.specs.columnar_memory.declared.IntervalUnit.{IntervalUnit}
+use Rattle.ipc_format_grammar.specs.columnar_memory.declared.IntervalUnit.TheVariants as intervals
 use Rattle.ipc_format_grammar.specs.Schemas.{Ids, IdsList, no_ids, FieldIn, Visits, type_in}
 use Rattle.ipc_format_grammar.specs.Types.{Tag, tag_of, integer_of, type_of_integer, date_of, time_of, decimal_of}
 use Rattle.ipc_format_grammar.specs.SchemaObjects.{Told, flat, told_step, empty_table, int_object, short_table, long_table, unit_number}

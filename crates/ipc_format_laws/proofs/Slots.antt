@@ -4,11 +4,11 @@ use Rattle.std.specs.Prelude.{Some}
 use Rattle.std.specs.List.{flat_map}
 use Rattle.std.specs.Int.{Width, w16, w32, byte_len, to_le_bytes}
 use Rattle.std.proofs.lemmas.List.{length-replicate}
-use Rattle.ipc_format_flatbuffers.specs.FlatBuffers.{Table, number_at, field_at, reference_at}
-use Rattle.ipc_format_flatbuffers.specs.Laying.{Slot, absent, number, refers, Piece, after, entry_of, table_end, entries, field_start, field_bytes}
-use Rattle.ipc_format_flatbuffers.specs.Laying.{child_bytes, fields}
-use Rattle.ipc_format_flatbuffers.proofs.Numbers.{length-to_le_bytes}
-use Rattle.ipc_format_flatbuffers.proofs.Slots.{length-field_bytes, table_end_after}
+use Rattle.ipc_format_grammar.specs.flatbuffers.FlatBuffers.{Table, number_at, field_at, reference_at}
+use Rattle.ipc_format_grammar.specs.flatbuffers.Laying.{Slot, absent, number, refers, Piece, after, entry_of, table_end, entries, field_start, field_bytes}
+use Rattle.ipc_format_grammar.specs.flatbuffers.Laying.{child_bytes, fields}
+use Rattle.ipc_format_grammar.proofs.flatbuffers_lemmas.Numbers.{length-to_le_bytes}
+use Rattle.ipc_format_grammar.proofs.flatbuffers_lemmas.Slots.{length-field_bytes, table_end_after}
 use Rattle.ipc_format_laws.specs.Spelling.{SpellsAbsent, SpellsNumber, SpellsReference}
 use Rattle.ipc_format_laws.specs.Theorem.{FitsWidth}
 use Rattle.ipc_format_laws.proofs.Places.{Stands, front, back, ends_within}

@@ -5,7 +5,7 @@ use Rattle.std.specs.Int.{w32, to_le_bytes}
 use Rattle.std.specs.Prelude.{Some, None, IsSomeAnd, Option}
 use Rattle.std.specs.List.{All}
 use Rattle.std.proofs.lemmas.List.Elements.{All-head, All-tail}
-use Rattle.ipc_format_flatbuffers.specs.FlatBuffers.{number_at, reference_at, root_of}
+use Rattle.ipc_format_grammar.specs.flatbuffers.FlatBuffers.{number_at, reference_at, root_of}
 use Rattle.ipc_format_grammar.specs.Messages as grammar
 use Rattle.ipc_format_grammar.specs.Messages.{Header, Message, message_in}
 use Rattle.ipc_format_laws.proofs.Places.{Stands, front, back, ends_within, window_stands}

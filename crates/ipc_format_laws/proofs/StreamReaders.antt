@@ -2,8 +2,8 @@
 use Rattle.std.proofs.Common.{◌≡◌, ℤ, pos, List, ℕ, refl, sym, ap, ◌∙◌, Bool, true, false}
 use Rattle.std.specs.Prelude.{Option, Some, None}
 use Rattle.std.specs.Int.{w8}
-use Rattle.ipc_format_flatbuffers.specs.Reading.{◌>>=◌, guard}
-use Rattle.ipc_format_flatbuffers.specs.FlatBuffers.{Table, root_of, number_field, table_field}
+use Rattle.ipc_format_grammar.specs.flatbuffers.Reading.{◌>>=◌, guard}
+use Rattle.ipc_format_grammar.specs.flatbuffers.FlatBuffers.{Table, root_of, number_field, table_field}
 use Rattle.ipc_format_grammar.specs.Messages as grammar
 use Rattle.ipc_format_grammar.specs.Messages.{Header, Message, message_in, header_of, body_length_of}
 

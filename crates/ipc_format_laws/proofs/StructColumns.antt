@@ -6,11 +6,11 @@ use Rattle.std.specs.List.{list_all}
 use Rattle.std.proofs.Math.ListN.{get_or-map}
 use Rattle.std.proofs.lemmas.Bool.{and_parts, and_from, eq-eqb}
 use Rattle.std.proofs.lemmas.List.{length-map}
-use Rattle.columnar_memory.specs.declared.Field.{Field}
-use Rattle.nested_arrays_columns.specs.Slots.{Slot, Slots, null, fields, no_slot, slot_then, in_slots, slot_list, window}
-use Rattle.nested_arrays_columns.specs.Cells.{fit_each, is_record_of}
-use Rattle.nested_arrays_columns.specs.Children.{slot_number, field_of, field_slots}
-use Rattle.nested_arrays_columns.specs.Tables.{row_at}
+use Rattle.ipc_format_grammar.specs.columnar_memory.declared.Field.{Field}
+use Rattle.ipc_format_grammar.specs.columns.Slots.{Slot, Slots, null, fields, no_slot, slot_then, in_slots, slot_list, window}
+use Rattle.ipc_format_grammar.specs.columns.Cells.{fit_each, is_record_of}
+use Rattle.ipc_format_grammar.specs.columns.Children.{slot_number, field_of, field_slots}
+use Rattle.ipc_format_grammar.specs.columns.Tables.{row_at}
 use Rattle.ipc_format_grammar.specs.Messages.{V5}
 use Rattle.ipc_format_grammar.specs.Schemas.{IdsList}
 use Rattle.ipc_format_grammar.specs.Layouts.{node_count, buffer_count}

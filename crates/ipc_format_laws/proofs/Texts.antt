@@ -6,20 +6,20 @@ use Rattle.std.specs.Int.{w8, w16, w32, w64}
 use Rattle.std.specs.Str.{is_utf8}
 use Rattle.std.proofs.lemmas.Bool.{and_from}
 use denote.Hole.Carrier
-use Rattle.ipc_format_flatbuffers.specs.Reading.{◌>>=◌, guard}
-use Rattle.ipc_format_flatbuffers.specs.FlatBuffers.{Table, Vector, number_field, signed_field, truth_field, table_field, vector_field, string_field}
-use Rattle.ipc_format_flatbuffers.specs.FlatBuffers.{element_at}
-use Rattle.columnar_memory.specs.declared.DataType.{DataType, map-DataType}
-use Rattle.columnar_memory.specs.declared.DataType.TheOpen as layer
-use Rattle.columnar_memory.specs.declared.DataType.TheVariants as types
-use Rattle.columnar_memory.specs.declared.DataType.TheViews.{roll-DataType}
-use Rattle.columnar_memory.specs.declared.DataType.TheFolds.{fold-DataType, fold-roll-DataType, fold-roll-Field}
-use Rattle.columnar_memory.specs.declared.Field.{Field}
-use Rattle.columnar_memory.specs.declared.IntegerType.{IntegerType}
-use Rattle.columnar_memory.specs.declared.IntegerType.TheVariants as integers
-use Rattle.columnar_memory.specs.declared.IntervalUnit.TheVariants as intervals
-use Rattle.columnar_memory.specs.declared.TimeUnit.{TimeUnit}
-use Rattle.columnar_memory.specs.declared.TimeUnit.TheVariants as units
+use Rattle.ipc_format_grammar.specs.flatbuffers.Reading.{◌>>=◌, guard}
+use Rattle.ipc_format_grammar.specs.flatbuffers.FlatBuffers.{Table, Vector, number_field, signed_field, truth_field, table_field, vector_field, string_field}
+use Rattle.ipc_format_grammar.specs.flatbuffers.FlatBuffers.{element_at}
+use Rattle.ipc_format_grammar.specs.columnar_memory.declared.DataType.{DataType, map-DataType}
+use Rattle.ipc_format_grammar.specs.columnar_memory.declared.DataType.TheOpen as layer
+use Rattle.ipc_format_grammar.specs.columnar_memory.declared.DataType.TheVariants as types
+use Rattle.ipc_format_grammar.specs.columnar_memory.declared.DataType.TheViews.{roll-DataType}
+use Rattle.ipc_format_grammar.specs.columnar_memory.declared.DataType.TheFolds.{fold-DataType, fold-roll-DataType, fold-roll-Field}
+use Rattle.ipc_format_grammar.specs.columnar_memory.declared.Field.{Field}
+use Rattle.ipc_format_grammar.specs.columnar_memory.declared.IntegerType.{IntegerType}
+use Rattle.ipc_format_grammar.specs.columnar_memory.declared.IntegerType.TheVariants as integers
+use Rattle.ipc_format_grammar.specs.columnar_memory.declared.IntervalUnit.TheVariants as intervals
+use Rattle.ipc_format_grammar.specs.columnar_memory.declared.TimeUnit.{TimeUnit}
+use Rattle.ipc_format_grammar.specs.columnar_memory.declared.TimeUnit.TheVariants as units
 use Rattle.ipc_format_grammar.specs.Messages.{natural}
 use Rattle.ipc_format_grammar.specs.Types as kind
 use Rattle.ipc_format_grammar.specs.Types.{Tag, UnionTable, tag_of, integer_in, type_of_integer, size_of, decimal_of, decimal_in, date_of}
@@ -30,7 +30,7 @@ use Rattle.ipc_format_grammar.specs.Schemas.{metadata_in, extended, extended_by,
 use Rattle.ipc_format_grammar.specs.Schemas.{any_schema_in, is_little_of}
 use Rattle.ipc_format_grammar.specs.SchemaGrammar.{schema_in}
 use Rattle.ipc_format_grammar.specs.Writable.{is_writable}
-use Rattle.columnar_memory.specs.Pairs.{value_at}
+use Rattle.ipc_format_grammar.specs.columnar_memory.Pairs.{value_at}
 use Rattle.ipc_format_laws.specs.Schemas.{is_text_or_none, are_texts, is_ascending, are_true, texts_step, texts_field_step, has_texts, HasTexts}
 use Rattle.ipc_format_laws.specs.Texts.{SchemasReadHaveTexts}
 use Rattle.ipc_format_laws.proofs.Given.{Gives, then_gives, each_gives, either_gives, was_given}

@@ -1,18 +1,18 @@
 -- Each kind of type reads back where the fields below it do.
 use Rattle.std.proofs.Common.{◌≡◌, ℕ, zero, suc, ◌+◌, ◌≤◌, ◌<◌, ◌^◌, ℤ, pos, Bool, List, [], ◌∷◌, refl, ap, subst, ◌∙◌, arith}
 use Rattle.std.specs.Prelude.{Option, Some, None}
-use Rattle.ipc_format_flatbuffers.specs.FlatBuffers.{Table}
-use Rattle.ipc_format_flatbuffers.specs.Objects.{Object, Fields, Objects, table, references, no_field, number_then, no_object, object_then}
+use Rattle.ipc_format_grammar.specs.flatbuffers.FlatBuffers.{Table}
+use Rattle.ipc_format_grammar.specs.flatbuffers.Objects.{Object, Fields, Objects, table, references, no_field, number_then, no_object, object_then}
 use Rattle.ipc_format_laws.specs.Spelling.{Spells, SpellsFields, SpellsReference}
 use Rattle.ipc_format_laws.proofs.Readers.{references_read}
-use Rattle.columnar_memory.specs.declared.DataType.{DataType}
-use Rattle.columnar_memory.specs.declared.DataType.TheVariants as types
-use Rattle.columnar_memory.specs.declared.Field.{Field}
-use Rattle.columnar_memory.specs.declared.TimeUnit.{TimeUnit}
-use Rattle.columnar_memory.specs.declared.IntervalUnit.{IntervalUnit}
-use Rattle.columnar_memory.specs.declared.IntervalUnit.TheVariants as intervals
-use Rattle.columnar_memory.specs.declared.IntegerType.{IntegerType}
-use Rattle.columnar_memory.specs.declared.UnionMode.{UnionMode}
+use Rattle.ipc_format_grammar.specs.columnar_memory.declared.DataType.{DataType}
+use Rattle.ipc_format_grammar.specs.columnar_memory.declared.DataType.TheVariants as types
+use Rattle.ipc_format_grammar.specs.columnar_memory.declared.Field.{Field}
+use Rattle.ipc_format_grammar.specs.columnar_memory.declared.TimeUnit.{TimeUnit}
+use Rattle.ipc_format_grammar.specs.columnar_memory.declared.IntervalUnit.{IntervalUnit}
+use Rattle.ipc_format_grammar.specs.columnar_memory.declared.IntervalUnit.TheVariants as intervals
+use Rattle.ipc_format_grammar.specs.columnar_memory.declared.IntegerType.{IntegerType}
+use Rattle.ipc_format_grammar.specs.columnar_memory.declared.UnionMode.{UnionMode}
 use Rattle.std.specs.Int.{w8, w16, w32}
 use Rattle.ipc_format_grammar.specs.Types as kind
 use Rattle.ipc_format_grammar.specs.Types.{Tag, tag_of, integer_of, type_of_integer, decimal_of, date_of, time_of, interval_of, size_of}

@@ -6,17 +6,17 @@ use Rattle.std.specs.List.{flat_map}
 use Rattle.std.proofs.Math.Facts.{Fits-of_z, Fits-lt-pow}
 use Rattle.std.specs.Int.{w8, w16, w32, to_le_bytes, cast_unsigned}
 use Rattle.std.proofs.lemmas.Int.{to_z_pos}
-use Rattle.ipc_format_flatbuffers.specs.FlatBuffers.{Table, signed_at, signed_field, truth_field, string_field}
-use Rattle.ipc_format_flatbuffers.specs.Objects.{Fields, no_field, number_then}
+use Rattle.ipc_format_grammar.specs.flatbuffers.FlatBuffers.{Table, signed_at, signed_field, truth_field, string_field}
+use Rattle.ipc_format_grammar.specs.flatbuffers.Objects.{Fields, no_field, number_then}
 use Rattle.ipc_format_laws.specs.Spelling.{SpellsFields, SpellsNumber}
 use Rattle.ipc_format_laws.proofs.Places.{Stands, front, back}
 use Rattle.ipc_format_laws.proofs.Contents.{signed_stands, stands_window}
 use Rattle.ipc_format_laws.proofs.Readers.{elements_read, absent_reads, numbers_read, truths_read, texts_read}
-use Rattle.columnar_memory.specs.declared.DataType.TheVariants as types
-use Rattle.columnar_memory.specs.declared.TimeUnit.{TimeUnit}
-use Rattle.columnar_memory.specs.declared.TimeUnit.TheVariants as units
-use Rattle.columnar_memory.specs.declared.UnionMode.{UnionMode}
-use Rattle.columnar_memory.specs.declared.UnionMode.TheVariants as modes
+use Rattle.ipc_format_grammar.specs.columnar_memory.declared.DataType.TheVariants as types
+use Rattle.ipc_format_grammar.specs.columnar_memory.declared.TimeUnit.{TimeUnit}
+use Rattle.ipc_format_grammar.specs.columnar_memory.declared.TimeUnit.TheVariants as units
+use Rattle.ipc_format_grammar.specs.columnar_memory.declared.UnionMode.{UnionMode}
+use Rattle.ipc_format_grammar.specs.columnar_memory.declared.UnionMode.TheVariants as modes
 use Rattle.ipc_format_grammar.specs.Types.{integer_in, integer_of, decimal_in, decimal_of, time_in, time_of, time_unit_of, timestamp_in, mode_of}
 use Rattle.ipc_format_grammar.specs.Types.{numbers_from, union_in}
 use Rattle.ipc_format_grammar.specs.SchemaObjects.{truth, unit_number, refers_if, text_if, mode_number, numbers_if}

@@ -6,15 +6,15 @@ use Rattle.std.specs.Int.{Width, w8, w16, w32, w64, w128, byte_len, cast_unsigne
 use mir.Val.{hbits}
 use Rattle.std.proofs.lemmas.Bool.{and_parts, ltb-true, le-ltb}
 use Rattle.std.proofs.lemmas.List.{length-replicate}
-use Rattle.ipc_format_flatbuffers.proofs.Numbers.{length-to_le_bytes}
-use Rattle.columnar_memory.specs.declared.PrimitiveType.{PrimitiveType}
-use Rattle.columnar_memory.specs.declared.PrimitiveType.TheVariants as kinds
-use Rattle.columnar_memory.specs.NumberLaws.{signed_in-number_bytes, unsigned_in-number_bytes, wide_in-wide_bytes}
-use Rattle.nested_arrays_columns.specs.Kinds.{is_signed, is_unsigned, in_kind, same_kind}
-use Rattle.nested_arrays_columns.specs.Slots.{Slot, number, pair, triple}
-use Rattle.nested_arrays_columns.specs.Cells.{is_null, is_number_of, is_days_and_ms, is_months_days_and_ns}
-use Rattle.nested_arrays_columns.proofs.SameSlotsDecide.{same_kind-implies}
-use Rattle.nested_arrays_columns.proofs.Conditions.{parts_of_3, parts_of_4}
+use Rattle.ipc_format_grammar.proofs.flatbuffers_lemmas.Numbers.{length-to_le_bytes}
+use Rattle.ipc_format_grammar.specs.columnar_memory.declared.PrimitiveType.{PrimitiveType}
+use Rattle.ipc_format_grammar.specs.columnar_memory.declared.PrimitiveType.TheVariants as kinds
+use Rattle.ipc_format_grammar.specs.columnar_memory.NumberLaws.{signed_in-number_bytes, unsigned_in-number_bytes, wide_in-wide_bytes}
+use Rattle.ipc_format_grammar.specs.columns.Kinds.{is_signed, is_unsigned, in_kind, same_kind}
+use Rattle.ipc_format_grammar.specs.columns.Slots.{Slot, number, pair, triple}
+use Rattle.ipc_format_grammar.specs.columns.Cells.{is_null, is_number_of, is_days_and_ms, is_months_days_and_ns}
+use Rattle.ipc_format_grammar.proofs.columns_lemmas.SameSlotsDecide.{same_kind-implies}
+use Rattle.ipc_format_grammar.proofs.columns_lemmas.Conditions.{parts_of_3, parts_of_4}
 use Rattle.ipc_format_grammar.specs.Values.{kind_size, value_of, signed_256}
 use Rattle.ipc_format_grammar.specs.Buffers.{is_valid, number_bytes, wide_number, wide_bytes, days_and_ms_bytes, months_days_and_ns_bytes, kind_bytes}
 

@@ -7,18 +7,18 @@ use Rattle.std.specs.List.{flat_map, list_all}
 use Rattle.std.specs.Str.{is_utf8}
 use Rattle.std.proofs.lemmas.Bool.{and_parts, and_from, ltb-true}
 use denote.Hole.Carrier
-use Rattle.columnar_memory.specs.declared.DataType.{DataType, map-DataType}
-use Rattle.columnar_memory.specs.declared.DataType.TheOpen as layer
-use Rattle.columnar_memory.specs.declared.DataType.TheViews.{roll-DataType, roll-Field}
-use Rattle.columnar_memory.specs.declared.DataType.TheFolds.{fold-Field, fold-roll-DataType, fold-roll-Field, para-roll-DataType}
-use Rattle.columnar_memory.specs.declared.DataType.TheFolds.{para-roll-Field, ind-DataType}
-use Rattle.columnar_memory.specs.declared.Field.{Field, map-Field}
-use Rattle.columnar_memory.specs.declared.IntervalUnit.TheVariants as intervals
-use Rattle.columnar_memory.specs.declared.PrimitiveType.{PrimitiveType}
-use Rattle.columnar_memory.specs.declared.PrimitiveType.TheVariants as kinds
-use Rattle.nested_arrays_columns.specs.Slots.{Slot, null, text, bytes, items, in_slots}
-use Rattle.nested_arrays_columns.specs.Cells.{is_null, is_truth, is_text, is_bytes, is_bytes_of, is_list_of, fits_step, fits_cell}
-use Rattle.nested_arrays_columns.specs.Children.{items_of, joined_items}
+use Rattle.ipc_format_grammar.specs.columnar_memory.declared.DataType.{DataType, map-DataType}
+use Rattle.ipc_format_grammar.specs.columnar_memory.declared.DataType.TheOpen as layer
+use Rattle.ipc_format_grammar.specs.columnar_memory.declared.DataType.TheViews.{roll-DataType, roll-Field}
+use Rattle.ipc_format_grammar.specs.columnar_memory.declared.DataType.TheFolds.{fold-Field, fold-roll-DataType, fold-roll-Field, para-roll-DataType}
+use Rattle.ipc_format_grammar.specs.columnar_memory.declared.DataType.TheFolds.{para-roll-Field, ind-DataType}
+use Rattle.ipc_format_grammar.specs.columnar_memory.declared.Field.{Field, map-Field}
+use Rattle.ipc_format_grammar.specs.columnar_memory.declared.IntervalUnit.TheVariants as intervals
+use Rattle.ipc_format_grammar.specs.columnar_memory.declared.PrimitiveType.{PrimitiveType}
+use Rattle.ipc_format_grammar.specs.columnar_memory.declared.PrimitiveType.TheVariants as kinds
+use Rattle.ipc_format_grammar.specs.columns.Slots.{Slot, null, text, bytes, items, in_slots}
+use Rattle.ipc_format_grammar.specs.columns.Cells.{is_null, is_truth, is_text, is_bytes, is_bytes_of, is_list_of, fits_step, fits_cell}
+use Rattle.ipc_format_grammar.specs.columns.Children.{items_of, joined_items}
 use Rattle.ipc_format_grammar.specs.Layouts.{node_count, buffer_count}
 use Rattle.ipc_format_grammar.specs.Messages.{V5}
 use Rattle.ipc_format_grammar.specs.Columns.{Reader, read_step, read_field_step, slots_in, number_slots, byte_slots, list_slots}

@@ -1,10 +1,10 @@
 -- What the readers by address answer where bytes spell an object.
 use Rattle.std.specs.Prelude.{◌≡◌, ℕ, ◌+◌, ◌*◌, ◌≤◌, ℤ, false, nat_le, List, ◌++◌, length, Some, None, FitsSigned}
 use Rattle.std.specs.Int.{Width, w8, to_le_bytes, cast_signed, cast_unsigned}
-use Rattle.ipc_format_flatbuffers.specs.Reading.{window_at}
-use Rattle.ipc_format_flatbuffers.specs.FlatBuffers.{Table, Vector, number_field, signed_field, truth_field, table_field, reference_field}
-use Rattle.ipc_format_flatbuffers.specs.FlatBuffers.{vector_field, string_field, number_at, element_at, root_of}
-use Rattle.ipc_format_flatbuffers.specs.Objects.{Fields, Objects, table, references, elements, text}
+use Rattle.ipc_format_grammar.specs.flatbuffers.Reading.{window_at}
+use Rattle.ipc_format_grammar.specs.flatbuffers.FlatBuffers.{Table, Vector, number_field, signed_field, truth_field, table_field, reference_field}
+use Rattle.ipc_format_grammar.specs.flatbuffers.FlatBuffers.{vector_field, string_field, number_at, element_at, root_of}
+use Rattle.ipc_format_grammar.specs.flatbuffers.Objects.{Fields, Objects, table, references, elements, text}
 use Rattle.ipc_format_laws.specs.Spelling.{Spells, SpellsFields, SpellsObjects, SpellsAbsent, SpellsNumber, SpellsReference, SpellsElement}
 use Rattle.ipc_format_laws.specs.Spelling.{count_of}
 use Rattle.ipc_format_laws.specs.Theorem.{FitsWidth, SpellsRoot}

@@ -1,8 +1,8 @@
 -- What the readers of messages and batches answer where bytes spell the objects that are written for them.
 use Rattle.std.specs.Prelude.{◌≡◌, ℕ, ◌<◌, ◌^◌, ℤ, pos, false, List, length, map, get_or, Some, sum_by, FitsSigned}
 use Rattle.std.specs.Int.{w64}
-use Rattle.ipc_format_flatbuffers.specs.FlatBuffers.{Table, Vector}
-use Rattle.ipc_format_flatbuffers.specs.Objects.{laid}
+use Rattle.ipc_format_grammar.specs.flatbuffers.FlatBuffers.{Table, Vector}
+use Rattle.ipc_format_grammar.specs.flatbuffers.Objects.{laid}
 use Rattle.ipc_format_grammar.specs.Messages as grammar
 use Rattle.ipc_format_grammar.specs.Messages.{Header, V5, FieldNode, Buffer, as_node, as_buffer, message_in, version_in, record_batch_in}
 use Rattle.ipc_format_grammar.specs.Messages.{dictionary_batch_in, structs_in, lengths_sum}

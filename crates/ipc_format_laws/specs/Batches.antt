@@ -1,11 +1,11 @@
 -- When a written record batch reads back (Arrow IPC, "RecordBatch message").
 use Rattle.std.specs.Prelude.{◌≡◌, ◌<◌, ◌^◌, Bool, true, false, ◌&&◌, List, [], ◌∷◌, length, Some}
 use Rattle.std.specs.List.{All, list_all}
-use Rattle.ipc_format_flatbuffers.specs.FlatBuffers.{Table}
-use Rattle.columnar_memory.specs.declared.DataType.TheVariants as types
-use Rattle.columnar_memory.specs.declared.Field.{Field}
-use Rattle.nested_arrays_columns.specs.Slots.{Slot}
-use Rattle.nested_arrays_columns.specs.Cells.{fits_cell}
+use Rattle.ipc_format_grammar.specs.flatbuffers.FlatBuffers.{Table}
+use Rattle.ipc_format_grammar.specs.columnar_memory.declared.DataType.TheVariants as types
+use Rattle.ipc_format_grammar.specs.columnar_memory.declared.Field.{Field}
+use Rattle.ipc_format_grammar.specs.columns.Slots.{Slot}
+use Rattle.ipc_format_grammar.specs.columns.Cells.{fits_cell}
 use Rattle.ipc_format_grammar.specs.Messages as message
 use Rattle.ipc_format_grammar.specs.Messages.{V5}
 use Rattle.ipc_format_laws.specs.BatchMessages.{AreSigned, IsMessage}

@@ -1,7 +1,7 @@
 -- What is read of a choice of columns under a limit of rows (Arrow IPC, "IPC Streaming Format", "IPC File Format").
 use Rattle.std.specs.Prelude.{◌≡◌, ℕ, true, List, length, Option, Some, nat_lt}
 use Rattle.std.specs.List.{list_all}
-use Rattle.nested_arrays_columns.specs.Tables.{Table, choice_within}
+use Rattle.ipc_format_grammar.specs.columns.Tables.{Table, choice_within}
 use Rattle.ipc_format_grammar.specs.Tables.{Form, table_of, choice_of}
 
 -- Where bytes read as a whole, what is read of a choice of their columns under a limit is that choice of the first rows.

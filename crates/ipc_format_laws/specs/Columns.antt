@@ -2,12 +2,12 @@
 -- "RecordBatch message").
 use Rattle.std.specs.Prelude.{◌≡◌, ℕ, Bool, true, List, ◌++◌, length, map, Some, is_some}
 use Rattle.std.specs.List.{list_all}
-use Rattle.ipc_format_flatbuffers.specs.Reading.{window_at}
-use Rattle.columnar_memory.specs.declared.DataType.{DataType}
-use Rattle.columnar_memory.specs.declared.DataType.TheOpen as layer
-use Rattle.columnar_memory.specs.declared.DataType.TheFolds.{fold-DataType}
-use Rattle.nested_arrays_columns.specs.Slots.{Slot}
-use Rattle.nested_arrays_columns.specs.Cells.{fits_cell}
+use Rattle.ipc_format_grammar.specs.flatbuffers.Reading.{window_at}
+use Rattle.ipc_format_grammar.specs.columnar_memory.declared.DataType.{DataType}
+use Rattle.ipc_format_grammar.specs.columnar_memory.declared.DataType.TheOpen as layer
+use Rattle.ipc_format_grammar.specs.columnar_memory.declared.DataType.TheFolds.{fold-DataType}
+use Rattle.ipc_format_grammar.specs.columns.Slots.{Slot}
+use Rattle.ipc_format_grammar.specs.columns.Cells.{fits_cell}
 use Rattle.ipc_format_laws.specs.BatchMessages.{stated_node, stated_buffer}
 use Rattle.ipc_format_grammar.specs.Layouts.{kind_of}
 use Rattle.ipc_format_grammar.specs.Columns.{Source, Place, Reader, slots_in, taken_of}

@@ -1,8 +1,8 @@
 -- What a stream holds that was written of a schema and of batches (Arrow IPC, "IPC Streaming Format", "Dictionary Messages").
 use Rattle.std.specs.Prelude.{◌≡◌, ℕ, ◌≤◌, List, [], ◌∷◌, ◌++◌, length, map, true, Some}
 use Rattle.std.specs.List.{All}
-use Rattle.ipc_format_flatbuffers.specs.FlatBuffers.{Table}
-use Rattle.columnar_memory.specs.declared.Schema.{Schema}
+use Rattle.ipc_format_grammar.specs.flatbuffers.FlatBuffers.{Table}
+use Rattle.ipc_format_grammar.specs.columnar_memory.declared.Schema.{Schema}
 use Rattle.ipc_format_grammar.specs.Messages as grammar
 use Rattle.ipc_format_grammar.specs.Messages.{Header, V5}
 use Rattle.ipc_format_grammar.specs.Schemas.{SchemaIn, IdsList}

@@ -1,11 +1,11 @@
 -- How many nodes and buffers a column has that is written from its slots.
 use Rattle.std.specs.Prelude.{◌≡◌, ℕ, suc, ◌+◌, Bool, true, false, List, length, Some, slice_get}
 use Rattle.std.specs.List.{list_all}
-use Rattle.columnar_memory.specs.declared.DataType.{DataType}
-use Rattle.columnar_memory.specs.declared.DataType.TheOpen as layer
-use Rattle.columnar_memory.specs.declared.DataType.TheFolds.{fold-DataType}
-use Rattle.columnar_memory.specs.declared.Field.{Field}
-use Rattle.nested_arrays_columns.specs.Slots.{Slot}
+use Rattle.ipc_format_grammar.specs.columnar_memory.declared.DataType.{DataType}
+use Rattle.ipc_format_grammar.specs.columnar_memory.declared.DataType.TheOpen as layer
+use Rattle.ipc_format_grammar.specs.columnar_memory.declared.DataType.TheFolds.{fold-DataType}
+use Rattle.ipc_format_grammar.specs.columnar_memory.declared.Field.{Field}
+use Rattle.ipc_format_grammar.specs.columns.Slots.{Slot}
 use Rattle.ipc_format_grammar.specs.Messages.{Version, V5}
 use Rattle.ipc_format_grammar.specs.Layouts.{below, node_count, buffer_count, node_number, buffer_number}
 use Rattle.ipc_format_grammar.specs.Encoding.{Encoded, encode, joined}

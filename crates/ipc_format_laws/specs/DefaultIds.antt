@@ -1,6 +1,6 @@
 -- The ids that a schema's dictionaries have where none are given.
 use Rattle.std.specs.Prelude.{◌≡◌, ℕ, zero, suc, ℤ, pos, true, List, [], ◌∷◌, ◌++◌, sum_by, Option, Some, None}
-use Rattle.columnar_memory.specs.declared.Schema.{Schema}
+use Rattle.ipc_format_grammar.specs.columnar_memory.declared.Schema.{Schema}
 use Rattle.ipc_format_grammar.specs.Schemas.{Ids, IdsList, ids, no_ids, ids_then}
 use Rattle.ipc_format_grammar.specs.Writable.{Report, reports_of, is_writable}
 use Rattle.ipc_format_grammar.specs.Ids.{default_ids, ids_fit_fields}

@@ -1,9 +1,9 @@
 -- When a file's footer reads back.
 use Rattle.std.specs.Prelude.{◌≡◌, ℕ, ◌<◌, ◌^◌, pos, true, List, [], ◌∷◌, ◌++◌, length, map, Some}
 use Rattle.std.specs.Int.{w32, to_le_bytes}
-use Rattle.columnar_memory.specs.declared.Schema.{Schema}
-use Rattle.ipc_format_flatbuffers.specs.FlatBuffers.{Table}
-use Rattle.ipc_format_flatbuffers.specs.Objects.{laid}
+use Rattle.ipc_format_grammar.specs.columnar_memory.declared.Schema.{Schema}
+use Rattle.ipc_format_grammar.specs.flatbuffers.FlatBuffers.{Table}
+use Rattle.ipc_format_grammar.specs.flatbuffers.Objects.{laid}
 use Rattle.ipc_format_grammar.specs.Messages.{V5, version_in}
 use Rattle.ipc_format_grammar.specs.Schemas.{IdsList}
 use Rattle.ipc_format_grammar.specs.Writable.{is_writable, normalised}

@@ -3,10 +3,10 @@ use Rattle.std.specs.Prelude.{◌≡◌, ℕ, ◌+◌, ◌*◌, ℤ, pos, Bool, 
 use Rattle.std.specs.Prelude.{slice_index_or, slice_range}
 use Rattle.std.specs.Ordering.{int_eq}
 use Rattle.std.specs.Cmp.Lexicographic.{pointwise}
-use Rattle.columnar_memory.specs.declared.DataType.{DataType}
-use Rattle.nested_arrays_columns.specs.StoredColumns.{Stored, bits, numbers, pairs, triples, texts, byte_strings, fixed_bytes, flat, is_valid_at}
-use Rattle.nested_arrays_columns.specs.StoredColumns.{string_at, stored_len, slots}
-use Rattle.nested_arrays_columns.specs.SoundColumns.{is_sound, holds_below}
+use Rattle.ipc_format_grammar.specs.columnar_memory.declared.DataType.{DataType}
+use Rattle.ipc_format_grammar.specs.columns.StoredColumns.{Stored, bits, numbers, pairs, triples, texts, byte_strings, fixed_bytes, flat, is_valid_at}
+use Rattle.ipc_format_grammar.specs.columns.StoredColumns.{string_at, stored_len, slots}
+use Rattle.ipc_format_grammar.specs.columns.SoundColumns.{is_sound, holds_below}
 use Rattle.ipc_format_grammar.specs.Encoding.{encode}
 use Rattle.ipc_format_grammar.specs.StoredEncoding.{encode_stored}
 

@@ -1,12 +1,12 @@
 -- The column that stores some slots is written as the slots are, and so are the dictionaries that it brings.
 use Rattle.std.specs.Prelude.{◌≡◌, true, false, List}
-use Rattle.columnar_memory.specs.declared.DataType.{DataType}
-use Rattle.columnar_memory.specs.declared.Field.{Field}
-use Rattle.nested_arrays_columns.specs.FreshColumns.{fresh}
-use Rattle.nested_arrays_columns.specs.FreshLaws.{is_buildable, are_buildable}
-use Rattle.nested_arrays_columns.specs.OpenBatch.{fits}
-use Rattle.nested_arrays_columns.specs.Rows.{columns_of_rows, columns_fit, batch_of_rows}
-use Rattle.nested_arrays_columns.specs.Slots.{Slot}
+use Rattle.ipc_format_grammar.specs.columnar_memory.declared.DataType.{DataType}
+use Rattle.ipc_format_grammar.specs.columnar_memory.declared.Field.{Field}
+use Rattle.ipc_format_grammar.specs.columns.FreshColumns.{fresh}
+use Rattle.ipc_format_grammar.specs.columns.FreshLaws.{is_buildable, are_buildable}
+use Rattle.ipc_format_grammar.specs.columns.OpenBatch.{fits}
+use Rattle.ipc_format_grammar.specs.columns.Rows.{columns_of_rows, columns_fit, batch_of_rows}
+use Rattle.ipc_format_grammar.specs.columns.Slots.{Slot}
 use Rattle.ipc_format_grammar.specs.Schemas.{Ids, IdsList}
 use Rattle.ipc_format_grammar.specs.Encoding.{encode, has_union}
 use Rattle.ipc_format_grammar.specs.StoredEncoding.{encode_stored}

@@ -18,3 +18,7 @@ pub mod Contents
 pub mod Tables
 pub mod Choices
 pub mod Runs
+pub use Rattle.ipc_format_grammar.specs as grammar
+pub use Rattle.ipc_format_grammar.specs.columnar_memory
+pub use Rattle.ipc_format_grammar.specs.flatbuffers
+pub use Rattle.ipc_format_grammar.specs.columns

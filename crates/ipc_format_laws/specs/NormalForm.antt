@@ -3,11 +3,11 @@ use Rattle.std.specs.Prelude.{◌≡◌, ℕ, Bool, true, ◌&&◌, List, [], �
 use Rattle.std.specs.List.{list_all}
 use Rattle.std.specs.Ordering.{is_lt, nat_cmp}
 use Rattle.std.specs.Cmp.Lexicographic.{slice_cmp}
-use Rattle.columnar_memory.specs.declared.DataType.{DataType}
-use Rattle.columnar_memory.specs.declared.DataType.TheOpen as layer
-use Rattle.columnar_memory.specs.declared.DataType.TheFolds.{fold-DataType}
-use Rattle.columnar_memory.specs.declared.Field.{Field}
-use Rattle.columnar_memory.specs.declared.Schema.{Schema}
+use Rattle.ipc_format_grammar.specs.columnar_memory.declared.DataType.{DataType}
+use Rattle.ipc_format_grammar.specs.columnar_memory.declared.DataType.TheOpen as layer
+use Rattle.ipc_format_grammar.specs.columnar_memory.declared.DataType.TheFolds.{fold-DataType}
+use Rattle.ipc_format_grammar.specs.columnar_memory.declared.Field.{Field}
+use Rattle.ipc_format_grammar.specs.columnar_memory.declared.Schema.{Schema}
 use Rattle.ipc_format_grammar.specs.Writable.{normalised, is_writable}
 
 -- pairs in the order of their keys, byte by byte: each key stands before all later ones, so that none stands twice

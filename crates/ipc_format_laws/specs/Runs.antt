@@ -1,6 +1,6 @@
 -- What a run of a writer's calls stands for (Arrow IPC, "IPC Streaming Format", "IPC File Format").
 use Rattle.std.specs.Prelude.{◌≡◌, ℕ, true, List, ◌++◌, Some}
-use Rattle.columnar_memory.specs.declared.Schema.{Schema}
+use Rattle.ipc_format_grammar.specs.columnar_memory.declared.Schema.{Schema}
 use Rattle.ipc_format_grammar.specs.Schemas.{IdsList}
 use Rattle.ipc_format_grammar.specs.Tables.{stream, file}
 use Rattle.ipc_format_grammar.specs.WrittenMessages.{end_mark}

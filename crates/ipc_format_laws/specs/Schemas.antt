@@ -1,14 +1,15 @@
 -- When a schema's message reads back, and which dictionary ids are read beside its fields.
 use Rattle.std.specs.Prelude.{◌≡◌, ℕ, ◌<◌, ◌^◌, ℤ, pos, Bool, true, false, List, [], ◌∷◌, length, map, Option, Some, None, FitsSigned}
 use Rattle.std.specs.Int.{w64}
-use Rattle.columnar_memory.specs.declared.DataType.TheOpen as layer
-use Rattle.columnar_memory.specs.declared.DataType.TheFolds.{fold-Field}
-use Rattle.columnar_memory.specs.declared.Field.{Field}
-use Rattle.columnar_memory.specs.declared.Schema.{Schema}
-pub use Rattle.columnar_memory.specs.Texts.{is_text_or_none, are_texts, is_below, is_ascending, are_true, texts_step, texts_field_step, has_texts}
-pub use Rattle.columnar_memory.specs.Texts.{HasTexts}
-use Rattle.ipc_format_flatbuffers.specs.FlatBuffers.{Table}
-use Rattle.ipc_format_flatbuffers.specs.Objects.{laid}
+use Rattle.ipc_format_grammar.specs.columnar_memory.declared.DataType.TheOpen as layer
+use Rattle.ipc_format_grammar.specs.columnar_memory.declared.DataType.TheFolds.{fold-Field}
+use Rattle.ipc_format_grammar.specs.columnar_memory.declared.Field.{Field}
+use Rattle.ipc_format_grammar.specs.columnar_memory.declared.Schema.{Schema}
+pub use Rattle.ipc_format_grammar.specs.columnar_memory.Texts.{is_text_or_none, are_texts, is_below, is_ascending}
+pub use Rattle.ipc_format_grammar.specs.columnar_memory.Texts.{are_true, texts_step, texts_field_step, has_texts}
+pub use Rattle.ipc_format_grammar.specs.columnar_memory.Texts.{HasTexts}
+use Rattle.ipc_format_grammar.specs.flatbuffers.FlatBuffers.{Table}
+use Rattle.ipc_format_grammar.specs.flatbuffers.Objects.{laid}
 use Rattle.ipc_format_grammar.specs.Messages as grammar
 use Rattle.ipc_format_grammar.specs.Schemas.{Ids, IdsList, ids, no_ids, ids_then}
 use Rattle.ipc_format_grammar.specs.SchemaGrammar.{schema_in}

@@ -2,11 +2,12 @@
 -- where its references point.
 use Rattle.std.specs.Prelude.{◌≡◌, ℕ, ◌+◌, ◌*◌, ◌≤◌, List, length, Some, None}
 use Rattle.std.specs.Int.{Width, byte_len}
-use Rattle.ipc_format_flatbuffers.specs.Reading.{window_at}
-use Rattle.ipc_format_flatbuffers.specs.FlatBuffers.{Table, Vector, number_at, table_at, field_at, reference_field, reference_at, vector_at}
-use Rattle.ipc_format_flatbuffers.specs.FlatBuffers.{string_at}
-use Rattle.ipc_format_flatbuffers.specs.Objects.{Object, Fields, Objects, table, references, elements, text, no_field, absent_then, number_then}
-use Rattle.ipc_format_flatbuffers.specs.Objects.{refers_then, no_object, object_then}
+use Rattle.ipc_format_grammar.specs.flatbuffers.Reading.{window_at}
+use Rattle.ipc_format_grammar.specs.flatbuffers.FlatBuffers.{Table, Vector, number_at, table_at, field_at, reference_field, reference_at, vector_at}
+use Rattle.ipc_format_grammar.specs.flatbuffers.FlatBuffers.{string_at}
+use Rattle.ipc_format_grammar.specs.flatbuffers.Objects.{Object, Fields, Objects, table, references}
+use Rattle.ipc_format_grammar.specs.flatbuffers.Objects.{elements, text, no_field, absent_then, number_then}
+use Rattle.ipc_format_grammar.specs.flatbuffers.Objects.{refers_then, no_object, object_then}
 
 -- how many objects
 abbrev pub count_of : Objects → ℕ

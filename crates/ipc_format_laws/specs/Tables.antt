@@ -1,11 +1,11 @@
 -- When the table of a stream that was written is the table that it was written from (Arrow IPC, "IPC Streaming Format").
 use Rattle.std.specs.Prelude.{◌≡◌, ℕ, ◌<◌, ◌^◌, true, List, [], ◌++◌, length, map, Some}
 use Rattle.std.specs.List.{All, list_all}
-use Rattle.columnar_memory.specs.declared.DataType.TheVariants as types
-use Rattle.columnar_memory.specs.declared.Field.{Field}
-use Rattle.columnar_memory.specs.declared.Schema.{Schema}
-use Rattle.nested_arrays_columns.specs.Slots.{Slot}
-use Rattle.nested_arrays_columns.specs.Tables.{rows_of_batches}
+use Rattle.ipc_format_grammar.specs.columnar_memory.declared.DataType.TheVariants as types
+use Rattle.ipc_format_grammar.specs.columnar_memory.declared.Field.{Field}
+use Rattle.ipc_format_grammar.specs.columnar_memory.declared.Schema.{Schema}
+use Rattle.ipc_format_grammar.specs.columns.Slots.{Slot}
+use Rattle.ipc_format_grammar.specs.columns.Tables.{rows_of_batches}
 use Rattle.ipc_format_grammar.specs.Schemas.{IdsList}
 use Rattle.ipc_format_grammar.specs.Writable.{normalised}
 use Rattle.ipc_format_grammar.specs.Tables.{stream, agree_in_length, batches_in, table_of}

@@ -1,6 +1,6 @@
 -- A schema that was read is of texts (Schema.fbs: strings are UTF-8; custom metadata).
 use Rattle.std.specs.Prelude.{◌≡◌, ℕ, List, Some}
-use Rattle.ipc_format_flatbuffers.specs.FlatBuffers.{Table}
+use Rattle.ipc_format_grammar.specs.flatbuffers.FlatBuffers.{Table}
 use Rattle.ipc_format_grammar.specs.Schemas.{SchemaIn}
 use Rattle.ipc_format_grammar.specs.SchemaGrammar.{schema_in}
 use Rattle.ipc_format_laws.specs.Schemas.{HasTexts}

@@ -2,10 +2,11 @@
 use Rattle.std.specs.Prelude.{◌≡◌, ℕ, ◌+◌, ◌*◌, ◌<◌, ◌≤◌, ◌^◌, List, length, Some, true}
 use Rattle.std.specs.Int.{Width, w8, w16, w32, w64, w128}
 use Rattle.std.specs.Str.{is_utf8}
-use Rattle.ipc_format_flatbuffers.specs.FlatBuffers.{reference_at}
-use Rattle.ipc_format_flatbuffers.specs.Laying.{table_end}
-use Rattle.ipc_format_flatbuffers.specs.Objects.{Object, Fields, Objects, table, references, elements, text, no_field, absent_then, number_then}
-use Rattle.ipc_format_flatbuffers.specs.Objects.{refers_then, no_object, object_then, slots_of, laid}
+use Rattle.ipc_format_grammar.specs.flatbuffers.FlatBuffers.{reference_at}
+use Rattle.ipc_format_grammar.specs.flatbuffers.Laying.{table_end}
+use Rattle.ipc_format_grammar.specs.flatbuffers.Objects.{Object, Fields, Objects, table, references}
+use Rattle.ipc_format_grammar.specs.flatbuffers.Objects.{elements, text, no_field, absent_then, number_then}
+use Rattle.ipc_format_grammar.specs.flatbuffers.Objects.{refers_then, no_object, object_then, slots_of, laid}
 use Rattle.ipc_format_laws.specs.Spelling.{Spells, Both}
 
 -- a number fits a width; numbers of 16 bytes are none of FlatBuffers'

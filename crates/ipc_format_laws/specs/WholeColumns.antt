@@ -2,12 +2,12 @@
 use Rattle.std.specs.Prelude.{◌≡◌, ℕ, suc, ◌-◌, ◌*◌, ◌^◌, Bool, true, false, ◌&&◌, List, [], ◌∷◌, length, Some, nat_lt}
 use Rattle.std.specs.List.{flat_map, list_all}
 use Rattle.std.specs.Int.{Width, w32, w64, byte_len}
-use Rattle.columnar_memory.specs.declared.DataType.{DataType}
-use Rattle.columnar_memory.specs.declared.DataType.TheOpen as layer
-use Rattle.columnar_memory.specs.declared.DataType.TheFolds.{fold-DataType}
-use Rattle.nested_arrays_columns.specs.Slots.{Slot}
-use Rattle.nested_arrays_columns.specs.Cells.{fits_cell}
-use Rattle.nested_arrays_columns.specs.Children.{joined_items, joined_fixed_items, field_slots}
+use Rattle.ipc_format_grammar.specs.columnar_memory.declared.DataType.{DataType}
+use Rattle.ipc_format_grammar.specs.columnar_memory.declared.DataType.TheOpen as layer
+use Rattle.ipc_format_grammar.specs.columnar_memory.declared.DataType.TheFolds.{fold-DataType}
+use Rattle.ipc_format_grammar.specs.columns.Slots.{Slot}
+use Rattle.ipc_format_grammar.specs.columns.Cells.{fits_cell}
+use Rattle.ipc_format_grammar.specs.columns.Children.{joined_items, joined_fixed_items, field_slots}
 use Rattle.ipc_format_grammar.specs.Messages.{V5}
 use Rattle.ipc_format_grammar.specs.Layouts.{below}
 use Rattle.ipc_format_grammar.specs.Columns.{Place, Reader, slots_in, taken_of}

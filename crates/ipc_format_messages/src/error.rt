@@ -17,3 +17,10 @@ impl From<Error> for MemoryError {
         MemoryError::OutOfSpec("InvalidFlatbuffer")
     }
 }
+
+/// The refusal as an error of the memory layer, for packages that this one is passed on to: a conversion by `?` is not in scope there.
+pub fn as_memory_error(error: Error) -> MemoryError
+    ensures { IsNamed (codes "InvalidFlatbuffer") result }
+{
+    MemoryError::from(error)
+}

@@ -18,7 +18,7 @@ mod values;
 mod vectors;
 
 pub use batches::{BodyCompressionRef, DictionaryBatchRef, RecordBatchRef};
-pub use error::Error;
+pub use error::{Error, as_memory_error};
 pub use fields::{DictionaryEncodingRef, FieldRef, IntRef, KeyValueRef};
 pub use footer::FooterRef;
 pub use ipc_format_metadata as metadata;

@@ -6,20 +6,20 @@ use Rattle.std.specs.List.{list_any}
 use Rattle.std.specs.Int.{w32}
 use Rattle.std.proofs.lemmas.Bool.{ltb-false}
 use Rattle.std.proofs.lemmas.List.{map-append}
-use Rattle.ipc_format_flatbuffers.specs.Reading.{window_at}
-use Rattle.ipc_format_flatbuffers.specs.FlatBuffers.{Table, number_at, reference_at, root_of}
-use Rattle.ipc_format_grammar.specs.Limits.{most_dictionaries}
-use Rattle.ipc_format_grammar.specs.Messages.{Header}
-use Rattle.ipc_format_grammar.specs.Schemas.{SchemaIn}
-use Rattle.ipc_format_grammar.specs.SchemaGrammar.{schema_in}
-use Rattle.ipc_format_grammar.specs.Columns.{Dictionary}
-use Rattle.ipc_format_grammar.specs.Dictionaries.{Entry}
-use Rattle.ipc_format_grammar.specs.Files as read
-use Rattle.ipc_format_grammar.specs.Files.{Footer, footer_in, entries_at, is_dictionary, header_in}
-use Rattle.ipc_format_grammar.specs.Tables.{layout_of}
-use Rattle.ipc_format_grammar.specs.AppendedFiles.{is_negative, kept_block, greatest_end, is_empty, append_bar, AppendBar, big_endian}
-use Rattle.ipc_format_grammar.specs.AppendedFiles.{no_record_batch, negative_body, block_past_end}
-use Rattle.ipc_format_grammar.specs.AppendedFiles.{standing_behind, as_told, Base, base_of, base_end}
+use Rattle.ipc_format_laws.specs.flatbuffers.Reading.{window_at}
+use Rattle.ipc_format_laws.specs.flatbuffers.FlatBuffers.{Table, number_at, reference_at, root_of}
+use Rattle.ipc_format_laws.specs.grammar.Limits.{most_dictionaries}
+use Rattle.ipc_format_laws.specs.grammar.Messages.{Header}
+use Rattle.ipc_format_laws.specs.grammar.Schemas.{SchemaIn}
+use Rattle.ipc_format_laws.specs.grammar.SchemaGrammar.{schema_in}
+use Rattle.ipc_format_laws.specs.grammar.Columns.{Dictionary}
+use Rattle.ipc_format_laws.specs.grammar.Dictionaries.{Entry}
+use Rattle.ipc_format_laws.specs.grammar.Files as read
+use Rattle.ipc_format_laws.specs.grammar.Files.{Footer, footer_in, entries_at, is_dictionary, header_in}
+use Rattle.ipc_format_laws.specs.grammar.Tables.{layout_of}
+use Rattle.ipc_format_laws.specs.grammar.AppendedFiles.{is_negative, kept_block, greatest_end, is_empty, append_bar, AppendBar, big_endian}
+use Rattle.ipc_format_laws.specs.grammar.AppendedFiles.{no_record_batch, negative_body, block_past_end}
+use Rattle.ipc_format_laws.specs.grammar.AppendedFiles.{standing_behind, as_told, Base, base_of, base_end}
 use Rattle.ipc_format_laws.proofs.Firsts.{came_of, same_value}
 use Rattle.ipc_format_laws.proofs.StreamReaders.{passed}
 use Rattle.ipc_format_reading_laws.proofs.AppendedBytes.{window_inside}

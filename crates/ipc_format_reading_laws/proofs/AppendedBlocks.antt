@@ -6,12 +6,12 @@ use Rattle.std.specs.Int.{w32, w64, cast_signed}
 use Rattle.std.proofs.lemmas.Bool.{ltb-true}
 use Rattle.std.proofs.lemmas.Option.{same_Some}
 use mir.Val.{sel}
-use Rattle.ipc_format_flatbuffers.specs.FlatBuffers.{Table, Vector, number_at, signed_at, vector_field, root_of}
-use Rattle.ipc_format_grammar.specs.Messages.{natural}
-use Rattle.ipc_format_grammar.specs.Files as read
-use Rattle.ipc_format_grammar.specs.Files.{Footer, block_at, blocks_from, blocks_of, blocks_if, footer_schema, footer_in}
-use Rattle.ipc_format_grammar.specs.WrittenFiles.{Block}
-use Rattle.ipc_format_grammar.specs.AppendedFiles.{natural_or_0, kept_block}
+use Rattle.ipc_format_laws.specs.flatbuffers.FlatBuffers.{Table, Vector, number_at, signed_at, vector_field, root_of}
+use Rattle.ipc_format_laws.specs.grammar.Messages.{natural}
+use Rattle.ipc_format_laws.specs.grammar.Files as read
+use Rattle.ipc_format_laws.specs.grammar.Files.{Footer, block_at, blocks_from, blocks_of, blocks_if, footer_schema, footer_in}
+use Rattle.ipc_format_laws.specs.grammar.WrittenFiles.{Block}
+use Rattle.ipc_format_laws.specs.grammar.AppendedFiles.{natural_or_0, kept_block}
 use Rattle.ipc_format_laws.specs.Footers.{FitsBlock, FitBlocks}
 use Rattle.ipc_format_laws.proofs.Firsts.{came_of, same_value}
 

@@ -7,10 +7,10 @@ use Rattle.std.proofs.lemmas.Bool.{le-leb, leb-true, le-ltb}
 use Rattle.std.proofs.lemmas.Int.{to_z_pos}
 use Rattle.std.proofs.lemmas.List.{take-append-le, drop-append-le, take-append-drop, length-take-le}
 use Rattle.std.proofs.lemmas.Option.{cond_some}
-use Rattle.ipc_format_flatbuffers.specs.Reading.{◌>>=◌, window_at}
-use Rattle.ipc_format_flatbuffers.specs.FlatBuffers.{number_at, signed_at}
-use Rattle.ipc_format_grammar.specs.Framing.{Frame, truncated, metadata_then, frame_of, frame_behind, frame_at}
-use Rattle.ipc_format_grammar.specs.Files.{file_mark, stands_at, footer_bytes, footer_schema, footer_in}
+use Rattle.ipc_format_laws.specs.flatbuffers.Reading.{◌>>=◌, window_at}
+use Rattle.ipc_format_laws.specs.flatbuffers.FlatBuffers.{number_at, signed_at}
+use Rattle.ipc_format_laws.specs.grammar.Framing.{Frame, truncated, metadata_then, frame_of, frame_behind, frame_at}
+use Rattle.ipc_format_laws.specs.grammar.Files.{file_mark, stands_at, footer_bytes, footer_schema, footer_in}
 use Rattle.ipc_format_laws.proofs.Contents.{signed_stands}
 use Rattle.ipc_format_laws.proofs.Places.{Stands, front, back, window_stands}
 use Rattle.ipc_format_laws.proofs.Firsts.{came_of, bind_is}

@@ -5,20 +5,20 @@ use Rattle.std.specs.Prelude.{Some, None, slice_get}
 use Rattle.std.specs.List.{All, flat_map}
 use Rattle.std.proofs.lemmas.Option.{same_Some}
 use Rattle.std.proofs.lemmas.List.Elements.{All-head, All-tail}
-use Rattle.ipc_format_flatbuffers.specs.Reading.{guard}
-use Rattle.ipc_format_flatbuffers.specs.FlatBuffers as flat
-use Rattle.columnar_memory.specs.declared.Field.{Field}
-use Rattle.nested_arrays_columns.specs.Slots.{Slot, window}
-use Rattle.ipc_format_grammar.specs.Messages as message
-use Rattle.ipc_format_grammar.specs.Messages.{Version, version_in}
-use Rattle.ipc_format_grammar.specs.Columns.{Source, Dictionary}
-use Rattle.ipc_format_grammar.specs.Dictionaries.{Entry, Layout, source_in, dictionary_in}
-use Rattle.ipc_format_grammar.specs.Framing.{Frame, truncated, end_mark, metadata_then, frame_at}
-use Rattle.ipc_format_grammar.specs.Files as read
-use Rattle.ipc_format_grammar.specs.Files.{metadata_of, header_in, entry_at, entries_at, is_record_batch}
-use Rattle.ipc_format_grammar.specs.Tables.{column_place, column_in, columns_from, batch_in, batches_with, batches_of}
-use Rattle.ipc_format_grammar.specs.Windows.{Window, or_none, windows_in, column_windows, batch_windows, header_windows, entry_windows}
-use Rattle.ipc_format_grammar.specs.AppendedFiles.{kept_block, standing_with, standing_behind}
+use Rattle.ipc_format_laws.specs.flatbuffers.Reading.{guard}
+use Rattle.ipc_format_laws.specs.flatbuffers.FlatBuffers as flat
+use Rattle.ipc_format_laws.specs.columnar_memory.declared.Field.{Field}
+use Rattle.ipc_format_laws.specs.columns.Slots.{Slot, window}
+use Rattle.ipc_format_laws.specs.grammar.Messages as message
+use Rattle.ipc_format_laws.specs.grammar.Messages.{Version, version_in}
+use Rattle.ipc_format_laws.specs.grammar.Columns.{Source, Dictionary}
+use Rattle.ipc_format_laws.specs.grammar.Dictionaries.{Entry, Layout, source_in, dictionary_in}
+use Rattle.ipc_format_laws.specs.grammar.Framing.{Frame, truncated, end_mark, metadata_then, frame_at}
+use Rattle.ipc_format_laws.specs.grammar.Files as read
+use Rattle.ipc_format_laws.specs.grammar.Files.{metadata_of, header_in, entry_at, entries_at, is_record_batch}
+use Rattle.ipc_format_laws.specs.grammar.Tables.{column_place, column_in, columns_from, batch_in, batches_with, batches_of}
+use Rattle.ipc_format_laws.specs.grammar.Windows.{Window, or_none, windows_in, column_windows, batch_windows, header_windows, entry_windows}
+use Rattle.ipc_format_laws.specs.grammar.AppendedFiles.{kept_block, standing_with, standing_behind}
 use Rattle.ipc_format_laws.specs.Columns.{StandsAt}
 use Rattle.ipc_format_laws.specs.Footers.{block_read}
 use Rattle.ipc_format_laws.proofs.Elements.{part_first, part_next}

@@ -4,15 +4,15 @@ use Rattle.std.proofs.Common.{append_assoc, nat_le}
 use Rattle.std.specs.Prelude.{Some}
 use Rattle.std.specs.Int.{w32, to_le_bytes}
 use Rattle.std.proofs.lemmas.Bool.{ltb-true}
-use Rattle.ipc_format_flatbuffers.specs.FlatBuffers.{Table}
-use Rattle.ipc_format_grammar.specs.Ids.{all_are_ids}
-use Rattle.ipc_format_grammar.specs.Writable.{is_writable, normalised}
-use Rattle.ipc_format_grammar.specs.Files.{file_mark, is_mark, stands_at, Footer, footer_bytes, footer_schema, footer_in}
-use Rattle.ipc_format_grammar.specs.WrittenMessages.{end_mark}
-use Rattle.ipc_format_grammar.specs.WrittenStreams.{Batch, messages_after, bytes_of_messages}
-use Rattle.ipc_format_grammar.specs.WrittenFiles.{batch_blocks, is_footer, file_end}
-use Rattle.ipc_format_grammar.specs.AppendedFiles.{Base, base_end, base_start, with_base, appended_footer, appended_messages, padding_to}
-use Rattle.ipc_format_grammar.specs.AppendedFiles.{appended_bytes}
+use Rattle.ipc_format_laws.specs.flatbuffers.FlatBuffers.{Table}
+use Rattle.ipc_format_laws.specs.grammar.Ids.{all_are_ids}
+use Rattle.ipc_format_laws.specs.grammar.Writable.{is_writable, normalised}
+use Rattle.ipc_format_laws.specs.grammar.Files.{file_mark, is_mark, stands_at, Footer, footer_bytes, footer_schema, footer_in}
+use Rattle.ipc_format_laws.specs.grammar.WrittenMessages.{end_mark}
+use Rattle.ipc_format_laws.specs.grammar.WrittenStreams.{Batch, messages_after, bytes_of_messages}
+use Rattle.ipc_format_laws.specs.grammar.WrittenFiles.{batch_blocks, is_footer, file_end}
+use Rattle.ipc_format_laws.specs.grammar.AppendedFiles.{Base, base_end, base_start, with_base, appended_footer, appended_messages, padding_to}
+use Rattle.ipc_format_laws.specs.grammar.AppendedFiles.{appended_bytes}
 use Rattle.ipc_format_laws.specs.Footers.{FitBlocks, file_with, HasFooter}
 use Rattle.ipc_format_laws.specs.Schemas.{HasTexts, ids_read}
 use Rattle.ipc_format_laws.proofs.Firsts.{came_of}

@@ -7,31 +7,31 @@ use Rattle.std.specs.Int.{w8, w16, w32, w64, cast_signed}
 use Rattle.std.proofs.lemmas.Bool.{and_from, and_parts, lt-ltb, ltb-false}
 use mir.Val.{sel}
 use denote.Hole.Carrier
-use Rattle.ipc_format_flatbuffers.specs.Reading.{◌>>=◌, guard}
-use Rattle.ipc_format_flatbuffers.specs.FlatBuffers.{Table, Vector, number_field, signed_field, truth_field, table_field, vector_field, string_field}
-use Rattle.ipc_format_flatbuffers.specs.FlatBuffers.{element_at, field_at, number_at, signed_at, or_default}
-use Rattle.columnar_memory.specs.declared.DataType.{DataType}
-use Rattle.columnar_memory.specs.declared.DataType.TheOpen as layer
-use Rattle.columnar_memory.specs.declared.DataType.TheVariants as types
-use Rattle.columnar_memory.specs.declared.DataType.TheViews.{roll-DataType}
-use Rattle.columnar_memory.specs.declared.IntegerType.{IntegerType}
-use Rattle.columnar_memory.specs.declared.IntegerType.TheVariants as integers
-use Rattle.columnar_memory.specs.declared.IntervalUnit.TheVariants as intervals
-use Rattle.columnar_memory.specs.declared.TimeUnit.{TimeUnit}
-use Rattle.columnar_memory.specs.declared.TimeUnit.TheVariants as units
-use Rattle.nested_arrays_columns.specs.Kinds.{is_signed}
-use Rattle.ipc_format_grammar.specs.Messages.{natural}
-use Rattle.ipc_format_grammar.specs.Types as kind
-use Rattle.ipc_format_grammar.specs.Types.{Tag, tag_of, integer_in, type_of_integer, size_of, decimal_in, date_of, time_in}
-use Rattle.ipc_format_grammar.specs.Types.{short_time_of, long_time_of, timestamp_in, interval_of, time_unit_of, union_in}
-use Rattle.ipc_format_grammar.specs.Schemas.{Ids, IdsList, ids, no_ids, ids_then, FieldIn, TypeIn, SchemaIn, Encoded, ids_of, fields_of, visit}
-use Rattle.ipc_format_grammar.specs.Schemas.{each_of, child_in, children_in, type_in}
-use Rattle.ipc_format_grammar.specs.Schemas.{metadata_in, extended, extended_by, extension_name_key, extension_metadata_key, encoded_by, field_in}
-use Rattle.ipc_format_grammar.specs.Schemas.{any_schema_in, is_little_of}
-use Rattle.ipc_format_grammar.specs.SchemaGrammar.{schema_in}
-use Rattle.ipc_format_grammar.specs.Writable.{is_writable}
-use Rattle.ipc_format_grammar.specs.Ids.{Fitting, fit_each, fit_step, ids_fit, ids_fit_fields, is_id, are_ids, all_are_ids}
-use Rattle.columnar_memory.specs.Pairs.{value_at}
+use Rattle.ipc_format_laws.specs.flatbuffers.Reading.{◌>>=◌, guard}
+use Rattle.ipc_format_laws.specs.flatbuffers.FlatBuffers.{Table, Vector, number_field, signed_field, truth_field, table_field, vector_field, string_field}
+use Rattle.ipc_format_laws.specs.flatbuffers.FlatBuffers.{element_at, field_at, number_at, signed_at, or_default}
+use Rattle.ipc_format_laws.specs.columnar_memory.declared.DataType.{DataType}
+use Rattle.ipc_format_laws.specs.columnar_memory.declared.DataType.TheOpen as layer
+use Rattle.ipc_format_laws.specs.columnar_memory.declared.DataType.TheVariants as types
+use Rattle.ipc_format_laws.specs.columnar_memory.declared.DataType.TheViews.{roll-DataType}
+use Rattle.ipc_format_laws.specs.columnar_memory.declared.IntegerType.{IntegerType}
+use Rattle.ipc_format_laws.specs.columnar_memory.declared.IntegerType.TheVariants as integers
+use Rattle.ipc_format_laws.specs.columnar_memory.declared.IntervalUnit.TheVariants as intervals
+use Rattle.ipc_format_laws.specs.columnar_memory.declared.TimeUnit.{TimeUnit}
+use Rattle.ipc_format_laws.specs.columnar_memory.declared.TimeUnit.TheVariants as units
+use Rattle.ipc_format_laws.specs.columns.Kinds.{is_signed}
+use Rattle.ipc_format_laws.specs.grammar.Messages.{natural}
+use Rattle.ipc_format_laws.specs.grammar.Types as kind
+use Rattle.ipc_format_laws.specs.grammar.Types.{Tag, tag_of, integer_in, type_of_integer, size_of, decimal_in, date_of, time_in}
+use Rattle.ipc_format_laws.specs.grammar.Types.{short_time_of, long_time_of, timestamp_in, interval_of, time_unit_of, union_in}
+use Rattle.ipc_format_laws.specs.grammar.Schemas.{Ids, IdsList, ids, no_ids, ids_then, FieldIn, TypeIn, SchemaIn, Encoded, ids_of, fields_of, visit}
+use Rattle.ipc_format_laws.specs.grammar.Schemas.{each_of, child_in, children_in, type_in}
+use Rattle.ipc_format_laws.specs.grammar.Schemas.{metadata_in, extended, extended_by, extension_name_key, extension_metadata_key, encoded_by, field_in}
+use Rattle.ipc_format_laws.specs.grammar.Schemas.{any_schema_in, is_little_of}
+use Rattle.ipc_format_laws.specs.grammar.SchemaGrammar.{schema_in}
+use Rattle.ipc_format_laws.specs.grammar.Writable.{is_writable}
+use Rattle.ipc_format_laws.specs.grammar.Ids.{Fitting, fit_each, fit_step, ids_fit, ids_fit_fields, is_id, are_ids, all_are_ids}
+use Rattle.ipc_format_laws.specs.columnar_memory.Pairs.{value_at}
 use Rattle.ipc_format_laws.proofs.Given.{Gives, then_gives, each_gives, either_gives, was_given}
 use Rattle.ipc_format_reading_laws.proofs.NormalColumnsLayers.{Layer}
 use Rattle.ipc_format_reading_laws.proofs.StoredGivenFolds.{foldf, at_layer, fold_field, fold_roll}

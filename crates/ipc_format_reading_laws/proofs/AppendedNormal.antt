@@ -2,26 +2,26 @@
 use Rattle.std.proofs.Common.{◌≡◌, ◌∙◌, List, [], ◌∷◌, map, refl, sym, ap, ap₂, subst, Bool, true, false}
 use Rattle.std.specs.Prelude.{not, ℤ, Option, Some, None, if◌then◌else◌}
 use Rattle.std.specs.Ordering.{int_eq}
-use Rattle.ipc_format_flatbuffers.specs.Reading.{guard}
-use Rattle.ipc_format_flatbuffers.specs.FlatBuffers as flat
-use Rattle.columnar_memory.specs.declared.DataType.{DataType, map-DataType}
-use Rattle.columnar_memory.specs.declared.DataType.TheOpen as layer
-use Rattle.columnar_memory.specs.declared.DataType.TheViews.{roll-DataType, roll-Field}
-use Rattle.columnar_memory.specs.declared.DataType.TheFolds.{para-Field, fold-roll-DataType, fold-roll-Field, para-roll-DataType, para-roll-Field}
-use Rattle.columnar_memory.specs.declared.DataType.TheFolds.{ind-DataType}
-use Rattle.columnar_memory.specs.declared.Field.{Field, map-Field}
-use Rattle.columnar_memory.specs.declared.IntegerType.{IntegerType}
-use Rattle.nested_arrays_columns.specs.Slots.{Slot}
-use Rattle.ipc_format_grammar.specs.Messages as message
-use Rattle.ipc_format_grammar.specs.Messages.{DictionaryBatch, dictionary_batch_in}
-use Rattle.ipc_format_grammar.specs.Schemas.{Ids, IdsList, ids}
-use Rattle.ipc_format_grammar.specs.Writable.{normalised_type, normalised_step, normalised_pairs, normalised_field}
-use Rattle.ipc_format_grammar.specs.Columns.{Source, Dictionary, Place, slots_in, first_ids, other_ids, ids_below}
-use Rattle.ipc_format_grammar.specs.Dictionaries.{Entry, Layout, Values, Finder, or_else, first_found, values_if, find_step, find_field_step}
-use Rattle.ipc_format_grammar.specs.Dictionaries.{values_in, values_of, source_in, dictionary_in}
-use Rattle.ipc_format_grammar.specs.AppendedFiles.{as_told, standing_with, standing_behind}
-use Rattle.ipc_format_grammar.proofs.Claims.{TypeWith, FieldWith, LayerWith, bare_layer}
-use Rattle.ipc_format_grammar.proofs.NormalReports.{normal_field}
+use Rattle.ipc_format_laws.specs.flatbuffers.Reading.{guard}
+use Rattle.ipc_format_laws.specs.flatbuffers.FlatBuffers as flat
+use Rattle.ipc_format_laws.specs.columnar_memory.declared.DataType.{DataType, map-DataType}
+use Rattle.ipc_format_laws.specs.columnar_memory.declared.DataType.TheOpen as layer
+use Rattle.ipc_format_laws.specs.columnar_memory.declared.DataType.TheViews.{roll-DataType, roll-Field}
+use Rattle.ipc_format_laws.specs.columnar_memory.declared.DataType.TheFolds.{para-Field, fold-roll-DataType, fold-roll-Field, para-roll-DataType, para-roll-Field}
+use Rattle.ipc_format_laws.specs.columnar_memory.declared.DataType.TheFolds.{ind-DataType}
+use Rattle.ipc_format_laws.specs.columnar_memory.declared.Field.{Field, map-Field}
+use Rattle.ipc_format_laws.specs.columnar_memory.declared.IntegerType.{IntegerType}
+use Rattle.ipc_format_laws.specs.columns.Slots.{Slot}
+use Rattle.ipc_format_laws.specs.grammar.Messages as message
+use Rattle.ipc_format_laws.specs.grammar.Messages.{DictionaryBatch, dictionary_batch_in}
+use Rattle.ipc_format_laws.specs.grammar.Schemas.{Ids, IdsList, ids}
+use Rattle.ipc_format_laws.specs.grammar.Writable.{normalised_type, normalised_step, normalised_pairs, normalised_field}
+use Rattle.ipc_format_laws.specs.grammar.Columns.{Source, Dictionary, Place, slots_in, first_ids, other_ids, ids_below}
+use Rattle.ipc_format_laws.specs.grammar.Dictionaries.{Entry, Layout, Values, Finder, or_else, first_found, values_if, find_step, find_field_step}
+use Rattle.ipc_format_laws.specs.grammar.Dictionaries.{values_in, values_of, source_in, dictionary_in}
+use Rattle.ipc_format_laws.specs.grammar.AppendedFiles.{as_told, standing_with, standing_behind}
+use Rattle.ipc_format_laws.proofs.grammar_lemmas.Claims.{TypeWith, FieldWith, LayerWith, bare_layer}
+use Rattle.ipc_format_laws.proofs.grammar_lemmas.NormalReports.{normal_field}
 use Rattle.ipc_format_laws.proofs.Firsts.{came_of, same_value}
 use Rattle.ipc_format_reading_laws.specs.NormalSlots.{normal_slot, normal_dictionary}
 use Rattle.ipc_format_reading_laws.proofs.NormalTypes.{normal_types_read}

@@ -5,21 +5,21 @@ use Rattle.std.specs.Prelude.{Option, Some}
 use Rattle.std.specs.List.{All}
 use Rattle.std.proofs.lemmas.List.{length-map}
 use Rattle.std.proofs.lemmas.List.Elements.{All-head, All-tail, All-nil, All-cons}
-use Rattle.ipc_format_flatbuffers.specs.Reading.{◌>>=◌}
-use Rattle.columnar_memory.specs.declared.Schema.{Schema}
-use Rattle.nested_arrays_columns.specs.Slots.{Slot, window}
-use Rattle.nested_arrays_columns.specs.Tables.{Table, rows_of_batches}
-use Rattle.ipc_format_grammar.specs.Limits.{most_dictionaries}
-use Rattle.ipc_format_grammar.specs.Messages.{Header}
-use Rattle.ipc_format_grammar.specs.SchemaGrammar.{schema_in}
-use Rattle.ipc_format_grammar.specs.Writable.{normalised}
-use Rattle.ipc_format_grammar.specs.Dictionaries.{Entry, Layout}
-use Rattle.ipc_format_grammar.specs.Framing.{frame_at}
-use Rattle.ipc_format_grammar.specs.Files as read
-use Rattle.ipc_format_grammar.specs.Files.{Footer, footer_in, entry_at, entries_at, file_entries, is_dictionary, is_record_batch}
-use Rattle.ipc_format_grammar.specs.Tables.{file, Contents, contents_of, layout_of, batches_of, table_of}
-use Rattle.ipc_format_grammar.specs.Windows.{entry_windows}
-use Rattle.ipc_format_grammar.specs.AppendedFiles.{kept_block, is_empty, Base, base_end}
+use Rattle.ipc_format_laws.specs.flatbuffers.Reading.{◌>>=◌}
+use Rattle.ipc_format_laws.specs.columnar_memory.declared.Schema.{Schema}
+use Rattle.ipc_format_laws.specs.columns.Slots.{Slot, window}
+use Rattle.ipc_format_laws.specs.columns.Tables.{Table, rows_of_batches}
+use Rattle.ipc_format_laws.specs.grammar.Limits.{most_dictionaries}
+use Rattle.ipc_format_laws.specs.grammar.Messages.{Header}
+use Rattle.ipc_format_laws.specs.grammar.SchemaGrammar.{schema_in}
+use Rattle.ipc_format_laws.specs.grammar.Writable.{normalised}
+use Rattle.ipc_format_laws.specs.grammar.Dictionaries.{Entry, Layout}
+use Rattle.ipc_format_laws.specs.grammar.Framing.{frame_at}
+use Rattle.ipc_format_laws.specs.grammar.Files as read
+use Rattle.ipc_format_laws.specs.grammar.Files.{Footer, footer_in, entry_at, entries_at, file_entries, is_dictionary, is_record_batch}
+use Rattle.ipc_format_laws.specs.grammar.Tables.{file, Contents, contents_of, layout_of, batches_of, table_of}
+use Rattle.ipc_format_laws.specs.grammar.Windows.{entry_windows}
+use Rattle.ipc_format_laws.specs.grammar.AppendedFiles.{kept_block, is_empty, Base, base_end}
 use Rattle.ipc_format_laws.specs.Footers.{block_read}
 use Rattle.ipc_format_laws.proofs.Firsts.{came_of, bind_is, same_value}
 use Rattle.ipc_format_laws.proofs.StreamReaders.{passed}

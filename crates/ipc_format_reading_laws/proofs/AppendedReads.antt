@@ -2,15 +2,15 @@
 -- each batch is read under them.
 use Rattle.std.proofs.Common.{◌≡◌, ◌∙◌, List, [], ◌∷◌, ◌++◌, map, refl, sym, ap, subst, true, append-nil}
 use Rattle.std.specs.Prelude.{Some}
-use Rattle.columnar_memory.specs.declared.Field.{Field}
-use Rattle.nested_arrays_columns.specs.StoredColumns.{Column}
-use Rattle.ipc_format_grammar.specs.Writable.{normalised_field}
-use Rattle.ipc_format_grammar.specs.Dictionaries.{Entry, Layout}
-use Rattle.ipc_format_grammar.specs.Tables.{batches_of}
-use Rattle.ipc_format_grammar.specs.GivenDictionaries.{Given, to_write, written_after}
-use Rattle.ipc_format_grammar.specs.WrittenStreams.{Batch, batch_of_stored, given_of_stored}
-use Rattle.ipc_format_grammar.specs.WrittenFiles.{none_replaced}
-use Rattle.ipc_format_grammar.specs.AppendedFiles.{standing_behind}
+use Rattle.ipc_format_laws.specs.columnar_memory.declared.Field.{Field}
+use Rattle.ipc_format_laws.specs.columns.StoredColumns.{Column}
+use Rattle.ipc_format_laws.specs.grammar.Writable.{normalised_field}
+use Rattle.ipc_format_laws.specs.grammar.Dictionaries.{Entry, Layout}
+use Rattle.ipc_format_laws.specs.grammar.Tables.{batches_of}
+use Rattle.ipc_format_laws.specs.grammar.GivenDictionaries.{Given, to_write, written_after}
+use Rattle.ipc_format_laws.specs.grammar.WrittenStreams.{Batch, batch_of_stored, given_of_stored}
+use Rattle.ipc_format_laws.specs.grammar.WrittenFiles.{none_replaced}
+use Rattle.ipc_format_laws.specs.grammar.AppendedFiles.{standing_behind}
 use Rattle.ipc_format_laws.specs.Contents.{dictionary, batch}
 use Rattle.ipc_format_reading_laws.specs.StoredColumns.{StoredColumnsReadBack}
 use Rattle.ipc_format_reading_laws.specs.StoredTables.{read_batches}

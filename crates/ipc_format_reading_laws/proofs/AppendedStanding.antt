@@ -5,20 +5,20 @@ use Rattle.std.specs.Ordering.{int_eq}
 use Rattle.std.specs.Cmp.{signed_Decides}
 use Rattle.std.proofs.lemmas.Bool.{and_parts, and_from}
 use Rattle.std.proofs.lemmas.Option.{same_Some}
-use Rattle.ipc_format_flatbuffers.specs.FlatBuffers.{Table}
-use Rattle.ipc_format_grammar.specs.Messages as grammar
-use Rattle.ipc_format_grammar.specs.Messages.{Header}
-use Rattle.ipc_format_grammar.specs.Columns.{Dictionary}
-use Rattle.ipc_format_grammar.specs.Dictionaries.{Entry, Layout, values_of, dictionary_in}
-use Rattle.ipc_format_grammar.specs.Schemas.{IdsList, ids}
-use Rattle.columnar_memory.specs.declared.Field.{Field}
-use Rattle.ipc_format_grammar.specs.Writable.{normalised_type}
-use Rattle.ipc_format_grammar.specs.GivenDictionaries.{Given, given_stored, last_under, stands_for, to_write, written_after}
-use Rattle.ipc_format_grammar.specs.WrittenFiles.{is_first_or_same, none_replaced}
-use Rattle.ipc_format_grammar.specs.AppendedFiles.{standing_with, standing_behind}
+use Rattle.ipc_format_laws.specs.flatbuffers.FlatBuffers.{Table}
+use Rattle.ipc_format_laws.specs.grammar.Messages as grammar
+use Rattle.ipc_format_laws.specs.grammar.Messages.{Header}
+use Rattle.ipc_format_laws.specs.grammar.Columns.{Dictionary}
+use Rattle.ipc_format_laws.specs.grammar.Dictionaries.{Entry, Layout, values_of, dictionary_in}
+use Rattle.ipc_format_laws.specs.grammar.Schemas.{IdsList, ids}
+use Rattle.ipc_format_laws.specs.columnar_memory.declared.Field.{Field}
+use Rattle.ipc_format_laws.specs.grammar.Writable.{normalised_type}
+use Rattle.ipc_format_laws.specs.grammar.GivenDictionaries.{Given, given_stored, last_under, stands_for, to_write, written_after}
+use Rattle.ipc_format_laws.specs.grammar.WrittenFiles.{is_first_or_same, none_replaced}
+use Rattle.ipc_format_laws.specs.grammar.AppendedFiles.{standing_with, standing_behind}
 use Rattle.ipc_format_laws.specs.Contents.{dictionary}
 use Rattle.ipc_format_laws.proofs.Firsts.{bind_is}
-use Rattle.nested_arrays_columns.specs.StoredColumns.{column_type}
+use Rattle.ipc_format_laws.specs.columns.StoredColumns.{column_type}
 use Rattle.ipc_format_reading_laws.specs.StoredColumns.{StoredColumnsReadBack}
 use Rattle.ipc_format_reading_laws.proofs.IsolatedBuffers.{Extends}
 use Rattle.ipc_format_reading_laws.proofs.StoredGivenLists.{Each, AreEach, by_answer}

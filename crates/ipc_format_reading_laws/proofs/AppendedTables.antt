@@ -8,26 +8,26 @@ use Rattle.std.proofs.lemmas.Grind.{flat_map-append}
 use Rattle.std.proofs.lemmas.List.{length-map, length-replicate, length-take-le, map-append}
 use Rattle.std.proofs.lemmas.List.Elements.{All-head}
 use Rattle.std.proofs.lemmas.Option.{same_Some}
-use Rattle.columnar_memory.specs.declared.Schema.{Schema}
-use Rattle.nested_arrays_columns.specs.Slots.{Slot}
-use Rattle.nested_arrays_columns.specs.StoredColumns.{Column}
-use Rattle.nested_arrays_columns.specs.Tables.{Table, batch_rows, rows_of_batches}
-use Rattle.ipc_format_grammar.specs.Limits.{most_dictionaries, file_limit}
-use Rattle.ipc_format_grammar.specs.Messages.{Header, Version, version_in}
-use Rattle.ipc_format_grammar.specs.Writable.{is_writable, normalised, normalised_field}
-use Rattle.ipc_format_grammar.specs.Ids.{ids_fit_fields, all_are_ids}
-use Rattle.ipc_format_grammar.specs.Columns.{Dictionary}
-use Rattle.ipc_format_grammar.specs.Dictionaries.{Entry, Layout}
-use Rattle.ipc_format_grammar.specs.GivenDictionaries.{Given}
-use Rattle.ipc_format_grammar.specs.Framing.{Frame, frame_at}
-use Rattle.ipc_format_grammar.specs.Files as read
-use Rattle.ipc_format_grammar.specs.Files.{metadata_of, header_in, entry_at, entries_at, file_entries, is_dictionary, is_record_batch}
-use Rattle.ipc_format_grammar.specs.Tables.{file, layout_of, batches_of, table_of}
-use Rattle.ipc_format_grammar.specs.WrittenMessages.{fits_limit, end_mark}
-use Rattle.ipc_format_grammar.specs.WrittenStreams.{Batch, belongs, messages_after, bytes_of_messages, batch_of_stored, batches_written}
-use Rattle.ipc_format_grammar.specs.WrittenFiles.{Block, Blocks, batch_blocks, is_footer, fits_file_limit, file_end, none_replaced, all_given}
-use Rattle.ipc_format_grammar.specs.AppendedFiles.{kept_block, is_empty, Base, base_of, base_end, base_start, appended_blocks}
-use Rattle.ipc_format_grammar.specs.AppendedFiles.{has_few_dictionaries, appended_footer, appended_messages, padding_to, appended_bytes, appended}
+use Rattle.ipc_format_laws.specs.columnar_memory.declared.Schema.{Schema}
+use Rattle.ipc_format_laws.specs.columns.Slots.{Slot}
+use Rattle.ipc_format_laws.specs.columns.StoredColumns.{Column}
+use Rattle.ipc_format_laws.specs.columns.Tables.{Table, batch_rows, rows_of_batches}
+use Rattle.ipc_format_laws.specs.grammar.Limits.{most_dictionaries, file_limit}
+use Rattle.ipc_format_laws.specs.grammar.Messages.{Header, Version, version_in}
+use Rattle.ipc_format_laws.specs.grammar.Writable.{is_writable, normalised, normalised_field}
+use Rattle.ipc_format_laws.specs.grammar.Ids.{ids_fit_fields, all_are_ids}
+use Rattle.ipc_format_laws.specs.grammar.Columns.{Dictionary}
+use Rattle.ipc_format_laws.specs.grammar.Dictionaries.{Entry, Layout}
+use Rattle.ipc_format_laws.specs.grammar.GivenDictionaries.{Given}
+use Rattle.ipc_format_laws.specs.grammar.Framing.{Frame, frame_at}
+use Rattle.ipc_format_laws.specs.grammar.Files as read
+use Rattle.ipc_format_laws.specs.grammar.Files.{metadata_of, header_in, entry_at, entries_at, file_entries, is_dictionary, is_record_batch}
+use Rattle.ipc_format_laws.specs.grammar.Tables.{file, layout_of, batches_of, table_of}
+use Rattle.ipc_format_laws.specs.grammar.WrittenMessages.{fits_limit, end_mark}
+use Rattle.ipc_format_laws.specs.grammar.WrittenStreams.{Batch, belongs, messages_after, bytes_of_messages, batch_of_stored, batches_written}
+use Rattle.ipc_format_laws.specs.grammar.WrittenFiles.{Block, Blocks, batch_blocks, is_footer, fits_file_limit, file_end, none_replaced, all_given}
+use Rattle.ipc_format_laws.specs.grammar.AppendedFiles.{kept_block, is_empty, Base, base_of, base_end, base_start, appended_blocks}
+use Rattle.ipc_format_laws.specs.grammar.AppendedFiles.{has_few_dictionaries, appended_footer, appended_messages, padding_to, appended_bytes, appended}
 use Rattle.ipc_format_laws.specs.Footers.{block_read, FitBlocks, HasFooter}
 use Rattle.ipc_format_laws.specs.Schemas.{HasTexts, ids_read}
 use Rattle.ipc_format_laws.proofs.Firsts.{came_of, same_value}

@@ -4,14 +4,14 @@ use Rattle.std.proofs.Common.{append_assoc, append-nil, length-append}
 use Rattle.std.specs.Prelude.{Some, slice_get}
 use Rattle.std.specs.Int.{next_multiple_of}
 use Rattle.std.proofs.Math.Seq.{take-append_seam}
-use Rattle.ipc_format_flatbuffers.specs.FlatBuffers.{Table, Vector}
-use Rattle.ipc_format_grammar.specs.Messages as grammar
-use Rattle.ipc_format_grammar.specs.Messages.{Buffer, RecordBatch, DictionaryBatch, as_buffer, natural, record_batch_in, dictionary_batch_in}
-use Rattle.ipc_format_grammar.specs.Messages.{structs_in}
-use Rattle.ipc_format_grammar.specs.Encoding.{joined}
-use Rattle.ipc_format_grammar.specs.GivenDictionaries.{Given}
-use Rattle.ipc_format_grammar.specs.WrittenMessages.{padded_buffer, buffer_places, body_bytes, record_message, dictionary_message}
-use Rattle.ipc_format_grammar.specs.WrittenStreams.{Batch}
+use Rattle.ipc_format_laws.specs.flatbuffers.FlatBuffers.{Table, Vector}
+use Rattle.ipc_format_laws.specs.grammar.Messages as grammar
+use Rattle.ipc_format_laws.specs.grammar.Messages.{Buffer, RecordBatch, DictionaryBatch, as_buffer, natural, record_batch_in, dictionary_batch_in}
+use Rattle.ipc_format_laws.specs.grammar.Messages.{structs_in}
+use Rattle.ipc_format_laws.specs.grammar.Encoding.{joined}
+use Rattle.ipc_format_laws.specs.grammar.GivenDictionaries.{Given}
+use Rattle.ipc_format_laws.specs.grammar.WrittenMessages.{padded_buffer, buffer_places, body_bytes, record_message, dictionary_message}
+use Rattle.ipc_format_laws.specs.grammar.WrittenStreams.{Batch}
 use Rattle.ipc_format_laws.specs.BatchMessages.{IsRecordBatch, stated_buffer}
 use Rattle.ipc_format_laws.specs.Contents.{HasColumns, HasValues, batch_message}
 use Rattle.ipc_format_laws.proofs.Firsts.{same_value}

@@ -4,13 +4,13 @@ use Rattle.std.proofs.Common.{nat_lt, ◌==◌}
 use Rattle.std.specs.Prelude.{Some, slice_get, int_lt, if◌then◌else◌}
 use Rattle.std.specs.Int.{Width, byte_len}
 use Rattle.std.proofs.lemmas.Bool.{leb-true}
-use Rattle.ipc_format_flatbuffers.specs.Reading.{◌>>=◌, guard}
-use Rattle.nested_arrays_columns.specs.Slots.{window}
-use Rattle.ipc_format_grammar.specs.Messages.{FieldNode, Buffer, natural}
-use Rattle.ipc_format_grammar.specs.Values.{signed_of, element_bytes}
-use Rattle.ipc_format_grammar.specs.Columns.{Source, Dictionary, Place, Validity, all_valid, bitmap, Marked, buffer_at, taken_in, validity_in}
-use Rattle.ipc_format_grammar.specs.Columns.{marked_in, rising, offsets_in}
-use Rattle.ipc_format_grammar.specs.Windows.{Window, or_none, buffer_windows, validity_windows, marked_windows, offsets_windows}
+use Rattle.ipc_format_laws.specs.flatbuffers.Reading.{◌>>=◌, guard}
+use Rattle.ipc_format_laws.specs.columns.Slots.{window}
+use Rattle.ipc_format_laws.specs.grammar.Messages.{FieldNode, Buffer, natural}
+use Rattle.ipc_format_laws.specs.grammar.Values.{signed_of, element_bytes}
+use Rattle.ipc_format_laws.specs.grammar.Columns.{Source, Dictionary, Place, Validity, all_valid, bitmap, Marked, buffer_at, taken_in, validity_in}
+use Rattle.ipc_format_laws.specs.grammar.Columns.{marked_in, rising, offsets_in}
+use Rattle.ipc_format_laws.specs.grammar.Windows.{Window, or_none, buffer_windows, validity_windows, marked_windows, offsets_windows}
 use Rattle.ipc_format_laws.proofs.Firsts.{came_of, bind_is, same_value, guarded}
 use Rattle.ipc_format_reading_laws.specs.StatedBodies.{BuffersEnd}
 use Rattle.ipc_format_reading_laws.proofs.AppendedEntries.{IsBefore}

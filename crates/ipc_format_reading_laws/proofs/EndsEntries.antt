@@ -2,18 +2,18 @@
 use Rattle.std.proofs.Common.{◌≡◌, ℕ, ◌+◌, Bool, List, [], ◌∷◌, length, sym, ap, subst, ◌∙◌, nat_le, not}
 use Rattle.std.specs.Prelude.{Some, None, slice_get}
 use Rattle.std.specs.List.{flat_map}
-use Rattle.ipc_format_flatbuffers.specs.Reading.{guard}
-use Rattle.ipc_format_flatbuffers.specs.FlatBuffers as flat
-use Rattle.columnar_memory.specs.declared.Field.{Field}
-use Rattle.nested_arrays_columns.specs.Slots.{Slot, window}
-use Rattle.ipc_format_grammar.specs.Messages as message
-use Rattle.ipc_format_grammar.specs.Messages.{FieldNode, Buffer, RecordBatch, DictionaryBatch, record_batch_in, dictionary_batch_in, lengths_sum}
-use Rattle.ipc_format_grammar.specs.Messages.{structs_in, as_node, as_buffer}
-use Rattle.ipc_format_grammar.specs.Schemas.{ids}
-use Rattle.ipc_format_grammar.specs.Columns.{Source, Dictionary, Place, slots_in}
-use Rattle.ipc_format_grammar.specs.Dictionaries.{Entry, Layout, Values, values_of, source_in, dictionary_in}
-use Rattle.ipc_format_grammar.specs.Tables.{column_place, column_in, columns_from, batch_in, batches_with, batches_of}
-use Rattle.ipc_format_grammar.specs.Windows.{or_none, windows_in, column_windows, batch_windows, dictionary_windows, header_windows, entry_windows}
+use Rattle.ipc_format_laws.specs.flatbuffers.Reading.{guard}
+use Rattle.ipc_format_laws.specs.flatbuffers.FlatBuffers as flat
+use Rattle.ipc_format_laws.specs.columnar_memory.declared.Field.{Field}
+use Rattle.ipc_format_laws.specs.columns.Slots.{Slot, window}
+use Rattle.ipc_format_laws.specs.grammar.Messages as message
+use Rattle.ipc_format_laws.specs.grammar.Messages.{FieldNode, Buffer, RecordBatch, DictionaryBatch, record_batch_in, dictionary_batch_in, lengths_sum}
+use Rattle.ipc_format_laws.specs.grammar.Messages.{structs_in, as_node, as_buffer}
+use Rattle.ipc_format_laws.specs.grammar.Schemas.{ids}
+use Rattle.ipc_format_laws.specs.grammar.Columns.{Source, Dictionary, Place, slots_in}
+use Rattle.ipc_format_laws.specs.grammar.Dictionaries.{Entry, Layout, Values, values_of, source_in, dictionary_in}
+use Rattle.ipc_format_laws.specs.grammar.Tables.{column_place, column_in, columns_from, batch_in, batches_with, batches_of}
+use Rattle.ipc_format_laws.specs.grammar.Windows.{or_none, windows_in, column_windows, batch_windows, dictionary_windows, header_windows, entry_windows}
 use Rattle.ipc_format_laws.specs.Columns.{StandsAt}
 use Rattle.ipc_format_laws.proofs.Elements.{part_first, part_next}
 use Rattle.ipc_format_laws.proofs.Firsts.{came_of, bind_is, same_value}

@@ -5,18 +5,18 @@ use Rattle.std.specs.List.{All}
 use Rattle.std.proofs.Math.Nat.{le-max_left, le-max_right, max-le}
 use Rattle.std.proofs.lemmas.List.{take-append-drop, take-take}
 use Rattle.std.proofs.lemmas.List.Elements.{All-nil, All-cons}
-use Rattle.nested_arrays_columns.specs.Slots.{window}
-use Rattle.nested_arrays_columns.specs.Tables.{Table}
-use Rattle.ipc_format_grammar.specs.Messages as message
-use Rattle.ipc_format_grammar.specs.Messages.{Buffer}
-use Rattle.ipc_format_grammar.specs.Dictionaries.{Entry, Layout}
-use Rattle.ipc_format_grammar.specs.Framing.{metadata_then, frame_at}
-use Rattle.ipc_format_grammar.specs.Files as read
-use Rattle.ipc_format_grammar.specs.Files.{Footer, footer_in, entries_at, is_dictionary, is_record_batch}
-use Rattle.ipc_format_grammar.specs.Tables.{file, Contents, layout_of, table_of}
-use Rattle.ipc_format_grammar.specs.Windows.{entry_windows}
-use Rattle.ipc_format_grammar.specs.WrittenFiles.{Block}
-use Rattle.ipc_format_grammar.specs.AppendedFiles.{kept_block, block_end, greatest_end, Base, base_end}
+use Rattle.ipc_format_laws.specs.columns.Slots.{window}
+use Rattle.ipc_format_laws.specs.columns.Tables.{Table}
+use Rattle.ipc_format_laws.specs.grammar.Messages as message
+use Rattle.ipc_format_laws.specs.grammar.Messages.{Buffer}
+use Rattle.ipc_format_laws.specs.grammar.Dictionaries.{Entry, Layout}
+use Rattle.ipc_format_laws.specs.grammar.Framing.{metadata_then, frame_at}
+use Rattle.ipc_format_laws.specs.grammar.Files as read
+use Rattle.ipc_format_laws.specs.grammar.Files.{Footer, footer_in, entries_at, is_dictionary, is_record_batch}
+use Rattle.ipc_format_laws.specs.grammar.Tables.{file, Contents, layout_of, table_of}
+use Rattle.ipc_format_laws.specs.grammar.Windows.{entry_windows}
+use Rattle.ipc_format_laws.specs.grammar.WrittenFiles.{Block}
+use Rattle.ipc_format_laws.specs.grammar.AppendedFiles.{kept_block, block_end, greatest_end, Base, base_end}
 use Rattle.ipc_format_laws.specs.Footers.{block_read}
 use Rattle.ipc_format_laws.proofs.Firsts.{same_value}
 use Rattle.ipc_format_reading_laws.specs.AppendLaws.{StandsBefore}

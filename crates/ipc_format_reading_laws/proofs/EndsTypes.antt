@@ -3,18 +3,18 @@ use Rattle.std.proofs.Common.{ℕ, List, [], ◌∷◌, map, length, refl, subst
 use Rattle.std.specs.Int.{w32, w64}
 use Rattle.std.specs.Str.{is_utf8}
 use Rattle.std.specs.Prelude.{true}
-use Rattle.columnar_memory.specs.declared.DataType.{DataType, map-DataType}
-use Rattle.columnar_memory.specs.declared.DataType.TheOpen as layer
-use Rattle.columnar_memory.specs.declared.DataType.TheViews.{roll-DataType, roll-Field}
-use Rattle.columnar_memory.specs.declared.DataType.TheFolds.{para-Field, para-roll-DataType, para-roll-Field, ind-DataType}
-use Rattle.columnar_memory.specs.declared.Field.{Field, map-Field}
-use Rattle.columnar_memory.specs.declared.IntervalUnit.TheVariants as intervals
-use Rattle.columnar_memory.specs.declared.PrimitiveType.TheVariants as kinds
-use Rattle.nested_arrays_columns.specs.Slots.{bytes, text}
-use Rattle.ipc_format_grammar.specs.Layouts.{before_V5, union_parts}
-use Rattle.ipc_format_grammar.specs.Columns.{Reader, read_step, read_field_step, slots_in}
-use Rattle.ipc_format_grammar.specs.Windows.{Taker, take_step, take_field_step, windows_in}
-use Rattle.ipc_format_grammar.proofs.Claims.{TypeWith, FieldWith, LayerWith, bare_layer}
+use Rattle.ipc_format_laws.specs.columnar_memory.declared.DataType.{DataType, map-DataType}
+use Rattle.ipc_format_laws.specs.columnar_memory.declared.DataType.TheOpen as layer
+use Rattle.ipc_format_laws.specs.columnar_memory.declared.DataType.TheViews.{roll-DataType, roll-Field}
+use Rattle.ipc_format_laws.specs.columnar_memory.declared.DataType.TheFolds.{para-Field, para-roll-DataType, para-roll-Field, ind-DataType}
+use Rattle.ipc_format_laws.specs.columnar_memory.declared.Field.{Field, map-Field}
+use Rattle.ipc_format_laws.specs.columnar_memory.declared.IntervalUnit.TheVariants as intervals
+use Rattle.ipc_format_laws.specs.columnar_memory.declared.PrimitiveType.TheVariants as kinds
+use Rattle.ipc_format_laws.specs.columns.Slots.{bytes, text}
+use Rattle.ipc_format_laws.specs.grammar.Layouts.{before_V5, union_parts}
+use Rattle.ipc_format_laws.specs.grammar.Columns.{Reader, read_step, read_field_step, slots_in}
+use Rattle.ipc_format_laws.specs.grammar.Windows.{Taker, take_step, take_field_step, windows_in}
+use Rattle.ipc_format_laws.proofs.grammar_lemmas.Claims.{TypeWith, FieldWith, LayerWith, bare_layer}
 use Rattle.ipc_format_reading_laws.proofs.EndsChildren.{lists_end, fixed_lists_end, AllEnd, structs_end, unions_end}
 use Rattle.ipc_format_reading_laws.proofs.EndsColumns.{Ends, nulls_end, truths_end, numbers_end, fixed_bytes_end, bytes_end, keys_end}
 

@@ -3,24 +3,24 @@ use Rattle.std.proofs.Common.{◌≡◌, ◌∙◌, ℕ, ◌+◌, ◌*◌, ◌/�
 use Rattle.std.specs.Prelude.{Option, Some, None}
 use Rattle.std.specs.Int.{Width}
 use Rattle.std.proofs.Math.Nat.{add_assoc}
-use Rattle.ipc_format_flatbuffers.specs.Reading.{guard}
+use Rattle.ipc_format_laws.specs.flatbuffers.Reading.{guard}
 use Rattle.columnar_memory_types.specs.Equality.{same_type}
-use Rattle.columnar_memory.specs.declared.DataType.{DataType}
-use Rattle.columnar_memory.specs.declared.Field.{Field}
-use Rattle.columnar_memory.specs.declared.IntegerType.{IntegerType}
-use Rattle.columnar_memory.specs.declared.PrimitiveType.{PrimitiveType}
-use Rattle.columnar_memory.specs.declared.UnionMode.{UnionMode}
-use Rattle.columnar_memory.specs.declared.UnionMode.TheVariants as modes
-use Rattle.nested_arrays_columns.specs.Slots.{Slot, truth, bytes}
-use Rattle.ipc_format_grammar.specs.Layouts.{node_count, buffer_count}
-use Rattle.ipc_format_grammar.specs.Messages.{FieldNode}
-use Rattle.ipc_format_grammar.specs.Schemas.{IdsList}
-use Rattle.ipc_format_grammar.specs.Values.{bit_at, kind_size, value_at, element_bytes, key_size}
-use Rattle.ipc_format_grammar.specs.Columns.{Source, Place, Reader, Dictionary, Marked, null_slots, fixed_slots, truth_slots, number_slots}
-use Rattle.ipc_format_grammar.specs.Columns.{fixed_bytes_slots, last_of, byte_slots, dictionary_slots, first_ids, other_ids, ids_below}
-use Rattle.ipc_format_grammar.specs.Columns.{own_id, standing_for}
-use Rattle.ipc_format_grammar.specs.Columns.{first_below, behind_column, limit_times, list_slots, fixed_list_slots, columns_below, struct_slots}
-use Rattle.ipc_format_grammar.specs.Columns.{places_in, union_slots}
+use Rattle.ipc_format_laws.specs.columnar_memory.declared.DataType.{DataType}
+use Rattle.ipc_format_laws.specs.columnar_memory.declared.Field.{Field}
+use Rattle.ipc_format_laws.specs.columnar_memory.declared.IntegerType.{IntegerType}
+use Rattle.ipc_format_laws.specs.columnar_memory.declared.PrimitiveType.{PrimitiveType}
+use Rattle.ipc_format_laws.specs.columnar_memory.declared.UnionMode.{UnionMode}
+use Rattle.ipc_format_laws.specs.columnar_memory.declared.UnionMode.TheVariants as modes
+use Rattle.ipc_format_laws.specs.columns.Slots.{Slot, truth, bytes}
+use Rattle.ipc_format_laws.specs.grammar.Layouts.{node_count, buffer_count}
+use Rattle.ipc_format_laws.specs.grammar.Messages.{FieldNode}
+use Rattle.ipc_format_laws.specs.grammar.Schemas.{IdsList}
+use Rattle.ipc_format_laws.specs.grammar.Values.{bit_at, kind_size, value_at, element_bytes, key_size}
+use Rattle.ipc_format_laws.specs.grammar.Columns.{Source, Place, Reader, Dictionary, Marked, null_slots, fixed_slots, truth_slots, number_slots}
+use Rattle.ipc_format_laws.specs.grammar.Columns.{fixed_bytes_slots, last_of, byte_slots, dictionary_slots, first_ids, other_ids, ids_below}
+use Rattle.ipc_format_laws.specs.grammar.Columns.{own_id, standing_for}
+use Rattle.ipc_format_laws.specs.grammar.Columns.{first_below, behind_column, limit_times, list_slots, fixed_list_slots, columns_below, struct_slots}
+use Rattle.ipc_format_laws.specs.grammar.Columns.{places_in, union_slots}
 use Rattle.ipc_format_reading_laws.proofs.FrontsPlaces.{further, without, within, Moves, moves_below, both_same, get_moved, buffer_moved}
 use Rattle.ipc_format_reading_laws.proofs.FrontsPlaces.{marked_moves, offsets_moved}
 

@@ -4,20 +4,20 @@ use Rattle.std.specs.Int.{Width, w32, w64}
 use Rattle.std.specs.Str.{is_utf8}
 use Rattle.std.specs.Prelude.{true}
 use Rattle.std.proofs.lemmas.List.{length-drop}
-use Rattle.columnar_memory.specs.declared.DataType.{DataType, map-DataType}
-use Rattle.columnar_memory.specs.declared.DataType.TheOpen as layer
-use Rattle.columnar_memory.specs.declared.DataType.TheViews.{roll-DataType, roll-Field}
-use Rattle.columnar_memory.specs.declared.DataType.TheFolds.{fold-Field, fold-roll-DataType, fold-roll-Field, ind-DataType}
-use Rattle.columnar_memory.specs.declared.Field.{Field, map-Field}
-use Rattle.columnar_memory.specs.declared.IntervalUnit.TheVariants as intervals
-use Rattle.columnar_memory.specs.declared.PrimitiveType.TheVariants as kinds
-use Rattle.nested_arrays_columns.specs.Slots.{bytes, text}
-use Rattle.nested_arrays_columns.specs.StoredColumns.{type_layer}
-use Rattle.nested_arrays_columns.proofs.TypeLayers.{Layer, is_extension}
-use Rattle.ipc_format_grammar.specs.Layouts.{total, node_count, buffer_step, buffer_count}
-use Rattle.ipc_format_grammar.specs.Messages.{Version}
-use Rattle.ipc_format_grammar.specs.Columns.{Place, list_slots, fixed_list_slots, slots_in}
-use Rattle.ipc_format_grammar.proofs.Claims.{TypeWith, FieldWith, LayerWith, bare_layer}
+use Rattle.ipc_format_laws.specs.columnar_memory.declared.DataType.{DataType, map-DataType}
+use Rattle.ipc_format_laws.specs.columnar_memory.declared.DataType.TheOpen as layer
+use Rattle.ipc_format_laws.specs.columnar_memory.declared.DataType.TheViews.{roll-DataType, roll-Field}
+use Rattle.ipc_format_laws.specs.columnar_memory.declared.DataType.TheFolds.{fold-Field, fold-roll-DataType, fold-roll-Field, ind-DataType}
+use Rattle.ipc_format_laws.specs.columnar_memory.declared.Field.{Field, map-Field}
+use Rattle.ipc_format_laws.specs.columnar_memory.declared.IntervalUnit.TheVariants as intervals
+use Rattle.ipc_format_laws.specs.columnar_memory.declared.PrimitiveType.TheVariants as kinds
+use Rattle.ipc_format_laws.specs.columns.Slots.{bytes, text}
+use Rattle.ipc_format_laws.specs.columns.StoredColumns.{type_layer}
+use Rattle.ipc_format_laws.proofs.columns_lemmas.TypeLayers.{Layer, is_extension}
+use Rattle.ipc_format_laws.specs.grammar.Layouts.{total, node_count, buffer_step, buffer_count}
+use Rattle.ipc_format_laws.specs.grammar.Messages.{Version}
+use Rattle.ipc_format_laws.specs.grammar.Columns.{Place, list_slots, fixed_list_slots, slots_in}
+use Rattle.ipc_format_laws.proofs.grammar_lemmas.Claims.{TypeWith, FieldWith, LayerWith, bare_layer}
 use Rattle.ipc_format_reading_laws.specs.Fronts.{ColumnsHaveParts}
 use Rattle.ipc_format_reading_laws.proofs.StoredLayers.{rolled_type, of_each, read_layer, rolled_reads, layer_nodes, rolled_nodes}
 use Rattle.ipc_format_reading_laws.proofs.StoredLayers.{type_nodes, layer_plain}

@@ -5,24 +5,24 @@ use Rattle.std.specs.Int.{Width}
 use Rattle.std.proofs.lemmas.List.{length-append}
 use Rattle.std.proofs.lemmas.List.Sums.{sum_by-cons}
 use Rattle.std.proofs.lemmas.Option.{slice_get_within}
-use Rattle.ipc_format_flatbuffers.specs.Reading.{guard}
+use Rattle.ipc_format_laws.specs.flatbuffers.Reading.{guard}
 use Rattle.columnar_memory_types.specs.Equality.{same_type}
-use Rattle.columnar_memory.specs.declared.DataType.{DataType}
-use Rattle.columnar_memory.specs.declared.Field.{Field}
-use Rattle.columnar_memory.specs.declared.IntegerType.{IntegerType}
-use Rattle.columnar_memory.specs.declared.PrimitiveType.{PrimitiveType}
-use Rattle.columnar_memory.specs.declared.UnionMode.{UnionMode}
-use Rattle.columnar_memory.specs.declared.UnionMode.TheVariants as modes
-use Rattle.nested_arrays_columns.specs.Slots.{Slot, truth, bytes}
-use Rattle.ipc_format_grammar.specs.Layouts.{before_V5, mode_parts, union_parts, total, node_count, buffer_count}
-use Rattle.ipc_format_grammar.specs.Messages.{Version, FieldNode, Buffer, natural}
-use Rattle.ipc_format_grammar.specs.Schemas.{IdsList}
-use Rattle.ipc_format_grammar.specs.Values.{bit_at, kind_size, value_at, element_bytes, key_size}
-use Rattle.ipc_format_grammar.specs.Columns.{Source, Place, Reader, Dictionary, Validity, Marked, buffer_at, taken_in, validity_in, marked_in}
-use Rattle.ipc_format_grammar.specs.Columns.{null_slots, fixed_slots, truth_slots, number_slots, fixed_bytes_slots, offsets_in, last_of, byte_slots}
-use Rattle.ipc_format_grammar.specs.Columns.{own_id, standing_for, dictionary_slots, first_ids, other_ids, ids_below, first_below, behind_column}
-use Rattle.ipc_format_grammar.specs.Columns.{limit_times, list_slots, fixed_list_slots, columns_below, struct_slots, places_in, union_slots}
-use Rattle.ipc_format_grammar.specs.Columns.{slots_in}
+use Rattle.ipc_format_laws.specs.columnar_memory.declared.DataType.{DataType}
+use Rattle.ipc_format_laws.specs.columnar_memory.declared.Field.{Field}
+use Rattle.ipc_format_laws.specs.columnar_memory.declared.IntegerType.{IntegerType}
+use Rattle.ipc_format_laws.specs.columnar_memory.declared.PrimitiveType.{PrimitiveType}
+use Rattle.ipc_format_laws.specs.columnar_memory.declared.UnionMode.{UnionMode}
+use Rattle.ipc_format_laws.specs.columnar_memory.declared.UnionMode.TheVariants as modes
+use Rattle.ipc_format_laws.specs.columns.Slots.{Slot, truth, bytes}
+use Rattle.ipc_format_laws.specs.grammar.Layouts.{before_V5, mode_parts, union_parts, total, node_count, buffer_count}
+use Rattle.ipc_format_laws.specs.grammar.Messages.{Version, FieldNode, Buffer, natural}
+use Rattle.ipc_format_laws.specs.grammar.Schemas.{IdsList}
+use Rattle.ipc_format_laws.specs.grammar.Values.{bit_at, kind_size, value_at, element_bytes, key_size}
+use Rattle.ipc_format_laws.specs.grammar.Columns.{Source, Place, Reader, Dictionary, Validity, Marked, buffer_at, taken_in, validity_in, marked_in}
+use Rattle.ipc_format_laws.specs.grammar.Columns.{null_slots, fixed_slots, truth_slots, number_slots, fixed_bytes_slots, offsets_in, last_of, byte_slots}
+use Rattle.ipc_format_laws.specs.grammar.Columns.{own_id, standing_for, dictionary_slots, first_ids, other_ids, ids_below, first_below, behind_column}
+use Rattle.ipc_format_laws.specs.grammar.Columns.{limit_times, list_slots, fixed_list_slots, columns_below, struct_slots, places_in, union_slots}
+use Rattle.ipc_format_laws.specs.grammar.Columns.{slots_in}
 use Rattle.ipc_format_laws.proofs.Firsts.{came_of}
 
 -- ---- what stands from a place on

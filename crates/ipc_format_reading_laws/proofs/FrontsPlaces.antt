@@ -4,12 +4,12 @@ use Rattle.std.proofs.Common.{zero-add, nat_lt, ◌==◌}
 use Rattle.std.specs.Prelude.{Option, Some, None, slice_get, int_lt, if◌then◌else◌}
 use Rattle.std.specs.Int.{Width, byte_len}
 use Rattle.std.proofs.Math.Nat.{add_assoc}
-use Rattle.ipc_format_flatbuffers.specs.Reading.{◌>>=◌}
-use Rattle.nested_arrays_columns.specs.Slots.{window}
-use Rattle.ipc_format_grammar.specs.Messages.{FieldNode, Buffer}
-use Rattle.ipc_format_grammar.specs.Values.{signed_of, element_bytes}
-use Rattle.ipc_format_grammar.specs.Columns.{Source, Place, Validity, all_valid, bitmap, buffer_at, validity_in, marked_in}
-use Rattle.ipc_format_grammar.specs.Columns.{rising, offsets_in, first_below}
+use Rattle.ipc_format_laws.specs.flatbuffers.Reading.{◌>>=◌}
+use Rattle.ipc_format_laws.specs.columns.Slots.{window}
+use Rattle.ipc_format_laws.specs.grammar.Messages.{FieldNode, Buffer}
+use Rattle.ipc_format_laws.specs.grammar.Values.{signed_of, element_bytes}
+use Rattle.ipc_format_laws.specs.grammar.Columns.{Source, Place, Validity, all_valid, bitmap, buffer_at, validity_in, marked_in}
+use Rattle.ipc_format_laws.specs.grammar.Columns.{rising, offsets_in, first_below}
 
 -- ---- places
 

@@ -3,20 +3,20 @@ use Rattle.std.proofs.Common.{◌≡◌, ◌∙◌, ℕ, ◌<◌, ◌≤◌, ◌
 use Rattle.std.proofs.Common.{append-nil, length-append}
 use Rattle.std.specs.Prelude.{Some}
 use Rattle.std.proofs.lemmas.List.{length-take-le, map-append, take-append-le, take-take}
-use Rattle.columnar_memory.specs.declared.Schema.{Schema}
-use Rattle.nested_arrays_columns.specs.Slots.{Slot}
-use Rattle.nested_arrays_columns.specs.StoredColumns.{Column}
-use Rattle.nested_arrays_columns.specs.Tables.{Table, rows_of_batches}
-use Rattle.ipc_format_grammar.specs.Schemas.{IdsList}
-use Rattle.ipc_format_grammar.specs.Writable.{normalised}
-use Rattle.ipc_format_grammar.specs.Dictionaries.{Entry}
-use Rattle.ipc_format_grammar.specs.Files as read
-use Rattle.ipc_format_grammar.specs.Files.{Footer, footer_in, entries_at, is_dictionary, is_record_batch}
-use Rattle.ipc_format_grammar.specs.Tables.{file, Contents, contents_of, layout_of, batches_of, batches_in}
-use Rattle.ipc_format_grammar.specs.WrittenStreams.{Batch, batch_of_stored}
-use Rattle.ipc_format_grammar.specs.WrittenFiles.{Block, Blocks, batch_blocks, written_file}
-use Rattle.ipc_format_grammar.specs.AppendedFiles.{kept_block, greatest_end, Base, base_of, base_end, base_start, appended_blocks, appended_footer}
-use Rattle.ipc_format_grammar.specs.AppendedFiles.{appended}
+use Rattle.ipc_format_laws.specs.columnar_memory.declared.Schema.{Schema}
+use Rattle.ipc_format_laws.specs.columns.Slots.{Slot}
+use Rattle.ipc_format_laws.specs.columns.StoredColumns.{Column}
+use Rattle.ipc_format_laws.specs.columns.Tables.{Table, rows_of_batches}
+use Rattle.ipc_format_laws.specs.grammar.Schemas.{IdsList}
+use Rattle.ipc_format_laws.specs.grammar.Writable.{normalised}
+use Rattle.ipc_format_laws.specs.grammar.Dictionaries.{Entry}
+use Rattle.ipc_format_laws.specs.grammar.Files as read
+use Rattle.ipc_format_laws.specs.grammar.Files.{Footer, footer_in, entries_at, is_dictionary, is_record_batch}
+use Rattle.ipc_format_laws.specs.grammar.Tables.{file, Contents, contents_of, layout_of, batches_of, batches_in}
+use Rattle.ipc_format_laws.specs.grammar.WrittenStreams.{Batch, batch_of_stored}
+use Rattle.ipc_format_laws.specs.grammar.WrittenFiles.{Block, Blocks, batch_blocks, written_file}
+use Rattle.ipc_format_laws.specs.grammar.AppendedFiles.{kept_block, greatest_end, Base, base_of, base_end, base_start, appended_blocks, appended_footer}
+use Rattle.ipc_format_laws.specs.grammar.AppendedFiles.{appended}
 use Rattle.ipc_format_laws.specs.Footers.{block_read}
 use Rattle.ipc_format_laws.specs.Schemas.{HasTexts}
 use Rattle.ipc_format_laws.proofs.Firsts.{came_of, same_value}

@@ -2,17 +2,17 @@
 use Rattle.std.proofs.Common.{◌≡◌, ◌∙◌, ℕ, ◌^◌, ◌≤◌, List, [], ◌∷◌, length, refl, sym, ap, nat_lt, arith}
 use Rattle.std.specs.Prelude.{Option, Some, None}
 use Rattle.std.specs.List.{list_all}
-use Rattle.ipc_format_flatbuffers.specs.Reading.{◌>>=◌, guard}
-use Rattle.nested_arrays_columns.specs.Slots.{Slot}
-use Rattle.nested_arrays_columns.specs.Tables.{Table, rows_of_batches, rows_of_columns, chosen}
-use Rattle.ipc_format_grammar.specs.Messages as message
-use Rattle.ipc_format_grammar.specs.Writable.{normalised}
-use Rattle.ipc_format_grammar.specs.Schemas.{SchemaIn}
-use Rattle.ipc_format_grammar.specs.Columns.{Dictionary}
-use Rattle.ipc_format_grammar.specs.Dictionaries.{Entry, Layout, dictionary_in}
-use Rattle.ipc_format_grammar.specs.Tables.{Contents, contents_of, layout_of, batch_in, batches_with, batches_of, table_of, left_of}
-use Rattle.ipc_format_grammar.specs.Tables.{chosen_batch_in, chosen_batches_with, chosen_batches, choice_of}
-use Rattle.ipc_format_grammar.specs.Windows.{Window, header_windows, entry_windows, SameEntry, SameEntries}
+use Rattle.ipc_format_laws.specs.flatbuffers.Reading.{◌>>=◌, guard}
+use Rattle.ipc_format_laws.specs.columns.Slots.{Slot}
+use Rattle.ipc_format_laws.specs.columns.Tables.{Table, rows_of_batches, rows_of_columns, chosen}
+use Rattle.ipc_format_laws.specs.grammar.Messages as message
+use Rattle.ipc_format_laws.specs.grammar.Writable.{normalised}
+use Rattle.ipc_format_laws.specs.grammar.Schemas.{SchemaIn}
+use Rattle.ipc_format_laws.specs.grammar.Columns.{Dictionary}
+use Rattle.ipc_format_laws.specs.grammar.Dictionaries.{Entry, Layout, dictionary_in}
+use Rattle.ipc_format_laws.specs.grammar.Tables.{Contents, contents_of, layout_of, batch_in, batches_with, batches_of, table_of, left_of}
+use Rattle.ipc_format_laws.specs.grammar.Tables.{chosen_batch_in, chosen_batches_with, chosen_batches, choice_of}
+use Rattle.ipc_format_laws.specs.grammar.Windows.{Window, header_windows, entry_windows, SameEntry, SameEntries}
 use Rattle.ipc_format_laws.proofs.Firsts.{came_of, bind_is}
 use Rattle.ipc_format_reading_laws.specs.Isolation.{ChoicesAreIsolated}
 use Rattle.ipc_format_reading_laws.proofs.IsolatedBuffers.{SameBytes, same_of_all}

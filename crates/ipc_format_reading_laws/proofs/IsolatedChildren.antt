@@ -2,17 +2,17 @@
 use Rattle.std.proofs.Common.{◌≡◌, ◌∙◌, ℕ, ◌+◌, ◌*◌, ℤ, List, [], ◌∷◌, ◌++◌, ap, subst}
 use Rattle.std.specs.Prelude.{Option, Some, None, slice_get}
 use Rattle.std.specs.Int.{Width}
-use Rattle.columnar_memory.specs.declared.Field.{Field}
-use Rattle.columnar_memory.specs.declared.UnionMode.{UnionMode}
-use Rattle.columnar_memory.specs.declared.UnionMode.TheVariants as modes
-use Rattle.nested_arrays_columns.specs.Slots.{Slot}
-use Rattle.ipc_format_grammar.specs.Messages.{FieldNode, natural}
-use Rattle.ipc_format_grammar.specs.Schemas.{IdsList}
-use Rattle.ipc_format_grammar.specs.Columns.{Source, Place, Reader, Dictionary, Marked, marked_in, buffer_at, offsets_in, last_of, first_below}
-use Rattle.ipc_format_grammar.specs.Columns.{behind_column, limit_times, list_slots, fixed_list_slots, columns_below, struct_slots, ids_below}
-use Rattle.ipc_format_grammar.specs.Columns.{first_ids, other_ids, places_in, union_slots}
-use Rattle.ipc_format_grammar.specs.Windows.{Taker, Window, or_none, buffer_windows, offsets_windows, last_found, list_windows, fixed_list_windows}
-use Rattle.ipc_format_grammar.specs.Windows.{windows_below, struct_windows, places_windows, union_windows}
+use Rattle.ipc_format_laws.specs.columnar_memory.declared.Field.{Field}
+use Rattle.ipc_format_laws.specs.columnar_memory.declared.UnionMode.{UnionMode}
+use Rattle.ipc_format_laws.specs.columnar_memory.declared.UnionMode.TheVariants as modes
+use Rattle.ipc_format_laws.specs.columns.Slots.{Slot}
+use Rattle.ipc_format_laws.specs.grammar.Messages.{FieldNode, natural}
+use Rattle.ipc_format_laws.specs.grammar.Schemas.{IdsList}
+use Rattle.ipc_format_laws.specs.grammar.Columns.{Source, Place, Reader, Dictionary, Marked, marked_in, buffer_at, offsets_in, last_of, first_below}
+use Rattle.ipc_format_laws.specs.grammar.Columns.{behind_column, limit_times, list_slots, fixed_list_slots, columns_below, struct_slots, ids_below}
+use Rattle.ipc_format_laws.specs.grammar.Columns.{first_ids, other_ids, places_in, union_slots}
+use Rattle.ipc_format_laws.specs.grammar.Windows.{Taker, Window, or_none, buffer_windows, offsets_windows, last_found, list_windows, fixed_list_windows}
+use Rattle.ipc_format_laws.specs.grammar.Windows.{windows_below, struct_windows, places_windows, union_windows}
 use Rattle.ipc_format_laws.proofs.Firsts.{came_of, bind_is}
 use Rattle.ipc_format_reading_laws.proofs.IsolatedBuffers.{SameBytes, same_first, same_later, in_room, among, Extends, moved, buffer_same}
 use Rattle.ipc_format_reading_laws.proofs.IsolatedBuffers.{marked_same, offsets_same}

@@ -2,16 +2,16 @@
 use Rattle.std.proofs.Common.{◌≡◌, ◌∙◌, ℕ, ◌+◌, ◌*◌, ◌/◌, ℤ, Bool, List, [], ◌++◌, subst}
 use Rattle.std.specs.Prelude.{Option, Some}
 use Rattle.std.specs.Int.{Width}
-use Rattle.ipc_format_flatbuffers.specs.Reading.{guard}
+use Rattle.ipc_format_laws.specs.flatbuffers.Reading.{guard}
 use Rattle.columnar_memory_types.specs.Equality.{same_type}
-use Rattle.columnar_memory.specs.declared.DataType.{DataType}
-use Rattle.columnar_memory.specs.declared.IntegerType.{IntegerType}
-use Rattle.columnar_memory.specs.declared.PrimitiveType.{PrimitiveType}
-use Rattle.nested_arrays_columns.specs.Slots.{Slot, truth, bytes}
-use Rattle.ipc_format_grammar.specs.Values.{bit_at, kind_size, value_at, element_bytes, key_size}
-use Rattle.ipc_format_grammar.specs.Columns.{Place, Reader, Dictionary, Marked, marked_in, buffer_at, null_slots, fixed_slots, truth_slots}
-use Rattle.ipc_format_grammar.specs.Columns.{number_slots, fixed_bytes_slots, offsets_in, last_of, byte_slots, own_id, standing_for, dictionary_slots}
-use Rattle.ipc_format_grammar.specs.Windows.{Taker, Window, buffer_windows, fixed_windows, offsets_windows, last_found, byte_windows}
+use Rattle.ipc_format_laws.specs.columnar_memory.declared.DataType.{DataType}
+use Rattle.ipc_format_laws.specs.columnar_memory.declared.IntegerType.{IntegerType}
+use Rattle.ipc_format_laws.specs.columnar_memory.declared.PrimitiveType.{PrimitiveType}
+use Rattle.ipc_format_laws.specs.columns.Slots.{Slot, truth, bytes}
+use Rattle.ipc_format_laws.specs.grammar.Values.{bit_at, kind_size, value_at, element_bytes, key_size}
+use Rattle.ipc_format_laws.specs.grammar.Columns.{Place, Reader, Dictionary, Marked, marked_in, buffer_at, null_slots, fixed_slots, truth_slots}
+use Rattle.ipc_format_laws.specs.grammar.Columns.{number_slots, fixed_bytes_slots, offsets_in, last_of, byte_slots, own_id, standing_for, dictionary_slots}
+use Rattle.ipc_format_laws.specs.grammar.Windows.{Taker, Window, buffer_windows, fixed_windows, offsets_windows, last_found, byte_windows}
 use Rattle.ipc_format_laws.proofs.Firsts.{came_of, bind_is}
 use Rattle.ipc_format_reading_laws.proofs.IsolatedBuffers.{SameBytes, same_first, same_later, in_room, among, Extends, moved, buffer_same}
 use Rattle.ipc_format_reading_laws.proofs.IsolatedBuffers.{marked_same, offsets_same}

@@ -3,17 +3,17 @@ use Rattle.std.proofs.Common.{◌≡◌, ◌∙◌, ℕ, zero, suc, ◌+◌, ◌
 use Rattle.std.specs.Prelude.{Option, Some, None, slice_get}
 use Rattle.std.specs.List.{flat_map}
 use Rattle.std.proofs.lemmas.Bool.{le-leb, leb-true}
-use Rattle.ipc_format_flatbuffers.specs.Reading.{◌>>=◌, guard}
-use Rattle.ipc_format_flatbuffers.specs.FlatBuffers as flat
-use Rattle.columnar_memory.specs.declared.Field.{Field}
-use Rattle.nested_arrays_columns.specs.Slots.{Slot}
-use Rattle.ipc_format_grammar.specs.Messages.{FieldNode, Buffer, RecordBatch, DictionaryBatch, record_batch_in, dictionary_batch_in, lengths_sum}
-use Rattle.ipc_format_grammar.specs.Messages.{structs_in, as_node, as_buffer}
-use Rattle.ipc_format_grammar.specs.Schemas.{ids}
-use Rattle.ipc_format_grammar.specs.Columns.{Source, Dictionary, Place, slots_in}
-use Rattle.ipc_format_grammar.specs.Dictionaries.{Entry, Layout, Values, values_of, source_in, dictionary_in}
-use Rattle.ipc_format_grammar.specs.Tables.{column_place, column_in, columns_from, agree_in_length, batch_in, chosen_columns, chosen_batch_in}
-use Rattle.ipc_format_grammar.specs.Windows.{Window, or_none, windows_in, column_windows, batch_windows, dictionary_windows}
+use Rattle.ipc_format_laws.specs.flatbuffers.Reading.{◌>>=◌, guard}
+use Rattle.ipc_format_laws.specs.flatbuffers.FlatBuffers as flat
+use Rattle.ipc_format_laws.specs.columnar_memory.declared.Field.{Field}
+use Rattle.ipc_format_laws.specs.columns.Slots.{Slot}
+use Rattle.ipc_format_laws.specs.grammar.Messages.{FieldNode, Buffer, RecordBatch, DictionaryBatch, record_batch_in, dictionary_batch_in, lengths_sum}
+use Rattle.ipc_format_laws.specs.grammar.Messages.{structs_in, as_node, as_buffer}
+use Rattle.ipc_format_laws.specs.grammar.Schemas.{ids}
+use Rattle.ipc_format_laws.specs.grammar.Columns.{Source, Dictionary, Place, slots_in}
+use Rattle.ipc_format_laws.specs.grammar.Dictionaries.{Entry, Layout, Values, values_of, source_in, dictionary_in}
+use Rattle.ipc_format_laws.specs.grammar.Tables.{column_place, column_in, columns_from, agree_in_length, batch_in, chosen_columns, chosen_batch_in}
+use Rattle.ipc_format_laws.specs.grammar.Windows.{Window, or_none, windows_in, column_windows, batch_windows, dictionary_windows}
 use Rattle.ipc_format_laws.proofs.Firsts.{came_of, bind_is, same_value, guarded}
 use Rattle.ipc_format_laws.proofs.FirstColumns.{cut_to}
 use Rattle.ipc_format_laws.proofs.FirstTypes.{types_cut}

@@ -3,18 +3,18 @@ use Rattle.std.proofs.Common.{List, [], ◌∷◌, map, length, refl, subst}
 use Rattle.std.specs.Int.{w32, w64}
 use Rattle.std.specs.Str.{is_utf8}
 use Rattle.std.specs.Prelude.{true}
-use Rattle.columnar_memory.specs.declared.DataType.{DataType, map-DataType}
-use Rattle.columnar_memory.specs.declared.DataType.TheOpen as layer
-use Rattle.columnar_memory.specs.declared.DataType.TheViews.{roll-DataType, roll-Field}
-use Rattle.columnar_memory.specs.declared.DataType.TheFolds.{para-Field, para-roll-DataType, para-roll-Field, ind-DataType}
-use Rattle.columnar_memory.specs.declared.Field.{Field, map-Field}
-use Rattle.columnar_memory.specs.declared.IntervalUnit.TheVariants as intervals
-use Rattle.columnar_memory.specs.declared.PrimitiveType.TheVariants as kinds
-use Rattle.nested_arrays_columns.specs.Slots.{bytes, text}
-use Rattle.ipc_format_grammar.specs.Layouts.{before_V5, union_parts}
-use Rattle.ipc_format_grammar.specs.Columns.{Reader, read_step, read_field_step, slots_in}
-use Rattle.ipc_format_grammar.specs.Windows.{Taker, take_step, take_field_step, windows_in}
-use Rattle.ipc_format_grammar.proofs.Claims.{TypeWith, FieldWith, LayerWith, bare_layer}
+use Rattle.ipc_format_laws.specs.columnar_memory.declared.DataType.{DataType, map-DataType}
+use Rattle.ipc_format_laws.specs.columnar_memory.declared.DataType.TheOpen as layer
+use Rattle.ipc_format_laws.specs.columnar_memory.declared.DataType.TheViews.{roll-DataType, roll-Field}
+use Rattle.ipc_format_laws.specs.columnar_memory.declared.DataType.TheFolds.{para-Field, para-roll-DataType, para-roll-Field, ind-DataType}
+use Rattle.ipc_format_laws.specs.columnar_memory.declared.Field.{Field, map-Field}
+use Rattle.ipc_format_laws.specs.columnar_memory.declared.IntervalUnit.TheVariants as intervals
+use Rattle.ipc_format_laws.specs.columnar_memory.declared.PrimitiveType.TheVariants as kinds
+use Rattle.ipc_format_laws.specs.columns.Slots.{bytes, text}
+use Rattle.ipc_format_laws.specs.grammar.Layouts.{before_V5, union_parts}
+use Rattle.ipc_format_laws.specs.grammar.Columns.{Reader, read_step, read_field_step, slots_in}
+use Rattle.ipc_format_laws.specs.grammar.Windows.{Taker, take_step, take_field_step, windows_in}
+use Rattle.ipc_format_laws.proofs.grammar_lemmas.Claims.{TypeWith, FieldWith, LayerWith, bare_layer}
 use Rattle.ipc_format_reading_laws.proofs.IsolatedColumns.{Isolated, nulls_isolated, truths_isolated, numbers_isolated, fixed_bytes_isolated}
 use Rattle.ipc_format_reading_laws.proofs.IsolatedColumns.{bytes_isolated, keys_isolated}
 use Rattle.ipc_format_reading_laws.proofs.IsolatedChildren.{lists_isolated, fixed_lists_isolated, AllIsolated, structs_isolated, unions_isolated}

@@ -74,3 +74,8 @@ pub mod EndsTypes
 pub mod EndsEntries
 pub mod EndsFiles
 pub mod GrownFiles
+pub use Rattle.ipc_format_laws.proofs as laws_lemmas
+pub use Rattle.ipc_format_laws.proofs.grammar_lemmas
+pub use Rattle.ipc_format_laws.proofs.columnar_memory_lemmas
+pub use Rattle.ipc_format_laws.proofs.flatbuffers_lemmas
+pub use Rattle.ipc_format_laws.proofs.columns_lemmas

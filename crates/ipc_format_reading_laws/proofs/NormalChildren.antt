@@ -5,22 +5,22 @@ use Rattle.std.specs.Prelude.{Option, Some, None, slice_get, option_map}
 use Rattle.std.specs.Int.{Width, w8}
 use Rattle.std.proofs.lemmas.List.{length-map, take-map}
 use Rattle.std.proofs.lemmas.Option.{slice_get-map}
-use Rattle.ipc_format_flatbuffers.specs.Reading.{guard}
-use Rattle.columnar_memory.specs.declared.DataType.{DataType}
-use Rattle.columnar_memory.specs.declared.Field.{Field}
-use Rattle.columnar_memory.specs.declared.UnionMode.{UnionMode}
-use Rattle.columnar_memory.specs.declared.UnionMode.TheVariants as modes
-use Rattle.nested_arrays_columns.specs.Slots.{Slot, items, fields, pick, in_slots, window}
-use Rattle.nested_arrays_columns.specs.Tables.{row_at}
-use Rattle.ipc_format_grammar.specs.Messages.{FieldNode, natural}
-use Rattle.ipc_format_grammar.specs.Schemas.{IdsList}
-use Rattle.ipc_format_grammar.specs.Layouts.{node_count, buffer_count}
-use Rattle.ipc_format_grammar.specs.Writable.{normalised_type}
-use Rattle.ipc_format_grammar.specs.Values.{signed_of, element_bytes}
-use Rattle.ipc_format_grammar.specs.Columns.{Place, Reader, Marked, taken_of, slots_by, marked_in, buffer_at, offsets_in, last_of, piece_at}
-use Rattle.ipc_format_grammar.specs.Columns.{first_below, behind_column, limit_times, list_slots, fixed_list_slots, columns_below, have_length}
-use Rattle.ipc_format_grammar.specs.Columns.{struct_slots, ids_below, first_ids, other_ids, places_in, are_as_long, picked, child_of, all_of}
-use Rattle.ipc_format_grammar.specs.Columns.{union_slots}
+use Rattle.ipc_format_laws.specs.flatbuffers.Reading.{guard}
+use Rattle.ipc_format_laws.specs.columnar_memory.declared.DataType.{DataType}
+use Rattle.ipc_format_laws.specs.columnar_memory.declared.Field.{Field}
+use Rattle.ipc_format_laws.specs.columnar_memory.declared.UnionMode.{UnionMode}
+use Rattle.ipc_format_laws.specs.columnar_memory.declared.UnionMode.TheVariants as modes
+use Rattle.ipc_format_laws.specs.columns.Slots.{Slot, items, fields, pick, in_slots, window}
+use Rattle.ipc_format_laws.specs.columns.Tables.{row_at}
+use Rattle.ipc_format_laws.specs.grammar.Messages.{FieldNode, natural}
+use Rattle.ipc_format_laws.specs.grammar.Schemas.{IdsList}
+use Rattle.ipc_format_laws.specs.grammar.Layouts.{node_count, buffer_count}
+use Rattle.ipc_format_laws.specs.grammar.Writable.{normalised_type}
+use Rattle.ipc_format_laws.specs.grammar.Values.{signed_of, element_bytes}
+use Rattle.ipc_format_laws.specs.grammar.Columns.{Place, Reader, Marked, taken_of, slots_by, marked_in, buffer_at, offsets_in, last_of, piece_at}
+use Rattle.ipc_format_laws.specs.grammar.Columns.{first_below, behind_column, limit_times, list_slots, fixed_list_slots, columns_below, have_length}
+use Rattle.ipc_format_laws.specs.grammar.Columns.{struct_slots, ids_below, first_ids, other_ids, places_in, are_as_long, picked, child_of, all_of}
+use Rattle.ipc_format_laws.specs.grammar.Columns.{union_slots}
 use Rattle.ipc_format_laws.proofs.Firsts.{came_of, bind_is, same_value, guarded}
 use Rattle.ipc_format_reading_laws.specs.NormalSlots.{normal_slot, among_normal}
 use Rattle.ipc_format_reading_laws.proofs.NormalCounts.{nodes_same, buffers_same}

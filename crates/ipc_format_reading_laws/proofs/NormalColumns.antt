@@ -6,18 +6,18 @@ use Rattle.std.specs.Int.{Width}
 use Rattle.std.specs.List.{list_all}
 use Rattle.std.specs.Ordering.{int_eq}
 use Rattle.std.proofs.lemmas.List.{length-map}
-use Rattle.ipc_format_flatbuffers.specs.Reading.{guard}
+use Rattle.ipc_format_laws.specs.flatbuffers.Reading.{guard}
 use Rattle.columnar_memory_types.specs.Equality.{same_type, same_type-Decides}
-use Rattle.columnar_memory.specs.declared.DataType.{DataType}
-use Rattle.columnar_memory.specs.declared.IntegerType.{IntegerType}
-use Rattle.columnar_memory.specs.declared.PrimitiveType.{PrimitiveType}
-use Rattle.nested_arrays_columns.specs.Slots.{Slot, null, truth, bytes, window}
-use Rattle.ipc_format_grammar.specs.Messages.{FieldNode}
-use Rattle.ipc_format_grammar.specs.Writable.{normalised_type}
-use Rattle.ipc_format_grammar.specs.Values.{bit_at, kind_size, value_at, element_bytes, key_at, key_size}
-use Rattle.ipc_format_grammar.specs.Columns.{Place, Reader, Dictionary, Marked, taken_in, is_valid_in, slots_by, marked_in, buffer_at, null_slots}
-use Rattle.ipc_format_grammar.specs.Columns.{fixed_slots, truth_slots, number_slots, fixed_bytes_slots, offsets_in, last_of, piece_at, byte_slots}
-use Rattle.ipc_format_grammar.specs.Columns.{own_id, standing_for, names_value, slot_of_key, dictionary_slots}
+use Rattle.ipc_format_laws.specs.columnar_memory.declared.DataType.{DataType}
+use Rattle.ipc_format_laws.specs.columnar_memory.declared.IntegerType.{IntegerType}
+use Rattle.ipc_format_laws.specs.columnar_memory.declared.PrimitiveType.{PrimitiveType}
+use Rattle.ipc_format_laws.specs.columns.Slots.{Slot, null, truth, bytes, window}
+use Rattle.ipc_format_laws.specs.grammar.Messages.{FieldNode}
+use Rattle.ipc_format_laws.specs.grammar.Writable.{normalised_type}
+use Rattle.ipc_format_laws.specs.grammar.Values.{bit_at, kind_size, value_at, element_bytes, key_at, key_size}
+use Rattle.ipc_format_laws.specs.grammar.Columns.{Place, Reader, Dictionary, Marked, taken_in, is_valid_in, slots_by, marked_in, buffer_at, null_slots}
+use Rattle.ipc_format_laws.specs.grammar.Columns.{fixed_slots, truth_slots, number_slots, fixed_bytes_slots, offsets_in, last_of, piece_at, byte_slots}
+use Rattle.ipc_format_laws.specs.grammar.Columns.{own_id, standing_for, names_value, slot_of_key, dictionary_slots}
 use Rattle.ipc_format_laws.proofs.Firsts.{came_of, bind_is, same_value, guarded}
 use Rattle.ipc_format_reading_laws.specs.NormalSlots.{normal_slot, normal_dictionary, among_normal}
 use Rattle.ipc_format_reading_laws.proofs.NormalValues.{slots_normal, nulls_are, value_is, key_normal}

@@ -6,30 +6,30 @@ use Rattle.std.specs.Int.{w8, w32}
 use Rattle.std.proofs.lemmas.Bool.{and_parts, and_from, false≢true}
 use Rattle.std.proofs.lemmas.List.{length-map, map-append}
 use Rattle.columnar_memory_types.specs.Equality.{same_type}
-use Rattle.columnar_memory.specs.declared.DataType.{DataType}
-use Rattle.columnar_memory.specs.declared.DataType.TheOpen as layer
-use Rattle.columnar_memory.specs.declared.Field.{Field}
-use Rattle.columnar_memory.specs.declared.UnionMode.TheVariants as modes
-use Rattle.columnar_memory.specs.Layouts.{physical_type}
-use Rattle.nested_arrays_columns.specs.Kinds.{is_signed, most_offset}
-use Rattle.nested_arrays_columns.specs.Slots.{Slot, null, items, fields, pick, slot_then, in_slots, window}
-use Rattle.nested_arrays_columns.specs.StoredColumns.{Stored, bits, numbers, pairs, triples, texts, byte_strings, fixed_bytes, Column, Columns}
-use Rattle.nested_arrays_columns.specs.StoredColumns.{nulls, flat, lists, fixed_lists, records, unions, dictionary, no_column, column_then}
-use Rattle.nested_arrays_columns.specs.StoredColumns.{is_valid_at, unless_null, stored_at, stored_len, column_type, column_len, type_layer, place_of}
-use Rattle.nested_arrays_columns.specs.StoredColumns.{child_number, union_place, cut_list, cut_mask, cut_stored, slot_at, slots_at, picked_at, slots}
-use Rattle.nested_arrays_columns.specs.SoundColumns.{holds_below, mask_fits, are_offsets, are_pieces, is_stored_as, has_size, has_item_type}
-use Rattle.nested_arrays_columns.specs.SoundColumns.{has_fixed_item_type, has_value_type, have_types, has_field_types, has_an_id_each}
-use Rattle.nested_arrays_columns.specs.SoundColumns.{has_child_types, column_lens, have_len, has_value_at, has_child_at, has_places, is_sound}
-use Rattle.nested_arrays_columns.specs.SoundColumns.{are_sound}
-use Rattle.nested_arrays_columns.proofs.Conditions.{parts_of_3, parts_of_4, parts_of_5}
-use Rattle.ipc_format_grammar.specs.Schemas.{Ids, IdsList, ids}
-use Rattle.ipc_format_grammar.specs.Columns.{first_ids, other_ids, ids_below, own_id}
-use Rattle.ipc_format_grammar.specs.Encoding.{Encoded, column_over}
-use Rattle.ipc_format_grammar.specs.StoredEncoding.{mask_bytes, node_over, moved_bytes, last_offset, stored_buffers}
-use Rattle.ipc_format_grammar.specs.StoredEncoding.{integer_bytes, encode_range, encode_ranges, encode_wholes, encode_stored}
-use Rattle.ipc_format_grammar.specs.GivenDictionaries.{Given, id_or_0, given_stored, given_each}
-use Rattle.ipc_format_grammar.specs.Writable.{normalised_type}
-use Rattle.ipc_format_grammar.proofs.NormalReports.{normal_field}
+use Rattle.ipc_format_laws.specs.columnar_memory.declared.DataType.{DataType}
+use Rattle.ipc_format_laws.specs.columnar_memory.declared.DataType.TheOpen as layer
+use Rattle.ipc_format_laws.specs.columnar_memory.declared.Field.{Field}
+use Rattle.ipc_format_laws.specs.columnar_memory.declared.UnionMode.TheVariants as modes
+use Rattle.ipc_format_laws.specs.columnar_memory.Layouts.{physical_type}
+use Rattle.ipc_format_laws.specs.columns.Kinds.{is_signed, most_offset}
+use Rattle.ipc_format_laws.specs.columns.Slots.{Slot, null, items, fields, pick, slot_then, in_slots, window}
+use Rattle.ipc_format_laws.specs.columns.StoredColumns.{Stored, bits, numbers, pairs, triples, texts, byte_strings, fixed_bytes, Column, Columns}
+use Rattle.ipc_format_laws.specs.columns.StoredColumns.{nulls, flat, lists, fixed_lists, records, unions, dictionary, no_column, column_then}
+use Rattle.ipc_format_laws.specs.columns.StoredColumns.{is_valid_at, unless_null, stored_at, stored_len, column_type, column_len, type_layer, place_of}
+use Rattle.ipc_format_laws.specs.columns.StoredColumns.{child_number, union_place, cut_list, cut_mask, cut_stored, slot_at, slots_at, picked_at, slots}
+use Rattle.ipc_format_laws.specs.columns.SoundColumns.{holds_below, mask_fits, are_offsets, are_pieces, is_stored_as, has_size, has_item_type}
+use Rattle.ipc_format_laws.specs.columns.SoundColumns.{has_fixed_item_type, has_value_type, have_types, has_field_types, has_an_id_each}
+use Rattle.ipc_format_laws.specs.columns.SoundColumns.{has_child_types, column_lens, have_len, has_value_at, has_child_at, has_places, is_sound}
+use Rattle.ipc_format_laws.specs.columns.SoundColumns.{are_sound}
+use Rattle.ipc_format_laws.proofs.columns_lemmas.Conditions.{parts_of_3, parts_of_4, parts_of_5}
+use Rattle.ipc_format_laws.specs.grammar.Schemas.{Ids, IdsList, ids}
+use Rattle.ipc_format_laws.specs.grammar.Columns.{first_ids, other_ids, ids_below, own_id}
+use Rattle.ipc_format_laws.specs.grammar.Encoding.{Encoded, column_over}
+use Rattle.ipc_format_laws.specs.grammar.StoredEncoding.{mask_bytes, node_over, moved_bytes, last_offset, stored_buffers}
+use Rattle.ipc_format_laws.specs.grammar.StoredEncoding.{integer_bytes, encode_range, encode_ranges, encode_wholes, encode_stored}
+use Rattle.ipc_format_laws.specs.grammar.GivenDictionaries.{Given, id_or_0, given_stored, given_each}
+use Rattle.ipc_format_laws.specs.grammar.Writable.{normalised_type}
+use Rattle.ipc_format_laws.proofs.grammar_lemmas.NormalReports.{normal_field}
 use Rattle.ipc_format_reading_laws.specs.NormalColumns.{normal_slot, normal_slots, normal_column, normal_columns, NormalColumnsStayWhole}
 use Rattle.ipc_format_reading_laws.proofs.NormalColumnsLayers.{Layer, normal_layer, layer_normal, layout_normal, width_normal}
 use Rattle.ipc_format_reading_laws.proofs.NormalColumnsLayers.{keys_normal, child_normal, null_normal, size_normal, types_same, items_normal}

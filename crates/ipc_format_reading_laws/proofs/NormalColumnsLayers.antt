@@ -5,22 +5,22 @@ use Rattle.std.specs.List.{list_all}
 use Rattle.std.proofs.lemmas.Bool.{and_parts, and_from, false≢true}
 use Rattle.std.proofs.lemmas.List.{length-map}
 use Rattle.columnar_memory_types.specs.Equality.{same_type, same_type-Decides}
-use Rattle.columnar_memory.specs.declared.DataType.{DataType, map-DataType}
-use Rattle.columnar_memory.specs.declared.DataType.TheOpen as layer
-use Rattle.columnar_memory.specs.declared.DataType.TheViews.{roll-DataType, out-DataType, out-Field, out-roll-DataType, roll-out-DataType}
-use Rattle.columnar_memory.specs.declared.DataType.TheViews.{roll-out-Field}
-use Rattle.columnar_memory.specs.declared.DataType.TheFolds.{fold-roll-DataType, fold-roll-Field, ind-DataType}
-use Rattle.columnar_memory.specs.declared.Field.{Field}
-use Rattle.columnar_memory.specs.declared.PhysicalType.{PhysicalType}
-use Rattle.columnar_memory.specs.Layouts.{physical_step, physical_type}
-use Rattle.nested_arrays_columns.specs.Kinds.{is_key}
-use Rattle.nested_arrays_columns.specs.StoredColumns.{Stored, type_layer, child_number, place_below}
-use Rattle.nested_arrays_columns.specs.SoundColumns.{has_size, is_null_type, is_entry, has_item_type, has_fixed_item_type, has_value_type}
-use Rattle.nested_arrays_columns.proofs.Claims.{LayerWith, NoClaim, bare_layer}
-use Rattle.nested_arrays_columns.proofs.TypeLayers.{is_extension, layer_itself, layer_within, layer_layout}
-use Rattle.ipc_format_grammar.specs.StoredEncoding.{offset_width, key_bytes}
-use Rattle.ipc_format_grammar.specs.Writable.{normalised_type, normalised_step}
-use Rattle.ipc_format_grammar.proofs.NormalReports.{normal_field}
+use Rattle.ipc_format_laws.specs.columnar_memory.declared.DataType.{DataType, map-DataType}
+use Rattle.ipc_format_laws.specs.columnar_memory.declared.DataType.TheOpen as layer
+use Rattle.ipc_format_laws.specs.columnar_memory.declared.DataType.TheViews.{roll-DataType, out-DataType, out-Field, out-roll-DataType, roll-out-DataType}
+use Rattle.ipc_format_laws.specs.columnar_memory.declared.DataType.TheViews.{roll-out-Field}
+use Rattle.ipc_format_laws.specs.columnar_memory.declared.DataType.TheFolds.{fold-roll-DataType, fold-roll-Field, ind-DataType}
+use Rattle.ipc_format_laws.specs.columnar_memory.declared.Field.{Field}
+use Rattle.ipc_format_laws.specs.columnar_memory.declared.PhysicalType.{PhysicalType}
+use Rattle.ipc_format_laws.specs.columnar_memory.Layouts.{physical_step, physical_type}
+use Rattle.ipc_format_laws.specs.columns.Kinds.{is_key}
+use Rattle.ipc_format_laws.specs.columns.StoredColumns.{Stored, type_layer, child_number, place_below}
+use Rattle.ipc_format_laws.specs.columns.SoundColumns.{has_size, is_null_type, is_entry, has_item_type, has_fixed_item_type, has_value_type}
+use Rattle.ipc_format_laws.proofs.columns_lemmas.Claims.{LayerWith, NoClaim, bare_layer}
+use Rattle.ipc_format_laws.proofs.columns_lemmas.TypeLayers.{is_extension, layer_itself, layer_within, layer_layout}
+use Rattle.ipc_format_laws.specs.grammar.StoredEncoding.{offset_width, key_bytes}
+use Rattle.ipc_format_laws.specs.grammar.Writable.{normalised_type, normalised_step}
+use Rattle.ipc_format_laws.proofs.grammar_lemmas.NormalReports.{normal_field}
 
 abbrev pub Layer : Type 0
 Layer = layer.DataType-F DataType Field

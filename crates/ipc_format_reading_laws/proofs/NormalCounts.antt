@@ -1,15 +1,15 @@
 -- The normal form of a type has as many nodes and buffers as the type.
 use Rattle.std.proofs.Common.{◌≡◌, ◌∙◌, ℕ, List, [], ◌∷◌, map, refl, sym, ap, subst}
-use Rattle.columnar_memory.specs.declared.DataType.{DataType, map-DataType}
-use Rattle.columnar_memory.specs.declared.DataType.TheOpen as layer
-use Rattle.columnar_memory.specs.declared.DataType.TheViews.{roll-DataType, roll-Field}
-use Rattle.columnar_memory.specs.declared.DataType.TheFolds.{fold-DataType, fold-Field, fold-roll-DataType, fold-roll-Field, ind-DataType}
-use Rattle.columnar_memory.specs.declared.Field.{Field, map-Field}
-use Rattle.ipc_format_grammar.specs.Messages.{Version}
-use Rattle.ipc_format_grammar.specs.Layouts.{node_step, node_count, buffer_step, buffer_count}
-use Rattle.ipc_format_grammar.specs.Writable.{normalised_type, normalised_step, normalised_pairs}
-use Rattle.ipc_format_grammar.proofs.Claims.{TypeWith, FieldWith, LayerWith, bare_layer}
-use Rattle.ipc_format_grammar.proofs.NormalReports.{normal_field}
+use Rattle.ipc_format_laws.specs.columnar_memory.declared.DataType.{DataType, map-DataType}
+use Rattle.ipc_format_laws.specs.columnar_memory.declared.DataType.TheOpen as layer
+use Rattle.ipc_format_laws.specs.columnar_memory.declared.DataType.TheViews.{roll-DataType, roll-Field}
+use Rattle.ipc_format_laws.specs.columnar_memory.declared.DataType.TheFolds.{fold-DataType, fold-Field, fold-roll-DataType, fold-roll-Field, ind-DataType}
+use Rattle.ipc_format_laws.specs.columnar_memory.declared.Field.{Field, map-Field}
+use Rattle.ipc_format_laws.specs.grammar.Messages.{Version}
+use Rattle.ipc_format_laws.specs.grammar.Layouts.{node_step, node_count, buffer_step, buffer_count}
+use Rattle.ipc_format_laws.specs.grammar.Writable.{normalised_type, normalised_step, normalised_pairs}
+use Rattle.ipc_format_laws.proofs.grammar_lemmas.Claims.{TypeWith, FieldWith, LayerWith, bare_layer}
+use Rattle.ipc_format_laws.proofs.grammar_lemmas.NormalReports.{normal_field}
 
 abbrev Layer : Type 0
 Layer = layer.DataType-F DataType Field

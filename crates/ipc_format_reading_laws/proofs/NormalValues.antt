@@ -2,12 +2,12 @@
 use Rattle.std.proofs.Common.{◌≡◌, ◌∙◌, ℕ, zero, suc, ◌+◌, ◌-◌, ℤ, pos, negsuc, Bool, true, false, List, [], ◌∷◌, map, take, drop}
 use Rattle.std.proofs.Common.{replicate, refl, ap, ap₂, slice_index_or, slice_range, if◌then◌else◌}
 use Rattle.std.proofs.lemmas.List.{take-map, drop-map}
-use Rattle.columnar_memory.specs.declared.PrimitiveType.{PrimitiveType}
-use Rattle.columnar_memory.specs.declared.PrimitiveType.TheVariants as kinds
-use Rattle.nested_arrays_columns.specs.Slots.{Slot, null, slot_then, in_slots, window}
-use Rattle.nested_arrays_columns.specs.Tables.{row_at}
-use Rattle.ipc_format_grammar.specs.Values.{value_of}
-use Rattle.ipc_format_grammar.specs.Columns.{Validity, is_valid_in, slot_by, slots_by, slot_of_key}
+use Rattle.ipc_format_laws.specs.columnar_memory.declared.PrimitiveType.{PrimitiveType}
+use Rattle.ipc_format_laws.specs.columnar_memory.declared.PrimitiveType.TheVariants as kinds
+use Rattle.ipc_format_laws.specs.columns.Slots.{Slot, null, slot_then, in_slots, window}
+use Rattle.ipc_format_laws.specs.columns.Tables.{row_at}
+use Rattle.ipc_format_laws.specs.grammar.Values.{value_of}
+use Rattle.ipc_format_laws.specs.grammar.Columns.{Validity, is_valid_in, slot_by, slots_by, slot_of_key}
 use Rattle.ipc_format_reading_laws.specs.NormalSlots.{normal_slot, normal_slots}
 
 -- ---- lists of slots

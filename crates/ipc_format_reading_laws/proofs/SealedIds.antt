@@ -7,26 +7,26 @@ use Rattle.std.specs.Ordering.{int_eq}
 use Rattle.std.specs.Cmp.{signed_Decides}
 use Rattle.std.proofs.lemmas.Bool.{and_parts, and_from, lt-ltb, leb-true, false≢true}
 use Rattle.std.proofs.lemmas.List.Folds.{list_all-append}
-use Rattle.columnar_memory.specs.declared.DataType.{DataType, map-DataType}
-use Rattle.columnar_memory.specs.declared.DataType.TheOpen as layer
-use Rattle.columnar_memory.specs.declared.DataType.TheViews.{roll-DataType, roll-Field}
-use Rattle.columnar_memory.specs.declared.DataType.TheFolds.{fold-Field, para-Field, fold-roll-DataType, fold-roll-Field, para-roll-DataType}
-use Rattle.columnar_memory.specs.declared.DataType.TheFolds.{para-roll-Field, ind-DataType}
-use Rattle.columnar_memory.specs.declared.Field.{Field, map-Field}
-use Rattle.columnar_memory.specs.declared.Schema.{Schema}
-use Rattle.nested_arrays_columns.specs.Children.{joined_items, joined_fixed_items, field_slots, dictionary_values}
-use Rattle.nested_arrays_columns.specs.Kinds.{is_signed}
-use Rattle.nested_arrays_columns.specs.Slots.{Slot}
-use Rattle.nested_arrays_columns.proofs.Claims.{TypeWith, FieldWith, LayerWith, bare_layer}
-use Rattle.ipc_format_grammar.specs.Columns.{first_ids, ids_below, own_id}
-use Rattle.ipc_format_grammar.specs.Encoding.{encode}
-use Rattle.ipc_format_grammar.specs.GivenDictionaries.{Given, Giver, id_or_0, given_by, given_fields, givers, give_step, give_field_step}
-use Rattle.ipc_format_grammar.specs.GivenDictionaries.{says_same, agrees, agree}
-use Rattle.ipc_format_grammar.specs.Ids.{Fitting, fit_each, has_no_own, fit_value, fit_step, ids_fit, ids_fit_fields, default_ids, is_id, are_ids}
-use Rattle.ipc_format_grammar.specs.Ids.{all_are_ids}
-use Rattle.ipc_format_grammar.specs.Schemas.{Ids, IdsList, ids, no_ids, ids_then}
-use Rattle.ipc_format_grammar.specs.Writable.{plain, over_all, reports_of, is_writable}
-use Rattle.ipc_format_grammar.specs.WrittenStreams.{given_of_slots}
+use Rattle.ipc_format_laws.specs.columnar_memory.declared.DataType.{DataType, map-DataType}
+use Rattle.ipc_format_laws.specs.columnar_memory.declared.DataType.TheOpen as layer
+use Rattle.ipc_format_laws.specs.columnar_memory.declared.DataType.TheViews.{roll-DataType, roll-Field}
+use Rattle.ipc_format_laws.specs.columnar_memory.declared.DataType.TheFolds.{fold-Field, para-Field, fold-roll-DataType, fold-roll-Field, para-roll-DataType}
+use Rattle.ipc_format_laws.specs.columnar_memory.declared.DataType.TheFolds.{para-roll-Field, ind-DataType}
+use Rattle.ipc_format_laws.specs.columnar_memory.declared.Field.{Field, map-Field}
+use Rattle.ipc_format_laws.specs.columnar_memory.declared.Schema.{Schema}
+use Rattle.ipc_format_laws.specs.columns.Children.{joined_items, joined_fixed_items, field_slots, dictionary_values}
+use Rattle.ipc_format_laws.specs.columns.Kinds.{is_signed}
+use Rattle.ipc_format_laws.specs.columns.Slots.{Slot}
+use Rattle.ipc_format_laws.proofs.columns_lemmas.Claims.{TypeWith, FieldWith, LayerWith, bare_layer}
+use Rattle.ipc_format_laws.specs.grammar.Columns.{first_ids, ids_below, own_id}
+use Rattle.ipc_format_laws.specs.grammar.Encoding.{encode}
+use Rattle.ipc_format_laws.specs.grammar.GivenDictionaries.{Given, Giver, id_or_0, given_by, given_fields, givers, give_step, give_field_step}
+use Rattle.ipc_format_laws.specs.grammar.GivenDictionaries.{says_same, agrees, agree}
+use Rattle.ipc_format_laws.specs.grammar.Ids.{Fitting, fit_each, has_no_own, fit_value, fit_step, ids_fit, ids_fit_fields, default_ids, is_id, are_ids}
+use Rattle.ipc_format_laws.specs.grammar.Ids.{all_are_ids}
+use Rattle.ipc_format_laws.specs.grammar.Schemas.{Ids, IdsList, ids, no_ids, ids_then}
+use Rattle.ipc_format_laws.specs.grammar.Writable.{plain, over_all, reports_of, is_writable}
+use Rattle.ipc_format_laws.specs.grammar.WrittenStreams.{given_of_slots}
 use Rattle.ipc_format_laws.specs.DefaultIds.{own_list, ids_in_order, all_in_order, ids_from, dictionary_count}
 use Rattle.ipc_format_laws.proofs.DefaultIds.{defaults_fit, defaults_count}
 

@@ -5,27 +5,27 @@ use Rattle.std.specs.List.{list_all}
 use Rattle.std.proofs.lemmas.Bool.{and_parts, and_from, lt-ltb, leb-true}
 use Rattle.std.proofs.lemmas.List.Folds.{list_all-append}
 use Rattle.std.proofs.lemmas.List.Sums.{count_by-le-length}
-use Rattle.columnar_memory.specs.declared.DataType.{DataType, map-DataType}
-use Rattle.columnar_memory.specs.declared.DataType.TheOpen as layer
-use Rattle.columnar_memory.specs.declared.DataType.TheViews.{roll-DataType, roll-Field}
-use Rattle.columnar_memory.specs.declared.DataType.TheFolds.{fold-Field, para-Field, fold-roll-DataType, fold-roll-Field, para-roll-DataType}
-use Rattle.columnar_memory.specs.declared.DataType.TheFolds.{para-roll-Field, ind-DataType}
-use Rattle.columnar_memory.specs.declared.Field.{Field, map-Field}
-use Rattle.columnar_memory.specs.declared.IntervalUnit.TheVariants as intervals
-use Rattle.nested_arrays_columns.specs.Cells.{is_null}
-use Rattle.nested_arrays_columns.specs.Children.{joined_items, joined_fixed_items, field_slots, dictionary_values}
-use Rattle.nested_arrays_columns.specs.Kinds.{most_slots, most_values}
-use Rattle.nested_arrays_columns.specs.OpenBatch.{most_short, most_long, is_length, fields_within, within_step, is_within, fits}
-use Rattle.nested_arrays_columns.specs.Rows.{columns_fit}
-use Rattle.nested_arrays_columns.specs.Slots.{Slot}
-use Rattle.nested_arrays_columns.proofs.Claims.{TypeWith, FieldWith, LayerWith, bare_layer}
-use Rattle.nested_arrays_columns.proofs.Conditions.{parts_of_3}
-use Rattle.ipc_format_grammar.specs.Columns.{first_ids, other_ids, ids_below, own_id}
-use Rattle.ipc_format_grammar.specs.Encoding.{Encoded, Encoder, node_of, joined, field_columns, encode_step, encode}
-use Rattle.ipc_format_grammar.specs.GivenDictionaries.{Given, Giver, id_or_0, given_by, given_fields, givers, give_step, give_field_step}
-use Rattle.ipc_format_grammar.specs.Limits.{length_limit}
-use Rattle.ipc_format_grammar.specs.Schemas.{Ids, IdsList, ids}
-use Rattle.ipc_format_grammar.specs.WrittenStreams.{is_node, has_nodes_in_room, columns_of_slots, given_of_slots}
+use Rattle.ipc_format_laws.specs.columnar_memory.declared.DataType.{DataType, map-DataType}
+use Rattle.ipc_format_laws.specs.columnar_memory.declared.DataType.TheOpen as layer
+use Rattle.ipc_format_laws.specs.columnar_memory.declared.DataType.TheViews.{roll-DataType, roll-Field}
+use Rattle.ipc_format_laws.specs.columnar_memory.declared.DataType.TheFolds.{fold-Field, para-Field, fold-roll-DataType, fold-roll-Field, para-roll-DataType}
+use Rattle.ipc_format_laws.specs.columnar_memory.declared.DataType.TheFolds.{para-roll-Field, ind-DataType}
+use Rattle.ipc_format_laws.specs.columnar_memory.declared.Field.{Field, map-Field}
+use Rattle.ipc_format_laws.specs.columnar_memory.declared.IntervalUnit.TheVariants as intervals
+use Rattle.ipc_format_laws.specs.columns.Cells.{is_null}
+use Rattle.ipc_format_laws.specs.columns.Children.{joined_items, joined_fixed_items, field_slots, dictionary_values}
+use Rattle.ipc_format_laws.specs.columns.Kinds.{most_slots, most_values}
+use Rattle.ipc_format_laws.specs.columns.OpenBatch.{most_short, most_long, is_length, fields_within, within_step, is_within, fits}
+use Rattle.ipc_format_laws.specs.columns.Rows.{columns_fit}
+use Rattle.ipc_format_laws.specs.columns.Slots.{Slot}
+use Rattle.ipc_format_laws.proofs.columns_lemmas.Claims.{TypeWith, FieldWith, LayerWith, bare_layer}
+use Rattle.ipc_format_laws.proofs.columns_lemmas.Conditions.{parts_of_3}
+use Rattle.ipc_format_laws.specs.grammar.Columns.{first_ids, other_ids, ids_below, own_id}
+use Rattle.ipc_format_laws.specs.grammar.Encoding.{Encoded, Encoder, node_of, joined, field_columns, encode_step, encode}
+use Rattle.ipc_format_laws.specs.grammar.GivenDictionaries.{Given, Giver, id_or_0, given_by, given_fields, givers, give_step, give_field_step}
+use Rattle.ipc_format_laws.specs.grammar.Limits.{length_limit}
+use Rattle.ipc_format_laws.specs.grammar.Schemas.{Ids, IdsList, ids}
+use Rattle.ipc_format_laws.specs.grammar.WrittenStreams.{is_node, has_nodes_in_room, columns_of_slots, given_of_slots}
 
 -- ---- lengths and nodes
 

@@ -6,12 +6,12 @@ use Rattle.std.specs.List.{list_all}
 use Rattle.std.proofs.lemmas.Bool.{and_parts, ltb-true, leb-true, eqb-true}
 use Rattle.std.proofs.lemmas.List.{take-append-drop}
 use Rattle.std.proofs.lemmas.List.Folds.{list_all-append}
-use Rattle.columnar_memory.specs.declared.Field.{Field}
-use Rattle.nested_arrays_columns.specs.Rows.{column_of_rows, columns_of_rows, is_row_of}
-use Rattle.nested_arrays_columns.specs.Slots.{Slot, null, window}
-use Rattle.nested_arrays_columns.specs.Tables.{rows_of_columns, row_at, batch_rows, rows_of_batches}
-use Rattle.nested_arrays_columns.proofs.Windows.{window_same}
-use Rattle.ipc_format_grammar.specs.Seals.{groups_within, groups_of, are_rows_of, is_batch_size}
+use Rattle.ipc_format_laws.specs.columnar_memory.declared.Field.{Field}
+use Rattle.ipc_format_laws.specs.columns.Rows.{column_of_rows, columns_of_rows, is_row_of}
+use Rattle.ipc_format_laws.specs.columns.Slots.{Slot, null, window}
+use Rattle.ipc_format_laws.specs.columns.Tables.{rows_of_columns, row_at, batch_rows, rows_of_batches}
+use Rattle.ipc_format_laws.proofs.columns_lemmas.Windows.{window_same}
+use Rattle.ipc_format_laws.specs.grammar.Seals.{groups_within, groups_of, are_rows_of, is_batch_size}
 
 -- ---- places of lists
 

@@ -3,21 +3,21 @@ use Rattle.std.proofs.Common.{◌≡◌, ◌∙◌, ℕ, ◌+◌, Bool, true, Li
 use Rattle.std.specs.Prelude.{◌==◌}
 use Rattle.std.specs.List.{list_all}
 use Rattle.std.proofs.lemmas.Bool.{and_parts, false≢true}
-use Rattle.columnar_memory.specs.declared.DataType.{DataType, map-DataType}
-use Rattle.columnar_memory.specs.declared.DataType.TheOpen as layer
-use Rattle.columnar_memory.specs.declared.Field.{Field}
-use Rattle.columnar_memory.specs.declared.IntervalUnit.TheVariants as intervals
-use Rattle.columnar_memory.specs.declared.PrimitiveType.{PrimitiveType}
-use Rattle.columnar_memory.specs.declared.PrimitiveType.TheVariants as kinds
-use Rattle.nested_arrays_columns.specs.Cells.{is_null, is_truth, is_number_of, is_days_and_ms, is_months_days_and_ns, is_text, is_bytes, is_bytes_of}
-use Rattle.nested_arrays_columns.specs.Cells.{is_list_of, is_list_of_size, fit_each, is_record_of, fits_step, fits_cell}
-use Rattle.nested_arrays_columns.specs.FreshLaws.{is_buildable, are_buildable}
-use Rattle.nested_arrays_columns.specs.OpenBatch.{is_within, fits}
-use Rattle.nested_arrays_columns.specs.Rows.{column_of_rows, columns_of_rows, columns_fit, fresh_columns, batch_of_rows}
-use Rattle.nested_arrays_columns.specs.Slots.{Slot, Slots, null, truth, number, pair, triple, text, bytes, items, fields, no_slot, slot_then}
-use Rattle.nested_arrays_columns.specs.Slots.{slot_list, window}
-use Rattle.nested_arrays_columns.proofs.Folds.{fold_keeps}
-use Rattle.nested_arrays_columns.proofs.FreshSlots.{fresh_slots}
+use Rattle.ipc_format_laws.specs.columnar_memory.declared.DataType.{DataType, map-DataType}
+use Rattle.ipc_format_laws.specs.columnar_memory.declared.DataType.TheOpen as layer
+use Rattle.ipc_format_laws.specs.columnar_memory.declared.Field.{Field}
+use Rattle.ipc_format_laws.specs.columnar_memory.declared.IntervalUnit.TheVariants as intervals
+use Rattle.ipc_format_laws.specs.columnar_memory.declared.PrimitiveType.{PrimitiveType}
+use Rattle.ipc_format_laws.specs.columnar_memory.declared.PrimitiveType.TheVariants as kinds
+use Rattle.ipc_format_laws.specs.columns.Cells.{is_null, is_truth, is_number_of, is_days_and_ms, is_months_days_and_ns, is_text, is_bytes, is_bytes_of}
+use Rattle.ipc_format_laws.specs.columns.Cells.{is_list_of, is_list_of_size, fit_each, is_record_of, fits_step, fits_cell}
+use Rattle.ipc_format_laws.specs.columns.FreshLaws.{is_buildable, are_buildable}
+use Rattle.ipc_format_laws.specs.columns.OpenBatch.{is_within, fits}
+use Rattle.ipc_format_laws.specs.columns.Rows.{column_of_rows, columns_of_rows, columns_fit, fresh_columns, batch_of_rows}
+use Rattle.ipc_format_laws.specs.columns.Slots.{Slot, Slots, null, truth, number, pair, triple, text, bytes, items, fields, no_slot, slot_then}
+use Rattle.ipc_format_laws.specs.columns.Slots.{slot_list, window}
+use Rattle.ipc_format_laws.proofs.columns_lemmas.Folds.{fold_keeps}
+use Rattle.ipc_format_laws.proofs.columns_lemmas.FreshSlots.{fresh_slots}
 use Rattle.ipc_format_reading_laws.specs.NormalColumns.{normal_slot, normal_slots}
 use Rattle.ipc_format_reading_laws.specs.StoredTables.{read_slots, read_batches}
 

@@ -5,33 +5,33 @@ use Rattle.std.specs.List.{list_all}
 use Rattle.std.proofs.lemmas.Bool.{and_parts, and_from, eq-eqb}
 use Rattle.std.proofs.lemmas.List.{length-map}
 use Rattle.columnar_memory_types.specs.Equality.{same_type, same_type-Decides}
-use Rattle.columnar_memory.specs.declared.DataType.{DataType}
-use Rattle.columnar_memory.specs.declared.Field.{Field}
-use Rattle.columnar_memory.specs.declared.Schema.{Schema}
-use Rattle.nested_arrays_columns.specs.FreshColumns.{fresh}
-use Rattle.nested_arrays_columns.specs.FreshLaws.{is_buildable, are_buildable}
-use Rattle.nested_arrays_columns.specs.OpenBatch.{fits}
-use Rattle.nested_arrays_columns.specs.Rows.{column_of_rows, columns_of_rows, columns_fit, fresh_columns, batch_of_rows}
-use Rattle.nested_arrays_columns.specs.Slots.{Slot, window}
-use Rattle.nested_arrays_columns.specs.SoundColumns.{is_sound}
-use Rattle.nested_arrays_columns.specs.StoredColumns.{Column, column_len, column_type}
-use Rattle.nested_arrays_columns.specs.Tables.{rows_of_batches}
-use Rattle.nested_arrays_columns.proofs.FreshSlots.{fresh_lengths}
-use Rattle.nested_arrays_columns.proofs.FreshSound.{fresh_is_sound}
-use Rattle.nested_arrays_columns.proofs.FreshTypes.{fresh_type}
-use Rattle.ipc_format_grammar.specs.Encoding.{joined}
-use Rattle.ipc_format_grammar.specs.GivenDictionaries.{Given, agree}
-use Rattle.ipc_format_grammar.specs.Ids.{default_ids, ids_fit_fields, all_are_ids}
-use Rattle.ipc_format_grammar.specs.Limits.{length_limit}
-use Rattle.ipc_format_grammar.specs.Schemas.{IdsList}
-use Rattle.ipc_format_grammar.specs.Seals.{groups_of, seal_batches, seal_bytes, are_rows_of, is_batch_size, is_sealable, groups_fit}
-use Rattle.ipc_format_grammar.specs.Seals.{messages_fit, sealed}
-use Rattle.ipc_format_grammar.specs.Writable.{normalised_type, is_writable}
-use Rattle.ipc_format_grammar.specs.WrittenMessages.{fits_limit}
-use Rattle.ipc_format_grammar.specs.WrittenStreams.{Batch, Chunk, stored_columns, batch_of_slots, rows_of_slots, columns_of_slots}
-use Rattle.ipc_format_grammar.specs.WrittenStreams.{given_of_slots, batch_of, batches_written, stream_messages, stream_bytes, is_column_of}
-use Rattle.ipc_format_grammar.specs.WrittenStreams.{pass_each, are_columns_of, chunk_lengths, are_equal, has_nodes_in_room, is_in_room}
-use Rattle.ipc_format_grammar.specs.WrittenStreams.{belongs, is_written_with, written_stream}
+use Rattle.ipc_format_laws.specs.columnar_memory.declared.DataType.{DataType}
+use Rattle.ipc_format_laws.specs.columnar_memory.declared.Field.{Field}
+use Rattle.ipc_format_laws.specs.columnar_memory.declared.Schema.{Schema}
+use Rattle.ipc_format_laws.specs.columns.FreshColumns.{fresh}
+use Rattle.ipc_format_laws.specs.columns.FreshLaws.{is_buildable, are_buildable}
+use Rattle.ipc_format_laws.specs.columns.OpenBatch.{fits}
+use Rattle.ipc_format_laws.specs.columns.Rows.{column_of_rows, columns_of_rows, columns_fit, fresh_columns, batch_of_rows}
+use Rattle.ipc_format_laws.specs.columns.Slots.{Slot, window}
+use Rattle.ipc_format_laws.specs.columns.SoundColumns.{is_sound}
+use Rattle.ipc_format_laws.specs.columns.StoredColumns.{Column, column_len, column_type}
+use Rattle.ipc_format_laws.specs.columns.Tables.{rows_of_batches}
+use Rattle.ipc_format_laws.proofs.columns_lemmas.FreshSlots.{fresh_lengths}
+use Rattle.ipc_format_laws.proofs.columns_lemmas.FreshSound.{fresh_is_sound}
+use Rattle.ipc_format_laws.proofs.columns_lemmas.FreshTypes.{fresh_type}
+use Rattle.ipc_format_laws.specs.grammar.Encoding.{joined}
+use Rattle.ipc_format_laws.specs.grammar.GivenDictionaries.{Given, agree}
+use Rattle.ipc_format_laws.specs.grammar.Ids.{default_ids, ids_fit_fields, all_are_ids}
+use Rattle.ipc_format_laws.specs.grammar.Limits.{length_limit}
+use Rattle.ipc_format_laws.specs.grammar.Schemas.{IdsList}
+use Rattle.ipc_format_laws.specs.grammar.Seals.{groups_of, seal_batches, seal_bytes, are_rows_of, is_batch_size, is_sealable, groups_fit}
+use Rattle.ipc_format_laws.specs.grammar.Seals.{messages_fit, sealed}
+use Rattle.ipc_format_laws.specs.grammar.Writable.{normalised_type, is_writable}
+use Rattle.ipc_format_laws.specs.grammar.WrittenMessages.{fits_limit}
+use Rattle.ipc_format_laws.specs.grammar.WrittenStreams.{Batch, Chunk, stored_columns, batch_of_slots, rows_of_slots, columns_of_slots}
+use Rattle.ipc_format_laws.specs.grammar.WrittenStreams.{given_of_slots, batch_of, batches_written, stream_messages, stream_bytes, is_column_of}
+use Rattle.ipc_format_laws.specs.grammar.WrittenStreams.{pass_each, are_columns_of, chunk_lengths, are_equal, has_nodes_in_room, is_in_room}
+use Rattle.ipc_format_laws.specs.grammar.WrittenStreams.{belongs, is_written_with, written_stream}
 use Rattle.ipc_format_laws.proofs.DefaultIds.{defaults_fit}
 use Rattle.ipc_format_laws.proofs.FreshBatches.{rows_encode}
 use Rattle.ipc_format_laws.proofs.StreamReaders.{passed}

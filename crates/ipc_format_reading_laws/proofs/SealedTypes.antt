@@ -3,18 +3,18 @@ use Rattle.std.proofs.Common.{◌≡◌, ◌∙◌, sym, Bool, true, false, List
 use Rattle.std.specs.Prelude.{◌&&◌, ◌||◌, is_none, nat_le}
 use Rattle.std.specs.List.{list_all, list_any}
 use Rattle.std.proofs.lemmas.Bool.{and_parts, and_from, or_parts, false≢true}
-use Rattle.columnar_memory.specs.declared.DataType.{DataType, map-DataType}
-use Rattle.columnar_memory.specs.declared.DataType.TheOpen as layer
-use Rattle.columnar_memory.specs.declared.DataType.TheViews.{roll-DataType, roll-Field}
-use Rattle.columnar_memory.specs.declared.DataType.TheFolds.{fold-Field, fold-roll-DataType, fold-roll-Field, ind-DataType}
-use Rattle.columnar_memory.specs.declared.Field.{Field, map-Field}
-use Rattle.columnar_memory.specs.declared.Schema.{Schema}
-use Rattle.nested_arrays_columns.specs.FreshLaws.{is_buildable, are_buildable}
-use Rattle.nested_arrays_columns.specs.Sealing.{Bars, bars_step, bars_of, schema_bars, first_bar}
-use Rattle.nested_arrays_columns.proofs.Claims.{TypeWith, FieldWith, LayerWith, bare_layer}
-use Rattle.ipc_format_grammar.specs.Encoding.{any_of, union_step, has_union}
-use Rattle.ipc_format_grammar.specs.Seals.{is_sealable}
-use Rattle.ipc_format_grammar.specs.Writable.{Report, plain, over_all, report_of, reports_of, is_writable}
+use Rattle.ipc_format_laws.specs.columnar_memory.declared.DataType.{DataType, map-DataType}
+use Rattle.ipc_format_laws.specs.columnar_memory.declared.DataType.TheOpen as layer
+use Rattle.ipc_format_laws.specs.columnar_memory.declared.DataType.TheViews.{roll-DataType, roll-Field}
+use Rattle.ipc_format_laws.specs.columnar_memory.declared.DataType.TheFolds.{fold-Field, fold-roll-DataType, fold-roll-Field, ind-DataType}
+use Rattle.ipc_format_laws.specs.columnar_memory.declared.Field.{Field, map-Field}
+use Rattle.ipc_format_laws.specs.columnar_memory.declared.Schema.{Schema}
+use Rattle.ipc_format_laws.specs.columns.FreshLaws.{is_buildable, are_buildable}
+use Rattle.ipc_format_laws.specs.columns.Sealing.{Bars, bars_step, bars_of, schema_bars, first_bar}
+use Rattle.ipc_format_laws.proofs.columns_lemmas.Claims.{TypeWith, FieldWith, LayerWith, bare_layer}
+use Rattle.ipc_format_laws.specs.grammar.Encoding.{any_of, union_step, has_union}
+use Rattle.ipc_format_laws.specs.grammar.Seals.{is_sealable}
+use Rattle.ipc_format_laws.specs.grammar.Writable.{Report, plain, over_all, report_of, reports_of, is_writable}
 use Rattle.ipc_format_laws.proofs.BuildableTypes.{writable_is_buildable}
 
 -- ---- the bar of unions stands where a union does

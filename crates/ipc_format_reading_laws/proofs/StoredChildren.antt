@@ -3,19 +3,19 @@ use Rattle.std.proofs.Common.{◌≡◌, ◌∙◌, ℕ, zero, suc, ◌+◌, ◌
 use Rattle.std.specs.Prelude.{Some, slice_get, slice_index}
 use Rattle.std.proofs.lemmas.Bool.{and_parts, false≢true}
 use Rattle.std.proofs.lemmas.Option.{slice_get-get_or}
-use Rattle.columnar_memory.specs.declared.Field.{Field}
-use Rattle.columnar_memory.specs.Equality.{same_type}
-use Rattle.nested_arrays_columns.specs.Slots.{Slot, null, pick, slot_then, in_slots, window}
-use Rattle.nested_arrays_columns.specs.StoredColumns.{Column, Columns, no_column, column_then, column_type, column_len, slot_at, slots_at, picked_at}
-use Rattle.nested_arrays_columns.specs.SoundColumns.{have_types, column_lens, is_sound, are_sound}
-use Rattle.nested_arrays_columns.specs.Tables.{row_at}
-use Rattle.nested_arrays_columns.proofs.Windows.{length-window}
-use Rattle.ipc_format_grammar.specs.Messages.{V5}
-use Rattle.ipc_format_grammar.specs.Schemas.{IdsList}
-use Rattle.ipc_format_grammar.specs.Layouts.{node_count, buffer_count}
-use Rattle.ipc_format_grammar.specs.Columns.{Place, Reader, slots_in, columns_below, behind_column, first_ids, other_ids, picked}
-use Rattle.ipc_format_grammar.specs.Encoding.{Encoded, joined}
-use Rattle.ipc_format_grammar.specs.StoredEncoding.{encode_range}
+use Rattle.ipc_format_laws.specs.columnar_memory.declared.Field.{Field}
+use Rattle.ipc_format_laws.specs.columnar_memory.Equality.{same_type}
+use Rattle.ipc_format_laws.specs.columns.Slots.{Slot, null, pick, slot_then, in_slots, window}
+use Rattle.ipc_format_laws.specs.columns.StoredColumns.{Column, Columns, no_column, column_then, column_type, column_len, slot_at, slots_at, picked_at}
+use Rattle.ipc_format_laws.specs.columns.SoundColumns.{have_types, column_lens, is_sound, are_sound}
+use Rattle.ipc_format_laws.specs.columns.Tables.{row_at}
+use Rattle.ipc_format_laws.proofs.columns_lemmas.Windows.{length-window}
+use Rattle.ipc_format_laws.specs.grammar.Messages.{V5}
+use Rattle.ipc_format_laws.specs.grammar.Schemas.{IdsList}
+use Rattle.ipc_format_laws.specs.grammar.Layouts.{node_count, buffer_count}
+use Rattle.ipc_format_laws.specs.grammar.Columns.{Place, Reader, slots_in, columns_below, behind_column, first_ids, other_ids, picked}
+use Rattle.ipc_format_laws.specs.grammar.Encoding.{Encoded, joined}
+use Rattle.ipc_format_laws.specs.grammar.StoredEncoding.{encode_range}
 use Rattle.ipc_format_laws.specs.Columns.{StandsAmong, HoldsColumns}
 use Rattle.ipc_format_laws.proofs.Elements.{part_front, part_back}
 use Rattle.ipc_format_reading_laws.specs.StoredColumns.{HaveDictionaries}

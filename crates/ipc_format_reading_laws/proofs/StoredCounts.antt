@@ -7,31 +7,31 @@ use Rattle.std.specs.List.{flat_map, list_all}
 use Rattle.std.specs.Int.{Width, w8, w32}
 use Rattle.std.proofs.lemmas.Bool.{and_parts, false≢true}
 use Rattle.std.proofs.lemmas.List.Sums.{sum_by-cons}
-use Rattle.columnar_memory.specs.declared.DataType.{DataType}
-use Rattle.columnar_memory.specs.declared.DataType.TheOpen as layer
-use Rattle.columnar_memory.specs.declared.DataType.TheViews.{out-DataType}
-use Rattle.columnar_memory.specs.declared.Field.{Field}
-use Rattle.columnar_memory.specs.declared.IntervalUnit.TheVariants as intervals
-use Rattle.columnar_memory.specs.declared.PhysicalType.{PhysicalType}
-use Rattle.columnar_memory.specs.declared.PhysicalType.TheVariants as physical
-use Rattle.columnar_memory.specs.declared.UnionMode.TheVariants as modes
-use Rattle.columnar_memory.specs.Equality.{same_type}
-use Rattle.columnar_memory.specs.Layouts.{physical_type}
-use Rattle.nested_arrays_columns.specs.Kinds.{is_signed, most_offset}
-use Rattle.nested_arrays_columns.specs.StoredColumns.{Stored, bits, numbers, pairs, triples, texts, byte_strings, fixed_bytes, Column, Columns}
-use Rattle.nested_arrays_columns.specs.StoredColumns.{nulls, flat, lists, fixed_lists, records, unions, dictionary, no_column, column_then}
-use Rattle.nested_arrays_columns.specs.StoredColumns.{column_type, column_len, type_layer, stored_len, cut_list, cut_mask, cut_stored}
-use Rattle.nested_arrays_columns.specs.SoundColumns.{is_stored_as, has_size, mask_fits, is_null_type, has_item_type, has_fixed_item_type}
-use Rattle.nested_arrays_columns.specs.SoundColumns.{has_value_type, have_types, has_field_types, has_an_id_each, has_child_types, are_offsets}
-use Rattle.nested_arrays_columns.specs.SoundColumns.{are_pieces, have_len, has_value_at, has_child_at, has_places, holds_below, is_entry, is_sound}
-use Rattle.nested_arrays_columns.specs.SoundColumns.{are_sound}
-use Rattle.nested_arrays_columns.proofs.Conditions.{parts_of_3, parts_of_4, parts_of_5}
-use Rattle.nested_arrays_columns.proofs.TypeLayers.{Layer, is_extension, layer_layout, layout_is}
-use Rattle.ipc_format_grammar.specs.Messages.{V5}
-use Rattle.ipc_format_grammar.specs.Layouts.{total, node_count, buffer_count}
-use Rattle.ipc_format_grammar.specs.Encoding.{Encoded, column_over}
-use Rattle.ipc_format_grammar.specs.StoredEncoding.{mask_bytes, node_over, last_offset, moved_bytes, offset_width, stored_buffers, integer_bytes}
-use Rattle.ipc_format_grammar.specs.StoredEncoding.{key_bytes, encode_range, encode_ranges, encode_wholes}
+use Rattle.ipc_format_laws.specs.columnar_memory.declared.DataType.{DataType}
+use Rattle.ipc_format_laws.specs.columnar_memory.declared.DataType.TheOpen as layer
+use Rattle.ipc_format_laws.specs.columnar_memory.declared.DataType.TheViews.{out-DataType}
+use Rattle.ipc_format_laws.specs.columnar_memory.declared.Field.{Field}
+use Rattle.ipc_format_laws.specs.columnar_memory.declared.IntervalUnit.TheVariants as intervals
+use Rattle.ipc_format_laws.specs.columnar_memory.declared.PhysicalType.{PhysicalType}
+use Rattle.ipc_format_laws.specs.columnar_memory.declared.PhysicalType.TheVariants as physical
+use Rattle.ipc_format_laws.specs.columnar_memory.declared.UnionMode.TheVariants as modes
+use Rattle.ipc_format_laws.specs.columnar_memory.Equality.{same_type}
+use Rattle.ipc_format_laws.specs.columnar_memory.Layouts.{physical_type}
+use Rattle.ipc_format_laws.specs.columns.Kinds.{is_signed, most_offset}
+use Rattle.ipc_format_laws.specs.columns.StoredColumns.{Stored, bits, numbers, pairs, triples, texts, byte_strings, fixed_bytes, Column, Columns}
+use Rattle.ipc_format_laws.specs.columns.StoredColumns.{nulls, flat, lists, fixed_lists, records, unions, dictionary, no_column, column_then}
+use Rattle.ipc_format_laws.specs.columns.StoredColumns.{column_type, column_len, type_layer, stored_len, cut_list, cut_mask, cut_stored}
+use Rattle.ipc_format_laws.specs.columns.SoundColumns.{is_stored_as, has_size, mask_fits, is_null_type, has_item_type, has_fixed_item_type}
+use Rattle.ipc_format_laws.specs.columns.SoundColumns.{has_value_type, have_types, has_field_types, has_an_id_each, has_child_types, are_offsets}
+use Rattle.ipc_format_laws.specs.columns.SoundColumns.{are_pieces, have_len, has_value_at, has_child_at, has_places, holds_below, is_entry, is_sound}
+use Rattle.ipc_format_laws.specs.columns.SoundColumns.{are_sound}
+use Rattle.ipc_format_laws.proofs.columns_lemmas.Conditions.{parts_of_3, parts_of_4, parts_of_5}
+use Rattle.ipc_format_laws.proofs.columns_lemmas.TypeLayers.{Layer, is_extension, layer_layout, layout_is}
+use Rattle.ipc_format_laws.specs.grammar.Messages.{V5}
+use Rattle.ipc_format_laws.specs.grammar.Layouts.{total, node_count, buffer_count}
+use Rattle.ipc_format_laws.specs.grammar.Encoding.{Encoded, column_over}
+use Rattle.ipc_format_laws.specs.grammar.StoredEncoding.{mask_bytes, node_over, last_offset, moved_bytes, offset_width, stored_buffers, integer_bytes}
+use Rattle.ipc_format_laws.specs.grammar.StoredEncoding.{key_bytes, encode_range, encode_ranges, encode_wholes}
 use Rattle.ipc_format_laws.specs.Counts.{HasCounts}
 use Rattle.ipc_format_reading_laws.proofs.StoredLayers.{layer_nodes, layer_buffers, layer_plain, type_nodes, type_buffers}
 use Rattle.ipc_format_reading_laws.proofs.StoredRanges.{type_is, encode_each, same_ranges, same_wholes}

@@ -5,23 +5,23 @@ use Rattle.std.specs.Prelude.{Option, Some, slice_range}
 use Rattle.std.specs.List.{flat_map, list_all}
 use Rattle.std.proofs.Math.Nat.{mul-add, mul-le-mul_left}
 use Rattle.std.proofs.lemmas.Bool.{and_parts}
-use Rattle.columnar_memory.specs.declared.PrimitiveType.{PrimitiveType}
-use Rattle.columnar_memory.specs.declared.PrimitiveType.TheVariants as kinds
-use Rattle.columnar_memory.specs.declared.PhysicalType.TheVariants as physical
-use Rattle.nested_arrays_columns.specs.Kinds.{is_signed, in_kind, same_kind, numbers_of_kind}
-use Rattle.nested_arrays_columns.specs.Slots.{Slot, truth, number, bytes, window}
-use Rattle.nested_arrays_columns.specs.StoredColumns.{Stored, bits, numbers, pairs, triples, fixed_bytes, unless_null, pair_slot, triple_slot}
-use Rattle.nested_arrays_columns.specs.StoredColumns.{stored_at, stored_len, cut_list, cut_mask, cut_stored}
-use Rattle.nested_arrays_columns.specs.SoundColumns.{mask_fits, is_stored_as, are_pairs, are_triples}
-use Rattle.nested_arrays_columns.proofs.Windows.{get_or-cut_list, length-cut_list, cut_list-cut_list}
-use Rattle.nested_arrays_columns.proofs.Conditions.{list_all-cut_list}
-use Rattle.nested_arrays_columns.proofs.CutStored.{pieces_within}
-use Rattle.nested_arrays_columns.proofs.SameSlotsDecide.{same_kind-implies}
-use Rattle.ipc_format_grammar.specs.Values.{bit_at, kind_size, value_of, value_at, element_bytes}
-use Rattle.ipc_format_grammar.specs.Columns.{Place, Reader, buffer_at, taken_of, slots_by, fixed_slots, truth_slots, number_slots, fixed_bytes_slots}
-use Rattle.ipc_format_grammar.specs.Buffers.{bitmap_bytes, is_valid, kind_bytes}
-use Rattle.ipc_format_grammar.specs.Encoding.{Encoded, column_over}
-use Rattle.ipc_format_grammar.specs.StoredEncoding.{node_over, mask_bytes, stored_buffers}
+use Rattle.ipc_format_laws.specs.columnar_memory.declared.PrimitiveType.{PrimitiveType}
+use Rattle.ipc_format_laws.specs.columnar_memory.declared.PrimitiveType.TheVariants as kinds
+use Rattle.ipc_format_laws.specs.columnar_memory.declared.PhysicalType.TheVariants as physical
+use Rattle.ipc_format_laws.specs.columns.Kinds.{is_signed, in_kind, same_kind, numbers_of_kind}
+use Rattle.ipc_format_laws.specs.columns.Slots.{Slot, truth, number, bytes, window}
+use Rattle.ipc_format_laws.specs.columns.StoredColumns.{Stored, bits, numbers, pairs, triples, fixed_bytes, unless_null, pair_slot, triple_slot}
+use Rattle.ipc_format_laws.specs.columns.StoredColumns.{stored_at, stored_len, cut_list, cut_mask, cut_stored}
+use Rattle.ipc_format_laws.specs.columns.SoundColumns.{mask_fits, is_stored_as, are_pairs, are_triples}
+use Rattle.ipc_format_laws.proofs.columns_lemmas.Windows.{get_or-cut_list, length-cut_list, cut_list-cut_list}
+use Rattle.ipc_format_laws.proofs.columns_lemmas.Conditions.{list_all-cut_list}
+use Rattle.ipc_format_laws.proofs.columns_lemmas.CutStored.{pieces_within}
+use Rattle.ipc_format_laws.proofs.columns_lemmas.SameSlotsDecide.{same_kind-implies}
+use Rattle.ipc_format_laws.specs.grammar.Values.{bit_at, kind_size, value_of, value_at, element_bytes}
+use Rattle.ipc_format_laws.specs.grammar.Columns.{Place, Reader, buffer_at, taken_of, slots_by, fixed_slots, truth_slots, number_slots, fixed_bytes_slots}
+use Rattle.ipc_format_laws.specs.grammar.Buffers.{bitmap_bytes, is_valid, kind_bytes}
+use Rattle.ipc_format_laws.specs.grammar.Encoding.{Encoded, column_over}
+use Rattle.ipc_format_laws.specs.grammar.StoredEncoding.{node_over, mask_bytes, stored_buffers}
 use Rattle.std.specs.Int.{Width}
 use Rattle.ipc_format_laws.specs.Columns.{StandsAmong, HoldsColumns}
 use Rattle.ipc_format_laws.proofs.Elements.{part_next, passes_at, element_back, elements_size}

@@ -7,15 +7,15 @@ use Rattle.std.specs.Int.{Width}
 use Rattle.std.specs.Str.{is_utf8}
 use mir.Val.{hbits}
 use Rattle.std.proofs.lemmas.Bool.{and_parts}
-use Rattle.columnar_memory.specs.declared.PhysicalType.{PhysicalType}
-use Rattle.nested_arrays_columns.specs.Kinds.{most_offset}
-use Rattle.nested_arrays_columns.specs.Slots.{Slot, text, bytes, window}
-use Rattle.nested_arrays_columns.specs.StoredColumns.{texts, byte_strings, unless_null, string_at, cut_list, cut_mask}
-use Rattle.nested_arrays_columns.specs.SoundColumns.{holds_below, is_byte, mask_fits, are_offsets, are_strings, is_text_at}
-use Rattle.nested_arrays_columns.proofs.Conditions.{holds_at}
-use Rattle.ipc_format_grammar.specs.Columns.{Place, buffer_at, taken_of, last_of, piece_at, slots_by, byte_slots, binary_slots, text_slots}
-use Rattle.ipc_format_grammar.specs.Encoding.{Encoded}
-use Rattle.ipc_format_grammar.specs.StoredEncoding.{mask_bytes, moved_offsets, moved_bytes, between_offsets}
+use Rattle.ipc_format_laws.specs.columnar_memory.declared.PhysicalType.{PhysicalType}
+use Rattle.ipc_format_laws.specs.columns.Kinds.{most_offset}
+use Rattle.ipc_format_laws.specs.columns.Slots.{Slot, text, bytes, window}
+use Rattle.ipc_format_laws.specs.columns.StoredColumns.{texts, byte_strings, unless_null, string_at, cut_list, cut_mask}
+use Rattle.ipc_format_laws.specs.columns.SoundColumns.{holds_below, is_byte, mask_fits, are_offsets, are_strings, is_text_at}
+use Rattle.ipc_format_laws.proofs.columns_lemmas.Conditions.{holds_at}
+use Rattle.ipc_format_laws.specs.grammar.Columns.{Place, buffer_at, taken_of, last_of, piece_at, slots_by, byte_slots, binary_slots, text_slots}
+use Rattle.ipc_format_laws.specs.grammar.Encoding.{Encoded}
+use Rattle.ipc_format_laws.specs.grammar.StoredEncoding.{mask_bytes, moved_offsets, moved_bytes, between_offsets}
 use Rattle.ipc_format_laws.specs.Columns.{StandsAmong, HoldsColumns}
 use Rattle.ipc_format_laws.proofs.Elements.{part_next, part_back, window_passes}
 use Rattle.ipc_format_laws.proofs.Buffers.{buffer_reads}

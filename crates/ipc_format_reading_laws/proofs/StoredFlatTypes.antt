@@ -4,19 +4,19 @@ use Rattle.std.specs.Prelude.{Option}
 use Rattle.std.specs.Int.{w32, w64}
 use mir.Val.{hbits}
 use Rattle.std.proofs.lemmas.Bool.{eqb-true, ltb-true, false≢true}
-use Rattle.columnar_memory.specs.declared.DataType.{DataType}
-use Rattle.columnar_memory.specs.declared.DataType.TheOpen as layer
-use Rattle.columnar_memory.specs.declared.IntervalUnit.TheVariants as intervals
-use Rattle.columnar_memory.specs.declared.PhysicalType.TheVariants as physical
-use Rattle.columnar_memory.specs.declared.PrimitiveType.TheVariants as kinds
-use Rattle.columnar_memory.specs.Layouts.{physical_type}
-use Rattle.nested_arrays_columns.specs.Slots.{window}
-use Rattle.nested_arrays_columns.specs.StoredColumns.{Stored, bits, texts, byte_strings, fixed_bytes, flat, stored_len, type_layer, slot_at}
-use Rattle.nested_arrays_columns.specs.SoundColumns.{mask_fits, is_stored_as, has_size, is_sound}
-use Rattle.nested_arrays_columns.proofs.Conditions.{parts_of_3}
-use Rattle.nested_arrays_columns.proofs.TypeLayers.{Layer, is_extension, layer_layout, layout_is}
-use Rattle.ipc_format_grammar.specs.Columns.{fixed_bytes_slots}
-use Rattle.ipc_format_grammar.specs.StoredEncoding.{offset_width}
+use Rattle.ipc_format_laws.specs.columnar_memory.declared.DataType.{DataType}
+use Rattle.ipc_format_laws.specs.columnar_memory.declared.DataType.TheOpen as layer
+use Rattle.ipc_format_laws.specs.columnar_memory.declared.IntervalUnit.TheVariants as intervals
+use Rattle.ipc_format_laws.specs.columnar_memory.declared.PhysicalType.TheVariants as physical
+use Rattle.ipc_format_laws.specs.columnar_memory.declared.PrimitiveType.TheVariants as kinds
+use Rattle.ipc_format_laws.specs.columnar_memory.Layouts.{physical_type}
+use Rattle.ipc_format_laws.specs.columns.Slots.{window}
+use Rattle.ipc_format_laws.specs.columns.StoredColumns.{Stored, bits, texts, byte_strings, fixed_bytes, flat, stored_len, type_layer, slot_at}
+use Rattle.ipc_format_laws.specs.columns.SoundColumns.{mask_fits, is_stored_as, has_size, is_sound}
+use Rattle.ipc_format_laws.proofs.columns_lemmas.Conditions.{parts_of_3}
+use Rattle.ipc_format_laws.proofs.columns_lemmas.TypeLayers.{Layer, is_extension, layer_layout, layout_is}
+use Rattle.ipc_format_laws.specs.grammar.Columns.{fixed_bytes_slots}
+use Rattle.ipc_format_laws.specs.grammar.StoredEncoding.{offset_width}
 use Rattle.ipc_format_reading_laws.specs.StoredColumns.{RangeReadsBack}
 use Rattle.ipc_format_reading_laws.proofs.StoredLayers.{read_layer, layer_plain}
 use Rattle.ipc_format_reading_laws.proofs.StoredRanges.{by_layer}

@@ -9,27 +9,27 @@ use Rattle.std.proofs.lemmas.List.{map-append}
 use Rattle.std.proofs.lemmas.List.Elements.{All-nil, All-cons, All-append}
 use Rattle.std.proofs.lemmas.List.Sums.{sum_by-cons}
 use Rattle.columnar_memory_types.specs.Equality.{same_type, same_type-Decides}
-use Rattle.columnar_memory.specs.declared.DataType.{DataType}
-use Rattle.columnar_memory.specs.declared.DataType.TheOpen as layer
-use Rattle.columnar_memory.specs.declared.DataType.TheViews.{out-DataType}
-use Rattle.columnar_memory.specs.declared.Field.{Field}
-use Rattle.columnar_memory.specs.declared.UnionMode.{UnionMode}
-use Rattle.columnar_memory.specs.declared.UnionMode.TheVariants as modes
-use Rattle.columnar_memory.specs.Layouts.{physical_type}
-use Rattle.nested_arrays_columns.specs.Kinds.{is_signed, is_key, most_offset}
-use Rattle.nested_arrays_columns.specs.StoredColumns.{Stored, Column, Columns, nulls, flat, lists, fixed_lists, records, unions, dictionary}
-use Rattle.nested_arrays_columns.specs.StoredColumns.{no_column, column_then, column_type, column_len, stored_len, type_layer, slots}
-use Rattle.nested_arrays_columns.specs.SoundColumns.{holds_below, mask_fits, are_offsets, are_pieces, is_stored_as, has_size, is_null_type}
-use Rattle.nested_arrays_columns.specs.SoundColumns.{is_entry, has_item_type, has_fixed_item_type, has_value_type, have_types, has_field_types}
-use Rattle.nested_arrays_columns.specs.SoundColumns.{has_an_id_each, has_child_types, have_len, has_value_at, has_child_at, has_places}
-use Rattle.nested_arrays_columns.specs.SoundColumns.{is_sound, are_sound}
-use Rattle.nested_arrays_columns.proofs.Conditions.{parts_of_3, parts_of_4, parts_of_5}
-use Rattle.nested_arrays_columns.proofs.TypeLayers.{is_extension, layer_layout, layout_is}
-use Rattle.ipc_format_grammar.specs.Schemas.{Ids, IdsList, ids}
-use Rattle.ipc_format_grammar.specs.Columns.{first_ids, other_ids, ids_below, own_id}
-use Rattle.ipc_format_grammar.specs.StoredEncoding.{encode_stored}
-use Rattle.ipc_format_grammar.specs.GivenDictionaries.{Given, id_or_0, given_stored, given_each}
-use Rattle.ipc_format_grammar.specs.Writable.{Report, report_step, report_of}
+use Rattle.ipc_format_laws.specs.columnar_memory.declared.DataType.{DataType}
+use Rattle.ipc_format_laws.specs.columnar_memory.declared.DataType.TheOpen as layer
+use Rattle.ipc_format_laws.specs.columnar_memory.declared.DataType.TheViews.{out-DataType}
+use Rattle.ipc_format_laws.specs.columnar_memory.declared.Field.{Field}
+use Rattle.ipc_format_laws.specs.columnar_memory.declared.UnionMode.{UnionMode}
+use Rattle.ipc_format_laws.specs.columnar_memory.declared.UnionMode.TheVariants as modes
+use Rattle.ipc_format_laws.specs.columnar_memory.Layouts.{physical_type}
+use Rattle.ipc_format_laws.specs.columns.Kinds.{is_signed, is_key, most_offset}
+use Rattle.ipc_format_laws.specs.columns.StoredColumns.{Stored, Column, Columns, nulls, flat, lists, fixed_lists, records, unions, dictionary}
+use Rattle.ipc_format_laws.specs.columns.StoredColumns.{no_column, column_then, column_type, column_len, stored_len, type_layer, slots}
+use Rattle.ipc_format_laws.specs.columns.SoundColumns.{holds_below, mask_fits, are_offsets, are_pieces, is_stored_as, has_size, is_null_type}
+use Rattle.ipc_format_laws.specs.columns.SoundColumns.{is_entry, has_item_type, has_fixed_item_type, has_value_type, have_types, has_field_types}
+use Rattle.ipc_format_laws.specs.columns.SoundColumns.{has_an_id_each, has_child_types, have_len, has_value_at, has_child_at, has_places}
+use Rattle.ipc_format_laws.specs.columns.SoundColumns.{is_sound, are_sound}
+use Rattle.ipc_format_laws.proofs.columns_lemmas.Conditions.{parts_of_3, parts_of_4, parts_of_5}
+use Rattle.ipc_format_laws.proofs.columns_lemmas.TypeLayers.{is_extension, layer_layout, layout_is}
+use Rattle.ipc_format_laws.specs.grammar.Schemas.{Ids, IdsList, ids}
+use Rattle.ipc_format_laws.specs.grammar.Columns.{first_ids, other_ids, ids_below, own_id}
+use Rattle.ipc_format_laws.specs.grammar.StoredEncoding.{encode_stored}
+use Rattle.ipc_format_laws.specs.grammar.GivenDictionaries.{Given, id_or_0, given_stored, given_each}
+use Rattle.ipc_format_laws.specs.grammar.Writable.{Report, report_step, report_of}
 use Rattle.ipc_format_reading_laws.specs.NormalColumns.{normal_column, normal_columns}
 use Rattle.ipc_format_reading_laws.proofs.NormalColumnsLayers.{Layer}
 use Rattle.ipc_format_reading_laws.proofs.StoredGivenFolds.{foldf, at_layer, fold_field, fold_at_layer, none_left}

@@ -6,20 +6,20 @@ use Rattle.std.specs.List.{All, list_all}
 use Rattle.std.proofs.lemmas.Bool.{and_parts, false≢true}
 use Rattle.std.proofs.lemmas.List.Elements.{All-nil, All-cons, All-append}
 use Rattle.columnar_memory_types.specs.Equality.{same_type, same_type-Decides}
-use Rattle.columnar_memory.specs.declared.DataType.{DataType, map-DataType}
-use Rattle.columnar_memory.specs.declared.DataType.TheOpen as layer
-use Rattle.columnar_memory.specs.declared.DataType.TheViews.{roll-DataType, roll-Field, out-DataType, out-Field, roll-out-Field}
-use Rattle.columnar_memory.specs.declared.DataType.TheFolds.{fold-DataType, fold-roll-DataType, fold-roll-Field, ind-DataType}
-use Rattle.columnar_memory.specs.declared.Field.{Field}
-use Rattle.nested_arrays_columns.specs.Kinds.{is_key}
-use Rattle.nested_arrays_columns.specs.StoredColumns.{Column, Columns, nulls, flat, lists, fixed_lists, records, unions, dictionary, no_column}
-use Rattle.nested_arrays_columns.specs.StoredColumns.{column_then, column_type, type_layer}
-use Rattle.nested_arrays_columns.specs.SoundColumns.{is_entry, has_item_type, has_fixed_item_type, has_value_type, have_types, is_sound, are_sound}
-use Rattle.nested_arrays_columns.proofs.Claims.{FieldWith, LayerWith, bare_layer}
-use Rattle.ipc_format_grammar.specs.Schemas.{Ids, IdsList, ids, no_ids, ids_then}
-use Rattle.ipc_format_grammar.specs.Columns.{first_ids, other_ids, ids_below, own_id}
-use Rattle.ipc_format_grammar.specs.Ids.{Fitting, fit_each, has_no_own, fit_value, fit_step, ids_fit, ids_fit_fields}
-use Rattle.ipc_format_grammar.specs.GivenDictionaries.{id_or_0}
+use Rattle.ipc_format_laws.specs.columnar_memory.declared.DataType.{DataType, map-DataType}
+use Rattle.ipc_format_laws.specs.columnar_memory.declared.DataType.TheOpen as layer
+use Rattle.ipc_format_laws.specs.columnar_memory.declared.DataType.TheViews.{roll-DataType, roll-Field, out-DataType, out-Field, roll-out-Field}
+use Rattle.ipc_format_laws.specs.columnar_memory.declared.DataType.TheFolds.{fold-DataType, fold-roll-DataType, fold-roll-Field, ind-DataType}
+use Rattle.ipc_format_laws.specs.columnar_memory.declared.Field.{Field}
+use Rattle.ipc_format_laws.specs.columns.Kinds.{is_key}
+use Rattle.ipc_format_laws.specs.columns.StoredColumns.{Column, Columns, nulls, flat, lists, fixed_lists, records, unions, dictionary, no_column}
+use Rattle.ipc_format_laws.specs.columns.StoredColumns.{column_then, column_type, type_layer}
+use Rattle.ipc_format_laws.specs.columns.SoundColumns.{is_entry, has_item_type, has_fixed_item_type, has_value_type, have_types, is_sound, are_sound}
+use Rattle.ipc_format_laws.proofs.columns_lemmas.Claims.{FieldWith, LayerWith, bare_layer}
+use Rattle.ipc_format_laws.specs.grammar.Schemas.{Ids, IdsList, ids, no_ids, ids_then}
+use Rattle.ipc_format_laws.specs.grammar.Columns.{first_ids, other_ids, ids_below, own_id}
+use Rattle.ipc_format_laws.specs.grammar.Ids.{Fitting, fit_each, has_no_own, fit_value, fit_step, ids_fit, ids_fit_fields}
+use Rattle.ipc_format_laws.specs.grammar.GivenDictionaries.{id_or_0}
 use Rattle.ipc_format_laws.specs.Schemas.{IdsTold, each_ids, ids_step, id_if, ids_field_step, ids_of_field}
 use Rattle.ipc_format_reading_laws.proofs.NormalColumnsLayers.{Layer}
 use Rattle.ipc_format_reading_laws.proofs.StoredGivenFolds.{foldf, at_layer, fold_field, fold_at_layer, fold_roll}

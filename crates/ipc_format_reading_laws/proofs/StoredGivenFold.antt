@@ -1,13 +1,13 @@
 -- The dictionaries of a batch, read one after another: each that is written stands afterwards, and so does each that is not.
 use Rattle.std.proofs.Common.{◌≡◌, ◌∙◌, List, [], ◌∷◌, ◌++◌, map, refl, Bool, true}
 use Rattle.std.specs.Prelude.{Some, None, if◌then◌else◌}
-use Rattle.columnar_memory.specs.declared.Field.{Field}
-use Rattle.nested_arrays_columns.specs.StoredColumns.{column_type}
-use Rattle.ipc_format_grammar.specs.Schemas.{IdsList, ids}
-use Rattle.ipc_format_grammar.specs.Writable.{normalised_type}
-use Rattle.ipc_format_grammar.specs.Dictionaries.{Entry, Layout, values_of}
-use Rattle.ipc_format_grammar.specs.Tables.{batches_of}
-use Rattle.ipc_format_grammar.specs.GivenDictionaries.{Given, given_stored, last_under, stands_for, to_write, written_after, agrees}
+use Rattle.ipc_format_laws.specs.columnar_memory.declared.Field.{Field}
+use Rattle.ipc_format_laws.specs.columns.StoredColumns.{column_type}
+use Rattle.ipc_format_laws.specs.grammar.Schemas.{IdsList, ids}
+use Rattle.ipc_format_laws.specs.grammar.Writable.{normalised_type}
+use Rattle.ipc_format_laws.specs.grammar.Dictionaries.{Entry, Layout, values_of}
+use Rattle.ipc_format_laws.specs.grammar.Tables.{batches_of}
+use Rattle.ipc_format_laws.specs.grammar.GivenDictionaries.{Given, given_stored, last_under, stands_for, to_write, written_after, agrees}
 use Rattle.ipc_format_laws.specs.Contents.{Sent, dictionary}
 use Rattle.ipc_format_reading_laws.specs.StoredColumns.{StoredColumnsReadBack}
 use Rattle.ipc_format_reading_laws.proofs.StoredGivenLists.{Each, AreEach, by_answer}

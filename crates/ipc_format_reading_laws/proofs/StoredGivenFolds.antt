@@ -1,16 +1,16 @@
 -- What a fold over types says of a type, by the type's layer without extensions; and that it says the same of the normalised type.
 use Rattle.std.proofs.Common.{◌≡◌, ◌∙◌, ℕ, List, [], ◌∷◌, map, refl, sym, ap, subst, false}
 use Rattle.std.specs.Prelude.{Option}
-use Rattle.columnar_memory.specs.declared.DataType.{DataType, map-DataType}
-use Rattle.columnar_memory.specs.declared.DataType.TheOpen as layer
-use Rattle.columnar_memory.specs.declared.DataType.TheViews.{roll-DataType, roll-Field, out-Field, roll-out-Field}
-use Rattle.columnar_memory.specs.declared.DataType.TheFolds.{fold-DataType, fold-Field, fold-roll-DataType, fold-roll-Field, ind-DataType}
-use Rattle.columnar_memory.specs.declared.Field.{Field}
-use Rattle.nested_arrays_columns.specs.StoredColumns.{type_layer}
-use Rattle.nested_arrays_columns.proofs.Claims.{FieldWith, LayerWith, NoClaim, bare_layer}
-use Rattle.nested_arrays_columns.proofs.TypeLayers.{is_extension, layer_itself, layer_within}
-use Rattle.ipc_format_grammar.specs.Writable.{normalised_type}
-use Rattle.ipc_format_grammar.proofs.NormalReports.{normal_field}
+use Rattle.ipc_format_laws.specs.columnar_memory.declared.DataType.{DataType, map-DataType}
+use Rattle.ipc_format_laws.specs.columnar_memory.declared.DataType.TheOpen as layer
+use Rattle.ipc_format_laws.specs.columnar_memory.declared.DataType.TheViews.{roll-DataType, roll-Field, out-Field, roll-out-Field}
+use Rattle.ipc_format_laws.specs.columnar_memory.declared.DataType.TheFolds.{fold-DataType, fold-Field, fold-roll-DataType, fold-roll-Field, ind-DataType}
+use Rattle.ipc_format_laws.specs.columnar_memory.declared.Field.{Field}
+use Rattle.ipc_format_laws.specs.columns.StoredColumns.{type_layer}
+use Rattle.ipc_format_laws.proofs.columns_lemmas.Claims.{FieldWith, LayerWith, NoClaim, bare_layer}
+use Rattle.ipc_format_laws.proofs.columns_lemmas.TypeLayers.{is_extension, layer_itself, layer_within}
+use Rattle.ipc_format_laws.specs.grammar.Writable.{normalised_type}
+use Rattle.ipc_format_laws.proofs.grammar_lemmas.NormalReports.{normal_field}
 use Rattle.ipc_format_reading_laws.proofs.NormalColumnsLayers.{Layer, normal_layer, normal_roll, field_type}
 
 module _ {A : Type 0} (step : layer.DataType-F A A → A) where

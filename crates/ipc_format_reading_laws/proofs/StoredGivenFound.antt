@@ -7,23 +7,23 @@ use Rattle.std.specs.Ordering.{int_eq}
 use Rattle.std.specs.Cmp.{signed_Decides}
 use Rattle.std.proofs.lemmas.Bool.{and_parts, false≢true, true≢false}
 use Rattle.columnar_memory_types.specs.Equality.{same_type, same_type-Decides}
-use Rattle.columnar_memory.specs.declared.DataType.{DataType, map-DataType}
-use Rattle.columnar_memory.specs.declared.DataType.TheOpen as layer
-use Rattle.columnar_memory.specs.declared.DataType.TheViews.{roll-DataType, out-DataType, out-Field, roll-out-Field}
-use Rattle.columnar_memory.specs.declared.DataType.TheFolds.{para-Field, para-roll-DataType, para-roll-Field, ind-DataType}
-use Rattle.columnar_memory.specs.declared.Field.{Field}
-use Rattle.columnar_memory.specs.declared.IntegerType.{IntegerType}
-use Rattle.nested_arrays_columns.specs.Kinds.{is_key}
-use Rattle.nested_arrays_columns.specs.StoredColumns.{Stored, Column, Columns, nulls, flat, lists, fixed_lists, records, unions, dictionary}
-use Rattle.nested_arrays_columns.specs.StoredColumns.{no_column, column_then, column_type, type_layer}
-use Rattle.nested_arrays_columns.specs.SoundColumns.{is_null_type, is_entry, is_stored_as, has_item_type, has_fixed_item_type, has_value_type}
-use Rattle.nested_arrays_columns.specs.SoundColumns.{have_types, is_sound, are_sound}
-use Rattle.nested_arrays_columns.proofs.Claims.{LayerWith, NoClaim, bare_layer}
-use Rattle.nested_arrays_columns.proofs.TypeLayers.{is_extension, layer_itself, layer_within, layer_layout}
-use Rattle.ipc_format_grammar.specs.Schemas.{Ids, IdsList, ids}
-use Rattle.ipc_format_grammar.specs.Columns.{first_ids, other_ids, ids_below, own_id}
-use Rattle.ipc_format_grammar.specs.Dictionaries.{Values, Finder, or_else, first_found, values_if, find_step, find_field_step, values_in}
-use Rattle.ipc_format_grammar.specs.GivenDictionaries.{id_or_0}
+use Rattle.ipc_format_laws.specs.columnar_memory.declared.DataType.{DataType, map-DataType}
+use Rattle.ipc_format_laws.specs.columnar_memory.declared.DataType.TheOpen as layer
+use Rattle.ipc_format_laws.specs.columnar_memory.declared.DataType.TheViews.{roll-DataType, out-DataType, out-Field, roll-out-Field}
+use Rattle.ipc_format_laws.specs.columnar_memory.declared.DataType.TheFolds.{para-Field, para-roll-DataType, para-roll-Field, ind-DataType}
+use Rattle.ipc_format_laws.specs.columnar_memory.declared.Field.{Field}
+use Rattle.ipc_format_laws.specs.columnar_memory.declared.IntegerType.{IntegerType}
+use Rattle.ipc_format_laws.specs.columns.Kinds.{is_key}
+use Rattle.ipc_format_laws.specs.columns.StoredColumns.{Stored, Column, Columns, nulls, flat, lists, fixed_lists, records, unions, dictionary}
+use Rattle.ipc_format_laws.specs.columns.StoredColumns.{no_column, column_then, column_type, type_layer}
+use Rattle.ipc_format_laws.specs.columns.SoundColumns.{is_null_type, is_entry, is_stored_as, has_item_type, has_fixed_item_type, has_value_type}
+use Rattle.ipc_format_laws.specs.columns.SoundColumns.{have_types, is_sound, are_sound}
+use Rattle.ipc_format_laws.proofs.columns_lemmas.Claims.{LayerWith, NoClaim, bare_layer}
+use Rattle.ipc_format_laws.proofs.columns_lemmas.TypeLayers.{is_extension, layer_itself, layer_within, layer_layout}
+use Rattle.ipc_format_laws.specs.grammar.Schemas.{Ids, IdsList, ids}
+use Rattle.ipc_format_laws.specs.grammar.Columns.{first_ids, other_ids, ids_below, own_id}
+use Rattle.ipc_format_laws.specs.grammar.Dictionaries.{Values, Finder, or_else, first_found, values_if, find_step, find_field_step, values_in}
+use Rattle.ipc_format_laws.specs.grammar.GivenDictionaries.{id_or_0}
 use Rattle.ipc_format_reading_laws.proofs.NormalColumnsLayers.{Layer}
 use Rattle.ipc_format_reading_laws.proofs.StoredGivenFolds.{none_left}
 use Rattle.ipc_format_reading_laws.proofs.StoredGivenLists.{Each, all_each, each_front, each_back, not_true}

@@ -9,21 +9,21 @@ use Rattle.std.proofs.lemmas.Bool.{and_parts, false≢true, leb-true}
 use Rattle.std.proofs.lemmas.List.{length-map, map-append}
 use Rattle.std.proofs.lemmas.List.Sums.{sum_by-cons}
 use Rattle.columnar_memory_types.specs.Equality.{same_type, same_type-Decides}
-use Rattle.columnar_memory.specs.declared.DataType.{DataType}
-use Rattle.columnar_memory.specs.declared.Field.{Field}
-use Rattle.columnar_memory.specs.declared.Schema.{Schema}
-use Rattle.nested_arrays_columns.specs.StoredColumns.{Column, Columns, nulls, flat, lists, fixed_lists, records, unions, dictionary, no_column}
-use Rattle.nested_arrays_columns.specs.StoredColumns.{column_then, column_type}
-use Rattle.nested_arrays_columns.specs.SoundColumns.{is_sound}
-use Rattle.ipc_format_grammar.specs.Limits.{most_levels, most_dictionaries}
-use Rattle.ipc_format_grammar.specs.Schemas.{Ids, IdsList, ids, no_ids, ids_then}
-use Rattle.ipc_format_grammar.specs.Columns.{first_ids, other_ids, ids_below, own_id}
-use Rattle.ipc_format_grammar.specs.Dictionaries.{Values, or_else, values_in, values_of}
-use Rattle.ipc_format_grammar.specs.GivenDictionaries.{Given, id_or_0, given_stored, last_under, agrees, agree}
-use Rattle.ipc_format_grammar.specs.Ids.{fit_step, ids_fit, ids_fit_fields}
-use Rattle.ipc_format_grammar.specs.Writable.{Report, plain, over_all, report_step, report_of, reports_of, is_writable, normalised_type}
-use Rattle.ipc_format_grammar.specs.Writable.{normalised_field}
-use Rattle.ipc_format_grammar.specs.WrittenStreams.{given_of_stored, is_column_of, pass_each}
+use Rattle.ipc_format_laws.specs.columnar_memory.declared.DataType.{DataType}
+use Rattle.ipc_format_laws.specs.columnar_memory.declared.Field.{Field}
+use Rattle.ipc_format_laws.specs.columnar_memory.declared.Schema.{Schema}
+use Rattle.ipc_format_laws.specs.columns.StoredColumns.{Column, Columns, nulls, flat, lists, fixed_lists, records, unions, dictionary, no_column}
+use Rattle.ipc_format_laws.specs.columns.StoredColumns.{column_then, column_type}
+use Rattle.ipc_format_laws.specs.columns.SoundColumns.{is_sound}
+use Rattle.ipc_format_laws.specs.grammar.Limits.{most_levels, most_dictionaries}
+use Rattle.ipc_format_laws.specs.grammar.Schemas.{Ids, IdsList, ids, no_ids, ids_then}
+use Rattle.ipc_format_laws.specs.grammar.Columns.{first_ids, other_ids, ids_below, own_id}
+use Rattle.ipc_format_laws.specs.grammar.Dictionaries.{Values, or_else, values_in, values_of}
+use Rattle.ipc_format_laws.specs.grammar.GivenDictionaries.{Given, id_or_0, given_stored, last_under, agrees, agree}
+use Rattle.ipc_format_laws.specs.grammar.Ids.{fit_step, ids_fit, ids_fit_fields}
+use Rattle.ipc_format_laws.specs.grammar.Writable.{Report, plain, over_all, report_step, report_of, reports_of, is_writable, normalised_type}
+use Rattle.ipc_format_laws.specs.grammar.Writable.{normalised_field}
+use Rattle.ipc_format_laws.specs.grammar.WrittenStreams.{given_of_stored, is_column_of, pass_each}
 use Rattle.ipc_format_reading_laws.specs.NormalColumns.{normal_column}
 use Rattle.ipc_format_reading_laws.proofs.NormalColumnsKept.{type_normal, sound_normal}
 use Rattle.ipc_format_reading_laws.proofs.StoredGivenFolds.{fold_normal}

@@ -7,16 +7,16 @@ use Rattle.std.specs.Cmp.{signed_Decides}
 use Rattle.std.specs.Cmp.Lexicographic.{pointwise, pointwise_decides}
 use Rattle.std.proofs.lemmas.Bool.{and_parts, and_from, false≢true}
 use Rattle.columnar_memory_types.specs.Equality.{same_type, same_type-Decides}
-use Rattle.nested_arrays_columns.specs.Slots.{Slot}
-use Rattle.nested_arrays_columns.specs.SameSlots.{same_slot}
-use Rattle.nested_arrays_columns.proofs.SameSlotsDecide.{same_slot-Decides}
-use Rattle.nested_arrays_columns.specs.StoredColumns.{Column, Columns, nulls, flat, lists, fixed_lists, records, unions, dictionary, no_column}
-use Rattle.nested_arrays_columns.specs.StoredColumns.{column_then}
-use Rattle.nested_arrays_columns.specs.SoundColumns.{is_sound, are_sound}
-use Rattle.ipc_format_grammar.specs.Schemas.{Ids, IdsList, ids}
-use Rattle.ipc_format_grammar.specs.Columns.{Dictionary, standing_for, first_ids, other_ids, ids_below, own_id}
-use Rattle.ipc_format_grammar.specs.Writable.{normalised_type}
-use Rattle.ipc_format_grammar.specs.GivenDictionaries.{Given, id_or_0, given_stored, given_each, says_same, last_under, stands_for, agrees}
+use Rattle.ipc_format_laws.specs.columns.Slots.{Slot}
+use Rattle.ipc_format_laws.specs.columns.SameSlots.{same_slot}
+use Rattle.ipc_format_laws.proofs.columns_lemmas.SameSlotsDecide.{same_slot-Decides}
+use Rattle.ipc_format_laws.specs.columns.StoredColumns.{Column, Columns, nulls, flat, lists, fixed_lists, records, unions, dictionary, no_column}
+use Rattle.ipc_format_laws.specs.columns.StoredColumns.{column_then}
+use Rattle.ipc_format_laws.specs.columns.SoundColumns.{is_sound, are_sound}
+use Rattle.ipc_format_laws.specs.grammar.Schemas.{Ids, IdsList, ids}
+use Rattle.ipc_format_laws.specs.grammar.Columns.{Dictionary, standing_for, first_ids, other_ids, ids_below, own_id}
+use Rattle.ipc_format_laws.specs.grammar.Writable.{normalised_type}
+use Rattle.ipc_format_laws.specs.grammar.GivenDictionaries.{Given, id_or_0, given_stored, given_each, says_same, last_under, stands_for, agrees}
 use Rattle.ipc_format_reading_laws.specs.NormalColumns.{normal_slot, normal_column, normal_columns}
 use Rattle.ipc_format_reading_laws.specs.StoredColumns.{HasDictionaries, HaveDictionaries}
 use Rattle.ipc_format_reading_laws.proofs.NormalColumnsKept.{type_normal, all_slots_normal}

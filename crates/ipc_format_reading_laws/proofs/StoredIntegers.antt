@@ -5,14 +5,14 @@ use Rattle.std.specs.List.{list_all}
 use Rattle.std.specs.Int.{Width, w8, w16, w32, w64, byte_len, to_le_bytes, cast_unsigned, FitsUnsignedBits}
 use mir.Val.{bits, hbits}
 use Rattle.std.proofs.lemmas.Bool.{ltb-true}
-use Rattle.ipc_format_flatbuffers.proofs.Numbers.{length-to_le_bytes}
-use Rattle.columnar_memory.specs.declared.IntegerType.{IntegerType}
-use Rattle.columnar_memory.specs.declared.IntegerType.TheVariants as integers
-use Rattle.columnar_memory.specs.NumberLaws.{signed_in-number_bytes, unsigned_in-number_bytes}
-use Rattle.nested_arrays_columns.specs.Kinds.{is_signed, is_unsigned, is_key}
-use Rattle.ipc_format_grammar.specs.Values.{signed_of, unsigned_of, element_bytes, key_at, key_size}
-use Rattle.ipc_format_grammar.specs.Buffers.{key_width}
-use Rattle.ipc_format_grammar.specs.StoredEncoding.{integer_bytes}
+use Rattle.ipc_format_laws.proofs.flatbuffers_lemmas.Numbers.{length-to_le_bytes}
+use Rattle.ipc_format_laws.specs.columnar_memory.declared.IntegerType.{IntegerType}
+use Rattle.ipc_format_laws.specs.columnar_memory.declared.IntegerType.TheVariants as integers
+use Rattle.ipc_format_laws.specs.columnar_memory.NumberLaws.{signed_in-number_bytes, unsigned_in-number_bytes}
+use Rattle.ipc_format_laws.specs.columns.Kinds.{is_signed, is_unsigned, is_key}
+use Rattle.ipc_format_laws.specs.grammar.Values.{signed_of, unsigned_of, element_bytes, key_at, key_size}
+use Rattle.ipc_format_laws.specs.grammar.Buffers.{key_width}
+use Rattle.ipc_format_laws.specs.grammar.StoredEncoding.{integer_bytes}
 use Rattle.ipc_format_laws.proofs.Elements.{passes_at, element_back, elements_size}
 
 -- ---- ranges

@@ -5,25 +5,25 @@ use Rattle.std.proofs.Common.{refl, sym, ap, arith, zero-add}
 use Rattle.std.specs.Prelude.{Option, Some, nat_lt, int_le}
 use Rattle.std.specs.List.{list_all}
 use Rattle.std.proofs.lemmas.Bool.{and_parts, ltb-true, false≢true}
-use Rattle.columnar_memory.specs.declared.DataType.{DataType}
-use Rattle.columnar_memory.specs.declared.DataType.TheOpen as layer
-use Rattle.columnar_memory.specs.declared.IntegerType.{IntegerType}
-use Rattle.columnar_memory.specs.Equality.{same_type, same_type-Decides}
-use Rattle.nested_arrays_columns.specs.Kinds.{is_key}
-use Rattle.nested_arrays_columns.specs.Slots.{Slot, null, window}
-use Rattle.nested_arrays_columns.specs.StoredColumns.{Column, dictionary, unless_null, is_valid_at, cut_list, cut_mask, column_type, column_len}
-use Rattle.nested_arrays_columns.specs.StoredColumns.{type_layer, place_of, slot_at, slots}
-use Rattle.nested_arrays_columns.specs.SoundColumns.{holds_below, mask_fits, has_value_type, has_value_at, is_sound}
-use Rattle.nested_arrays_columns.proofs.Windows.{get_or-cut_list, length-cut_list, length-window}
-use Rattle.nested_arrays_columns.proofs.Conditions.{parts_of_4, holds_at, list_all-cut_list}
-use Rattle.nested_arrays_columns.proofs.Cuts.{is_valid_at-cut_mask}
-use Rattle.nested_arrays_columns.proofs.CutStored.{mask_fits-cut}
-use Rattle.nested_arrays_columns.proofs.TypeLayers.{Layer}
-use Rattle.ipc_format_grammar.specs.Values.{key_at, key_size}
-use Rattle.ipc_format_grammar.specs.Columns.{Place, buffer_at, taken_of, is_valid_in, slots_by, names_value, slot_of_key, dictionary_slots}
-use Rattle.ipc_format_grammar.specs.Buffers.{key_width}
-use Rattle.ipc_format_grammar.specs.Encoding.{Encoded, column_over}
-use Rattle.ipc_format_grammar.specs.StoredEncoding.{node_over, mask_bytes, integer_bytes, key_bytes}
+use Rattle.ipc_format_laws.specs.columnar_memory.declared.DataType.{DataType}
+use Rattle.ipc_format_laws.specs.columnar_memory.declared.DataType.TheOpen as layer
+use Rattle.ipc_format_laws.specs.columnar_memory.declared.IntegerType.{IntegerType}
+use Rattle.ipc_format_laws.specs.columnar_memory.Equality.{same_type, same_type-Decides}
+use Rattle.ipc_format_laws.specs.columns.Kinds.{is_key}
+use Rattle.ipc_format_laws.specs.columns.Slots.{Slot, null, window}
+use Rattle.ipc_format_laws.specs.columns.StoredColumns.{Column, dictionary, unless_null, is_valid_at, cut_list, cut_mask, column_type, column_len}
+use Rattle.ipc_format_laws.specs.columns.StoredColumns.{type_layer, place_of, slot_at, slots}
+use Rattle.ipc_format_laws.specs.columns.SoundColumns.{holds_below, mask_fits, has_value_type, has_value_at, is_sound}
+use Rattle.ipc_format_laws.proofs.columns_lemmas.Windows.{get_or-cut_list, length-cut_list, length-window}
+use Rattle.ipc_format_laws.proofs.columns_lemmas.Conditions.{parts_of_4, holds_at, list_all-cut_list}
+use Rattle.ipc_format_laws.proofs.columns_lemmas.Cuts.{is_valid_at-cut_mask}
+use Rattle.ipc_format_laws.proofs.columns_lemmas.CutStored.{mask_fits-cut}
+use Rattle.ipc_format_laws.proofs.columns_lemmas.TypeLayers.{Layer}
+use Rattle.ipc_format_laws.specs.grammar.Values.{key_at, key_size}
+use Rattle.ipc_format_laws.specs.grammar.Columns.{Place, buffer_at, taken_of, is_valid_in, slots_by, names_value, slot_of_key, dictionary_slots}
+use Rattle.ipc_format_laws.specs.grammar.Buffers.{key_width}
+use Rattle.ipc_format_laws.specs.grammar.Encoding.{Encoded, column_over}
+use Rattle.ipc_format_laws.specs.grammar.StoredEncoding.{node_over, mask_bytes, integer_bytes, key_bytes}
 use Rattle.ipc_format_laws.specs.Columns.{StandsAmong, HoldsColumns}
 use Rattle.ipc_format_laws.proofs.Elements.{part_next, window_passes}
 use Rattle.ipc_format_laws.proofs.Buffers.{buffer_reads}

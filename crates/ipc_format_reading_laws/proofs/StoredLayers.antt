@@ -1,17 +1,17 @@
 -- A type's columns are read, and their nodes and buffers counted, by its layer once its extensions are taken off.
 use Rattle.std.proofs.Common.{◌≡◌, ◌∙◌, ℕ, ◌+◌, false, [], ◌∷◌, refl, sym, ap, subst, arith}
-use Rattle.columnar_memory.specs.declared.DataType.{DataType, map-DataType}
-use Rattle.columnar_memory.specs.declared.DataType.TheOpen as layer
-use Rattle.columnar_memory.specs.declared.DataType.TheViews.{roll-DataType, roll-Field, out-Field, roll-out-Field}
-use Rattle.columnar_memory.specs.declared.DataType.TheFolds.{fold-Field, para-Field, fold-roll-DataType, para-roll-DataType, fold-roll-Field}
-use Rattle.columnar_memory.specs.declared.DataType.TheFolds.{para-roll-Field, ind-DataType}
-use Rattle.columnar_memory.specs.declared.Field.{Field}
-use Rattle.nested_arrays_columns.specs.StoredColumns.{type_layer}
-use Rattle.nested_arrays_columns.proofs.Claims.{LayerWith, NoClaim, bare_layer}
-use Rattle.nested_arrays_columns.proofs.TypeLayers.{Layer, is_extension, layer_itself, layer_within}
-use Rattle.ipc_format_grammar.specs.Messages.{V5}
-use Rattle.ipc_format_grammar.specs.Layouts.{total, node_step, node_count, buffer_step, buffer_count}
-use Rattle.ipc_format_grammar.specs.Columns.{Reader, read_step, read_field_step, slots_in}
+use Rattle.ipc_format_laws.specs.columnar_memory.declared.DataType.{DataType, map-DataType}
+use Rattle.ipc_format_laws.specs.columnar_memory.declared.DataType.TheOpen as layer
+use Rattle.ipc_format_laws.specs.columnar_memory.declared.DataType.TheViews.{roll-DataType, roll-Field, out-Field, roll-out-Field}
+use Rattle.ipc_format_laws.specs.columnar_memory.declared.DataType.TheFolds.{fold-Field, para-Field, fold-roll-DataType, para-roll-DataType, fold-roll-Field}
+use Rattle.ipc_format_laws.specs.columnar_memory.declared.DataType.TheFolds.{para-roll-Field, ind-DataType}
+use Rattle.ipc_format_laws.specs.columnar_memory.declared.Field.{Field}
+use Rattle.ipc_format_laws.specs.columns.StoredColumns.{type_layer}
+use Rattle.ipc_format_laws.proofs.columns_lemmas.Claims.{LayerWith, NoClaim, bare_layer}
+use Rattle.ipc_format_laws.proofs.columns_lemmas.TypeLayers.{Layer, is_extension, layer_itself, layer_within}
+use Rattle.ipc_format_laws.specs.grammar.Messages.{V5}
+use Rattle.ipc_format_laws.specs.grammar.Layouts.{total, node_step, node_count, buffer_step, buffer_count}
+use Rattle.ipc_format_laws.specs.grammar.Columns.{Reader, read_step, read_field_step, slots_in}
 use denote.Hole.Carrier
 
 -- ---- fields

@@ -7,26 +7,26 @@ use Rattle.std.specs.Int.{Width, w32, w64}
 use mir.Val.{hbits}
 use Rattle.std.proofs.Math.Nat.{mul-add, mul_comm, mul-le-mul_left, mul-le-mul_right, min-eq_right, min-le_left, min-le_right}
 use Rattle.std.proofs.lemmas.Bool.{and_parts, eq-eqb, eqb-true, ltb-true, false≢true}
-use Rattle.columnar_memory.specs.declared.DataType.{DataType}
-use Rattle.columnar_memory.specs.declared.DataType.TheOpen as layer
-use Rattle.columnar_memory.specs.declared.DataType.TheViews.{out-DataType}
-use Rattle.columnar_memory.specs.declared.Field.{Field}
-use Rattle.columnar_memory.specs.Equality.{same_type}
-use Rattle.columnar_memory.specs.Layouts.{physical_type}
-use Rattle.nested_arrays_columns.specs.Kinds.{most_offset}
-use Rattle.nested_arrays_columns.specs.Slots.{Slot, items, in_slots, window}
-use Rattle.nested_arrays_columns.specs.StoredColumns.{Column, lists, fixed_lists, unless_null, cut_list, cut_mask, column_type, column_len}
-use Rattle.nested_arrays_columns.specs.StoredColumns.{type_layer, slot_at}
-use Rattle.nested_arrays_columns.specs.SoundColumns.{mask_fits, are_offsets, are_pieces, is_entry, has_item_type, has_fixed_item_type, is_sound}
-use Rattle.nested_arrays_columns.proofs.Conditions.{parts_of_4}
-use Rattle.nested_arrays_columns.proofs.CutStored.{first_offset, pieces_within}
-use Rattle.nested_arrays_columns.proofs.TypeLayers.{Layer, layer_layout, layout_is}
-use Rattle.nested_arrays_columns.proofs.Windows.{length-window}
-use Rattle.ipc_format_grammar.specs.Messages.{V5}
-use Rattle.ipc_format_grammar.specs.Columns.{Place, slots_in, slots_by, taken_of, last_of, piece_at, list_slots, fixed_list_slots, first_ids}
-use Rattle.ipc_format_grammar.specs.Columns.{ids_below, limit_times, first_below}
-use Rattle.ipc_format_grammar.specs.Encoding.{Encoded, column_over}
-use Rattle.ipc_format_grammar.specs.StoredEncoding.{mask_bytes, node_over, last_offset, moved_offsets, moved_bytes, offset_width, encode_range}
+use Rattle.ipc_format_laws.specs.columnar_memory.declared.DataType.{DataType}
+use Rattle.ipc_format_laws.specs.columnar_memory.declared.DataType.TheOpen as layer
+use Rattle.ipc_format_laws.specs.columnar_memory.declared.DataType.TheViews.{out-DataType}
+use Rattle.ipc_format_laws.specs.columnar_memory.declared.Field.{Field}
+use Rattle.ipc_format_laws.specs.columnar_memory.Equality.{same_type}
+use Rattle.ipc_format_laws.specs.columnar_memory.Layouts.{physical_type}
+use Rattle.ipc_format_laws.specs.columns.Kinds.{most_offset}
+use Rattle.ipc_format_laws.specs.columns.Slots.{Slot, items, in_slots, window}
+use Rattle.ipc_format_laws.specs.columns.StoredColumns.{Column, lists, fixed_lists, unless_null, cut_list, cut_mask, column_type, column_len}
+use Rattle.ipc_format_laws.specs.columns.StoredColumns.{type_layer, slot_at}
+use Rattle.ipc_format_laws.specs.columns.SoundColumns.{mask_fits, are_offsets, are_pieces, is_entry, has_item_type, has_fixed_item_type, is_sound}
+use Rattle.ipc_format_laws.proofs.columns_lemmas.Conditions.{parts_of_4}
+use Rattle.ipc_format_laws.proofs.columns_lemmas.CutStored.{first_offset, pieces_within}
+use Rattle.ipc_format_laws.proofs.columns_lemmas.TypeLayers.{Layer, layer_layout, layout_is}
+use Rattle.ipc_format_laws.proofs.columns_lemmas.Windows.{length-window}
+use Rattle.ipc_format_laws.specs.grammar.Messages.{V5}
+use Rattle.ipc_format_laws.specs.grammar.Columns.{Place, slots_in, slots_by, taken_of, last_of, piece_at, list_slots, fixed_list_slots, first_ids}
+use Rattle.ipc_format_laws.specs.grammar.Columns.{ids_below, limit_times, first_below}
+use Rattle.ipc_format_laws.specs.grammar.Encoding.{Encoded, column_over}
+use Rattle.ipc_format_laws.specs.grammar.StoredEncoding.{mask_bytes, node_over, last_offset, moved_offsets, moved_bytes, offset_width, encode_range}
 use Rattle.ipc_format_laws.specs.Columns.{StandsAmong, HoldsColumns}
 use Rattle.ipc_format_laws.proofs.Elements.{part_front, part_next, part_back}
 use Rattle.ipc_format_reading_laws.specs.StoredColumns.{RangeReadsBack, HasDictionaries}

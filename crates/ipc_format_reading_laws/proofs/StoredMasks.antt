@@ -4,17 +4,17 @@ use Rattle.std.proofs.Common.{refl, sym, ap, subst, arith, le_refl, nat_lt, zero
 use Rattle.std.specs.Prelude.{Option, Some, None, if◌then◌else◌, count_by, slice_get}
 use Rattle.std.proofs.lemmas.Bool.{cases_lt, lt-ltb, le-ltb, eqb-true}
 use Rattle.std.proofs.lemmas.List.Sums.{sum_by-cons}
-use Rattle.nested_arrays_columns.specs.Slots.{Slot, null, window}
-use Rattle.nested_arrays_columns.specs.StoredColumns.{is_valid_at, unless_null, cut_mask}
-use Rattle.nested_arrays_columns.specs.SoundColumns.{mask_fits}
-use Rattle.nested_arrays_columns.proofs.Windows.{window_same}
-use Rattle.nested_arrays_columns.proofs.Cuts.{is_valid_at-cut_mask}
-use Rattle.nested_arrays_columns.proofs.CutStored.{mask_fits-cut}
-use Rattle.ipc_format_grammar.specs.Columns.{Source, Place, Validity, all_valid, bitmap, is_valid_in, slots_by, slot_by, buffer_at, taken_of}
-use Rattle.ipc_format_grammar.specs.Columns.{validity_in, marked_in}
-use Rattle.ipc_format_grammar.specs.Buffers.{bitmap_bytes}
-use Rattle.ipc_format_grammar.specs.Encoding.{Encoded}
-use Rattle.ipc_format_grammar.specs.StoredEncoding.{mask_bytes, node_over}
+use Rattle.ipc_format_laws.specs.columns.Slots.{Slot, null, window}
+use Rattle.ipc_format_laws.specs.columns.StoredColumns.{is_valid_at, unless_null, cut_mask}
+use Rattle.ipc_format_laws.specs.columns.SoundColumns.{mask_fits}
+use Rattle.ipc_format_laws.proofs.columns_lemmas.Windows.{window_same}
+use Rattle.ipc_format_laws.proofs.columns_lemmas.Cuts.{is_valid_at-cut_mask}
+use Rattle.ipc_format_laws.proofs.columns_lemmas.CutStored.{mask_fits-cut}
+use Rattle.ipc_format_laws.specs.grammar.Columns.{Source, Place, Validity, all_valid, bitmap, is_valid_in, slots_by, slot_by, buffer_at, taken_of}
+use Rattle.ipc_format_laws.specs.grammar.Columns.{validity_in, marked_in}
+use Rattle.ipc_format_laws.specs.grammar.Buffers.{bitmap_bytes}
+use Rattle.ipc_format_laws.specs.grammar.Encoding.{Encoded}
+use Rattle.ipc_format_laws.specs.grammar.StoredEncoding.{mask_bytes, node_over}
 use Rattle.ipc_format_laws.specs.BatchMessages.{stated_node}
 use Rattle.ipc_format_laws.specs.Columns.{StandsAt, HoldsColumns}
 use Rattle.ipc_format_laws.proofs.Bitmaps.{bitmap_size, bit_back}

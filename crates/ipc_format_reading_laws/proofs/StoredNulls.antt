@@ -2,14 +2,14 @@
 use Rattle.std.proofs.Common.{◌≡◌, ℕ, true, [], ap}
 use Rattle.std.specs.Prelude.{Some, slice_get}
 use Rattle.std.proofs.lemmas.Bool.{false≢true}
-use Rattle.columnar_memory.specs.declared.DataType.{DataType}
-use Rattle.columnar_memory.specs.declared.DataType.TheOpen as layer
-use Rattle.nested_arrays_columns.specs.Slots.{null, window}
-use Rattle.nested_arrays_columns.specs.StoredColumns.{nulls, type_layer}
-use Rattle.nested_arrays_columns.specs.SoundColumns.{is_null_type, is_sound}
-use Rattle.nested_arrays_columns.proofs.TypeLayers.{Layer}
-use Rattle.ipc_format_grammar.specs.Columns.{Place, taken_of}
-use Rattle.ipc_format_grammar.specs.Encoding.{Encoded, column_over}
+use Rattle.ipc_format_laws.specs.columnar_memory.declared.DataType.{DataType}
+use Rattle.ipc_format_laws.specs.columnar_memory.declared.DataType.TheOpen as layer
+use Rattle.ipc_format_laws.specs.columns.Slots.{null, window}
+use Rattle.ipc_format_laws.specs.columns.StoredColumns.{nulls, type_layer}
+use Rattle.ipc_format_laws.specs.columns.SoundColumns.{is_null_type, is_sound}
+use Rattle.ipc_format_laws.proofs.columns_lemmas.TypeLayers.{Layer}
+use Rattle.ipc_format_laws.specs.grammar.Columns.{Place, taken_of}
+use Rattle.ipc_format_laws.specs.grammar.Encoding.{Encoded, column_over}
 use Rattle.ipc_format_laws.specs.BatchMessages.{stated_node}
 use Rattle.ipc_format_laws.specs.Columns.{StandsAmong, HoldsColumns}
 use Rattle.ipc_format_laws.proofs.Buffers.{made_reads}

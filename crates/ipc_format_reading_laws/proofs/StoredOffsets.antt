@@ -10,18 +10,18 @@ use mir.Val.{hbits}
 use Rattle.std.proofs.Math.ListN.{get_or-map}
 use Rattle.std.proofs.lemmas.List.{length-map, length-take-le, drop-drop, drop-take, take-take}
 use Rattle.std.proofs.lemmas.Bool.{and_parts, and_from, lt-ltb, ltb-true, le-leb, leb-true, le-ltb}
-use Rattle.ipc_format_flatbuffers.proofs.Numbers.{length-to_le_bytes}
-use Rattle.columnar_memory.specs.NumberLaws.{signed_in-number_bytes}
-use Rattle.nested_arrays_columns.specs.Slots.{window}
-use Rattle.nested_arrays_columns.specs.StoredColumns.{string_at, cut_list}
-use Rattle.nested_arrays_columns.specs.SoundColumns.{holds_below, rises_at, are_offsets}
-use Rattle.nested_arrays_columns.proofs.Windows.{get_or-cut_list}
-use Rattle.nested_arrays_columns.proofs.Conditions.{parts_of_3, holds_at, list_all-cut_list}
-use Rattle.nested_arrays_columns.proofs.CutStored.{length-cut_offsets, first_offset}
-use Rattle.ipc_format_grammar.specs.Values.{signed_of, element_bytes}
-use Rattle.ipc_format_grammar.specs.Columns.{Source, buffer_at, rising, offsets_in, last_of, piece_at}
-use Rattle.ipc_format_grammar.specs.Encoding.{Encoded}
-use Rattle.ipc_format_grammar.specs.StoredEncoding.{last_offset, moved_offsets, moved_bytes, between_offsets}
+use Rattle.ipc_format_laws.proofs.flatbuffers_lemmas.Numbers.{length-to_le_bytes}
+use Rattle.ipc_format_laws.specs.columnar_memory.NumberLaws.{signed_in-number_bytes}
+use Rattle.ipc_format_laws.specs.columns.Slots.{window}
+use Rattle.ipc_format_laws.specs.columns.StoredColumns.{string_at, cut_list}
+use Rattle.ipc_format_laws.specs.columns.SoundColumns.{holds_below, rises_at, are_offsets}
+use Rattle.ipc_format_laws.proofs.columns_lemmas.Windows.{get_or-cut_list}
+use Rattle.ipc_format_laws.proofs.columns_lemmas.Conditions.{parts_of_3, holds_at, list_all-cut_list}
+use Rattle.ipc_format_laws.proofs.columns_lemmas.CutStored.{length-cut_offsets, first_offset}
+use Rattle.ipc_format_laws.specs.grammar.Values.{signed_of, element_bytes}
+use Rattle.ipc_format_laws.specs.grammar.Columns.{Source, buffer_at, rising, offsets_in, last_of, piece_at}
+use Rattle.ipc_format_laws.specs.grammar.Encoding.{Encoded}
+use Rattle.ipc_format_laws.specs.grammar.StoredEncoding.{last_offset, moved_offsets, moved_bytes, between_offsets}
 use Rattle.ipc_format_laws.specs.Columns.{StandsAt, HoldsColumns}
 use Rattle.ipc_format_laws.proofs.Elements.{passes_at, element_back, elements_size, window_is}
 use Rattle.ipc_format_laws.proofs.Buffers.{buffer_reads, place_reads}

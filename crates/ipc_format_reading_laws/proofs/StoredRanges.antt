@@ -3,14 +3,14 @@ use Rattle.std.proofs.Common.{◌≡◌, ◌∙◌, ℕ, zero, suc, ◌+◌, ◌
 use Rattle.std.specs.Prelude.{Option, Some, min, replicate, ◌==◌}
 use Rattle.std.proofs.Math.Nat.{min-eq_left}
 use Rattle.std.proofs.lemmas.Bool.{and_from, eq-eqb}
-use Rattle.columnar_memory.specs.declared.DataType.{DataType}
-use Rattle.columnar_memory.specs.Equality.{same_type, same_type-Decides}
-use Rattle.nested_arrays_columns.specs.Slots.{Slot, null, window}
-use Rattle.nested_arrays_columns.specs.StoredColumns.{Column, Columns, no_column, column_then, column_len, type_layer, slot_at}
-use Rattle.nested_arrays_columns.proofs.Windows.{length-window}
-use Rattle.ipc_format_grammar.specs.Columns.{Place, Reader, slots_in, taken_of, have_length}
-use Rattle.ipc_format_grammar.specs.Encoding.{Encoded}
-use Rattle.ipc_format_grammar.specs.StoredEncoding.{encode_range, encode_ranges, encode_wholes}
+use Rattle.ipc_format_laws.specs.columnar_memory.declared.DataType.{DataType}
+use Rattle.ipc_format_laws.specs.columnar_memory.Equality.{same_type, same_type-Decides}
+use Rattle.ipc_format_laws.specs.columns.Slots.{Slot, null, window}
+use Rattle.ipc_format_laws.specs.columns.StoredColumns.{Column, Columns, no_column, column_then, column_len, type_layer, slot_at}
+use Rattle.ipc_format_laws.proofs.columns_lemmas.Windows.{length-window}
+use Rattle.ipc_format_laws.specs.grammar.Columns.{Place, Reader, slots_in, taken_of, have_length}
+use Rattle.ipc_format_laws.specs.grammar.Encoding.{Encoded}
+use Rattle.ipc_format_laws.specs.grammar.StoredEncoding.{encode_range, encode_ranges, encode_wholes}
 use Rattle.ipc_format_reading_laws.specs.StoredColumns.{RangeReadsBack}
 use Rattle.ipc_format_reading_laws.proofs.StoredLayers.{read_layer, layer_reads}
 

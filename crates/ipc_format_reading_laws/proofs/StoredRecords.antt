@@ -3,20 +3,20 @@
 use Rattle.std.proofs.Common.{◌≡◌, ℕ, ◌+◌, ◌≤◌, ◌<◌, Bool, true, List, [], ◌∷◌, refl, ap, subst, arith, ◌==◌}
 use Rattle.std.specs.Prelude.{Option, Some}
 use Rattle.std.proofs.lemmas.Bool.{and_parts, eqb-true, false≢true}
-use Rattle.columnar_memory.specs.declared.DataType.{DataType}
-use Rattle.columnar_memory.specs.declared.DataType.TheOpen as layer
-use Rattle.columnar_memory.specs.declared.Field.{Field}
-use Rattle.nested_arrays_columns.specs.Slots.{Slot, fields, in_slots, window}
-use Rattle.nested_arrays_columns.specs.StoredColumns.{Columns, records, no_column, column_then, unless_null, cut_mask, column_len, type_layer}
-use Rattle.nested_arrays_columns.specs.StoredColumns.{slots_at}
-use Rattle.nested_arrays_columns.specs.SoundColumns.{mask_fits, have_types, has_field_types, have_len, is_sound, are_sound}
-use Rattle.nested_arrays_columns.specs.Tables.{row_at}
-use Rattle.nested_arrays_columns.proofs.Conditions.{parts_of_4}
-use Rattle.nested_arrays_columns.proofs.TypeLayers.{Layer}
-use Rattle.ipc_format_grammar.specs.Messages.{V5}
-use Rattle.ipc_format_grammar.specs.Columns.{Place, slots_by, taken_of, columns_below, first_below, struct_slots, ids_below}
-use Rattle.ipc_format_grammar.specs.Encoding.{Encoded, joined, column_over}
-use Rattle.ipc_format_grammar.specs.StoredEncoding.{mask_bytes, node_over, encode_ranges}
+use Rattle.ipc_format_laws.specs.columnar_memory.declared.DataType.{DataType}
+use Rattle.ipc_format_laws.specs.columnar_memory.declared.DataType.TheOpen as layer
+use Rattle.ipc_format_laws.specs.columnar_memory.declared.Field.{Field}
+use Rattle.ipc_format_laws.specs.columns.Slots.{Slot, fields, in_slots, window}
+use Rattle.ipc_format_laws.specs.columns.StoredColumns.{Columns, records, no_column, column_then, unless_null, cut_mask, column_len, type_layer}
+use Rattle.ipc_format_laws.specs.columns.StoredColumns.{slots_at}
+use Rattle.ipc_format_laws.specs.columns.SoundColumns.{mask_fits, have_types, has_field_types, have_len, is_sound, are_sound}
+use Rattle.ipc_format_laws.specs.columns.Tables.{row_at}
+use Rattle.ipc_format_laws.proofs.columns_lemmas.Conditions.{parts_of_4}
+use Rattle.ipc_format_laws.proofs.columns_lemmas.TypeLayers.{Layer}
+use Rattle.ipc_format_laws.specs.grammar.Messages.{V5}
+use Rattle.ipc_format_laws.specs.grammar.Columns.{Place, slots_by, taken_of, columns_below, first_below, struct_slots, ids_below}
+use Rattle.ipc_format_laws.specs.grammar.Encoding.{Encoded, joined, column_over}
+use Rattle.ipc_format_laws.specs.grammar.StoredEncoding.{mask_bytes, node_over, encode_ranges}
 use Rattle.ipc_format_laws.specs.Columns.{StandsAmong, HoldsColumns}
 use Rattle.ipc_format_laws.proofs.Elements.{part_next}
 use Rattle.ipc_format_reading_laws.specs.StoredColumns.{RangeReadsBack, HaveDictionaries}

@@ -4,26 +4,26 @@ use Rattle.std.specs.Prelude.{◌==◌, Option, Some, None}
 use Rattle.std.specs.List.{list_all}
 use Rattle.std.proofs.lemmas.Bool.{and_parts}
 use Rattle.std.proofs.lemmas.List.{length-map}
-use Rattle.ipc_format_flatbuffers.specs.Reading.{◌>>=◌}
-use Rattle.ipc_format_flatbuffers.specs.FlatBuffers.{Table}
-use Rattle.columnar_memory.specs.declared.DataType.{DataType}
-use Rattle.columnar_memory.specs.declared.Field.{Field}
-use Rattle.nested_arrays_columns.specs.Slots.{Slot}
-use Rattle.nested_arrays_columns.specs.StoredColumns.{Column, column_type, column_len, slot_at, slots}
-use Rattle.nested_arrays_columns.proofs.Windows.{length-window}
-use Rattle.ipc_format_grammar.specs.Messages as grammar
-use Rattle.ipc_format_grammar.specs.Messages.{Header, V5}
-use Rattle.ipc_format_grammar.specs.Schemas.{Ids, IdsList}
-use Rattle.ipc_format_grammar.specs.Writable.{normalised_field}
-use Rattle.ipc_format_grammar.specs.Layouts.{node_step, node_count, buffer_step, buffer_count, node_number, buffer_number}
-use Rattle.ipc_format_grammar.specs.Columns.{Source, Dictionary, Place, slots_in, have_length, first_ids, other_ids}
-use Rattle.ipc_format_grammar.specs.Dictionaries.{Entry, Layout, source_in}
-use Rattle.ipc_format_grammar.specs.Tables.{ids_at, column_place, columns_from, agree_in_length, batch_in, batches_with, batches_of}
-use Rattle.ipc_format_grammar.specs.Encoding.{Encoded, joined}
-use Rattle.ipc_format_grammar.specs.StoredEncoding.{encode_stored}
-use Rattle.ipc_format_grammar.specs.GivenDictionaries.{Given, given_stored}
-use Rattle.ipc_format_grammar.specs.WrittenMessages.{buffer_places, record_message}
-use Rattle.ipc_format_grammar.specs.WrittenStreams.{given_of_stored, batch_of_stored, are_equal}
+use Rattle.ipc_format_laws.specs.flatbuffers.Reading.{◌>>=◌}
+use Rattle.ipc_format_laws.specs.flatbuffers.FlatBuffers.{Table}
+use Rattle.ipc_format_laws.specs.columnar_memory.declared.DataType.{DataType}
+use Rattle.ipc_format_laws.specs.columnar_memory.declared.Field.{Field}
+use Rattle.ipc_format_laws.specs.columns.Slots.{Slot}
+use Rattle.ipc_format_laws.specs.columns.StoredColumns.{Column, column_type, column_len, slot_at, slots}
+use Rattle.ipc_format_laws.proofs.columns_lemmas.Windows.{length-window}
+use Rattle.ipc_format_laws.specs.grammar.Messages as grammar
+use Rattle.ipc_format_laws.specs.grammar.Messages.{Header, V5}
+use Rattle.ipc_format_laws.specs.grammar.Schemas.{Ids, IdsList}
+use Rattle.ipc_format_laws.specs.grammar.Writable.{normalised_field}
+use Rattle.ipc_format_laws.specs.grammar.Layouts.{node_step, node_count, buffer_step, buffer_count, node_number, buffer_number}
+use Rattle.ipc_format_laws.specs.grammar.Columns.{Source, Dictionary, Place, slots_in, have_length, first_ids, other_ids}
+use Rattle.ipc_format_laws.specs.grammar.Dictionaries.{Entry, Layout, source_in}
+use Rattle.ipc_format_laws.specs.grammar.Tables.{ids_at, column_place, columns_from, agree_in_length, batch_in, batches_with, batches_of}
+use Rattle.ipc_format_laws.specs.grammar.Encoding.{Encoded, joined}
+use Rattle.ipc_format_laws.specs.grammar.StoredEncoding.{encode_stored}
+use Rattle.ipc_format_laws.specs.grammar.GivenDictionaries.{Given, given_stored}
+use Rattle.ipc_format_laws.specs.grammar.WrittenMessages.{buffer_places, record_message}
+use Rattle.ipc_format_laws.specs.grammar.WrittenStreams.{given_of_stored, batch_of_stored, are_equal}
 use Rattle.ipc_format_laws.specs.BatchMessages.{IsRecordBatch}
 use Rattle.ipc_format_laws.specs.Columns.{StandsAt, StandsAmong, HoldsColumns}
 use Rattle.ipc_format_laws.specs.Contents.{batch}

@@ -4,13 +4,13 @@ use Rattle.std.specs.Prelude.{◌&&◌}
 use Rattle.std.specs.List.{All, list_all}
 use Rattle.std.proofs.lemmas.Bool.{and_parts}
 use Rattle.std.proofs.lemmas.List.Elements.{All-nil, All-cons}
-use Rattle.columnar_memory.specs.declared.Schema.{Schema}
-use Rattle.nested_arrays_columns.specs.StoredColumns.{Column}
-use Rattle.ipc_format_grammar.specs.Schemas.{IdsList}
-use Rattle.ipc_format_grammar.specs.Writable.{is_writable}
-use Rattle.ipc_format_grammar.specs.Ids.{ids_fit_fields, all_are_ids}
-use Rattle.ipc_format_grammar.specs.WrittenStreams.{Batch, Chunk, stored_columns, batch_of_stored, batch_of, batches_written}
-use Rattle.ipc_format_grammar.specs.WrittenStreams.{are_columns_of, chunk_lengths, are_equal, is_in_room, belongs, is_written_with}
+use Rattle.ipc_format_laws.specs.columnar_memory.declared.Schema.{Schema}
+use Rattle.ipc_format_laws.specs.columns.StoredColumns.{Column}
+use Rattle.ipc_format_laws.specs.grammar.Schemas.{IdsList}
+use Rattle.ipc_format_laws.specs.grammar.Writable.{is_writable}
+use Rattle.ipc_format_laws.specs.grammar.Ids.{ids_fit_fields, all_are_ids}
+use Rattle.ipc_format_laws.specs.grammar.WrittenStreams.{Batch, Chunk, stored_columns, batch_of_stored, batch_of, batches_written}
+use Rattle.ipc_format_laws.specs.grammar.WrittenStreams.{are_columns_of, chunk_lengths, are_equal, is_in_room, belongs, is_written_with}
 use Rattle.ipc_format_laws.specs.Contents.{BringsFew}
 use Rattle.ipc_format_reading_laws.specs.StoredTables.{stored_chunks}
 use Rattle.ipc_format_reading_laws.proofs.StoredGivenLists.{Each}

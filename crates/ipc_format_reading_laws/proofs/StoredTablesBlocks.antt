@@ -8,18 +8,18 @@ use Rattle.std.proofs.lemmas.Bool.{and_parts, leb-true}
 use Rattle.std.proofs.lemmas.Option.{same_Some}
 use Rattle.std.proofs.lemmas.List.Elements.{All-head, All-tail, All-cons}
 use Rattle.std.proofs.lemmas.List.Folds.{list_all-append}
-use Rattle.ipc_format_flatbuffers.specs.FlatBuffers.{Table, root_of, number_at, reference_at, number_field, table_field}
-use Rattle.ipc_format_grammar.specs.Messages as grammar
-use Rattle.ipc_format_grammar.specs.Messages.{Header, Message, V5, message_in, header_of, body_length_of, version_in}
-use Rattle.ipc_format_grammar.specs.Files.{header_in, is_dictionary, is_record_batch, entry_at, entries_at}
-use Rattle.ipc_format_grammar.specs.Dictionaries.{Entry}
-use Rattle.ipc_format_grammar.specs.Encoding.{joined}
-use Rattle.ipc_format_grammar.specs.GivenDictionaries.{Given, last_under, stands_for, to_write, written_after}
-use Rattle.ipc_format_grammar.specs.WrittenMessages.{Written, prefix_size, continuation_marker, message_bytes, most_metadata, body_limit, fits_limit}
-use Rattle.ipc_format_grammar.specs.WrittenMessages.{padded_buffer, buffer_places, body_bytes, record_message, dictionary_message}
-use Rattle.ipc_format_grammar.specs.WrittenStreams.{Batch, messages_after, bytes_of_messages}
-use Rattle.ipc_format_grammar.specs.WrittenFiles.{Block, Blocks, block_of, place_after, with_record_batch, dictionary_blocks, batch_blocks}
-use Rattle.ipc_format_grammar.specs.AppendedFiles.{block_end}
+use Rattle.ipc_format_laws.specs.flatbuffers.FlatBuffers.{Table, root_of, number_at, reference_at, number_field, table_field}
+use Rattle.ipc_format_laws.specs.grammar.Messages as grammar
+use Rattle.ipc_format_laws.specs.grammar.Messages.{Header, Message, V5, message_in, header_of, body_length_of, version_in}
+use Rattle.ipc_format_laws.specs.grammar.Files.{header_in, is_dictionary, is_record_batch, entry_at, entries_at}
+use Rattle.ipc_format_laws.specs.grammar.Dictionaries.{Entry}
+use Rattle.ipc_format_laws.specs.grammar.Encoding.{joined}
+use Rattle.ipc_format_laws.specs.grammar.GivenDictionaries.{Given, last_under, stands_for, to_write, written_after}
+use Rattle.ipc_format_laws.specs.grammar.WrittenMessages.{Written, prefix_size, continuation_marker, message_bytes, most_metadata, body_limit, fits_limit}
+use Rattle.ipc_format_laws.specs.grammar.WrittenMessages.{padded_buffer, buffer_places, body_bytes, record_message, dictionary_message}
+use Rattle.ipc_format_laws.specs.grammar.WrittenStreams.{Batch, messages_after, bytes_of_messages}
+use Rattle.ipc_format_laws.specs.grammar.WrittenFiles.{Block, Blocks, block_of, place_after, with_record_batch, dictionary_blocks, batch_blocks}
+use Rattle.ipc_format_laws.specs.grammar.AppendedFiles.{block_end}
 use Rattle.ipc_format_laws.specs.BatchMessages.{AreSigned}
 use Rattle.ipc_format_laws.specs.Contents.{HasColumns, HasValues, dictionary, batch, batch_message}
 use Rattle.ipc_format_laws.specs.Footers.{FitsBlock, FitBlocks, block_read}

@@ -6,22 +6,22 @@ use Rattle.std.specs.Int.{next_multiple_of}
 use Rattle.std.proofs.lemmas.Bool.{le-leb, leb-true}
 use Rattle.std.proofs.lemmas.Option.{cond_some}
 use Rattle.std.proofs.lemmas.List.Sums.{sum_by-cons}
-use Rattle.ipc_format_flatbuffers.specs.Reading.{◌>>=◌, window_at}
-use Rattle.ipc_format_flatbuffers.specs.FlatBuffers.{Table}
-use Rattle.columnar_memory.specs.declared.DataType.{DataType}
-use Rattle.nested_arrays_columns.specs.StoredColumns.{Column, column_type, column_len, slots}
-use Rattle.nested_arrays_columns.specs.SoundColumns.{is_sound}
-use Rattle.ipc_format_grammar.specs.Messages as grammar
-use Rattle.ipc_format_grammar.specs.Messages.{Header, V5}
-use Rattle.ipc_format_grammar.specs.Schemas.{ids}
-use Rattle.ipc_format_grammar.specs.Writable.{normalised_type}
-use Rattle.ipc_format_grammar.specs.Columns.{Source, Dictionary, Place, slots_in, taken_of}
-use Rattle.ipc_format_grammar.specs.Dictionaries.{Entry, Layout, source_in, dictionary_in, values_of}
-use Rattle.ipc_format_grammar.specs.Tables.{batches_with, batches_of}
-use Rattle.ipc_format_grammar.specs.Encoding.{Encoded}
-use Rattle.ipc_format_grammar.specs.StoredEncoding.{encode_range, encode_stored}
-use Rattle.ipc_format_grammar.specs.GivenDictionaries.{Given, given_stored}
-use Rattle.ipc_format_grammar.specs.WrittenMessages.{Written, padded_buffer, buffer_places, body_bytes, dictionary_message}
+use Rattle.ipc_format_laws.specs.flatbuffers.Reading.{◌>>=◌, window_at}
+use Rattle.ipc_format_laws.specs.flatbuffers.FlatBuffers.{Table}
+use Rattle.ipc_format_laws.specs.columnar_memory.declared.DataType.{DataType}
+use Rattle.ipc_format_laws.specs.columns.StoredColumns.{Column, column_type, column_len, slots}
+use Rattle.ipc_format_laws.specs.columns.SoundColumns.{is_sound}
+use Rattle.ipc_format_laws.specs.grammar.Messages as grammar
+use Rattle.ipc_format_laws.specs.grammar.Messages.{Header, V5}
+use Rattle.ipc_format_laws.specs.grammar.Schemas.{ids}
+use Rattle.ipc_format_laws.specs.grammar.Writable.{normalised_type}
+use Rattle.ipc_format_laws.specs.grammar.Columns.{Source, Dictionary, Place, slots_in, taken_of}
+use Rattle.ipc_format_laws.specs.grammar.Dictionaries.{Entry, Layout, source_in, dictionary_in, values_of}
+use Rattle.ipc_format_laws.specs.grammar.Tables.{batches_with, batches_of}
+use Rattle.ipc_format_laws.specs.grammar.Encoding.{Encoded}
+use Rattle.ipc_format_laws.specs.grammar.StoredEncoding.{encode_range, encode_stored}
+use Rattle.ipc_format_laws.specs.grammar.GivenDictionaries.{Given, given_stored}
+use Rattle.ipc_format_laws.specs.grammar.WrittenMessages.{Written, padded_buffer, buffer_places, body_bytes, dictionary_message}
 use Rattle.ipc_format_laws.specs.BatchMessages.{IsRecordBatch, IsDictionaryBatch, stated_node, stated_buffer}
 use Rattle.ipc_format_laws.specs.Columns.{StandsAt, StandsAmong, HoldsColumns}
 use Rattle.ipc_format_laws.specs.Contents.{HasColumns, HasValues, Sent, dictionary, batch, batch_message}

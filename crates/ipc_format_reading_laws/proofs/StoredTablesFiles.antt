@@ -8,24 +8,24 @@ use Rattle.std.proofs.lemmas.Bool.{and_parts, le-leb, ltb-true}
 use Rattle.std.proofs.lemmas.List.{length-map, map-append}
 use Rattle.std.proofs.lemmas.Option.{same_Some}
 use Rattle.std.proofs.lemmas.List.Elements.{All-head, All-tail, All-nil, All-cons}
-use Rattle.columnar_memory.specs.declared.Field.{Field}
-use Rattle.columnar_memory.specs.declared.Schema.{Schema}
-use Rattle.nested_arrays_columns.specs.StoredColumns.{Column}
-use Rattle.ipc_format_grammar.specs.Schemas.{IdsList}
-use Rattle.ipc_format_grammar.specs.Writable.{is_writable, normalised, normalised_field}
-use Rattle.ipc_format_grammar.specs.Limits.{most_dictionaries, file_limit}
-use Rattle.ipc_format_grammar.specs.Dictionaries.{Entry, Layout}
-use Rattle.ipc_format_grammar.specs.Files as read
-use Rattle.ipc_format_grammar.specs.Files.{file_mark, is_dictionary, is_record_batch, entries_at, file_entries}
-use Rattle.ipc_format_grammar.specs.Tables.{file, batches_of, contents_of}
-use Rattle.ipc_format_grammar.specs.GivenDictionaries.{Given, last_under, stands_for, to_write, written_after}
-use Rattle.ipc_format_grammar.specs.Ids.{ids_fit_fields, all_are_ids}
-use Rattle.ipc_format_grammar.specs.WrittenMessages.{message_bytes, fits_limit, end_mark, schema_written}
-use Rattle.ipc_format_grammar.specs.WrittenStreams.{Batch, Chunk, stored_columns, batch_of_stored, batches_written, given_of_stored}
-use Rattle.ipc_format_grammar.specs.WrittenStreams.{belongs, is_written_with, is_in_room, are_columns_of, are_equal, chunk_lengths, messages_after}
-use Rattle.ipc_format_grammar.specs.WrittenStreams.{stream_messages, stream_bytes, bytes_of_messages}
-use Rattle.ipc_format_grammar.specs.WrittenFiles.{Blocks, place_after, batch_blocks, file_start, footer_bytes, is_footer, file_end, file_bytes}
-use Rattle.ipc_format_grammar.specs.WrittenFiles.{fits_file_limit, none_replaced, all_given, written_file}
+use Rattle.ipc_format_laws.specs.columnar_memory.declared.Field.{Field}
+use Rattle.ipc_format_laws.specs.columnar_memory.declared.Schema.{Schema}
+use Rattle.ipc_format_laws.specs.columns.StoredColumns.{Column}
+use Rattle.ipc_format_laws.specs.grammar.Schemas.{IdsList}
+use Rattle.ipc_format_laws.specs.grammar.Writable.{is_writable, normalised, normalised_field}
+use Rattle.ipc_format_laws.specs.grammar.Limits.{most_dictionaries, file_limit}
+use Rattle.ipc_format_laws.specs.grammar.Dictionaries.{Entry, Layout}
+use Rattle.ipc_format_laws.specs.grammar.Files as read
+use Rattle.ipc_format_laws.specs.grammar.Files.{file_mark, is_dictionary, is_record_batch, entries_at, file_entries}
+use Rattle.ipc_format_laws.specs.grammar.Tables.{file, batches_of, contents_of}
+use Rattle.ipc_format_laws.specs.grammar.GivenDictionaries.{Given, last_under, stands_for, to_write, written_after}
+use Rattle.ipc_format_laws.specs.grammar.Ids.{ids_fit_fields, all_are_ids}
+use Rattle.ipc_format_laws.specs.grammar.WrittenMessages.{message_bytes, fits_limit, end_mark, schema_written}
+use Rattle.ipc_format_laws.specs.grammar.WrittenStreams.{Batch, Chunk, stored_columns, batch_of_stored, batches_written, given_of_stored}
+use Rattle.ipc_format_laws.specs.grammar.WrittenStreams.{belongs, is_written_with, is_in_room, are_columns_of, are_equal, chunk_lengths, messages_after}
+use Rattle.ipc_format_laws.specs.grammar.WrittenStreams.{stream_messages, stream_bytes, bytes_of_messages}
+use Rattle.ipc_format_laws.specs.grammar.WrittenFiles.{Blocks, place_after, batch_blocks, file_start, footer_bytes, is_footer, file_end, file_bytes}
+use Rattle.ipc_format_laws.specs.grammar.WrittenFiles.{fits_file_limit, none_replaced, all_given, written_file}
 use Rattle.ipc_format_laws.specs.Contents.{schema_read, Sent, dictionary, batch}
 use Rattle.ipc_format_laws.specs.Footers.{block_read, file_with, HasFooter}
 use Rattle.ipc_format_laws.specs.Schemas.{HasTexts, ids_read}

@@ -6,14 +6,14 @@ use Rattle.std.specs.Ordering.{is_lt, nat_cmp}
 use Rattle.std.specs.Cmp.Lexicographic.{slice_cmp}
 use Rattle.std.specs.Str.{is_utf8}
 use Rattle.std.proofs.lemmas.Bool.{and_parts, and_from}
-use Rattle.columnar_memory.specs.declared.DataType.{DataType, map-DataType}
-use Rattle.columnar_memory.specs.declared.DataType.TheOpen as layer
-use Rattle.columnar_memory.specs.declared.DataType.TheViews.{roll-DataType, roll-Field, out-Field, roll-out-Field}
-use Rattle.columnar_memory.specs.declared.DataType.TheFolds.{fold-DataType, fold-Field, fold-roll-DataType, fold-roll-Field, ind-DataType}
-use Rattle.columnar_memory.specs.declared.Field.{Field}
-use Rattle.columnar_memory.specs.declared.Schema.{Schema}
-use Rattle.nested_arrays_columns.proofs.Claims.{FieldWith, LayerWith, bare_layer}
-use Rattle.ipc_format_grammar.specs.Writable.{normalised}
+use Rattle.ipc_format_laws.specs.columnar_memory.declared.DataType.{DataType, map-DataType}
+use Rattle.ipc_format_laws.specs.columnar_memory.declared.DataType.TheOpen as layer
+use Rattle.ipc_format_laws.specs.columnar_memory.declared.DataType.TheViews.{roll-DataType, roll-Field, out-Field, roll-out-Field}
+use Rattle.ipc_format_laws.specs.columnar_memory.declared.DataType.TheFolds.{fold-DataType, fold-Field, fold-roll-DataType, fold-roll-Field, ind-DataType}
+use Rattle.ipc_format_laws.specs.columnar_memory.declared.Field.{Field}
+use Rattle.ipc_format_laws.specs.columnar_memory.declared.Schema.{Schema}
+use Rattle.ipc_format_laws.proofs.columns_lemmas.Claims.{FieldWith, LayerWith, bare_layer}
+use Rattle.ipc_format_laws.specs.grammar.Writable.{normalised}
 use Rattle.ipc_format_laws.specs.NormalForm.{are_sorted, all_of, valid_step, valid_field_step, is_valid_type, is_valid_field}
 use Rattle.ipc_format_laws.specs.Schemas.{is_text_or_none, are_texts, is_below, is_ascending, are_true, texts_step, texts_field_step, has_texts}
 use Rattle.ipc_format_laws.specs.Schemas.{HasTexts}

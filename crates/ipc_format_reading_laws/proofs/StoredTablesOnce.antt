@@ -4,14 +4,14 @@ use Rattle.std.specs.Prelude.{◌||◌, not, is_none, ℤ, Option, Some, None, i
 use Rattle.std.specs.Ordering.{int_eq}
 use Rattle.std.specs.Cmp.{signed_Decides}
 use Rattle.std.proofs.lemmas.Bool.{and_parts, false≢true}
-use Rattle.columnar_memory.specs.declared.Field.{Field}
-use Rattle.nested_arrays_columns.specs.StoredColumns.{Column}
-use Rattle.ipc_format_grammar.specs.Schemas.{IdsList}
-use Rattle.ipc_format_grammar.specs.Writable.{normalised_field}
-use Rattle.ipc_format_grammar.specs.Dictionaries.{Values, values_of}
-use Rattle.ipc_format_grammar.specs.GivenDictionaries.{Given, says_same, last_under, stands_for, to_write, written_after, agrees}
-use Rattle.ipc_format_grammar.specs.WrittenStreams.{batch_of_stored, given_of_stored}
-use Rattle.ipc_format_grammar.specs.WrittenFiles.{is_first_or_same, none_replaced, all_given}
+use Rattle.ipc_format_laws.specs.columnar_memory.declared.Field.{Field}
+use Rattle.ipc_format_laws.specs.columns.StoredColumns.{Column}
+use Rattle.ipc_format_laws.specs.grammar.Schemas.{IdsList}
+use Rattle.ipc_format_laws.specs.grammar.Writable.{normalised_field}
+use Rattle.ipc_format_laws.specs.grammar.Dictionaries.{Values, values_of}
+use Rattle.ipc_format_laws.specs.grammar.GivenDictionaries.{Given, says_same, last_under, stands_for, to_write, written_after, agrees}
+use Rattle.ipc_format_laws.specs.grammar.WrittenStreams.{batch_of_stored, given_of_stored}
+use Rattle.ipc_format_laws.specs.grammar.WrittenFiles.{is_first_or_same, none_replaced, all_given}
 use Rattle.ipc_format_reading_laws.specs.NormalColumns.{normal_column}
 use Rattle.ipc_format_reading_laws.proofs.StoredGivenLists.{Each, each_front, each_back, each_so, by_answer}
 use Rattle.ipc_format_reading_laws.proofs.StoredGivenBrought.{Brought, given_of, normal_brought}

@@ -3,22 +3,22 @@ use Rattle.std.proofs.Common.{◌≡◌, ◌∙◌, ℕ, ◌<◌, ◌^◌, List,
 use Rattle.std.specs.Prelude.{Some, nat_lt}
 use Rattle.std.specs.List.{All, list_all}
 use Rattle.std.proofs.lemmas.Bool.{and_parts, lt-ltb}
-use Rattle.ipc_format_flatbuffers.specs.Reading.{window_at}
-use Rattle.columnar_memory.specs.declared.Field.{Field}
-use Rattle.columnar_memory.specs.declared.Schema.{Schema}
-use Rattle.nested_arrays_columns.specs.Slots.{Slot}
-use Rattle.nested_arrays_columns.specs.StoredColumns.{Column}
-use Rattle.nested_arrays_columns.specs.Tables.{rows_of_batches}
-use Rattle.ipc_format_grammar.specs.Messages.{V5}
-use Rattle.ipc_format_grammar.specs.Schemas.{SchemaIn, IdsList}
-use Rattle.ipc_format_grammar.specs.Writable.{normalised, normalised_field}
-use Rattle.ipc_format_grammar.specs.Framing.{Framed}
-use Rattle.ipc_format_grammar.specs.Dictionaries.{Entry, Layout}
-use Rattle.ipc_format_grammar.specs.Tables.{Form, stream, stream_entry, layout_of, batches_of, contents_of, batches_in, table_of}
-use Rattle.ipc_format_grammar.specs.GivenDictionaries.{Given, to_write, written_after, agree}
-use Rattle.ipc_format_grammar.specs.WrittenMessages.{Written}
-use Rattle.ipc_format_grammar.specs.WrittenStreams.{Batch, batch_of_stored, batches_written, given_of_stored, belongs, is_written_with}
-use Rattle.ipc_format_grammar.specs.WrittenStreams.{written_stream}
+use Rattle.ipc_format_laws.specs.flatbuffers.Reading.{window_at}
+use Rattle.ipc_format_laws.specs.columnar_memory.declared.Field.{Field}
+use Rattle.ipc_format_laws.specs.columnar_memory.declared.Schema.{Schema}
+use Rattle.ipc_format_laws.specs.columns.Slots.{Slot}
+use Rattle.ipc_format_laws.specs.columns.StoredColumns.{Column}
+use Rattle.ipc_format_laws.specs.columns.Tables.{rows_of_batches}
+use Rattle.ipc_format_laws.specs.grammar.Messages.{V5}
+use Rattle.ipc_format_laws.specs.grammar.Schemas.{SchemaIn, IdsList}
+use Rattle.ipc_format_laws.specs.grammar.Writable.{normalised, normalised_field}
+use Rattle.ipc_format_laws.specs.grammar.Framing.{Framed}
+use Rattle.ipc_format_laws.specs.grammar.Dictionaries.{Entry, Layout}
+use Rattle.ipc_format_laws.specs.grammar.Tables.{Form, stream, stream_entry, layout_of, batches_of, contents_of, batches_in, table_of}
+use Rattle.ipc_format_laws.specs.grammar.GivenDictionaries.{Given, to_write, written_after, agree}
+use Rattle.ipc_format_laws.specs.grammar.WrittenMessages.{Written}
+use Rattle.ipc_format_laws.specs.grammar.WrittenStreams.{Batch, batch_of_stored, batches_written, given_of_stored, belongs, is_written_with}
+use Rattle.ipc_format_laws.specs.grammar.WrittenStreams.{written_stream}
 use Rattle.ipc_format_laws.specs.Contents.{AreThoseOf, schema_read, Sent, dictionary, batch, IsOfSent, sent_after, BringsFew}
 use Rattle.ipc_format_laws.specs.Schemas.{HasTexts, ids_read}
 use Rattle.ipc_format_laws.proofs.Places.{window_stands}

@@ -2,13 +2,13 @@
 use Rattle.std.proofs.Common.{◌≡◌, ◌/◌, true, length}
 use Rattle.std.specs.List.{list_all}
 use Rattle.std.proofs.lemmas.Bool.{and_parts}
-use Rattle.nested_arrays_columns.specs.Kinds.{is_signed}
-use Rattle.nested_arrays_columns.specs.StoredColumns.{Column, Columns, nulls, flat, lists, fixed_lists, records, unions, dictionary}
-use Rattle.nested_arrays_columns.specs.StoredColumns.{no_column, column_then, column_type, column_len, type_layer}
-use Rattle.nested_arrays_columns.specs.SoundColumns.{mask_fits, has_fixed_item_type, has_field_types, has_child_types, are_pieces, have_len}
-use Rattle.nested_arrays_columns.specs.SoundColumns.{has_places, has_child_at, holds_below, is_sound, are_sound}
-use Rattle.nested_arrays_columns.proofs.Conditions.{parts_of_4, parts_of_5}
-use Rattle.nested_arrays_columns.proofs.SoundParts.{sound_items}
+use Rattle.ipc_format_laws.specs.columns.Kinds.{is_signed}
+use Rattle.ipc_format_laws.specs.columns.StoredColumns.{Column, Columns, nulls, flat, lists, fixed_lists, records, unions, dictionary}
+use Rattle.ipc_format_laws.specs.columns.StoredColumns.{no_column, column_then, column_type, column_len, type_layer}
+use Rattle.ipc_format_laws.specs.columns.SoundColumns.{mask_fits, has_fixed_item_type, has_field_types, has_child_types, are_pieces, have_len}
+use Rattle.ipc_format_laws.specs.columns.SoundColumns.{has_places, has_child_at, holds_below, is_sound, are_sound}
+use Rattle.ipc_format_laws.proofs.columns_lemmas.Conditions.{parts_of_4, parts_of_5}
+use Rattle.ipc_format_laws.proofs.columns_lemmas.SoundParts.{sound_items}
 use Rattle.ipc_format_reading_laws.specs.StoredColumns.{RangeReadsBack, StoredColumnsReadBack}
 use Rattle.ipc_format_reading_laws.proofs.StoredRanges.{RangesReadBack}
 use Rattle.ipc_format_reading_laws.proofs.StoredNulls.{nulls_reads_back}

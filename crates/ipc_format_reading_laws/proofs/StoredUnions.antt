@@ -9,29 +9,29 @@ use Rattle.std.specs.Ordering.{int_eq}
 use Rattle.std.proofs.lemmas.Bool.{and_parts, and_from, cases_lt, cases_Bool, eqb-true, ltb-true, true≢false, false≢true}
 use Rattle.std.proofs.lemmas.Bool.Decides.{Decides-int_eq}
 use Rattle.std.proofs.lemmas.List.{get_or_past}
-use Rattle.columnar_memory.specs.declared.DataType.{DataType}
-use Rattle.columnar_memory.specs.declared.DataType.TheOpen as layer
-use Rattle.columnar_memory.specs.declared.Field.{Field}
-use Rattle.columnar_memory.specs.declared.UnionMode.{UnionMode}
-use Rattle.columnar_memory.specs.declared.UnionMode.TheVariants as modes
-use Rattle.columnar_memory.specs.Equality.{same_type}
-use Rattle.nested_arrays_columns.specs.Kinds.{is_signed}
-use Rattle.nested_arrays_columns.specs.Slots.{Slot, window}
-use Rattle.nested_arrays_columns.specs.StoredColumns as stored
-use Rattle.nested_arrays_columns.specs.StoredColumns.{Columns, unions, no_column, column_then, column_type, column_len, cut_list, type_layer}
-use Rattle.nested_arrays_columns.specs.StoredColumns.{place_of, child_number, union_place, picked_at}
-use Rattle.nested_arrays_columns.specs.SoundColumns.{holds_below, have_types, has_an_id_each, has_child_types, column_lens, have_len, has_child_at}
-use Rattle.nested_arrays_columns.specs.SoundColumns.{is_offset, has_places, is_sound, are_sound}
-use Rattle.nested_arrays_columns.proofs.Conditions.{parts_of_5, holds_at, list_all-cut_list}
-use Rattle.nested_arrays_columns.proofs.TypeLayers.{Layer}
-use Rattle.nested_arrays_columns.proofs.Windows.{get_or-cut_list, length-cut_list}
-use Rattle.ipc_format_grammar.specs.Messages.{V5, natural}
-use Rattle.ipc_format_grammar.specs.Layouts.{union_parts, before_V5}
-use Rattle.ipc_format_grammar.specs.Values.{signed_of, element_bytes}
-use Rattle.ipc_format_grammar.specs.Columns.{Place, Reader, buffer_at, taken_of, columns_below, first_below, ids_below, place_of_id, child_of}
-use Rattle.ipc_format_grammar.specs.Columns.{picked, all_of, union_slots}
-use Rattle.ipc_format_grammar.specs.Encoding.{Encoded, joined, column_over}
-use Rattle.ipc_format_grammar.specs.StoredEncoding.{integer_bytes, encode_ranges, encode_wholes}
+use Rattle.ipc_format_laws.specs.columnar_memory.declared.DataType.{DataType}
+use Rattle.ipc_format_laws.specs.columnar_memory.declared.DataType.TheOpen as layer
+use Rattle.ipc_format_laws.specs.columnar_memory.declared.Field.{Field}
+use Rattle.ipc_format_laws.specs.columnar_memory.declared.UnionMode.{UnionMode}
+use Rattle.ipc_format_laws.specs.columnar_memory.declared.UnionMode.TheVariants as modes
+use Rattle.ipc_format_laws.specs.columnar_memory.Equality.{same_type}
+use Rattle.ipc_format_laws.specs.columns.Kinds.{is_signed}
+use Rattle.ipc_format_laws.specs.columns.Slots.{Slot, window}
+use Rattle.ipc_format_laws.specs.columns.StoredColumns as stored
+use Rattle.ipc_format_laws.specs.columns.StoredColumns.{Columns, unions, no_column, column_then, column_type, column_len, cut_list, type_layer}
+use Rattle.ipc_format_laws.specs.columns.StoredColumns.{place_of, child_number, union_place, picked_at}
+use Rattle.ipc_format_laws.specs.columns.SoundColumns.{holds_below, have_types, has_an_id_each, has_child_types, column_lens, have_len, has_child_at}
+use Rattle.ipc_format_laws.specs.columns.SoundColumns.{is_offset, has_places, is_sound, are_sound}
+use Rattle.ipc_format_laws.proofs.columns_lemmas.Conditions.{parts_of_5, holds_at, list_all-cut_list}
+use Rattle.ipc_format_laws.proofs.columns_lemmas.TypeLayers.{Layer}
+use Rattle.ipc_format_laws.proofs.columns_lemmas.Windows.{get_or-cut_list, length-cut_list}
+use Rattle.ipc_format_laws.specs.grammar.Messages.{V5, natural}
+use Rattle.ipc_format_laws.specs.grammar.Layouts.{union_parts, before_V5}
+use Rattle.ipc_format_laws.specs.grammar.Values.{signed_of, element_bytes}
+use Rattle.ipc_format_laws.specs.grammar.Columns.{Place, Reader, buffer_at, taken_of, columns_below, first_below, ids_below, place_of_id, child_of}
+use Rattle.ipc_format_laws.specs.grammar.Columns.{picked, all_of, union_slots}
+use Rattle.ipc_format_laws.specs.grammar.Encoding.{Encoded, joined, column_over}
+use Rattle.ipc_format_laws.specs.grammar.StoredEncoding.{integer_bytes, encode_ranges, encode_wholes}
 use Rattle.ipc_format_laws.specs.BatchMessages.{stated_node}
 use Rattle.ipc_format_laws.specs.Columns.{StandsAt, StandsAmong, HoldsColumns}
 use Rattle.ipc_format_laws.proofs.Buffers.{made_reads, buffer_reads}

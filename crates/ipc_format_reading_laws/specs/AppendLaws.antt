@@ -1,19 +1,19 @@
 -- What a file reads as to which batches of stored columns were appended (Arrow IPC, "IPC File Format"; docs/FORMAT.md, "Appending").
 use Rattle.std.specs.Prelude.{◌≡◌, ℕ, ◌+◌, ◌<◌, ◌≤◌, ◌^◌, List, [], ◌∷◌, ◌++◌, length, take, Option, Some}
 use Rattle.std.specs.List.{All, flat_map}
-use Rattle.columnar_memory.specs.declared.Schema.{Schema}
-use Rattle.ipc_format_flatbuffers.specs.Reading.{◌>>=◌}
-use Rattle.nested_arrays_columns.specs.Slots.{window}
-use Rattle.nested_arrays_columns.specs.StoredColumns.{Column}
-use Rattle.nested_arrays_columns.specs.Tables.{Table, rows_of_batches}
-use Rattle.ipc_format_grammar.specs.Dictionaries.{Entry}
-use Rattle.ipc_format_grammar.specs.Framing.{frame_at}
-use Rattle.ipc_format_grammar.specs.Files.{Block, Footer, footer_in}
-use Rattle.ipc_format_grammar.specs.Tables.{Contents, file, contents_of, layout_of, table_of}
-use Rattle.ipc_format_grammar.specs.Schemas.{IdsList}
-use Rattle.ipc_format_grammar.specs.Windows.{Window, entry_windows}
-use Rattle.ipc_format_grammar.specs.WrittenFiles.{written_file}
-use Rattle.ipc_format_grammar.specs.AppendedFiles.{Base, base_of, base_end, appended}
+use Rattle.ipc_format_laws.specs.columnar_memory.declared.Schema.{Schema}
+use Rattle.ipc_format_laws.specs.flatbuffers.Reading.{◌>>=◌}
+use Rattle.ipc_format_laws.specs.columns.Slots.{window}
+use Rattle.ipc_format_laws.specs.columns.StoredColumns.{Column}
+use Rattle.ipc_format_laws.specs.columns.Tables.{Table, rows_of_batches}
+use Rattle.ipc_format_laws.specs.grammar.Dictionaries.{Entry}
+use Rattle.ipc_format_laws.specs.grammar.Framing.{frame_at}
+use Rattle.ipc_format_laws.specs.grammar.Files.{Block, Footer, footer_in}
+use Rattle.ipc_format_laws.specs.grammar.Tables.{Contents, file, contents_of, layout_of, table_of}
+use Rattle.ipc_format_laws.specs.grammar.Schemas.{IdsList}
+use Rattle.ipc_format_laws.specs.grammar.Windows.{Window, entry_windows}
+use Rattle.ipc_format_laws.specs.grammar.WrittenFiles.{written_file}
+use Rattle.ipc_format_laws.specs.grammar.AppendedFiles.{Base, base_of, base_end, appended}
 use Rattle.ipc_format_laws.specs.Schemas.{HasTexts}
 use Rattle.ipc_format_reading_laws.specs.StatedBodies.{MessagesEnd}
 use Rattle.ipc_format_reading_laws.specs.StoredTables.{stored_chunks, read_batches, HoldsBatches}

@@ -1,10 +1,10 @@
 -- A column is read from the fronts of two queues: what is left of a batch's nodes and of its buffers. A column that reads has all its nodes
 -- and buffers there (Arrow IPC, "RecordBatch message").
 use Rattle.std.specs.Prelude.{◌≡◌, ◌+◌, ◌≤◌, List, Some, length, drop}
-use Rattle.columnar_memory.specs.declared.DataType.{DataType}
-use Rattle.nested_arrays_columns.specs.Slots.{Slot}
-use Rattle.ipc_format_grammar.specs.Layouts.{node_count, buffer_count}
-use Rattle.ipc_format_grammar.specs.Columns.{Place, slots_in}
+use Rattle.ipc_format_laws.specs.columnar_memory.declared.DataType.{DataType}
+use Rattle.ipc_format_laws.specs.columns.Slots.{Slot}
+use Rattle.ipc_format_laws.specs.grammar.Layouts.{node_count, buffer_count}
+use Rattle.ipc_format_laws.specs.grammar.Columns.{Place, slots_in}
 
 -- the same place, where the nodes and buffers before it are taken off
 abbrev pub at_fronts : Place → Place

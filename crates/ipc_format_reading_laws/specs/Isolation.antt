@@ -1,8 +1,8 @@
 -- What stands outside of the windows of some columns says nothing of a choice of these columns (Arrow IPC, "RecordBatch message").
 use Rattle.std.specs.Prelude.{◌≡◌, ℕ, List, Option, Some}
-use Rattle.nested_arrays_columns.specs.Tables.{Table}
-use Rattle.ipc_format_grammar.specs.Tables.{Form, table_of, choice_of}
-use Rattle.ipc_format_grammar.specs.Windows.{Agree}
+use Rattle.ipc_format_laws.specs.columns.Tables.{Table}
+use Rattle.ipc_format_laws.specs.grammar.Tables.{Form, table_of, choice_of}
+use Rattle.ipc_format_laws.specs.grammar.Windows.{Agree}
 
 -- Where an input reads as a whole, each input that agrees with it on some columns, whether it reads as a whole or not, has the same choice of
 -- these columns under each limit.

@@ -1,11 +1,11 @@
 -- Stored columns under normalised types: a schema is read in its one form, while arrays may have types that are not in it (docs/FORMAT.md,
 -- "Schemas").
 use Rattle.std.specs.Prelude.{◌≡◌, Bool, true, map}
-use Rattle.nested_arrays_columns.specs.SoundColumns.{is_sound}
-use Rattle.nested_arrays_columns.specs.StoredColumns.{Column, Columns, nulls, flat, lists, fixed_lists, records, unions, dictionary, no_column}
-use Rattle.nested_arrays_columns.specs.StoredColumns.{column_then, column_type, slots}
-use Rattle.ipc_format_grammar.specs.Writable.{normalised_type}
-use Rattle.ipc_format_grammar.specs.StoredEncoding.{encode_stored}
+use Rattle.ipc_format_laws.specs.columns.SoundColumns.{is_sound}
+use Rattle.ipc_format_laws.specs.columns.StoredColumns.{Column, Columns, nulls, flat, lists, fixed_lists, records, unions, dictionary, no_column}
+use Rattle.ipc_format_laws.specs.columns.StoredColumns.{column_then, column_type, slots}
+use Rattle.ipc_format_laws.specs.grammar.Writable.{normalised_type}
+use Rattle.ipc_format_laws.specs.grammar.StoredEncoding.{encode_stored}
 pub use Rattle.ipc_format_reading_laws.specs.NormalSlots.{normal_slot, normal_slots}
 
 -- a column with each of its types in its normalised form

@@ -1,10 +1,10 @@
 -- What is read by the normalised form of a type: the slots that are read by the type itself, where what a union picks names the normalised
 -- type of its child (docs/FORMAT.md, "Messages and schemas, as read").
 use Rattle.std.specs.Prelude.{◌≡◌, List, map, Some}
-use Rattle.columnar_memory.specs.declared.DataType.{DataType}
-use Rattle.nested_arrays_columns.specs.Slots.{Slot, Slots, items, fields, pick, no_slot, slot_then}
-use Rattle.ipc_format_grammar.specs.Writable.{normalised_type}
-use Rattle.ipc_format_grammar.specs.Columns.{Dictionary, Place, slots_in}
+use Rattle.ipc_format_laws.specs.columnar_memory.declared.DataType.{DataType}
+use Rattle.ipc_format_laws.specs.columns.Slots.{Slot, Slots, items, fields, pick, no_slot, slot_then}
+use Rattle.ipc_format_laws.specs.grammar.Writable.{normalised_type}
+use Rattle.ipc_format_laws.specs.grammar.Columns.{Dictionary, Place, slots_in}
 
 -- a slot with the type of each pick in its normalised form, at every depth
 abbrev mutual

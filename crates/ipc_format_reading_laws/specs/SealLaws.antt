@@ -1,9 +1,9 @@
 -- What a seal reads back as, and that it tells tables apart (docs/FORMAT.md, "What is written").
 use Rattle.std.specs.Prelude.{◌≡◌, ℕ, List, ◌++◌, map, Some}
-use Rattle.nested_arrays_columns.specs.Tables.{Table}
-use Rattle.ipc_format_grammar.specs.Writable.{IsTable}
-use Rattle.ipc_format_grammar.specs.Tables.{stream, batches_in, table_of}
-use Rattle.ipc_format_grammar.specs.Seals.{sealed, groups_of, columns_of_rows}
+use Rattle.ipc_format_laws.specs.columns.Tables.{Table}
+use Rattle.ipc_format_laws.specs.grammar.Writable.{IsTable}
+use Rattle.ipc_format_laws.specs.grammar.Tables.{stream, batches_in, table_of}
+use Rattle.ipc_format_laws.specs.grammar.Seals.{sealed, groups_of, columns_of_rows}
 use Rattle.ipc_format_laws.specs.Schemas.{HasTexts}
 
 -- a table whose schema has names and metadata that are texts

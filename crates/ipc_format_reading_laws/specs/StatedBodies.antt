@@ -1,13 +1,13 @@
 -- Where the messages of a file stand and where the buffers end that they state (Arrow IPC, "IPC File Format", "RecordBatch message").
 use Rattle.std.specs.Prelude.{◌≡◌, ℕ, ◌+◌, ◌≤◌, List, [], ◌∷◌, take, slice_get, Some}
-use Rattle.ipc_format_flatbuffers.specs.FlatBuffers.{Table}
-use Rattle.ipc_format_grammar.specs.Messages as message
-use Rattle.ipc_format_grammar.specs.Messages.{Buffer, RecordBatch, DictionaryBatch, as_buffer, natural, record_batch_in, dictionary_batch_in}
-use Rattle.ipc_format_grammar.specs.Messages.{structs_in}
-use Rattle.ipc_format_grammar.specs.Dictionaries.{Entry}
-use Rattle.ipc_format_grammar.specs.Framing.{metadata_then, frame_at}
-use Rattle.ipc_format_grammar.specs.Files as read
-use Rattle.ipc_format_grammar.specs.Files.{Footer, footer_in, entries_at, is_dictionary, is_record_batch}
+use Rattle.ipc_format_laws.specs.flatbuffers.FlatBuffers.{Table}
+use Rattle.ipc_format_laws.specs.grammar.Messages as message
+use Rattle.ipc_format_laws.specs.grammar.Messages.{Buffer, RecordBatch, DictionaryBatch, as_buffer, natural, record_batch_in, dictionary_batch_in}
+use Rattle.ipc_format_laws.specs.grammar.Messages.{structs_in}
+use Rattle.ipc_format_laws.specs.grammar.Dictionaries.{Entry}
+use Rattle.ipc_format_laws.specs.grammar.Framing.{metadata_then, frame_at}
+use Rattle.ipc_format_laws.specs.grammar.Files as read
+use Rattle.ipc_format_laws.specs.grammar.Files.{Footer, footer_in, entries_at, is_dictionary, is_record_batch}
 
 -- each of some buffers, whose offsets count from an origin, ends before an end
 abbrev pub BuffersEnd : ℕ → ℕ → List Buffer → Type 0

@@ -1,16 +1,16 @@
 -- When a column that is written from what an array stores reads back (Arrow columnar format, "Physical Memory Layout"; Arrow IPC,
 -- "RecordBatch message", "Dictionary Messages").
 use Rattle.std.specs.Prelude.{◌≡◌, ℕ, ◌+◌, ◌≤◌, ℤ, true, List, Some}
-use Rattle.columnar_memory.specs.declared.DataType.{DataType}
-use Rattle.nested_arrays_columns.specs.Slots.{Slot, window}
-use Rattle.nested_arrays_columns.specs.SoundColumns.{is_sound}
-use Rattle.nested_arrays_columns.specs.StoredColumns.{Column, Columns, nulls, flat, lists, fixed_lists, records, unions, dictionary, no_column}
-use Rattle.nested_arrays_columns.specs.StoredColumns.{column_then, column_len, column_type, slot_at, slots}
-use Rattle.ipc_format_grammar.specs.Messages.{V5}
-use Rattle.ipc_format_grammar.specs.Schemas.{Ids, IdsList}
-use Rattle.ipc_format_grammar.specs.Columns.{Dictionary, Place, slots_in, taken_of, standing_for, first_ids, other_ids, ids_below, own_id}
-use Rattle.ipc_format_grammar.specs.Encoding.{Encoded}
-use Rattle.ipc_format_grammar.specs.StoredEncoding.{encode_range}
+use Rattle.ipc_format_laws.specs.columnar_memory.declared.DataType.{DataType}
+use Rattle.ipc_format_laws.specs.columns.Slots.{Slot, window}
+use Rattle.ipc_format_laws.specs.columns.SoundColumns.{is_sound}
+use Rattle.ipc_format_laws.specs.columns.StoredColumns.{Column, Columns, nulls, flat, lists, fixed_lists, records, unions, dictionary, no_column}
+use Rattle.ipc_format_laws.specs.columns.StoredColumns.{column_then, column_len, column_type, slot_at, slots}
+use Rattle.ipc_format_laws.specs.grammar.Messages.{V5}
+use Rattle.ipc_format_laws.specs.grammar.Schemas.{Ids, IdsList}
+use Rattle.ipc_format_laws.specs.grammar.Columns.{Dictionary, Place, slots_in, taken_of, standing_for, first_ids, other_ids, ids_below, own_id}
+use Rattle.ipc_format_laws.specs.grammar.Encoding.{Encoded}
+use Rattle.ipc_format_laws.specs.grammar.StoredEncoding.{encode_range}
 use Rattle.ipc_format_laws.specs.Columns.{HoldsColumns, StandsAmong}
 
 -- some values stand, under their type, as the dictionary of the id at a field

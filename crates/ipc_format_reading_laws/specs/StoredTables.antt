@@ -1,15 +1,15 @@
 -- When the table of a stream or a file that is written of stored columns is the table of their slots (Arrow IPC, "IPC Streaming Format", "IPC
 -- File Format", "Dictionary Messages").
 use Rattle.std.specs.Prelude.{◌≡◌, ℕ, ◌<◌, ◌^◌, List, ◌++◌, length, map, Some}
-use Rattle.columnar_memory.specs.declared.Schema.{Schema}
-use Rattle.nested_arrays_columns.specs.Slots.{Slot}
-use Rattle.nested_arrays_columns.specs.StoredColumns.{Column, slots}
-use Rattle.nested_arrays_columns.specs.Tables.{rows_of_batches}
-use Rattle.ipc_format_grammar.specs.Schemas.{IdsList}
-use Rattle.ipc_format_grammar.specs.Writable.{normalised}
-use Rattle.ipc_format_grammar.specs.Tables.{Form, stream, file, batches_in, table_of}
-use Rattle.ipc_format_grammar.specs.WrittenStreams.{Chunk, stored_columns, written_stream}
-use Rattle.ipc_format_grammar.specs.WrittenFiles.{written_file}
+use Rattle.ipc_format_laws.specs.columnar_memory.declared.Schema.{Schema}
+use Rattle.ipc_format_laws.specs.columns.Slots.{Slot}
+use Rattle.ipc_format_laws.specs.columns.StoredColumns.{Column, slots}
+use Rattle.ipc_format_laws.specs.columns.Tables.{rows_of_batches}
+use Rattle.ipc_format_laws.specs.grammar.Schemas.{IdsList}
+use Rattle.ipc_format_laws.specs.grammar.Writable.{normalised}
+use Rattle.ipc_format_laws.specs.grammar.Tables.{Form, stream, file, batches_in, table_of}
+use Rattle.ipc_format_laws.specs.grammar.WrittenStreams.{Chunk, stored_columns, written_stream}
+use Rattle.ipc_format_laws.specs.grammar.WrittenFiles.{written_file}
 use Rattle.ipc_format_laws.specs.Schemas.{HasTexts}
 use Rattle.ipc_format_reading_laws.specs.NormalColumns.{normal_slot}
 

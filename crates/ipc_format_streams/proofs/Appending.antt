@@ -2,8 +2,8 @@
 use Rattle.std.proofs.Common.{◌≡◌, ◌∙◌, ℕ, List, [], ◌++◌, refl, take, drop, ap, sym, append_assoc, length, ◌-◌, subst}
 use Rattle.std.specs.Prelude.{Option, Some, None, Result, Ok, Err}
 use Rattle.std.specs.Io.KnownBytes.{Appends, Keeps}
-use Rattle.ipc_format_messages.specs.columnar_memory.Error.{IsIo}
-use Rattle.ipc_format_messages.specs.columnar_memory.declared.Error.{Error}
+use Rattle.ipc_format_values.specs.columnar_memory.Error.{IsIo}
+use Rattle.ipc_format_values.specs.columnar_memory.declared.Error.{Error}
 use Rattle.ipc_format_streams.specs.Devices.{AppendsBeginning, Puts}
 use Rattle.std.proofs.lemmas.List.{append-nil, take-append-drop, take_rest}
 

@@ -1,8 +1,18 @@
 pub mod Appending
-pub use Rattle.ipc_format_messages.proofs as messages_lemmas
-pub use Rattle.ipc_format_messages.proofs.columnar_memory_lemmas
-pub use Rattle.ipc_format_messages.proofs.flatbuffers_lemmas
-pub use Rattle.ipc_format_messages.proofs.columns_lemmas
-pub use Rattle.ipc_format_messages.proofs.grammar_lemmas
-pub use Rattle.ipc_format_messages.proofs.metadata_lemmas
 pub mod Passed
+pub mod NextMessages
+pub mod Pieces
+pub mod Told
+pub mod Starts
+pub mod Structs
+pub mod Sources
+pub mod Finding
+pub mod Padding
+pub use Rattle.ipc_format_values.proofs as owned_lemmas
+pub use Rattle.ipc_format_values.proofs.writing_lemmas
+pub use Rattle.ipc_format_values.proofs.messages_lemmas
+pub use Rattle.ipc_format_values.proofs.columnar_memory_lemmas
+pub use Rattle.ipc_format_values.proofs.flatbuffers_lemmas
+pub use Rattle.ipc_format_values.proofs.columns_lemmas
+pub use Rattle.ipc_format_values.proofs.grammar_lemmas
+pub use Rattle.ipc_format_values.proofs.metadata_lemmas

@@ -1,9 +1,9 @@
 -- What a device takes of the bytes that are written to it, and what its refusal is called.
 use Rattle.std.specs.Prelude.{◌≡◌, ℕ, ◌<◌, ◌≤◌, List, ◌++◌, Option, Result, Ok, Err}
 use Rattle.std.specs.Io.KnownBytes.{Appends}
-use Rattle.ipc_format_messages.specs.columnar_memory.Error.{IsIo}
-use Rattle.ipc_format_messages.specs.columnar_memory.declared.Error.{Error}
-use Rattle.ipc_format_messages.specs.columnar_memory.declared.Error.TheVariants as errors
+use Rattle.ipc_format_values.specs.columnar_memory.Error.{IsIo}
+use Rattle.ipc_format_values.specs.columnar_memory.declared.Error.{Error}
+use Rattle.ipc_format_values.specs.columnar_memory.declared.Error.TheVariants as errors
 
 -- known bytes grow by a beginning of some bytes
 abbrev pub AppendsBeginning : Option (List ℕ) → Option (List ℕ) → List ℕ → Type 0

@@ -2,8 +2,8 @@
 use Rattle.std.specs.Prelude.{ℕ, ◌<◌, ◌≤◌}
 use Rattle.ipc_format_streams.specs.declared.frames.Frame.{Frame}
 use Rattle.ipc_format_streams.specs.declared.frames.Frame.TheVariants.{Truncated, End, Metadata}
-use Rattle.ipc_format_messages.specs.grammar.Framing as format
-use Rattle.ipc_format_messages.specs.MessageViews.{kind_view}
+use Rattle.ipc_format_values.specs.grammar.Framing as format
+use Rattle.ipc_format_values.specs.messages.MessageViews.{kind_view}
 use Rattle.ipc_format_streams.specs.declared.frames.Framed.{Framed}
 use Rattle.ipc_format_streams.specs.declared.frames.NextMessage.{NextMessage}
 use Rattle.ipc_format_streams.specs.declared.frames.NextMessage.TheVariants as messages

@@ -1,9 +1,17 @@
 pub mod Frames
 pub mod Failures
 pub mod Devices
-pub use Rattle.ipc_format_messages.specs as messages
-pub use Rattle.ipc_format_messages.specs.columnar_memory
-pub use Rattle.ipc_format_messages.specs.flatbuffers
-pub use Rattle.ipc_format_messages.specs.columns
-pub use Rattle.ipc_format_messages.specs.grammar
-pub use Rattle.ipc_format_messages.specs.metadata
+pub mod Arriving
+pub mod Incoming
+pub mod Starts
+pub mod Queues
+pub mod Values
+pub mod EncodedMessages
+pub use Rattle.ipc_format_values.specs as owned
+pub use Rattle.ipc_format_values.specs.writing
+pub use Rattle.ipc_format_values.specs.messages
+pub use Rattle.ipc_format_values.specs.columnar_memory
+pub use Rattle.ipc_format_values.specs.flatbuffers
+pub use Rattle.ipc_format_values.specs.columns
+pub use Rattle.ipc_format_values.specs.grammar
+pub use Rattle.ipc_format_values.specs.metadata

@@ -1,8 +1,8 @@
 //! What stands at a place of a stream.
 ghost use Rattle.std.specs.Prelude.{◌≡◌};
-ghost use Rattle.ipc_format_messages.specs.MessageViews.{header_view};
+ghost use Rattle.ipc_format_values.specs.messages.MessageViews.{header_view};
 
-use ipc_format_messages::MessageHeaderRef;
+use ipc_format_values::messages::MessageHeaderRef;
 
 /// What stands at a message's place.
 #[derive(Clone, Copy, Debug)]

@@ -3,12 +3,12 @@
 //! The input stands in memory, so metadata and bodies are windows of it: no memory is asked for by a stated length.
 ghost use Rattle.std.specs.Prelude.{◌≡◌, ◌≢◌, ◌+◌, ◌≤◌, ◌<◌, length, IfSome, negsuc};
 ghost use Rattle.std.specs.Option.{option_map};
-ghost use Rattle.ipc_format_messages.specs.grammar.Framing as format;
+ghost use Rattle.ipc_format_values.specs.grammar.Framing as format;
 ghost use Rattle.ipc_format_streams.specs.Frames.{ReachesFrom, ReachesBehind, frame_view, framed_view, next_view};
 
 use crate::frames::{Frame, Framed, NextMessage};
-use ipc_format_messages::flatbuffers::{i32_at, window};
-use ipc_format_messages::{MessageHeaderRef, message_in};
+use ipc_format_values::flatbuffers::{i32_at, window};
+use ipc_format_values::messages::{MessageHeaderRef, message_in};
 
 /// The metadata of a stated length from a place on. A length of 0 ends the stream, and a negative one is refused.
 fn frame_of(bytes: &[u8], stated: i32, place: usize) -> Option<Frame<'_>>

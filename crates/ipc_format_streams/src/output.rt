@@ -2,7 +2,7 @@
 ghost use Rattle.std.specs.Prelude.{◌≡◌};
 ghost use Rattle.ipc_format_streams.specs.Devices.{Puts, IsNamed};
 
-use ipc_format_messages::columnar_memory::{Error, Result};
+use ipc_format_values::columnar_memory::{Error, Result};
 use std::io;
 use std::io::{ErrorKind, Write};
 

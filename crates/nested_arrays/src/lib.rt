@@ -4,6 +4,7 @@
 
 pub use nested_arrays_nulls::access::{
     Array, a_null_slot_has_no_value, a_slot_without_a_value_is_null, nulls_are_counted,
+    same_slot_ranges, same_slots,
 };
 pub use nested_arrays_nulls::arrays::{
     AnyArray, DictionaryNode, FixedSizeListArray, ListNode, MapArray, Node, StructArray,

@@ -112,7 +112,7 @@ one_more l r i j k before now after far here counted =
 
 -- ---- whole columns
 
-nodes_sum : (found : List Slot) → nodes_of (in_slots found) ≡ sum_by slot_nodes found
+pub nodes_sum : (found : List Slot) → nodes_of (in_slots found) ≡ sum_by slot_nodes found
 nodes_sum [] = refl
 nodes_sum (slot ∷ found) = omega (arith, nodes_sum found, sum_by-cons slot_nodes slot found)
 

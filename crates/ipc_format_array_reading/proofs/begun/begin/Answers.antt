@@ -1,12 +1,12 @@
 -- Unions, behind the buffer that is passed over.
 use Rattle.std.proofs.Common.{◌≡◌, ◌∙◌, ◌+◌, ℕ, List, length, drop, refl, sym, ap, false, rules}
 use Rattle.std.specs.Prelude.{Err, None, Ok, Option, Some}
-use Rattle.ipc_format_column_reading.specs.columns.StoredColumns.{type_layer}
-use Rattle.ipc_format_column_reading.specs.grammar.Layouts.{before_V5}
-use Rattle.ipc_format_column_reading.specs.messages.MessageViews.{version_view}
-use Rattle.ipc_format_column_reading.specs.messages.declared.values.Buffer.{Buffer}
-use Rattle.ipc_format_column_reading.specs.Rooms.{ForBytes}
-use Rattle.ipc_format_column_reading.proofs.NextBuffers.{refusal_for}
+use Rattle.ipc_format_column_writing.specs.column_reading.columns.StoredColumns.{type_layer}
+use Rattle.ipc_format_column_writing.specs.column_reading.grammar.Layouts.{before_V5}
+use Rattle.ipc_format_column_writing.specs.column_reading.messages.MessageViews.{version_view}
+use Rattle.ipc_format_column_writing.specs.column_reading.messages.declared.values.Buffer.{Buffer}
+use Rattle.ipc_format_column_writing.specs.column_reading.Rooms.{ForBytes}
+use Rattle.ipc_format_column_writing.proofs.reading_lemmas.NextBuffers.{refusal_for}
 use Rattle.ipc_format_array_reading.specs.Parts.{Parts, beginning_of, choices, next_choices, next_parts, own_buffers, place_buffers}
 use Rattle.ipc_format_array_reading.specs.declared.begun.Beginning.TheVariants as beginnings
 use Rattle.ipc_format_array_reading.proofs.UnionReads.{off_passed, union_buffers_are, union_parts_are}

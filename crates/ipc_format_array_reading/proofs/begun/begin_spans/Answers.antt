@@ -1,10 +1,10 @@
 -- Marks and offsets, read one after the other.
 use Rattle.std.proofs.Common.{◌≡◌, ℕ, List, Bool, drop, refl, sym, ap, arith, rules}
 use Rattle.std.specs.Prelude.{Err, Ok, Some, Option}
-use Rattle.ipc_format_column_reading.specs.columnar_memory.Spans.{offsets_of}
-use Rattle.ipc_format_column_reading.specs.flatbuffers.Reading.{◌>>=◌}
-use Rattle.ipc_format_column_reading.specs.messages.declared.values.Buffer.{Buffer}
-use Rattle.ipc_format_column_reading.specs.Reads.{next_marked, next_offsets}
+use Rattle.ipc_format_column_writing.specs.column_reading.columnar_memory.Spans.{offsets_of}
+use Rattle.ipc_format_column_writing.specs.column_reading.flatbuffers.Reading.{◌>>=◌}
+use Rattle.ipc_format_column_writing.specs.column_reading.messages.declared.values.Buffer.{Buffer}
+use Rattle.ipc_format_column_writing.specs.column_reading.Reads.{next_marked, next_offsets}
 use Rattle.ipc_format_array_reading.specs.Parts.{Parts, next_spans, spans}
 use Rattle.ipc_format_array_reading.proofs.Taking.{drop_none, takes_made, takes_refused, takes_then}
 use Rattle.ipc_format_array_reading.proofs.begun.begin_spans.Goals as goal

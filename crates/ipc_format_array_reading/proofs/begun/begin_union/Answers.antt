@@ -2,13 +2,13 @@
 use Rattle.std.proofs.Common.{◌≡◌, ◌+◌, ℕ, ℤ, List, map, drop, refl, sym, ap, arith, true, false, rules}
 use Rattle.std.specs.Prelude.{Err, None, Ok, Option, Some, slice_get}
 use Rattle.std.proofs.lemmas.Option.{slice_get_within}
-use Rattle.ipc_format_column_reading.specs.columnar_memory.Numbers.{Numbers, first_number, one}
-use Rattle.ipc_format_column_reading.specs.columnar_memory.declared.PrimitiveType.TheVariants as kinds
-use Rattle.ipc_format_column_reading.specs.messages.declared.values.Buffer.{Buffer}
-use Rattle.ipc_format_column_reading.specs.Buffers.{next_values, taken_in}
-use Rattle.ipc_format_column_reading.proofs.ColumnReads.{takes_behind}
-use Rattle.ipc_format_column_reading.proofs.Readings.{reads_behind, reads_made, reads_refused}
-use Rattle.ipc_format_column_reading.proofs.Skipping.{end_behind}
+use Rattle.ipc_format_column_writing.specs.column_reading.columnar_memory.Numbers.{Numbers, first_number, one}
+use Rattle.ipc_format_column_writing.specs.column_reading.columnar_memory.declared.PrimitiveType.TheVariants as kinds
+use Rattle.ipc_format_column_writing.specs.column_reading.messages.declared.values.Buffer.{Buffer}
+use Rattle.ipc_format_column_writing.specs.column_reading.Buffers.{next_values, taken_in}
+use Rattle.ipc_format_column_writing.proofs.reading_lemmas.ColumnReads.{takes_behind}
+use Rattle.ipc_format_column_writing.proofs.reading_lemmas.Readings.{reads_behind, reads_made, reads_refused}
+use Rattle.ipc_format_column_writing.proofs.reading_lemmas.Skipping.{end_behind}
 use Rattle.ipc_format_array_reading.specs.Parts.{Parts, choices, next_choices, next_places, place_buffers}
 use Rattle.ipc_format_array_reading.proofs.Taking.{drop_none}
 use Rattle.ipc_format_array_reading.proofs.UnionReads.{choices_whole, negative_choices, ones_back, places_behind}

@@ -1,9 +1,9 @@
 -- The last offset.
 use Rattle.std.proofs.Common.{◌∙◌, ap, inl}
 use Rattle.std.specs.Prelude.{Some}
-use Rattle.ipc_format_column_reading.specs.columnar_memory.Spans.{last_of}
-use Rattle.ipc_format_column_reading.specs.columns.StoredColumns.{type_layer}
-use Rattle.ipc_format_column_reading.proofs.ColumnReads.{last_is, same_number}
+use Rattle.ipc_format_column_writing.specs.column_reading.columnar_memory.Spans.{last_of}
+use Rattle.ipc_format_column_writing.specs.column_reading.columns.StoredColumns.{type_layer}
+use Rattle.ipc_format_column_writing.proofs.reading_lemmas.ColumnReads.{last_is, same_number}
 use Rattle.ipc_format_array_reading.specs.Parts.{limit_below, parts_in}
 use Rattle.ipc_format_array_reading.proofs.begun.limit_below.Goals as goal
 

@@ -2,8 +2,8 @@
 use Rattle.std.proofs.Common.{◌≡◌, ◌∙◌, ◌<◌, ◌^◌, ℕ, ap, arith, length, rules, subst, sym}
 use Rattle.std.specs.Prelude.{IfSome, None, Option, Some, slice_get}
 use Rattle.std.proofs.lemmas.Option.{slice_get-get_or}
-use Rattle.ipc_format_column_reading.specs.Buffers.{taken_in}
-use Rattle.ipc_format_column_reading.specs.messages.declared.values.FieldNode.{FieldNode}
+use Rattle.ipc_format_column_writing.specs.column_reading.Buffers.{taken_in}
+use Rattle.ipc_format_column_writing.specs.column_reading.messages.declared.values.FieldNode.{FieldNode}
 use Rattle.ipc_format_array_reading.proofs.SmallNodes.{all_below, one_more}
 use Rattle.ipc_format_array_reading.proofs.begun.read_lengths.Goals as goal
 

@@ -1,6 +1,6 @@
 -- The nodes before the place are small.
 use Rattle.std.proofs.Common.{map}
-use Rattle.ipc_format_column_reading.specs.Buffers.{node_of}
+use Rattle.ipc_format_column_writing.specs.column_reading.Buffers.{node_of}
 use Rattle.ipc_format_array_reading.proofs.SmallNodes.{SmallBelow}
 use Rattle.ipc_format_array_reading.proofs.begun.read_lengths.Given as goal
 

@@ -1,8 +1,8 @@
 -- The places of a dense union.
 use Rattle.std.proofs.Common.{◌∙◌, List, map, refl, ap}
 use Rattle.std.specs.Prelude.{Option, Some}
-use Rattle.ipc_format_column_reading.specs.columnar_memory.Numbers.{Numbers, first_number}
-use Rattle.ipc_format_column_reading.specs.flatbuffers.Reading.{◌>>=◌}
+use Rattle.ipc_format_column_writing.specs.column_reading.columnar_memory.Numbers.{Numbers, first_number}
+use Rattle.ipc_format_column_writing.specs.column_reading.flatbuffers.Reading.{◌>>=◌}
 use Rattle.ipc_format_array_reading.specs.Parts.{next_places}
 use Rattle.ipc_format_array_reading.proofs.UnionReads.{ones_back}
 use Rattle.ipc_format_array_reading.proofs.begun.read_places.Goals as goal

@@ -1,7 +1,7 @@
 -- The bytes before the place are bytes.
 use Rattle.std.proofs.Common.{◌≡◌, true, take}
 use Rattle.std.specs.List.{list_all}
-use Rattle.ipc_format_column_reading.specs.columns.SoundColumns.{is_byte}
+use Rattle.ipc_format_column_writing.specs.column_reading.columns.SoundColumns.{is_byte}
 use Rattle.ipc_format_array_reading.proofs.fixed_size_binary.are_bytes.Given as goal
 
 abbrev pub invariant-loop-byte : goal.invariant-loop-byte

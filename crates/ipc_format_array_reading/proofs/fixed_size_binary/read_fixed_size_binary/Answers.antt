@@ -2,18 +2,18 @@
 use Rattle.std.proofs.Common.{◌≡◌, ◌∙◌, ◌*◌, List, drop, sym, ap, subst, inl, rules}
 use Rattle.std.specs.Prelude.{Err, None, Some, is_some, true}
 use Rattle.std.specs.List.{list_all}
-use Rattle.ipc_format_column_reading.specs.columnar_memory.Layouts.{physical_type}
-use Rattle.ipc_format_column_reading.specs.columnar_memory.declared.PhysicalType.TheVariants as physical
-use Rattle.ipc_format_column_reading.specs.columns.Slots.{Slot}
-use Rattle.ipc_format_column_reading.specs.columns.SoundColumns.{is_byte}
-use Rattle.ipc_format_column_reading.specs.columns.StoredColumns.{fixed_bytes, flat}
-use Rattle.ipc_format_column_reading.specs.Reads.{next_marked}
-use Rattle.ipc_format_column_reading.specs.Rooms.{ForBytes}
-use Rattle.ipc_format_column_reading.proofs.ColumnReads.{Marks}
-use Rattle.ipc_format_column_reading.proofs.Readings.{out_of_memory, reads_refused}
-use Rattle.ipc_format_column_reading.proofs.Skipping.{end_behind}
-use Rattle.ipc_format_chunks.specs.nested_arrays.Checked.{IsChecked}
-use Rattle.ipc_format_chunks.specs.nested_arrays.FlatColumns.{byte_width}
+use Rattle.ipc_format_column_writing.specs.column_reading.columnar_memory.Layouts.{physical_type}
+use Rattle.ipc_format_column_writing.specs.column_reading.columnar_memory.declared.PhysicalType.TheVariants as physical
+use Rattle.ipc_format_column_writing.specs.column_reading.columns.Slots.{Slot}
+use Rattle.ipc_format_column_writing.specs.column_reading.columns.SoundColumns.{is_byte}
+use Rattle.ipc_format_column_writing.specs.column_reading.columns.StoredColumns.{fixed_bytes, flat}
+use Rattle.ipc_format_column_writing.specs.column_reading.Reads.{next_marked}
+use Rattle.ipc_format_column_writing.specs.column_reading.Rooms.{ForBytes}
+use Rattle.ipc_format_column_writing.proofs.reading_lemmas.ColumnReads.{Marks}
+use Rattle.ipc_format_column_writing.proofs.reading_lemmas.Readings.{out_of_memory, reads_refused}
+use Rattle.ipc_format_column_writing.proofs.reading_lemmas.Skipping.{end_behind}
+use Rattle.ipc_format_column_writing.specs.chunks.nested_arrays.Checked.{IsChecked}
+use Rattle.ipc_format_column_writing.specs.chunks.nested_arrays.FlatColumns.{byte_width}
 use Rattle.ipc_format_array_reading.specs.TypedReads.{IsNeeded, front_array}
 use Rattle.ipc_format_array_reading.proofs.FixedColumns.{bytes_past, bytes_refused, fixed_bytes_given, fixed_bytes_next, strings_made}
 use Rattle.ipc_format_array_reading.proofs.fixed_size_binary.read_fixed_size_binary.Goals as goal

@@ -1,8 +1,8 @@
 -- Lists of one size, of their one child.
 use Rattle.std.proofs.Common.{◌≡◌, ◌∙◌, inr, rules, subst, sym}
 use Rattle.std.specs.Prelude.{None, Result, Some}
-use Rattle.ipc_format_column_reading.specs.columnar_memory.declared.Error.{Error}
-use Rattle.ipc_format_column_reading.specs.columns.StoredColumns.{Column}
+use Rattle.ipc_format_column_writing.specs.column_reading.columnar_memory.declared.Error.{Error}
+use Rattle.ipc_format_column_writing.specs.column_reading.columns.StoredColumns.{Column}
 use Rattle.ipc_format_array_reading.specs.Parts.{Makes, made_column, marks, single}
 use Rattle.ipc_format_array_reading.proofs.MadeChecks.{fixed_gone, fixed_joined}
 use Rattle.ipc_format_array_reading.proofs.made.fixed_of.Goals as goal

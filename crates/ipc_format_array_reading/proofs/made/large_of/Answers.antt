@@ -1,9 +1,9 @@
 -- Lists of their one child.
 use Rattle.std.proofs.Common.{◌≡◌, ◌∙◌, inr, rules, subst, sym}
 use Rattle.std.specs.Prelude.{None, Result, Some}
-use Rattle.ipc_format_column_reading.specs.columnar_memory.Spans.{offsets_of}
-use Rattle.ipc_format_column_reading.specs.columnar_memory.declared.Error.{Error}
-use Rattle.ipc_format_column_reading.specs.columns.StoredColumns.{Column}
+use Rattle.ipc_format_column_writing.specs.column_reading.columnar_memory.Spans.{offsets_of}
+use Rattle.ipc_format_column_writing.specs.column_reading.columnar_memory.declared.Error.{Error}
+use Rattle.ipc_format_column_writing.specs.column_reading.columns.StoredColumns.{Column}
 use Rattle.ipc_format_array_reading.specs.Parts.{Makes, made_column, single, spans}
 use Rattle.ipc_format_array_reading.proofs.MadeChecks.{large_list, spans_gone, spans_joined}
 use Rattle.ipc_format_array_reading.proofs.made.large_of.Goals as goal

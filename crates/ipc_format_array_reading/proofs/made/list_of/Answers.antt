@@ -1,7 +1,7 @@
 -- Items that are not as many as the last offset says.
 use Rattle.std.proofs.Common.{◌≡◌, ◌∙◌, inr, sym}
-use Rattle.ipc_format_column_reading.specs.columnar_memory.Spans.{offsets_of}
-use Rattle.ipc_format_column_reading.specs.columns.StoredColumns.{lists}
+use Rattle.ipc_format_column_writing.specs.column_reading.columnar_memory.Spans.{offsets_of}
+use Rattle.ipc_format_column_writing.specs.column_reading.columns.StoredColumns.{lists}
 use Rattle.ipc_format_array_reading.proofs.MadeChecks.{lists_gone}
 use Rattle.ipc_format_array_reading.proofs.made.list_of.Goals as goal
 

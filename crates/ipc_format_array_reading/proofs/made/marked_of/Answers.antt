@@ -2,8 +2,8 @@
 use Rattle.std.proofs.Common.{◌≡◌, ◌∙◌, subst, sym}
 use Rattle.std.specs.Prelude.{None, Result}
 use Rattle.std.proofs.lemmas.Bool.{true≢false}
-use Rattle.ipc_format_column_reading.specs.columnar_memory.declared.Error.{Error}
-use Rattle.ipc_format_column_reading.specs.columns.StoredColumns.{Column}
+use Rattle.ipc_format_column_writing.specs.column_reading.columnar_memory.declared.Error.{Error}
+use Rattle.ipc_format_column_writing.specs.column_reading.columns.StoredColumns.{Column}
 use Rattle.ipc_format_array_reading.specs.Parts.{Makes, made_column, marks}
 use Rattle.ipc_format_array_reading.proofs.MadeChecks.{struct_joined}
 use Rattle.ipc_format_array_reading.proofs.made.marked_of.Goals as goal

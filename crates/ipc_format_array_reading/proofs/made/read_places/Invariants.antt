@@ -1,6 +1,6 @@
 use Rattle.std.proofs.Common.{◌≡◌, true, take}
 use Rattle.std.specs.List.{list_all}
-use Rattle.ipc_format_column_reading.specs.columns.Kinds.{is_signed}
+use Rattle.ipc_format_column_writing.specs.column_reading.columns.Kinds.{is_signed}
 use Rattle.ipc_format_array_reading.proofs.made.read_places.Given as goal
 
 abbrev pub invariant-loop-place : goal.invariant-loop-place

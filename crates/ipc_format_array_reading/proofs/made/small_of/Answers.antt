@@ -2,9 +2,9 @@
 use Rattle.std.proofs.Common.{◌≡◌, ◌∙◌, inr, rules, subst, sym}
 use Rattle.std.specs.Prelude.{None, Result, Some}
 use Rattle.std.proofs.lemmas.Bool.{true≢false}
-use Rattle.ipc_format_column_reading.specs.columnar_memory.Spans.{offsets_of}
-use Rattle.ipc_format_column_reading.specs.columnar_memory.declared.Error.{Error}
-use Rattle.ipc_format_column_reading.specs.columns.StoredColumns.{Column}
+use Rattle.ipc_format_column_writing.specs.column_reading.columnar_memory.Spans.{offsets_of}
+use Rattle.ipc_format_column_writing.specs.column_reading.columnar_memory.declared.Error.{Error}
+use Rattle.ipc_format_column_writing.specs.column_reading.columns.StoredColumns.{Column}
 use Rattle.ipc_format_array_reading.specs.Parts.{Makes, made_column, single, spans}
 use Rattle.ipc_format_array_reading.proofs.MadeChecks.{small_list, spans_gone, spans_joined}
 use Rattle.ipc_format_array_reading.proofs.made.small_of.Goals as goal

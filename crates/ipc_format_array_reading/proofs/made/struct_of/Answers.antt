@@ -1,7 +1,7 @@
 -- Children of another length than the structs.
 use Rattle.std.proofs.Common.{◌≡◌, ◌∙◌, ◌==◌, Bool, false, List, ap, inr, rules, sym}
 use Rattle.std.specs.List.{list_all}
-use Rattle.ipc_format_column_reading.specs.columns.StoredColumns.{Column, column_len, in_columns, records}
+use Rattle.ipc_format_column_writing.specs.column_reading.columns.StoredColumns.{Column, column_len, in_columns, records}
 use Rattle.ipc_format_array_reading.proofs.MadeChecks.{short_gone}
 use Rattle.ipc_format_array_reading.proofs.made.struct_of.Goals as goal
 

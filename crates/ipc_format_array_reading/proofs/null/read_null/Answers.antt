@@ -2,12 +2,12 @@
 use Rattle.std.proofs.Common.{◌≡◌, ◌∙◌, ap, arith, inl, rules}
 use Rattle.std.specs.Prelude.{[], None, Some, slice_get, true}
 use Rattle.std.proofs.lemmas.Option.{slice_get_within}
-use Rattle.ipc_format_column_reading.specs.columnar_memory.Layouts.{physical_type}
-use Rattle.ipc_format_column_reading.specs.columnar_memory.declared.PhysicalType.TheVariants as physical
-use Rattle.ipc_format_column_reading.specs.columns.StoredColumns.{nulls, slots}
-use Rattle.ipc_format_column_reading.specs.flatbuffers.Reading.{◌>>=◌}
-use Rattle.ipc_format_column_reading.specs.Buffers.{taken_in}
-use Rattle.ipc_format_column_reading.specs.Reads.{front_slots}
+use Rattle.ipc_format_column_writing.specs.column_reading.columnar_memory.Layouts.{physical_type}
+use Rattle.ipc_format_column_writing.specs.column_reading.columnar_memory.declared.PhysicalType.TheVariants as physical
+use Rattle.ipc_format_column_writing.specs.column_reading.columns.StoredColumns.{nulls, slots}
+use Rattle.ipc_format_column_writing.specs.column_reading.flatbuffers.Reading.{◌>>=◌}
+use Rattle.ipc_format_column_writing.specs.column_reading.Buffers.{taken_in}
+use Rattle.ipc_format_column_writing.specs.column_reading.Reads.{front_slots}
 use Rattle.ipc_format_array_reading.proofs.FixedColumns.{nulls_at, nulls_made, nulls_missing}
 use Rattle.ipc_format_array_reading.proofs.null.read_null.Goals as goal
 

@@ -1,5 +1,5 @@
 use Rattle.std.proofs.Common.{List, Bool, arith, subst}
-use Rattle.ipc_format_messages.specs.grammar.Buffers.{bitmap_bytes}
+use Rattle.ipc_format_streams.specs.grammar.Buffers.{bitmap_bytes}
 use Rattle.ipc_format_column_bytes.specs.Appends.{Appends}
 use Rattle.ipc_format_column_bytes.proofs.Packed.{part_of_bits}
 use Rattle.ipc_format_column_bytes.proofs.bitmaps.append_bitmap.Goals as goal

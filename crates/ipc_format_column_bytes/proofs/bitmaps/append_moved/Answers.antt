@@ -1,6 +1,6 @@
 use Rattle.std.proofs.Common.{◌≡◌, ◌∙◌, ◌++◌, ap, List, Bool, ℕ, subst}
-use Rattle.ipc_format_messages.specs.grammar.Buffers.{bitmap_bytes}
-use Rattle.ipc_format_messages.specs.columnar_memory.Bits.{bits_of}
+use Rattle.ipc_format_streams.specs.grammar.Buffers.{bitmap_bytes}
+use Rattle.ipc_format_streams.specs.columnar_memory.Bits.{bits_of}
 use Rattle.ipc_format_column_bytes.specs.Appends.{Appends}
 use Rattle.ipc_format_column_bytes.proofs.bitmaps.append_moved.Goals as goal
 

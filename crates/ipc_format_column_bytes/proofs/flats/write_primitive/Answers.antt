@@ -1,5 +1,5 @@
 use Rattle.std.proofs.Common.{◌∙◌, ℕ, subst}
-use Rattle.ipc_format_messages.specs.grammar.StoredEncoding.{encode_range}
+use Rattle.ipc_format_streams.specs.grammar.StoredEncoding.{encode_range}
 use Rattle.ipc_format_column_bytes.specs.Bodies.{Adds, parts_of}
 use Rattle.ipc_format_column_bytes.specs.FlatColumns.{primitive_column}
 use Rattle.ipc_format_column_bytes.proofs.FlatRanges.{primitive_len}

@@ -1,7 +1,7 @@
 use Rattle.std.proofs.Common.{◌≡◌, ◌-◌, ◌++◌, take, false}
 use Rattle.std.specs.List.{flat_map}
-use Rattle.ipc_format_messages.specs.grammar.StoredEncoding.{ordered_bytes}
-use Rattle.ipc_format_messages.specs.columnar_memory.Spans.{number_of}
+use Rattle.ipc_format_streams.specs.grammar.StoredEncoding.{ordered_bytes}
+use Rattle.ipc_format_streams.specs.columnar_memory.Spans.{number_of}
 use Rattle.ipc_format_column_bytes.specs.Numbers.{width_of}
 use Rattle.ipc_format_column_bytes.proofs.offsets.append_big.Given as goal
 

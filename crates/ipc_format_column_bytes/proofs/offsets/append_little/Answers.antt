@@ -1,7 +1,7 @@
 use Rattle.std.proofs.Common.{◌∙◌, ◌-◌, true, ap, sym, rules}
-use Rattle.ipc_format_messages.specs.grammar.StoredEncoding.{ordered_bytes}
-use Rattle.ipc_format_messages.specs.columnar_memory.Numbers.{one}
-use Rattle.ipc_format_messages.specs.columnar_memory.Spans.{number_of}
+use Rattle.ipc_format_streams.specs.grammar.StoredEncoding.{ordered_bytes}
+use Rattle.ipc_format_streams.specs.columnar_memory.Numbers.{one}
+use Rattle.ipc_format_streams.specs.columnar_memory.Spans.{number_of}
 use Rattle.ipc_format_column_bytes.specs.Appends.{BeginsWith}
 use Rattle.ipc_format_column_bytes.specs.Numbers.{width_of}
 use Rattle.ipc_format_column_bytes.proofs.Added.{begins_behind, one_more}

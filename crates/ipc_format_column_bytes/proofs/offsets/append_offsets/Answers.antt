@@ -1,10 +1,10 @@
 use Rattle.std.specs.List.{flat_map}
 use Rattle.std.proofs.Common.{◌∙◌, ◌+◌, ◌-◌, arith, ap, Bool, List, ℕ, sym, subst, refl, true, false}
 use Rattle.std.specs.Prelude.{slice_range}
-use Rattle.ipc_format_messages.specs.columnar_memory.Spans.{number_of, offsets_of}
-use Rattle.ipc_format_messages.specs.columns.StoredColumns.{cut_list}
-use Rattle.ipc_format_messages.specs.grammar.StoredEncoding.{moved_bytes, ordered_bytes}
-use Rattle.ipc_format_messages.proofs.columnar_memory_lemmas.buffer_lemmas.Runs.{length-AreOffsets}
+use Rattle.ipc_format_streams.specs.columnar_memory.Spans.{number_of, offsets_of}
+use Rattle.ipc_format_streams.specs.columns.StoredColumns.{cut_list}
+use Rattle.ipc_format_streams.specs.grammar.StoredEncoding.{moved_bytes, ordered_bytes}
+use Rattle.ipc_format_streams.proofs.columnar_memory_lemmas.buffer_lemmas.Runs.{length-AreOffsets}
 use Rattle.ipc_format_column_bytes.specs.Appends.{Appends}
 use Rattle.ipc_format_column_bytes.specs.Numbers.{width_of}
 use Rattle.ipc_format_column_bytes.proofs.Moved.{moved_part, part_from_first}

@@ -1,5 +1,5 @@
 use Rattle.std.proofs.Common.{arith}
-use Rattle.ipc_format_messages.proofs.columnar_memory_lemmas.buffer_lemmas.Runs.{length-AreOffsets, nonnegative}
+use Rattle.ipc_format_streams.proofs.columnar_memory_lemmas.buffer_lemmas.Runs.{length-AreOffsets, nonnegative}
 use Rattle.ipc_format_column_bytes.proofs.Moved.{offset_read, one_number}
 use Rattle.ipc_format_column_bytes.proofs.offsets.offset_at.Goals as goal
 

@@ -1,11 +1,11 @@
 -- Marks, offsets and bytes as an array of byte strings.
 use Rattle.std.proofs.Common.{◌≡◌, ◌∙◌, List, length, true, sym, ap, inl, rules}
 use Rattle.std.specs.Prelude.{Err, Some, is_some}
-use Rattle.flat_arrays.specs.ByteStrings.{ByteStrings, byte_strings}
-use Rattle.flat_arrays.specs.Fits.{binary_layout}
-use Rattle.ipc_format_streams.specs.columnar_memory.Layouts.{physical_type}
-use Rattle.ipc_format_streams.specs.columns.Slots.{Slot, bytes}
-use Rattle.ipc_format_streams.specs.columns.StoredColumns.{slots}
+use Rattle.ipc_format_column_bytes.specs.flat_arrays.ByteStrings.{ByteStrings, byte_strings}
+use Rattle.ipc_format_column_bytes.specs.flat_arrays.Fits.{binary_layout}
+use Rattle.ipc_format_column_bytes.specs.streams.columnar_memory.Layouts.{physical_type}
+use Rattle.ipc_format_column_bytes.specs.streams.columns.Slots.{Slot, bytes}
+use Rattle.ipc_format_column_bytes.specs.streams.columns.StoredColumns.{slots}
 use Rattle.ipc_format_column_reading.specs.Reads.{Strings, front_slots, next_strings}
 use Rattle.ipc_format_column_reading.specs.FlatColumns.{binary_column}
 use Rattle.ipc_format_column_reading.proofs.Readings.{reads_made, reads_refused}

@@ -1,10 +1,10 @@
 -- Marks, and the values behind them.
 use Rattle.std.proofs.Common.{◌≡◌, List, Bool, refl, sym, ap, inl, rules}
 use Rattle.std.specs.Prelude.{Err, Some, is_some}
-use Rattle.ipc_format_streams.specs.columnar_memory.Layouts.{physical_type}
-use Rattle.ipc_format_streams.specs.columnar_memory.declared.PhysicalType.TheVariants as physical
-use Rattle.ipc_format_streams.specs.columns.Slots.{Slot}
-use Rattle.ipc_format_streams.specs.columns.StoredColumns.{slots}
+use Rattle.ipc_format_column_bytes.specs.streams.columnar_memory.Layouts.{physical_type}
+use Rattle.ipc_format_column_bytes.specs.streams.columnar_memory.declared.PhysicalType.TheVariants as physical
+use Rattle.ipc_format_column_bytes.specs.streams.columns.Slots.{Slot}
+use Rattle.ipc_format_column_bytes.specs.streams.columns.StoredColumns.{slots}
 use Rattle.ipc_format_column_reading.specs.Buffers.{next_bits}
 use Rattle.ipc_format_column_reading.specs.FlatColumns.{boolean_column}
 use Rattle.ipc_format_column_reading.proofs.NumberColumns.{truths_given, truths_made, truths_next}

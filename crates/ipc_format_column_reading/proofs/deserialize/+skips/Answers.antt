@@ -1,7 +1,7 @@
 use Rattle.std.proofs.Common.{◌≡◌, ◌∙◌, ◌+◌, ◌≤◌, take, map, sym, ap, rules}
 use Rattle.std.specs.Prelude.{Err}
-use Rattle.ipc_format_streams.specs.grammar.Layouts.{node_count, buffer_count, total}
-use Rattle.ipc_format_streams.specs.messages.MessageViews.{version_view}
+use Rattle.ipc_format_column_bytes.specs.streams.grammar.Layouts.{node_count, buffer_count, total}
+use Rattle.ipc_format_column_bytes.specs.streams.messages.MessageViews.{version_view}
 use Rattle.ipc_format_column_reading.specs.Queues.{field_nodes_of, field_buffers_of}
 use Rattle.ipc_format_column_reading.proofs.NestedCounts.{struct_nodes, struct_buffers, union_nodes, union_buffers}
 use Rattle.ipc_format_column_reading.proofs.Skipping.{skips_behind, skips_more, skips_as, total_within}

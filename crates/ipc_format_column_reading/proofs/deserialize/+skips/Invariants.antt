@@ -1,7 +1,7 @@
 -- The nodes and buffers of the fields before the place are off the fronts.
 use Rattle.std.proofs.Common.{◌≡◌, ◌≤◌, length, drop, take, map}
-use Rattle.ipc_format_streams.specs.grammar.Layouts.{total}
-use Rattle.ipc_format_streams.specs.messages.MessageViews.{version_view}
+use Rattle.ipc_format_column_bytes.specs.streams.grammar.Layouts.{total}
+use Rattle.ipc_format_column_bytes.specs.streams.messages.MessageViews.{version_view}
 use Rattle.ipc_format_column_reading.specs.Queues.{field_nodes_of, field_buffers_of}
 use Rattle.ipc_format_column_reading.proofs.deserialize.+skips.Given as goal
 

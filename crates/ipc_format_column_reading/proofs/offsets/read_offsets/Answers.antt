@@ -1,7 +1,7 @@
 -- The numbers of the next buffer as offsets.
 use Rattle.std.proofs.Common.{◌≡◌, ◌==◌, ◌&&◌, ◌+◌, false, true, rules}
 use Rattle.std.specs.Prelude.{Err, is_some, map}
-use Rattle.ipc_format_streams.specs.columnar_memory.Spans.{offsets_of}
+use Rattle.ipc_format_column_bytes.specs.streams.columnar_memory.Spans.{offsets_of}
 use Rattle.ipc_format_column_reading.specs.Buffers.{next_values}
 use Rattle.ipc_format_column_reading.specs.Reads.{next_offsets, states_less}
 use Rattle.ipc_format_column_reading.proofs.OffsetReads.{offsets_made, offsets_read, offsets_sized, offsets_whole, short_read, short_taken}

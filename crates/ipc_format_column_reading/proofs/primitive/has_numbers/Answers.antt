@@ -1,5 +1,5 @@
 use Rattle.std.proofs.Common.{subst}
-use Rattle.ipc_format_streams.specs.columnar_memory.Numbers.{Numbers, IsNative}
+use Rattle.ipc_format_column_bytes.specs.streams.columnar_memory.Numbers.{Numbers, IsNative}
 use Rattle.ipc_format_column_reading.proofs.primitive.has_numbers.Goals as goal
 
 pub returns : goal.returns

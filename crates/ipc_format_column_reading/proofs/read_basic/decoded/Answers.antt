@@ -1,8 +1,8 @@
 use Rattle.std.proofs.Common.{◌≡◌, ◌∙◌, ◌++◌, ◌∷◌, [], ◌<◌, length, map, sym, ap, subst}
 use Rattle.std.specs.Slice.Iter.{chunks_exact_rest}
-use Rattle.ipc_format_streams.specs.columnar_memory.Numbers.{numbers_in}
-use Rattle.ipc_format_streams.specs.columnar_memory.Windows.{window}
-use Rattle.ipc_format_streams.specs.grammar.Values.{element_bytes}
+use Rattle.ipc_format_column_bytes.specs.streams.columnar_memory.Numbers.{numbers_in}
+use Rattle.ipc_format_column_bytes.specs.streams.columnar_memory.Windows.{window}
+use Rattle.ipc_format_column_bytes.specs.streams.grammar.Values.{element_bytes}
 use Rattle.ipc_format_column_reading.proofs.Decoding.{decoded_all, decoded_next, elements, kind_size_positive}
 use Rattle.ipc_format_column_reading.proofs.read_basic.decoded.Goals as goal
 use Rattle.ipc_format_column_reading.proofs.read_basic.decoded.Goals.{then-is_little_endian, else-is_little_endian}

@@ -1,7 +1,7 @@
 -- The values so far and those that the rest spells are those of all bytes.
 use Rattle.std.proofs.Common.{◌≡◌, ◌*◌, ◌++◌, ℕ, length, map}
 use Rattle.std.specs.Slice.Iter.{chunks_exact_rest, chunks_exact_size}
-use Rattle.ipc_format_streams.specs.columnar_memory.Numbers.{numbers_in}
+use Rattle.ipc_format_column_bytes.specs.streams.columnar_memory.Numbers.{numbers_in}
 use Rattle.ipc_format_column_reading.proofs.Decoding.{elements}
 use Rattle.ipc_format_column_reading.proofs.read_basic.decoded.Given as goal
 

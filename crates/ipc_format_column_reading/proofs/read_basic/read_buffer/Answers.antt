@@ -1,7 +1,7 @@
 -- The values of the bytes in memory from the next buffer's place on, which states enough.
 use Rattle.std.proofs.Common.{◌≡◌, ◌∙◌, ◌+◌, ◌*◌, ◌≤◌, List, ℕ, false, refl, sym, ap, arith, rules}
 use Rattle.std.specs.Prelude.{None, Some, is_some, map}
-use Rattle.ipc_format_streams.specs.flatbuffers.Reading.{window_at}
+use Rattle.ipc_format_column_bytes.specs.streams.flatbuffers.Reading.{window_at}
 use Rattle.ipc_format_column_reading.specs.Buffers.{next_stated, values_in}
 use Rattle.ipc_format_column_reading.proofs.NextBuffers.{window_stated}
 use Rattle.ipc_format_column_reading.proofs.NextValues.{values_count, values_given}

@@ -1,7 +1,7 @@
 -- The bytes from the next buffer's place on, which states enough, are those of the next buffer.
 use Rattle.std.proofs.Common.{◌≡◌, ◌∙◌, ◌+◌, ◌≤◌, false, Some, rules, arith}
 use Rattle.std.specs.Prelude.{None, is_some}
-use Rattle.ipc_format_streams.specs.flatbuffers.Reading.{window_at}
+use Rattle.ipc_format_column_bytes.specs.streams.flatbuffers.Reading.{window_at}
 use Rattle.ipc_format_column_reading.specs.Buffers.{next_stated, next_window}
 use Rattle.ipc_format_column_reading.specs.Rooms.{ForBytes}
 use Rattle.ipc_format_column_reading.proofs.NextBuffers.{window_stated, refusal_for}

@@ -1,10 +1,10 @@
 -- Marks, offsets and bytes, read one after another.
 use Rattle.std.proofs.Common.{◌≡◌, ◌∙◌, ℕ, List, length, refl, sym, ap, rules}
 use Rattle.std.specs.Prelude.{Err, Ok, Some, is_some, vec_items}
-use Rattle.ipc_format_streams.specs.columnar_memory.Spans as spans
-use Rattle.ipc_format_streams.specs.columnar_memory.Spans.{offsets_of}
-use Rattle.ipc_format_streams.specs.flatbuffers.Reading.{◌>>=◌}
-use Rattle.ipc_format_streams.specs.grammar.Columns.{last_of}
+use Rattle.ipc_format_column_bytes.specs.streams.columnar_memory.Spans as spans
+use Rattle.ipc_format_column_bytes.specs.streams.columnar_memory.Spans.{offsets_of}
+use Rattle.ipc_format_column_bytes.specs.streams.flatbuffers.Reading.{◌>>=◌}
+use Rattle.ipc_format_column_bytes.specs.streams.grammar.Columns.{last_of}
 use Rattle.ipc_format_column_reading.specs.Buffers.{next_window}
 use Rattle.ipc_format_column_reading.specs.Reads.{Strings, strings_of}
 use Rattle.ipc_format_column_reading.proofs.ColumnReads.{Marks, bytes_behind, last_is, same_number, strings_behind, takes_behind, with_bytes}

@@ -2,10 +2,10 @@
 use Rattle.std.proofs.Common.{◌≡◌, List, length, refl, inl, rules}
 use Rattle.std.specs.Prelude.{Err, is_some}
 use Rattle.std.specs.Str.{is_utf8}
-use Rattle.flat_arrays.specs.ByteStrings.{ByteStrings, byte_strings}
-use Rattle.flat_arrays.specs.Fits.{Fits, text_layout}
-use Rattle.ipc_format_streams.specs.columnar_memory.Layouts.{physical_type}
-use Rattle.ipc_format_streams.specs.columns.Slots.{Slot, text}
+use Rattle.ipc_format_column_bytes.specs.flat_arrays.ByteStrings.{ByteStrings, byte_strings}
+use Rattle.ipc_format_column_bytes.specs.flat_arrays.Fits.{Fits, text_layout}
+use Rattle.ipc_format_column_bytes.specs.streams.columnar_memory.Layouts.{physical_type}
+use Rattle.ipc_format_column_bytes.specs.streams.columns.Slots.{Slot, text}
 use Rattle.ipc_format_column_reading.specs.Reads.{Strings, front_slots, next_strings}
 use Rattle.ipc_format_column_reading.proofs.Readings.{reads_refused}
 use Rattle.ipc_format_column_reading.proofs.StringColumns.{strings_made, texts_given}

@@ -1,14 +1,14 @@
 use Rattle.std.proofs.Common.{rules, ◌≡◌, ◌∷◌, ◌+◌, ap, subst, sym, List}
-use Rattle.nested_arrays.specs.AnyColumns.{column_of}
-use Rattle.nested_arrays.specs.Parts.{column_children}
-use Rattle.nested_arrays.specs.Places.{HaveRange}
-use Rattle.nested_arrays.specs.StoredColumns.{Column, Columns, column_size, columns_size, in_columns}
-use Rattle.nested_arrays.specs.declared.Node.TheVariants as nodes
-use Rattle.ipc_format_column_bytes.specs.Bodies.{parts_of}
-use Rattle.ipc_format_column_bytes.specs.grammar.Encoding.{joined}
-use Rattle.ipc_format_column_bytes.specs.grammar.StoredEncoding.{encode_range, encode_ranges}
-use Rattle.ipc_format_column_bytes.proofs.Bodies.{added_then}
-use Rattle.ipc_format_column_bytes.proofs.columns_lemmas.ColumnSizes.{sizes_count}
+use Rattle.ipc_format_chunks.specs.nested_arrays.AnyColumns.{column_of}
+use Rattle.ipc_format_chunks.specs.nested_arrays.Parts.{column_children}
+use Rattle.ipc_format_chunks.specs.nested_arrays.Places.{HaveRange}
+use Rattle.ipc_format_chunks.specs.nested_arrays.StoredColumns.{Column, Columns, column_size, columns_size, in_columns}
+use Rattle.ipc_format_chunks.specs.nested_arrays.declared.Node.TheVariants as nodes
+use Rattle.ipc_format_column_reading.specs.column_bytes.Bodies.{parts_of}
+use Rattle.ipc_format_column_reading.specs.column_bytes.grammar.Encoding.{joined}
+use Rattle.ipc_format_column_reading.specs.column_bytes.grammar.StoredEncoding.{encode_range, encode_ranges}
+use Rattle.ipc_format_column_reading.proofs.bytes_lemmas.Bodies.{added_then}
+use Rattle.ipc_format_column_reading.proofs.bytes_lemmas.columns_lemmas.ColumnSizes.{sizes_count}
 use Rattle.ipc_format_column_writing.specs.Parts.{HaveParts, encode_part, encode_parts, items_column}
 use Rattle.ipc_format_column_writing.proofs.Begun.{range_then}
 use Rattle.ipc_format_column_writing.proofs.Children.{all_of, rest_of}

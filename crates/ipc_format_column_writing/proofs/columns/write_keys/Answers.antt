@@ -1,6 +1,6 @@
 use Rattle.std.proofs.Common.{subst}
-use Rattle.ipc_format_column_bytes.specs.Bodies.{Adds, parts_of}
-use Rattle.ipc_format_column_bytes.specs.grammar.Encoding.{Encoded}
+use Rattle.ipc_format_column_reading.specs.column_bytes.Bodies.{Adds, parts_of}
+use Rattle.ipc_format_column_reading.specs.column_bytes.grammar.Encoding.{Encoded}
 use Rattle.ipc_format_column_writing.proofs.KeyBytes.{keys_range}
 use Rattle.ipc_format_column_writing.proofs.columns.write_keys.Goals as goal
 

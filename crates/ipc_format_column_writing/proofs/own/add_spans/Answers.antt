@@ -1,9 +1,9 @@
 use Rattle.std.proofs.Common.{◌≡◌, ◌∙◌, ◌+◌, ◌-◌, ◌≤◌, arith}
 use Rattle.std.specs.Prelude.{slice_index}
-use Rattle.ipc_format_column_bytes.specs.columnar_memory.Spans.{last_of, offset_at, offsets_of}
-use Rattle.ipc_format_column_bytes.specs.columns.StoredColumns.{cut_list}
-use Rattle.ipc_format_column_bytes.specs.grammar.StoredEncoding.{last_offset}
-use Rattle.ipc_format_column_bytes.proofs.FlatRanges.{taken_first, taken_last, taken_rise, taken_within}
+use Rattle.ipc_format_column_reading.specs.column_bytes.columnar_memory.Spans.{last_of, offset_at, offsets_of}
+use Rattle.ipc_format_column_reading.specs.column_bytes.columns.StoredColumns.{cut_list}
+use Rattle.ipc_format_column_reading.specs.column_bytes.grammar.StoredEncoding.{last_offset}
+use Rattle.ipc_format_column_reading.proofs.bytes_lemmas.FlatRanges.{taken_first, taken_last, taken_rise, taken_within}
 use Rattle.ipc_format_column_writing.proofs.own.add_spans.Goals as goal
 
 pub overflow_sub-result : goal.overflow_sub-result

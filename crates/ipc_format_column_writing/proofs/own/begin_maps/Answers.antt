@@ -1,10 +1,10 @@
 use Rattle.std.proofs.Common.{◌≡◌, ◌∙◌, List, ℕ, ap, sym, option_copied, arith}
 use Rattle.std.specs.Int.{w32}
-use Rattle.nested_arrays.specs.ColumnMasks.{column_mask}
-use Rattle.nested_arrays.proofs.parts_lemmas.OffsetLists.{spans_count}
-use Rattle.ipc_format_column_bytes.specs.Bodies.{parts_of}
-use Rattle.ipc_format_column_bytes.specs.columnar_memory.Spans.{offsets_of}
-use Rattle.ipc_format_column_bytes.specs.columns.StoredColumns.{column_len, column_type, lists}
+use Rattle.ipc_format_chunks.specs.nested_arrays.ColumnMasks.{column_mask}
+use Rattle.ipc_format_chunks.proofs.nested_lemmas.parts_lemmas.OffsetLists.{spans_count}
+use Rattle.ipc_format_column_reading.specs.column_bytes.Bodies.{parts_of}
+use Rattle.ipc_format_column_reading.specs.column_bytes.columnar_memory.Spans.{offsets_of}
+use Rattle.ipc_format_column_reading.specs.column_bytes.columns.StoredColumns.{column_len, column_type, lists}
 use Rattle.ipc_format_column_writing.specs.Parts.{items_column}
 use Rattle.ipc_format_column_writing.proofs.Begun.{named_begun, spans_within}
 use Rattle.ipc_format_column_writing.proofs.Widths.{maps_width}

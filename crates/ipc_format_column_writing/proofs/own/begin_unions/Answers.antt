@@ -1,9 +1,9 @@
-use Rattle.nested_arrays.specs.Parts.{column_children, column_ids, column_places}
-use Rattle.ipc_format_column_bytes.specs.Bodies.{of_node, parts_of}
-use Rattle.ipc_format_column_bytes.specs.WholeColumns.{behind_node}
-use Rattle.ipc_format_column_bytes.specs.columns.StoredColumns.{column_type, in_columns}
-use Rattle.ipc_format_column_bytes.specs.grammar.Encoding.{joined}
-use Rattle.ipc_format_column_bytes.specs.grammar.StoredEncoding.{encode_range}
+use Rattle.ipc_format_chunks.specs.nested_arrays.Parts.{column_children, column_ids, column_places}
+use Rattle.ipc_format_column_reading.specs.column_bytes.Bodies.{of_node, parts_of}
+use Rattle.ipc_format_column_reading.specs.column_bytes.WholeColumns.{behind_node}
+use Rattle.ipc_format_column_reading.specs.column_bytes.columns.StoredColumns.{column_type, in_columns}
+use Rattle.ipc_format_column_reading.specs.column_bytes.grammar.Encoding.{joined}
+use Rattle.ipc_format_column_reading.specs.column_bytes.grammar.StoredEncoding.{encode_range}
 use Rattle.ipc_format_column_writing.specs.Parts.{encode_parts}
 use Rattle.ipc_format_column_writing.proofs.Begun.{begins_behind}
 use Rattle.ipc_format_column_writing.proofs.Unions.{union_node}

@@ -1,11 +1,11 @@
 use Rattle.std.proofs.Common.{[], ◌∷◌, option_copied}
-use Rattle.nested_arrays.specs.ColumnMasks.{column_mask}
-use Rattle.nested_arrays.specs.StoredColumns.{column_len, column_type, cut_mask, in_columns}
-use Rattle.ipc_format_column_bytes.specs.Bodies.{of_buffers, parts_of}
-use Rattle.ipc_format_column_bytes.specs.WholeColumns.{behind_node}
-use Rattle.ipc_format_column_bytes.specs.grammar.Encoding.{joined}
-use Rattle.ipc_format_column_bytes.specs.grammar.StoredEncoding.{encode_ranges, encode_stored, mask_bytes}
-use Rattle.ipc_format_column_bytes.proofs.Bodies.{added_then}
+use Rattle.ipc_format_chunks.specs.nested_arrays.ColumnMasks.{column_mask}
+use Rattle.ipc_format_chunks.specs.nested_arrays.StoredColumns.{column_len, column_type, cut_mask, in_columns}
+use Rattle.ipc_format_column_reading.specs.column_bytes.Bodies.{of_buffers, parts_of}
+use Rattle.ipc_format_column_reading.specs.column_bytes.WholeColumns.{behind_node}
+use Rattle.ipc_format_column_reading.specs.column_bytes.grammar.Encoding.{joined}
+use Rattle.ipc_format_column_reading.specs.column_bytes.grammar.StoredEncoding.{encode_ranges, encode_stored, mask_bytes}
+use Rattle.ipc_format_column_reading.proofs.bytes_lemmas.Bodies.{added_then}
 use Rattle.ipc_format_column_writing.proofs.Behind.{all_fields, behind_records}
 use Rattle.ipc_format_column_writing.proofs.serialize.write_behind_struct.Goals as goal
 

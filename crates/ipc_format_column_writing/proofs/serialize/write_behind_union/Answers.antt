@@ -1,10 +1,10 @@
 use Rattle.std.proofs.Common.{ap, subst, sym, ℕ}
-use Rattle.nested_arrays.specs.Parts.{column_children}
-use Rattle.nested_arrays.specs.StoredColumns.{Column}
-use Rattle.ipc_format_column_bytes.specs.Bodies.{Adds, parts_of}
-use Rattle.ipc_format_column_bytes.specs.WholeColumns.{behind_node}
-use Rattle.ipc_format_column_bytes.specs.grammar.Encoding.{Encoded, joined}
-use Rattle.ipc_format_column_bytes.specs.grammar.StoredEncoding.{encode_range}
+use Rattle.ipc_format_chunks.specs.nested_arrays.Parts.{column_children}
+use Rattle.ipc_format_chunks.specs.nested_arrays.StoredColumns.{Column}
+use Rattle.ipc_format_column_reading.specs.column_bytes.Bodies.{Adds, parts_of}
+use Rattle.ipc_format_column_reading.specs.column_bytes.WholeColumns.{behind_node}
+use Rattle.ipc_format_column_reading.specs.column_bytes.grammar.Encoding.{Encoded, joined}
+use Rattle.ipc_format_column_reading.specs.column_bytes.grammar.StoredEncoding.{encode_range}
 use Rattle.ipc_format_column_writing.specs.Parts.{encode_parts}
 use Rattle.ipc_format_column_writing.proofs.Begun.{begun_then}
 use Rattle.ipc_format_column_writing.proofs.serialize.write_behind_union.Goals as goal

@@ -1,7 +1,7 @@
 use Rattle.std.proofs.Common.{[], ◌∷◌, option_copied}
-use Rattle.ipc_format_messages.specs.columns.StoredColumns.{cut_list, cut_mask}
-use Rattle.ipc_format_messages.specs.grammar.Buffers.{bitmap_bytes}
-use Rattle.ipc_format_messages.specs.grammar.StoredEncoding.{encode_range}
+use Rattle.ipc_format_streams.specs.columns.StoredColumns.{cut_list, cut_mask}
+use Rattle.ipc_format_streams.specs.grammar.Buffers.{bitmap_bytes}
+use Rattle.ipc_format_streams.specs.grammar.StoredEncoding.{encode_range}
 use Rattle.ipc_format_column_bytes.specs.Bodies.{of_buffers, of_slots, parts_of}
 use Rattle.ipc_format_column_bytes.specs.FlatColumns.{boolean_column}
 use Rattle.ipc_format_column_bytes.proofs.Bodies.{added_then}

@@ -1,8 +1,8 @@
 use Rattle.std.specs.List.{flat_map}
 use Rattle.std.proofs.Common.{◌∙◌, ◌+◌, [], ◌∷◌, option_copied, refl}
 use Rattle.std.specs.Prelude.{slice_range}
-use Rattle.ipc_format_messages.specs.columns.StoredColumns.{cut_mask}
-use Rattle.ipc_format_messages.specs.grammar.StoredEncoding.{encode_range}
+use Rattle.ipc_format_streams.specs.columns.StoredColumns.{cut_mask}
+use Rattle.ipc_format_streams.specs.grammar.StoredEncoding.{encode_range}
 use Rattle.ipc_format_column_bytes.specs.Bodies.{of_buffers, of_slots, parts_of}
 use Rattle.ipc_format_column_bytes.specs.FlatColumns.{primitive_column}
 use Rattle.ipc_format_column_bytes.specs.Numbers.{value_bytes}

@@ -1,6 +1,6 @@
 use Rattle.std.proofs.Common.{[], ◌∷◌, option_copied}
-use Rattle.ipc_format_messages.specs.columns.StoredColumns.{cut_mask}
-use Rattle.ipc_format_messages.specs.grammar.StoredEncoding.{mask_bytes}
+use Rattle.ipc_format_streams.specs.columns.StoredColumns.{cut_mask}
+use Rattle.ipc_format_streams.specs.grammar.StoredEncoding.{mask_bytes}
 use Rattle.ipc_format_column_bytes.specs.Bodies.{of_buffers, of_node, of_slots, parts_of}
 use Rattle.ipc_format_column_bytes.proofs.Bodies.{added_then, slots_added}
 use Rattle.ipc_format_column_bytes.proofs.body.Body.add_slots.Goals as goal

@@ -1,8 +1,8 @@
 use Rattle.std.proofs.Common.{◌+◌, ◌≤◌, [], ◌∷◌, ap, length, refl, arith}
 use Rattle.std.specs.Prelude.{slice_range}
-use Rattle.ipc_format_messages.specs.columnar_memory.Spans.{offset_at, offsets_of}
-use Rattle.ipc_format_messages.specs.columns.StoredColumns.{cut_list}
-use Rattle.ipc_format_messages.specs.grammar.StoredEncoding.{between_offsets, moved_bytes}
+use Rattle.ipc_format_streams.specs.columnar_memory.Spans.{offset_at, offsets_of}
+use Rattle.ipc_format_streams.specs.columns.StoredColumns.{cut_list}
+use Rattle.ipc_format_streams.specs.grammar.StoredEncoding.{between_offsets, moved_bytes}
 use Rattle.ipc_format_column_bytes.specs.Bodies.{of_buffers, parts_of}
 use Rattle.ipc_format_column_bytes.specs.Numbers.{width_of}
 use Rattle.ipc_format_column_bytes.proofs.Bodies.{added_then}

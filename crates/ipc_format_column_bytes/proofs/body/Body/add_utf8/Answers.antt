@@ -1,8 +1,8 @@
 use Rattle.std.proofs.Common.{◌∙◌, ◌+◌, [], ◌∷◌, ap, option_copied, sym}
-use Rattle.ipc_format_messages.specs.columnar_memory.Layouts.{physical_type}
-use Rattle.ipc_format_messages.specs.columnar_memory.Spans.{offsets_of}
-use Rattle.ipc_format_messages.specs.columns.StoredColumns.{cut_list, cut_mask}
-use Rattle.ipc_format_messages.specs.grammar.StoredEncoding.{between_offsets, encode_range, moved_bytes}
+use Rattle.ipc_format_streams.specs.columnar_memory.Layouts.{physical_type}
+use Rattle.ipc_format_streams.specs.columnar_memory.Spans.{offsets_of}
+use Rattle.ipc_format_streams.specs.columns.StoredColumns.{cut_list, cut_mask}
+use Rattle.ipc_format_streams.specs.grammar.StoredEncoding.{between_offsets, encode_range, moved_bytes}
 use Rattle.ipc_format_column_bytes.specs.Bodies.{of_buffers, of_slots, parts_of}
 use Rattle.ipc_format_column_bytes.specs.FlatColumns.{text_column}
 use Rattle.ipc_format_column_bytes.specs.Numbers.{width_of}

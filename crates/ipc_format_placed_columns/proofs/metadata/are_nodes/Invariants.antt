@@ -1,8 +1,0 @@
--- The numbers of the nodes that were looked at are signed.
-use Rattle.std.proofs.Common.{take}
-use Rattle.std.specs.List.{AllByRecursion}
-use Rattle.ipc_format_placed_columns.specs.Placing.{IsSignedNode}
-use Rattle.ipc_format_placed_columns.proofs.metadata.are_nodes.Given as goal
-
-abbrev pub invariant-loop-k : goal.invariant-loop-k
-invariant-loop-k l = AllByRecursion IsSignedNode (take l.k l.nodes)

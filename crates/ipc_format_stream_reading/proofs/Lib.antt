@@ -1,4 +1,0 @@
-mod NextMessages
-mod Pieces
-mod Told
-mod Starts

@@ -1,0 +1,35 @@
+//! A slot of an array pushed into a builder.
+ghost use Rattle.std.specs.Prelude.{◌<◌};
+ghost use Rattle.nested_arrays_builder_cells.specs.ArrayCells.{has_cell_at};
+ghost use Rattle.nested_arrays_builder_cells.specs.arrays.columns.StoredColumns.{column_len, slot_at};
+ghost use Rattle.nested_arrays_builder_pushes.specs.Pushes.{IsPushedIf};
+
+use nested_arrays_builder_cells::arrays::AnyArray;
+use nested_arrays_builder_cells::arrays::columnar_memory::{Error, Result};
+use nested_arrays_builder_cells::builders::AnyMutableArray;
+use nested_arrays_builder_cells::cell_at;
+use std::alloc::Global;
+
+/// Builders of any type that take slots of arrays.
+pub trait TryPushFrom {
+    /// Pushes the cell of the slot at a place of an array.
+    ///
+    /// # Errors
+    /// - `InvalidArgumentError`: the slot has no cell, as that of a map which is not null and that of a union, or the cell does not fit the type.
+    /// - `Overflow`: the slots with this one are more than a column may have, at some depth, or their items or bytes than offsets may number.
+    /// - `OutOfMemory`: the cell or the slot found no memory.
+    fn try_push_from(&mut self, alloc: Global, array: &AnyArray, place: usize) -> Result<()>
+        requires { place < column_len array.now };
+}
+
+impl TryPushFrom for AnyMutableArray {
+    fn try_push_from(&mut self, alloc: Global, array: &AnyArray, place: usize) -> Result<()>
+        requires { place < column_len array.now }
+        ensures { IsPushedIf (has_cell_at place array.now) self.old (slot_at array.now place) self.new result }
+    {
+        let Some(cell) = cell_at(alloc, array, place)? else {
+            return Err(Error::InvalidArgumentError("a slot without a cell"));
+        };
+        self.try_push_scalar(&cell)
+    }
+}

@@ -1,1 +1,0 @@
-pub use Rattle.nested_arrays_arrays.specs as arrays

@@ -1,0 +1,3 @@
+pub mod Messages
+pub mod Reading
+pub use Rattle.tables_stream_steps.specs as steps

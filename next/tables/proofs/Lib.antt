@@ -1,0 +1,3 @@
+mod ContentsLemmas
+mod Lines
+mod NumberLemmas

@@ -1,0 +1,15 @@
+pub mod Command
+pub mod Contents
+pub mod Failure
+pub mod Forms
+pub mod Inputs
+pub mod Made
+pub mod Number
+pub mod Outcome
+pub use Rattle.tables_chunks.specs.Texts
+pub use Rattle.tables_chunks.specs.Choices
+pub use Rattle.tables_chunks.specs.ReadTables
+pub use Rattle.tables_chunks.specs.SameRows
+pub use Rattle.tables_chunks.specs.StoredTables
+pub use Rattle.tables_chunks.specs.TableParts
+pub use Rattle.tables_chunks.specs.WrittenTables

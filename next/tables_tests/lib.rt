@@ -1,0 +1,12 @@
+//! Tests of the program's commands and of the tables under them. They stand here since a crate with tests is proved twice.
+#![tactic(auto)]
+
+mod calling;
+#[cfg(test)]
+mod commands;
+#[cfg(test)]
+mod refusals;
+#[cfg(test)]
+mod samples;
+
+pub use calling::head;
