@@ -7,7 +7,8 @@
 # make bench-flat   measures jobs of flat arrays and their builders against plain Rust
 # make bench-nested   measures jobs of nested arrays against plain Rust
 # make bench-metadata   measures schemas read from and written as metadata against a copy of its bytes
-# make definitions   runs the definitions of specs/ on worked values, and on laid and damaged inputs against an independent reader
+# make definitions   runs the definitions of specs/ on worked values, on laid and damaged inputs against an independent reader, and on what
+#              commands make of streams of every type against an independent model of them
 
 RT ?= rt
 PYTHON ?= python3 -B
@@ -45,12 +46,14 @@ test:
 	$(PYTHON) tools/gate.py --selftest
 	@for it in $(WORKED); do echo "$(PYTHON) $$it"; $(PYTHON) $$it || exit 1; done
 	$(PYTHON) tools/definitions/compare.py --count 400 --seed 7
+	$(PYTHON) tools/definitions/compare_commands.py --random 100
 	$(PYTHON) tools/writer/streams.py check crates/tables_files/data crates/tables_files/stdout
 	$(PYTHON) tools/gate.py --started $(STARTED) $(if $(MINUTES),--minutes $(MINUTES)) $(RT)
 
 definitions:
 	@for it in $(WORKED); do echo "$(PYTHON) $$it"; $(PYTHON) $$it || exit 1; done
 	$(PYTHON) tools/definitions/compare.py --count $(COUNT) --seed $(SEED)
+	$(PYTHON) tools/definitions/compare_commands.py
 
 bench: program bench-memory bench-flat bench-nested bench-metadata
 	$(PYTHON) tools/benches/bench.py cut bin/tables bin

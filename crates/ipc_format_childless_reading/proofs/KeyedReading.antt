@@ -107,7 +107,7 @@ pub array_refused : {A : Type 0} (old new : Told) (t : DataType) (key : IntegerT
     → ReadsAs false old new view (next_keys kind little nodes limit buffers origin) (Err error) → IsEnd nodes nodes1 → IsEnd buffers buffers1
     → ReadsColumn (physical_type t ≡ physical.Dictionary key) false old new (λ (array : Column). array) t
     (λ room. array_slots t (at_front nodes buffers version little (standing_in dictionaries) limit origin here room)) 1 2 nodes nodes1
-      buffers buffers1
+    buffers buffers1
     (Err error)
 array_refused {A} old new t key kind view values nodes nodes1 buffers buffers1 version little dictionaries limit origin here error is lies
     found refused
@@ -140,14 +140,14 @@ pub array_made : (old new : Told) (t : DataType) (key : IntegerType) (kind : Pri
     → (1 ≤ length nodes) × (nodes1 ≡ drop 1 nodes) → (2 ≤ length buffers) × (buffers1 ≡ drop 2 buffers) → MakesKeyed t values mask keys r
     → ReadsColumn (physical_type t ≡ physical.Dictionary key) false old new (λ (array : Column). array) t
     (λ room. array_slots t (at_front nodes buffers version little (standing_in dictionaries) limit origin here room)) 1 2 nodes nodes1
-      buffers buffers1
+    buffers buffers1
     r
 array_made old new t key kind mask keys values nodes nodes1 buffers buffers1 version little dictionaries limit origin here (Ok array) is lies found
     read nodes_off buffers_off makes =
     let given = next_keys (kind_of_keys key) little nodes limit buffers origin in
     let before : ReadsAs false old new (λ (f : Found). f) given (Ok (mask, keys)) =
     subst (λ (k : PrimitiveType). ReadsAs false old new (λ (f : Found). f) (next_keys k little nodes limit buffers origin) (Ok
-      (mask, keys))) is read in (
+    (mask, keys))) is read in (
       lies,
       typed_made (holds_below (length (map first_number keys)) (has_value_at mask (map first_number keys) (column_len values))) t mask
           (map first_number keys) values array makes,
@@ -165,7 +165,7 @@ array_made old new t key kind mask keys values nodes nodes1 buffers buffers1 ver
     λ room. array_slots t (at_front nodes buffers version little (standing_in dictionaries) limit origin here room) in
     let before : ReadsAs false old new (λ (f : Found). f) given (Ok (mask, keys)) =
     subst (λ (k : PrimitiveType). ReadsAs false old new (λ (f : Found). f) (next_keys k little nodes limit buffers origin) (Ok
-      (mask, keys))) is read in
+    (mask, keys))) is read in
     let none : (keyed_column t values mask (map first_number keys) ≡ None) → ForBytes old (λ room. whole room ≡ None) = λ nothing.
     made_none false old new (λ (f : Found). f) given (mask, keys) (λ x room. keyed_slots t values x) whole
     (with_values t key values nodes buffers version little dictionaries limit origin here lies found) before

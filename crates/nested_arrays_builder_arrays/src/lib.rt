@@ -3,10 +3,9 @@
 
 mod frozen;
 mod keys;
-mod mutable_array;
 mod taken;
 
 pub use frozen::into_array;
-pub use mutable_array::MutableArray;
+pub use nested_arrays_arrays as arrays;
 pub use nested_arrays_builders as builders;
-pub use nested_arrays_builders::{arrays, columnar_memory, parts};
+pub use taken::{as_arc, as_array, as_box};

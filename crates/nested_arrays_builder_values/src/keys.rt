@@ -8,8 +8,7 @@ ghost use Rattle.nested_arrays_builder_values.specs.Keyed.{AddsUse, IsLearnt, Is
 use crate::uses::SlotUses;
 use crate::values::CellMap;
 use nested_arrays_builder_parts::columnar_memory::{Error, IntegerType, Result};
-use nested_arrays_builder_parts::{Marks, is_null};
-use nested_arrays_scalars::AnyScalar;
+use nested_arrays_builder_parts::{AnyScalar, Marks};
 
 /// What a dictionary that grows holds beside its values.
 #[derive(Drop)]
@@ -44,7 +43,7 @@ pub fn needed(known: &CellMap, cell: &AnyScalar) -> Option<usize>
     requires { are_distinct known.now ≡ true }
     ensures { IsNeeded known.now (scalar_slot cell.now) result }
 {
-    if is_null(cell) {
+    if cell.is_null() {
         return Some(0);
     }
     let _count = known.len();

@@ -10,7 +10,7 @@ use Rattle.tables_chunks.specs.SameRows.{rows_from, have_rows, nodes_in}
 use Rattle.tables_chunks.proofs.RowWindows.{rows_parts, rows_from_parts, no_columns, nodes_parts, no_nodes}
 
 -- n rows from row i and from row j on of the columns before place k are the same, and each of their slots was compared once
-pub record ColumnsSoFar (left right : List Column) (i j n k before now : ℕ) : Type 0 where
+pub record ColumnsSameUntil (left right : List Column) (i j n k before now : ℕ) : Type 0 where
   pub same : (rows_from left i n ≡ rows_from right j n) ↔ (rows_from (drop k left) i n ≡ rows_from (drop k right) j n)
   pub used : now + nodes_in (rows_from (drop k left) i n) ≡ before + nodes_in (rows_from left i n)
 
@@ -31,9 +31,9 @@ nodes_next columns k x i n inside is =
     ap (λ (rest : List Column). nodes_in (rows_from rest i n)) (column_next columns k x inside is) ∙ nodes_parts x (drop (k + 1) columns) i n
 
 -- where the columns at the place are the same, those behind it decide
-pub columns_more : (left right : List Column) (i j n k before now later : ℕ) (x y : Column) → ColumnsSoFar left right i j n k before now
+pub columns_more : (left right : List Column) (i j n k before now later : ℕ) (x y : Column) → ColumnsSameUntil left right i j n k before now
     → AreColumns left right k x y → window (slot_at x) i n ≡ window (slot_at y) j n
-    → later ≡ now + sum_by slot_nodes (window (slot_at x) i n) → ColumnsSoFar left right i j n (k + 1) before later
+    → later ≡ now + sum_by slot_nodes (window (slot_at x) i n) → ColumnsSameUntil left right i j n (k + 1) before later
 columns_more left right i j n k before now later x y so_far at same ticked =
     let one = column_next left k x at.left_inside at.left_is in
     let other = column_next right k y at.right_inside at.right_is in
@@ -49,7 +49,7 @@ columns_more left right i j n k before now later x y so_far at same ticked =
     }
 
 -- where they differ, so do the rows
-pub columns_differ : (left right : List Column) (i j n k before now : ℕ) (x y : Column) → ColumnsSoFar left right i j n k before now
+pub columns_differ : (left right : List Column) (i j n k before now : ℕ) (x y : Column) → ColumnsSameUntil left right i j n k before now
     → AreColumns left right k x y → (window (slot_at x) i n ≡ window (slot_at y) j n → ⊥) → rows_from left i n ≡ rows_from right j n → ⊥
 columns_differ left right i j n k before now x y so_far at differ h =
     let one = column_next left k x at.left_inside at.left_is in
@@ -58,7 +58,7 @@ columns_differ left right i j n k before now x y so_far at differ h =
     ∙ so_far.same.0 h ∙ ap (λ (rest : List Column). rows_from rest j n) other)).0
 
 -- and no more slots were compared than the left side has
-pub columns_used : (left right : List Column) (i j n k before now later : ℕ) (x y : Column) → ColumnsSoFar left right i j n k before now
+pub columns_used : (left right : List Column) (i j n k before now later : ℕ) (x y : Column) → ColumnsSameUntil left right i j n k before now
     → AreColumns left right k x y → later ≤ now + sum_by slot_nodes (window (slot_at x) i n) → later ≤ before + nodes_in (rows_from left i n)
 columns_used left right i j n k before now later x y so_far at few =
     let nodes = nodes_next left k x i n at.left_inside at.left_is in
@@ -69,7 +69,7 @@ pub record ColumnsSame (left right : List Column) (i j n before now : ℕ) : Typ
   pub same : rows_from left i n ≡ rows_from right j n
   pub used : now ≡ before + nodes_in (rows_from left i n)
 
-pub columns_at_end : (left right : List Column) (i j n k before now : ℕ) → ColumnsSoFar left right i j n k before now
+pub columns_at_end : (left right : List Column) (i j n k before now : ℕ) → ColumnsSameUntil left right i j n k before now
     → length left ≡ length right → length left ≤ k → ColumnsSame left right i j n before now
 columns_at_end left right i j n k before now so_far widths past =
     let one : drop k left ≡ [] = drop_all k left past in

@@ -15,7 +15,7 @@ use Rattle.tables_chunks.proofs.RowWindows.{rows_next}
 
 -- Before row a of batch i of one list and row b of batch j of another stand as many rows, the same ones, and each of their slots was compared
 -- once.
-pub record AreSameSoFar (left right : List (List Column)) (i a j b before now : ℕ) : Type 0 where
+pub record AreSameSameUntil (left right : List (List Column)) (i a j b before now : ℕ) : Type 0 where
   pub same : (stored_rows left ≡ stored_rows right) ↔ (rows_behind left i a ≡ rows_behind right j b)
   pub counts : length (rows_behind left i a) ≡ length (rows_behind right j b)
   pub used : now + nodes_in (rows_behind left i a) ≡ before + nodes_in (stored_rows left)
@@ -41,8 +41,8 @@ right_next {left} {right} {i} {a} {j} {b} {n} {one} {other} w = rows_next right 
 
 -- where the windows are the same, what stands behind them decides
 pub same_more : (left right : List (List Column)) (i a j b n before now later : ℕ) (one other : List Column)
-    → AreSameSoFar left right i a j b before now → AreWindows left right i a j b n one other → rows_from one a n ≡ rows_from other b n
-    → later ≡ now + nodes_in (rows_from one a n) → AreSameSoFar left right i (a + n) j (b + n) before later
+    → AreSameSameUntil left right i a j b before now → AreWindows left right i a j b n one other → rows_from one a n ≡ rows_from other b n
+    → later ≡ now + nodes_in (rows_from one a n) → AreSameSameUntil left right i (a + n) j (b + n) before later
 same_more left right i a j b n before now later one other so_far w same ticked =
     let here : List (List Slot) = rows_from one a n in
     let rest_left : List (List Slot) = rows_behind left i (a + n) in
@@ -64,7 +64,7 @@ same_more left right i a j b n before now later one other so_far w same ticked =
 
 -- where they differ, so do all rows
 pub differ_here : (left right : List (List Column)) (i a j b n before now : ℕ) (one other : List Column)
-    → AreSameSoFar left right i a j b before now → AreWindows left right i a j b n one other
+    → AreSameSameUntil left right i a j b before now → AreWindows left right i a j b n one other
     → (rows_from one a n ≡ rows_from other b n → ⊥) → stored_rows left ≡ stored_rows right → ⊥
 differ_here left right i a j b n before now one other so_far w differ h =
     let here : List (List Slot) = rows_from one a n in
@@ -77,7 +77,7 @@ differ_here left right i a j b n before now one other so_far w differ h =
 
 -- and no more slots were compared than the left side has
 pub used_here : (left right : List (List Column)) (i a j b n before now later : ℕ) (one other : List Column)
-    → AreSameSoFar left right i a j b before now → AreWindows left right i a j b n one other
+    → AreSameSameUntil left right i a j b before now → AreWindows left right i a j b n one other
     → later ≤ now + nodes_in (rows_from one a n) → later ≤ before + nodes_in (stored_rows left)
 used_here left right i a j b n before now later one other so_far w few =
     let here : List (List Slot) = rows_from one a n in
@@ -118,8 +118,8 @@ widths_at left right i j one other alike left_inside right_inside left_is right_
     ∙ sym (batch_at alike.width right j other alike.right_batches right_inside right_is).1
 
 -- the same said of other places before which the same rows stand
-pub so_far_at : (left right : List (List Column)) (i a j b k c l d before now : ℕ) → AreSameSoFar left right i a j b before now
-    → rows_behind left k c ≡ rows_behind left i a → rows_behind right l d ≡ rows_behind right j b → AreSameSoFar left right k c l d before now
+pub so_far_at : (left right : List (List Column)) (i a j b k c l d before now : ℕ) → AreSameSameUntil left right i a j b before now
+    → rows_behind left k c ≡ rows_behind left i a → rows_behind right l d ≡ rows_behind right j b → AreSameSameUntil left right k c l d before now
 so_far_at left right i a j b k c l d before now so_far one other = record {
   same = (λ h. one ∙ so_far.same.0 h ∙ sym other, λ h. so_far.same.1 (sym one ∙ h ∙ other));
   counts = ap length one ∙ so_far.counts ∙ sym (ap length other);

@@ -78,5 +78,5 @@ returns-in_default g c =
           (buffers_are version t c.requires ∙ sym (buffers_are V5 t c.requires))
           (subst (λ (u : DataType). TakesTyped old new u (front_array u nodes buffers little c.args.limit c.args.block_offset) (node_count u)
           (buffer_count V5 u) nodes c.read_flat.new.field_nodes.items buffers c.read_flat.new.buffers.items
-            c.read_flat.result) copied c.read_flat.ensures);
+          c.read_flat.result) copied c.read_flat.ensures);
     }

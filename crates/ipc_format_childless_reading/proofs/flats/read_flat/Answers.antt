@@ -68,11 +68,11 @@ returns-in-LargeBinary g c =
     let lies : physical_type t ≡ physical.LargeBinary = search rules in
     let bare = flat_bare t c.requires in
     any_read (physical_type t ≡ physical.LargeBinary) (g.R.Room.told c.args.reader.now)
-      (g.R.Room.told c.read_binary-in-LargeBinary.new.reader) binary_column t
+    (g.R.Room.told c.read_binary-in-LargeBinary.new.reader) binary_column t
     (front_slots t nodes buffers little c.args.limit c.args.block_offset)
     (front_array t nodes buffers little c.args.limit c.args.block_offset) 1 3 (node_count t) (buffer_count V5 t) nodes
     c.read_binary-in-LargeBinary.new.field_nodes.items buffers c.read_binary-in-LargeBinary.new.buffers.items
-      c.read_binary-in-LargeBinary.result c.any_of-in-LargeBinary.result lies
+    c.read_binary-in-LargeBinary.result c.any_of-in-LargeBinary.result lies
     (all_read t nodes buffers little c.args.limit c.args.block_offset (ap has_all lies)) (nodes_are t bare)
     (buffers_are V5 t bare ∙ ap buffers_of lies) c.read_binary-in-LargeBinary.ensures c.any_of-in-LargeBinary.ensures
 
@@ -85,11 +85,11 @@ returns-in-FixedSizeBinary g c =
     let lies : physical_type t ≡ physical.FixedSizeBinary = search rules in
     let bare = flat_bare t c.requires in
     any_read (physical_type t ≡ physical.FixedSizeBinary) (g.R.Room.told c.args.reader.now)
-      (g.R.Room.told c.read_fixed_size_binary.new.reader) (λ (array : Column). array) t
+    (g.R.Room.told c.read_fixed_size_binary.new.reader) (λ (array : Column). array) t
     (front_array t nodes buffers little c.args.limit c.args.block_offset)
     (front_array t nodes buffers little c.args.limit c.args.block_offset) 1 2 (node_count t) (buffer_count V5 t) nodes
     c.read_fixed_size_binary.new.field_nodes.items buffers c.read_fixed_size_binary.new.buffers.items c.read_fixed_size_binary.result
-      c.any_of-in-FixedSizeBinary.result lies
+    c.any_of-in-FixedSizeBinary.result lies
     (λ room. refl) (nodes_are t bare)
     (buffers_are V5 t bare ∙ ap buffers_of lies) c.read_fixed_size_binary.ensures c.any_of-in-FixedSizeBinary.ensures
 
@@ -117,11 +117,11 @@ returns-in-LargeUtf8 g c =
     let lies : physical_type t ≡ physical.LargeUtf8 = search rules in
     let bare = flat_bare t c.requires in
     any_read (physical_type t ≡ physical.LargeUtf8) (g.R.Room.told c.args.reader.now) (g.R.Room.told c.read_utf8-in-LargeUtf8.new.reader)
-      text_column t
+    text_column t
     (front_slots t nodes buffers little c.args.limit c.args.block_offset)
     (front_array t nodes buffers little c.args.limit c.args.block_offset) 1 3 (node_count t) (buffer_count V5 t) nodes
     c.read_utf8-in-LargeUtf8.new.field_nodes.items buffers c.read_utf8-in-LargeUtf8.new.buffers.items c.read_utf8-in-LargeUtf8.result
-      c.any_of-in-LargeUtf8.result lies
+    c.any_of-in-LargeUtf8.result lies
     (all_read t nodes buffers little c.args.limit c.args.block_offset (ap has_all lies)) (nodes_are t bare)
     (buffers_are V5 t bare ∙ ap buffers_of lies) c.read_utf8-in-LargeUtf8.ensures c.any_of-in-LargeUtf8.ensures
 

@@ -1,2 +1,0 @@
-mod Along
-mod NullLists

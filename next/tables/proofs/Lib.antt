@@ -1,3 +1,0 @@
-mod ContentsLemmas
-mod Lines
-mod NumberLemmas
