@@ -1,7 +1,7 @@
 //! Tables over chunks of arrays: a schema and its rows, batch by batch, with their parts, choices and joins, none of which copies a cell, and
 //! whether two of them are the same.
 //!
-//! This is a part of `tables`, which passes it on.
+//! `tables` does not stand on it yet.
 #![tactic(auto)]
 
 mod batches;
