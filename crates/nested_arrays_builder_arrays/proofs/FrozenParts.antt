@@ -3,19 +3,19 @@ use Rattle.std.proofs.Common.{◌≡◌, ◌∙◌, ℕ, ℤ, zero, suc, ◌+◌
 use Rattle.std.proofs.Common.{sym, ap, subst, arith}
 use Rattle.std.specs.Prelude.{pos, Option, Result, Ok, Err}
 use Rattle.std.proofs.lemmas.List.{length-map, map-append, take_more}
-use Rattle.nested_arrays_arrays.specs.columnar_memory.declared.DataType.{DataType}
-use Rattle.nested_arrays_arrays.specs.columnar_memory.declared.Error.{Error}
-use Rattle.nested_arrays_arrays.specs.columnar_memory.declared.IntegerType.{IntegerType}
-use Rattle.nested_arrays_arrays.specs.columnar_memory.declared.PhysicalType.TheVariants as physical
-use Rattle.nested_arrays_arrays.specs.columnar_memory.declared.PrimitiveType.{PrimitiveType}
-use Rattle.nested_arrays_arrays.specs.columnar_memory.Layouts.{physical_type}
-use Rattle.nested_arrays_arrays.specs.columnar_memory.Numbers.{Numbers, one, first_number}
-use Rattle.nested_arrays_arrays.specs.columnar_memory.Results.{OrOutOfMemory}
-use Rattle.nested_arrays_arrays.specs.columns.SoundColumns.{is_sound, has_value_at, has_value_type, holds_below, mask_fits}
-use Rattle.nested_arrays_arrays.specs.columns.StoredColumns.{Column, column_len, column_type, dictionary, flat, numbers, type_layer}
-use Rattle.nested_arrays_arrays.specs.flat.ColumnMasks.{column_mask}
-use Rattle.nested_arrays_arrays.specs.parts.Keys.{keyed, kind_of_keys, numbers_in, AreKeysOf}
-use Rattle.nested_arrays_arrays.proofs.columns_lemmas.Conditions.{parts_of_4}
+use Rattle.nested_arrays_builders.specs.arrays.columnar_memory.declared.DataType.{DataType}
+use Rattle.nested_arrays_builders.specs.arrays.columnar_memory.declared.Error.{Error}
+use Rattle.nested_arrays_builders.specs.arrays.columnar_memory.declared.IntegerType.{IntegerType}
+use Rattle.nested_arrays_builders.specs.arrays.columnar_memory.declared.PhysicalType.TheVariants as physical
+use Rattle.nested_arrays_builders.specs.arrays.columnar_memory.declared.PrimitiveType.{PrimitiveType}
+use Rattle.nested_arrays_builders.specs.arrays.columnar_memory.Layouts.{physical_type}
+use Rattle.nested_arrays_builders.specs.arrays.columnar_memory.Numbers.{Numbers, one, first_number}
+use Rattle.nested_arrays_builders.specs.arrays.columnar_memory.Results.{OrOutOfMemory}
+use Rattle.nested_arrays_builders.specs.arrays.columns.SoundColumns.{is_sound, has_value_at, has_value_type, holds_below, mask_fits}
+use Rattle.nested_arrays_builders.specs.arrays.columns.StoredColumns.{Column, column_len, column_type, dictionary, flat, numbers, type_layer}
+use Rattle.nested_arrays_builders.specs.arrays.flat.ColumnMasks.{column_mask}
+use Rattle.nested_arrays_builders.specs.arrays.parts.Keys.{keyed, kind_of_keys, numbers_in, AreKeysOf}
+use Rattle.nested_arrays_builders.proofs.arrays_lemmas.columns_lemmas.Conditions.{parts_of_4}
 use Rattle.nested_arrays_builders.specs.values.Uses.{greatest, key_of, keys_from}
 use Rattle.nested_arrays_builder_arrays.specs.FrozenKeys.{AreFrozenKeys}
 

@@ -15,7 +15,8 @@ use Rattle.nested_arrays_builders.specs.columns.Kinds.{most_values}
 use Rattle.nested_arrays_builders.specs.columns.OpenBatch.{fits}
 use Rattle.nested_arrays_builders.specs.columns.Slots.{Slot}
 use Rattle.nested_arrays_builders.specs.columns.SoundColumns.{is_sound, are_sound, have_len, has_field_types, mask_fits}
-use Rattle.nested_arrays_builders.specs.columns.StoredColumns.{Column, column_len, dictionary, fixed_lists, in_columns, lists, records, slots, type_layer}
+use Rattle.nested_arrays_builders.specs.columns.StoredColumns.{Column, column_len, dictionary, fixed_lists, in_columns, lists, records, slots}
+use Rattle.nested_arrays_builders.specs.columns.StoredColumns.{type_layer}
 use Rattle.nested_arrays_builders.proofs.columns_lemmas.Conditions.{parts_of_4}
 use Rattle.nested_arrays_builders.proofs.columns_lemmas.FreshLengths.{Layer}
 use Rattle.nested_arrays_builders.proofs.columns_lemmas.FreshSound.{fresh_is_sound}
@@ -24,7 +25,7 @@ use Rattle.nested_arrays_builders.proofs.growth_lemmas.Below.{buildable_struct, 
 use Rattle.nested_arrays_builders.proofs.growth_lemmas.Fields.{fields_count}
 use Rattle.nested_arrays_builders.proofs.growth_lemmas.Masks.{mask_by_count}
 use Rattle.nested_arrays_builders.proofs.growth_lemmas.TypeSteps.{layout_by_layer}
-use Rattle.nested_arrays_arrays.specs.Lengths.{size_of, layer_size, struct_len}
+use Rattle.nested_arrays_builders.specs.arrays.Lengths.{size_of, layer_size, struct_len}
 use Rattle.nested_arrays_builders.specs.parts.Marks.{mask_of_marks}
 use Rattle.nested_arrays_builders.specs.parts.Open.{Open, column_of}
 use Rattle.nested_arrays_builders.specs.values.Uses.{greatest, keys_from}

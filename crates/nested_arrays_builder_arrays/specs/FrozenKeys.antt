@@ -1,10 +1,10 @@
 -- The keys of a dictionary as a column.
 use Rattle.std.specs.Prelude.{◌≡◌, ℕ, Bool, List, Option}
-use Rattle.nested_arrays_arrays.specs.columnar_memory.declared.IntegerType.{IntegerType}
-use Rattle.nested_arrays_arrays.specs.columnar_memory.declared.PhysicalType.TheVariants as physical
-use Rattle.nested_arrays_arrays.specs.columns.StoredColumns.{Column}
-use Rattle.nested_arrays_arrays.specs.flat.ColumnMasks.{column_mask}
-use Rattle.nested_arrays_arrays.specs.parts.Keys.{numbers_in, AreKeysOf}
+use Rattle.nested_arrays_builders.specs.arrays.columnar_memory.declared.IntegerType.{IntegerType}
+use Rattle.nested_arrays_builders.specs.arrays.columnar_memory.declared.PhysicalType.TheVariants as physical
+use Rattle.nested_arrays_builders.specs.arrays.columns.StoredColumns.{Column}
+use Rattle.nested_arrays_builders.specs.arrays.flat.ColumnMasks.{column_mask}
+use Rattle.nested_arrays_builders.specs.arrays.parts.Keys.{numbers_in, AreKeysOf}
 use Rattle.nested_arrays_builders.specs.values.Uses.{keys_from}
 
 -- keys of a type with a mask, of slots that need so many of the values each

@@ -7,8 +7,8 @@ ghost use Rattle.nested_arrays_builders.specs.columnar_memory.declared.PhysicalT
 ghost use Rattle.nested_arrays_builders.specs.columns.Kinds.{most_values};
 ghost use Rattle.nested_arrays_builders.specs.columns.SoundColumns.{is_sound};
 ghost use Rattle.nested_arrays_builders.specs.columns.StoredColumns.{dictionary, fixed_lists, in_columns, lists, records, slots};
-ghost use Rattle.nested_arrays_arrays.specs.Lengths.{size_of, struct_len};
-ghost use Rattle.nested_arrays_arrays.specs.parts.Widths as frozen;
+ghost use Rattle.nested_arrays_builders.specs.arrays.Lengths.{size_of, struct_len};
+ghost use Rattle.nested_arrays_builders.specs.arrays.parts.Widths as frozen;
 ghost use Rattle.nested_arrays_builders.specs.parts.Marks.{mask_of_marks};
 ghost use Rattle.nested_arrays_builders.specs.parts.Open.{column_of};
 ghost use Rattle.nested_arrays_builders.specs.Nodes.{parts_of};
@@ -18,8 +18,8 @@ ghost use Rattle.nested_arrays_builders.specs.Widths.{is_large, spans_in};
 ghost use Rattle.nested_arrays_builder_arrays.specs.Layouts.{lists_layout};
 
 use crate::keys::{dictionary_array, freeze_keys};
-use nested_arrays_arrays::parts::ListOffsets;
-use nested_arrays_arrays::{AnyArray, FixedSizeListArray, ListNode, Node, StructArray};
+use nested_arrays_builders::arrays::parts::ListOffsets;
+use nested_arrays_builders::arrays::{AnyArray, FixedSizeListArray, ListNode, Node, StructArray};
 use nested_arrays_builders::columnar_memory::{Bitmap, DataType, Result};
 use nested_arrays_builders::values::MutableKeys;
 use nested_arrays_builders::{

@@ -1,20 +1,20 @@
 //! The keys of dictionaries.
 ghost use Rattle.std.specs.Prelude.{◌≡◌, ◌+◌, ◌≤◌, length, map, true};
-ghost use Rattle.nested_arrays_arrays.specs.columns.SoundColumns.{is_sound, mask_fits};
-ghost use Rattle.nested_arrays_arrays.specs.columnar_memory.Conversions.{type_of_primitive};
-ghost use Rattle.nested_arrays_arrays.specs.columnar_memory.Layouts.{physical_type};
-ghost use Rattle.nested_arrays_arrays.specs.columnar_memory.Numbers.{one};
-ghost use Rattle.nested_arrays_arrays.specs.columnar_memory.Results.{OrOutOfMemory};
-ghost use Rattle.nested_arrays_arrays.specs.columns.Kinds.{most_values};
-ghost use Rattle.nested_arrays_arrays.specs.columns.StoredColumns.{flat};
-ghost use Rattle.nested_arrays_arrays.specs.flat.FlatColumns.{stored_numbers};
-ghost use Rattle.nested_arrays_arrays.specs.parts.Keys.{keyed, AreKeysOf};
+ghost use Rattle.nested_arrays_builders.specs.arrays.columns.SoundColumns.{is_sound, mask_fits};
+ghost use Rattle.nested_arrays_builders.specs.arrays.columnar_memory.Conversions.{type_of_primitive};
+ghost use Rattle.nested_arrays_builders.specs.arrays.columnar_memory.Layouts.{physical_type};
+ghost use Rattle.nested_arrays_builders.specs.arrays.columnar_memory.Numbers.{one};
+ghost use Rattle.nested_arrays_builders.specs.arrays.columnar_memory.Results.{OrOutOfMemory};
+ghost use Rattle.nested_arrays_builders.specs.arrays.columns.Kinds.{most_values};
+ghost use Rattle.nested_arrays_builders.specs.arrays.columns.StoredColumns.{flat};
+ghost use Rattle.nested_arrays_builders.specs.arrays.flat.FlatColumns.{stored_numbers};
+ghost use Rattle.nested_arrays_builders.specs.arrays.parts.Keys.{keyed, AreKeysOf};
 ghost use Rattle.nested_arrays_builders.specs.values.Uses.{greatest, key_of, keys_from};
 ghost use Rattle.nested_arrays_builder_arrays.specs.FrozenKeys.{AreFrozenKeys};
 
-use nested_arrays_arrays::flat::{AnyPrimitive, PrimitiveKind};
-use nested_arrays_arrays::flat_arrays::PrimitiveArray;
-use nested_arrays_arrays::{AnyArray, DictionaryNode, Node};
+use nested_arrays_builders::arrays::flat::{AnyPrimitive, PrimitiveKind};
+use nested_arrays_builders::arrays::flat_arrays::PrimitiveArray;
+use nested_arrays_builders::arrays::{AnyArray, DictionaryNode, Node};
 use nested_arrays_builders::columnar_memory::{
     Bitmap, Buffer, DataType, Index, IntegerType, Result,
 };

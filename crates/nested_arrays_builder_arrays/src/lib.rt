@@ -3,9 +3,10 @@
 
 mod frozen;
 mod keys;
+mod mutable_array;
 mod taken;
 
 pub use frozen::into_array;
-pub use nested_arrays_arrays as arrays;
+pub use mutable_array::MutableArray;
 pub use nested_arrays_builders as builders;
-pub use taken::{as_arc, as_array, as_box};
+pub use nested_arrays_builders::{arrays, columnar_memory, parts};

@@ -3,8 +3,8 @@ ghost use Rattle.std.specs.Prelude.{◌≡◌};
 ghost use Rattle.nested_arrays_builder_arrays.specs.Taken.{IsTaken};
 
 use crate::frozen::into_array;
-use nested_arrays_arrays::AnyArray;
 use nested_arrays_builders::AnyMutableArray;
+use nested_arrays_builders::arrays::AnyArray;
 use nested_arrays_builders::columnar_memory::{Error, Result};
 use std::alloc::Global;
 use std::mem;
@@ -14,7 +14,7 @@ use std::rc::Rc;
 ///
 /// # Errors
 /// `OutOfMemory`: the new builder or the array found no memory; the builder is left empty too.
-pub fn as_array(builder: &mut AnyMutableArray, alloc: Global) -> Result<AnyArray>
+pub(crate) fn as_array(builder: &mut AnyMutableArray, alloc: Global) -> Result<AnyArray>
     ensures { IsTaken builder.old builder.new (λ array. array) result }
 {
     match AnyMutableArray::new(alloc, builder.data_type()) {
@@ -27,22 +27,11 @@ pub fn as_array(builder: &mut AnyMutableArray, alloc: Global) -> Result<AnyArray
     }
 }
 
-/// The array of the slots of a builder in a box; the builder is left empty, as a new one of its data type.
-///
-/// # Errors
-/// `OutOfMemory`: the new builder, the array or the box found no memory; the builder is left empty too.
-pub fn as_box(builder: &mut AnyMutableArray, alloc: Global) -> Result<Box<AnyArray>>
-    ensures { IsTaken builder.old builder.new (λ boxed. boxed.value) result }
-{
-    let array = as_array(builder, alloc)?;
-    Ok(Box::new(alloc, array)?)
-}
-
 /// The array of the slots of a builder behind a count of owners; the builder is left empty, as a new one of its data type.
 ///
 /// # Errors
 /// `OutOfMemory`: the new builder, the array or the count found no memory; the builder is left empty too.
-pub fn as_arc(builder: &mut AnyMutableArray, alloc: Global) -> Result<Rc<AnyArray>>
+pub(crate) fn as_arc(builder: &mut AnyMutableArray, alloc: Global) -> Result<Rc<AnyArray>>
     ensures { IsTaken builder.old builder.new (λ counted. counted.value) result }
 {
     let array = as_array(builder, alloc)?;

@@ -1,13 +1,13 @@
 -- The slots of cells that hold others.
 use Rattle.std.proofs.Common.{◌≡◌, ◌∙◌, Bool, List, [], ◌∷◌, map, refl, ap}
-use Rattle.nested_arrays_arrays.specs.columns.Rows.{Cell, cell_slot, cell_slots}
-use Rattle.nested_arrays_arrays.specs.columns.Slots.{null, truth, items, fields, in_slots, slot_then}
-use Rattle.nested_arrays_builder_parts.specs.Scalars.{in_cells, cell_step, cell_of, scalar_slot}
-use Rattle.nested_arrays_builder_parts.specs.declared.scalars.AnyScalar.{AnyScalar, map-AnyScalar}
-use Rattle.nested_arrays_builder_parts.specs.declared.scalars.AnyScalar.TheFolds.{fold-roll-AnyScalar}
-use Rattle.nested_arrays_builder_parts.specs.declared.scalars.AnyScalar.TheOpen as layer
-use Rattle.nested_arrays_builder_parts.specs.declared.scalars.AnyScalar.TheVariants as variant
-use Rattle.nested_arrays_builder_parts.specs.declared.scalars.AnyScalar.TheViews.{roll-AnyScalar}
+use Rattle.nested_arrays_builder_arrays.specs.arrays.columns.Rows.{Cell, cell_slot, cell_slots}
+use Rattle.nested_arrays_builder_arrays.specs.arrays.columns.Slots.{null, truth, items, fields, in_slots, slot_then}
+use Rattle.nested_arrays_builder_arrays.specs.parts.Scalars.{in_cells, cell_step, cell_of, scalar_slot}
+use Rattle.nested_arrays_scalars.specs.declared.scalars.AnyScalar.{AnyScalar, map-AnyScalar}
+use Rattle.nested_arrays_scalars.specs.declared.scalars.AnyScalar.TheFolds.{fold-roll-AnyScalar}
+use Rattle.nested_arrays_scalars.specs.declared.scalars.AnyScalar.TheOpen as layer
+use Rattle.nested_arrays_scalars.specs.declared.scalars.AnyScalar.TheVariants as variant
+use Rattle.nested_arrays_scalars.specs.declared.scalars.AnyScalar.TheViews.{roll-AnyScalar}
 use denote.Hole.Carrier
 
 slot_roll : (x : layer.AnyScalar-F AnyScalar) → scalar_slot (roll-AnyScalar x) ≡ cell_slot (cell_step (map-AnyScalar AnyScalar Cell cell_of x))

@@ -3,30 +3,34 @@ use Rattle.std.proofs.Common.{◌≡◌, ◌∙◌, ℕ, zero, suc, ◌+◌, ◌
 use Rattle.std.specs.Prelude.{◌/◌, Option, min, nat_lt, slice_index, slice_index_or}
 use Rattle.std.specs.List.{list_all}
 use Rattle.std.proofs.lemmas.Bool.{and_parts, ltb-true}
-use Rattle.nested_arrays_arrays.specs.columnar_memory.Layouts.{physical_type}
-use Rattle.nested_arrays_arrays.specs.columnar_memory.declared.DataType.{DataType}
-use Rattle.nested_arrays_arrays.specs.columnar_memory.declared.PhysicalType.TheVariants as physical
-use Rattle.nested_arrays_arrays.specs.columns.Cells.{is_null}
-use Rattle.nested_arrays_arrays.specs.columns.Kinds.{is_signed, most_offset}
-use Rattle.nested_arrays_arrays.specs.columns.Slots.{Slot, null, items, in_slots, window}
-use Rattle.nested_arrays_arrays.specs.columns.SoundColumns.{are_offsets, are_pieces, are_sound, column_lens, has_child_at, has_child_types}
-use Rattle.nested_arrays_arrays.specs.columns.SoundColumns.{has_field_types, has_fixed_item_type, has_item_type, has_places, has_size}
-use Rattle.nested_arrays_arrays.specs.columns.SoundColumns.{has_value_at, has_value_type, have_len, holds_below, is_sound, is_stored_as, mask_fits}
-use Rattle.nested_arrays_arrays.specs.columns.StoredColumns.{Column, Columns, nulls, flat, lists, fixed_lists, records, unions, no_column, column_then}
-use Rattle.nested_arrays_arrays.specs.columns.StoredColumns.{child_number, column_len, column_type, in_columns, is_valid_at, picked_at, place_of}
-use Rattle.nested_arrays_arrays.specs.columns.StoredColumns.{slot_at, stored_len, type_layer, union_place}
-use Rattle.nested_arrays_arrays.specs.flat.ColumnMasks.{column_mask}
-use Rattle.nested_arrays_arrays.specs.parts.Forms.{bare, column_form}
-use Rattle.nested_arrays_arrays.specs.parts.Keys.{keyed, numbers_in}
-use Rattle.nested_arrays_arrays.specs.parts.Widths.{layout_of}
-use Rattle.nested_arrays_arrays.specs.parts.declared.offsets.ListOffsets.{ListOffsets}
-use Rattle.nested_arrays_arrays.specs.parts.declared.offsets.ListOffsets.TheVariants as width
-use Rattle.nested_arrays_arrays.specs.Places.{AreFields, AreItems}
-use Rattle.nested_arrays_arrays.proofs.KeyPlaces.{key_within}
-use Rattle.nested_arrays_arrays.proofs.SlotPlaces.{struct_fields}
-use Rattle.nested_arrays_arrays.proofs.columns_lemmas.Conditions.{holds_at, parts_of_3, parts_of_4, parts_of_5}
-use Rattle.nested_arrays_arrays.proofs.parts_lemmas.SameForms.{valid_slot}
-use Rattle.nested_arrays_builder_parts.proofs.growth_lemmas.TypeSteps.{layout_by_layer}
+use Rattle.nested_arrays_builder_arrays.specs.arrays.columnar_memory.Layouts.{physical_type}
+use Rattle.nested_arrays_builder_arrays.specs.arrays.columnar_memory.declared.DataType.{DataType}
+use Rattle.nested_arrays_builder_arrays.specs.arrays.columnar_memory.declared.PhysicalType.TheVariants as physical
+use Rattle.nested_arrays_builder_arrays.specs.arrays.columns.Cells.{is_null}
+use Rattle.nested_arrays_builder_arrays.specs.arrays.columns.Kinds.{is_signed, most_offset}
+use Rattle.nested_arrays_builder_arrays.specs.arrays.columns.Slots.{Slot, null, items, in_slots, window}
+use Rattle.nested_arrays_builder_arrays.specs.arrays.columns.SoundColumns.{are_offsets, are_pieces, are_sound, column_lens, has_child_at}
+use Rattle.nested_arrays_builder_arrays.specs.arrays.columns.SoundColumns.{has_child_types}
+use Rattle.nested_arrays_builder_arrays.specs.arrays.columns.SoundColumns.{has_field_types, has_fixed_item_type, has_item_type, has_places, has_size}
+use Rattle.nested_arrays_builder_arrays.specs.arrays.columns.SoundColumns.{has_value_at, has_value_type, have_len, holds_below, is_sound}
+use Rattle.nested_arrays_builder_arrays.specs.arrays.columns.SoundColumns.{is_stored_as, mask_fits}
+use Rattle.nested_arrays_builder_arrays.specs.arrays.columns.StoredColumns.{Column, Columns, nulls, flat, lists, fixed_lists, records, unions}
+use Rattle.nested_arrays_builder_arrays.specs.arrays.columns.StoredColumns.{no_column, column_then}
+use Rattle.nested_arrays_builder_arrays.specs.arrays.columns.StoredColumns.{child_number, column_len, column_type, in_columns, is_valid_at}
+use Rattle.nested_arrays_builder_arrays.specs.arrays.columns.StoredColumns.{picked_at, place_of}
+use Rattle.nested_arrays_builder_arrays.specs.arrays.columns.StoredColumns.{slot_at, stored_len, type_layer, union_place}
+use Rattle.nested_arrays_builder_arrays.specs.arrays.flat.ColumnMasks.{column_mask}
+use Rattle.nested_arrays_builder_arrays.specs.arrays.parts.Forms.{bare, column_form}
+use Rattle.nested_arrays_builder_arrays.specs.arrays.parts.Keys.{keyed, numbers_in}
+use Rattle.nested_arrays_builder_arrays.specs.arrays.parts.Widths.{layout_of}
+use Rattle.nested_arrays_builder_arrays.specs.arrays.parts.declared.offsets.ListOffsets.{ListOffsets}
+use Rattle.nested_arrays_builder_arrays.specs.arrays.parts.declared.offsets.ListOffsets.TheVariants as width
+use Rattle.nested_arrays_builder_arrays.specs.arrays.Places.{AreFields, AreItems}
+use Rattle.nested_arrays_builder_arrays.proofs.arrays_lemmas.KeyPlaces.{key_within}
+use Rattle.nested_arrays_builder_arrays.proofs.arrays_lemmas.SlotPlaces.{struct_fields}
+use Rattle.nested_arrays_builder_arrays.proofs.arrays_lemmas.columns_lemmas.Conditions.{holds_at, parts_of_3, parts_of_4, parts_of_5}
+use Rattle.nested_arrays_builder_arrays.proofs.arrays_lemmas.parts_lemmas.SameForms.{valid_slot}
+use Rattle.nested_arrays_builder_arrays.proofs.parts_lemmas.growth_lemmas.TypeSteps.{layout_by_layer}
 use Rattle.nested_arrays_builder_cells.specs.ArrayCells.{has_cell, has_cell_at}
 use Rattle.nested_arrays_builder_cells.specs.Inside.{AreCellFields, AreCellItems, IsCellValue}
 use Rattle.nested_arrays_builder_cells.proofs.HasCells.{fixed_has, list_has, list_lies, map_has, map_lies, null_has, stored_has, struct_has}

@@ -3,26 +3,28 @@ use Rattle.std.proofs.Common.{◌≡◌, ◌∙◌, ℕ, ℤ, List, [], ◌∷�
 use Rattle.std.specs.Prelude.{◌&&◌, ◌==◌, Option}
 use Rattle.std.specs.List.{list_all}
 use Rattle.std.proofs.lemmas.Bool.{and_parts, false≢true}
-use Rattle.nested_arrays_arrays.specs.columnar_memory.Equality.{same_type, same_type-Decides}
-use Rattle.nested_arrays_arrays.specs.columnar_memory.Layouts.{physical_type}
-use Rattle.nested_arrays_arrays.specs.columnar_memory.declared.DataType.{DataType, map-DataType}
-use Rattle.nested_arrays_arrays.specs.columnar_memory.declared.DataType.TheFolds.{fold-Field, fold-roll-DataType, fold-roll-Field}
-use Rattle.nested_arrays_arrays.specs.columnar_memory.declared.DataType.TheOpen as layer
-use Rattle.nested_arrays_arrays.specs.columnar_memory.declared.DataType.TheViews.{out-DataType, roll-DataType}
-use Rattle.nested_arrays_arrays.specs.columnar_memory.declared.Field.{Field}
-use Rattle.nested_arrays_arrays.specs.columnar_memory.declared.PhysicalType.TheVariants as physical
+use Rattle.nested_arrays_builder_arrays.specs.arrays.columnar_memory.Equality.{same_type, same_type-Decides}
+use Rattle.nested_arrays_builder_arrays.specs.arrays.columnar_memory.Layouts.{physical_type}
+use Rattle.nested_arrays_builder_arrays.specs.arrays.columnar_memory.declared.DataType.{DataType, map-DataType}
+use Rattle.nested_arrays_builder_arrays.specs.arrays.columnar_memory.declared.DataType.TheFolds.{fold-Field, fold-roll-DataType, fold-roll-Field}
+use Rattle.nested_arrays_builder_arrays.specs.arrays.columnar_memory.declared.DataType.TheOpen as layer
+use Rattle.nested_arrays_builder_arrays.specs.arrays.columnar_memory.declared.DataType.TheViews.{out-DataType, roll-DataType}
+use Rattle.nested_arrays_builder_arrays.specs.arrays.columnar_memory.declared.Field.{Field}
+use Rattle.nested_arrays_builder_arrays.specs.arrays.columnar_memory.declared.PhysicalType.TheVariants as physical
 use denote.Hole.Carrier
-use Rattle.nested_arrays_arrays.specs.columns.Cells.{fit_each, is_null}
-use Rattle.nested_arrays_arrays.specs.columns.Kinds.{is_key}
-use Rattle.nested_arrays_arrays.specs.columns.Slots.{Slot, null, items, fields, in_slots, slot_list}
-use Rattle.nested_arrays_arrays.specs.columns.SoundColumns.{has_child_types, has_field_types, has_fixed_item_type, has_item_type, has_value_type, have_types}
-use Rattle.nested_arrays_arrays.specs.columns.SoundColumns.{is_entry, is_stored_as}
-use Rattle.nested_arrays_arrays.specs.columns.StoredColumns.{Column, Columns, Stored, column_type, in_columns, slot_at, slots_at, type_layer}
-use Rattle.nested_arrays_arrays.proofs.columns_lemmas.FreshLengths.{Layer}
-use Rattle.nested_arrays_arrays.proofs.columns_lemmas.Folds.{fold_keeps}
-use Rattle.nested_arrays_arrays.proofs.columns_lemmas.TypeLayers.{is_extension, layer_layout}
-use Rattle.nested_arrays_builder_parts.proofs.growth_lemmas.Pieces.{listed}
-use Rattle.nested_arrays_builder_parts.proofs.growth_lemmas.TypeSteps.{by_layer, layout_by_layer, not_extended}
+use Rattle.nested_arrays_builder_arrays.specs.arrays.columns.Cells.{fit_each, is_null}
+use Rattle.nested_arrays_builder_arrays.specs.arrays.columns.Kinds.{is_key}
+use Rattle.nested_arrays_builder_arrays.specs.arrays.columns.Slots.{Slot, null, items, fields, in_slots, slot_list}
+use Rattle.nested_arrays_builder_arrays.specs.arrays.columns.SoundColumns.{has_child_types, has_field_types, has_fixed_item_type, has_item_type}
+use Rattle.nested_arrays_builder_arrays.specs.arrays.columns.SoundColumns.{has_value_type, have_types}
+use Rattle.nested_arrays_builder_arrays.specs.arrays.columns.SoundColumns.{is_entry, is_stored_as}
+use Rattle.nested_arrays_builder_arrays.specs.arrays.columns.StoredColumns.{Column, Columns, Stored, column_type, in_columns, slot_at, slots_at}
+use Rattle.nested_arrays_builder_arrays.specs.arrays.columns.StoredColumns.{type_layer}
+use Rattle.nested_arrays_builder_arrays.proofs.arrays_lemmas.columns_lemmas.FreshLengths.{Layer}
+use Rattle.nested_arrays_builder_arrays.proofs.arrays_lemmas.columns_lemmas.Folds.{fold_keeps}
+use Rattle.nested_arrays_builder_arrays.proofs.arrays_lemmas.columns_lemmas.TypeLayers.{is_extension, layer_layout}
+use Rattle.nested_arrays_builder_arrays.proofs.parts_lemmas.growth_lemmas.Pieces.{listed}
+use Rattle.nested_arrays_builder_arrays.proofs.parts_lemmas.growth_lemmas.TypeSteps.{by_layer, layout_by_layer, not_extended}
 use Rattle.nested_arrays_builder_cells.specs.ArrayCells.{has_cell, has_cell_at, has_cell_step}
 
 -- ---- null

@@ -6,3 +6,4 @@ pub mod ReadPlaces
 pub mod ReadSlots
 pub mod StoredNumbers
 pub mod StoredValues
+pub use Rattle.nested_arrays_builder_arrays.proofs as taken_lemmas

@@ -1,8 +1,8 @@
 -- What loops have read of cells.
 use Rattle.std.specs.Prelude.{◌≡◌, ℕ, Bool, true, List, map, take}
 use Rattle.std.specs.List.{list_all}
-use Rattle.nested_arrays_arrays.specs.columns.Slots.{Slot, window}
-use Rattle.nested_arrays_arrays.specs.columns.StoredColumns.{Column, slot_at}
+use Rattle.nested_arrays_builder_arrays.specs.arrays.columns.Slots.{Slot, window}
+use Rattle.nested_arrays_builder_arrays.specs.arrays.columns.StoredColumns.{Column, slot_at}
 use Rattle.nested_arrays_builder_cells.specs.ArrayCells.{has_cell_at}
 
 -- the first k of the slots from a place on are these, and each is a cell

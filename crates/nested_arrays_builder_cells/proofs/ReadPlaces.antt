@@ -2,12 +2,12 @@
 use Rattle.std.proofs.Common.{◌≡◌, ◌∙◌, ℕ, List, Bool, true, ap, subst, sym}
 use Rattle.std.specs.Prelude.{Option, Result}
 use Rattle.std.specs.List.{list_all}
-use Rattle.nested_arrays_arrays.specs.columnar_memory.declared.Error.{Error}
-use Rattle.nested_arrays_arrays.specs.columns.Slots.{Slot, null, fields, in_slots, items, window}
-use Rattle.nested_arrays_arrays.specs.columns.StoredColumns.{Column, column_type, in_columns, slot_at, slots_at}
-use Rattle.nested_arrays_builder_parts.specs.Scalars.{scalar_slot}
-use Rattle.nested_arrays_builder_parts.specs.declared.scalars.AnyScalar.{AnyScalar}
-use Rattle.nested_arrays_builder_parts.specs.declared.scalars.AnyScalar.TheVariants as variant
+use Rattle.nested_arrays_builder_arrays.specs.arrays.columnar_memory.declared.Error.{Error}
+use Rattle.nested_arrays_builder_arrays.specs.arrays.columns.Slots.{Slot, null, fields, in_slots, items, window}
+use Rattle.nested_arrays_builder_arrays.specs.arrays.columns.StoredColumns.{Column, column_type, in_columns, slot_at, slots_at}
+use Rattle.nested_arrays_builder_arrays.specs.parts.Scalars.{scalar_slot}
+use Rattle.nested_arrays_scalars.specs.declared.scalars.AnyScalar.{AnyScalar}
+use Rattle.nested_arrays_scalars.specs.declared.scalars.AnyScalar.TheVariants as variant
 use Rattle.nested_arrays_builder_cells.specs.ArrayCells.{has_cell, has_cell_at, IsCellAt, IsCellOf}
 use Rattle.nested_arrays_builder_cells.specs.Inside.{AreCellFields, AreCellItems, IsCellValue}
 use Rattle.nested_arrays_builder_cells.proofs.CellForms.{null_cell_slot}

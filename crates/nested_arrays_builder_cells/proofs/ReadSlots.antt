@@ -6,10 +6,10 @@ use Rattle.std.specs.List.{list_all}
 use Rattle.std.proofs.lemmas.Bool.{and_from}
 use Rattle.std.proofs.lemmas.List.{map-append, take_all, take_more}
 use Rattle.std.proofs.lemmas.List.Folds.{list_all-append, list_all_at}
-use Rattle.nested_arrays_arrays.proofs.columns_lemmas.Windows.{length-window}
-use Rattle.nested_arrays_arrays.specs.columns.Slots.{Slot, null, in_slots, slot_then, window}
-use Rattle.nested_arrays_arrays.specs.columns.StoredColumns.{Column, column_len, column_type, in_columns, slot_at, slots_at}
-use Rattle.nested_arrays_arrays.specs.Places.{HavePlace}
+use Rattle.nested_arrays_builder_arrays.proofs.arrays_lemmas.columns_lemmas.Windows.{length-window}
+use Rattle.nested_arrays_builder_arrays.specs.arrays.columns.Slots.{Slot, null, in_slots, slot_then, window}
+use Rattle.nested_arrays_builder_arrays.specs.arrays.columns.StoredColumns.{Column, column_len, column_type, in_columns, slot_at, slots_at}
+use Rattle.nested_arrays_builder_arrays.specs.arrays.Places.{HavePlace}
 use Rattle.nested_arrays_builder_cells.specs.ArrayCells.{has_cell_at}
 use Rattle.nested_arrays_builder_cells.proofs.ReadCells.{AreRead, AreReadEach}
 

@@ -2,24 +2,24 @@
 use Rattle.std.proofs.Common.{◌≡◌, ◌∙◌, ℕ, ℤ, List, Bool, true, refl, ap, map}
 use Rattle.std.specs.Prelude.{pos, Some, option_map, slice_get, slice_index_or}
 use Rattle.std.proofs.lemmas.Option.{slice_get-map}
-use Rattle.nested_arrays_arrays.specs.columnar_memory.Numbers.{Numbers, first_number}
-use Rattle.nested_arrays_arrays.specs.columnar_memory.declared.IntegerType.{IntegerType}
-use Rattle.nested_arrays_arrays.specs.columnar_memory.declared.IntegerType.TheVariants as integers
-use Rattle.nested_arrays_arrays.specs.columnar_memory.declared.PhysicalType.{PhysicalType}
-use Rattle.nested_arrays_arrays.specs.columnar_memory.declared.PhysicalType.TheVariants as physical
-use Rattle.nested_arrays_arrays.specs.columnar_memory.declared.PrimitiveType.{PrimitiveType}
-use Rattle.nested_arrays_arrays.specs.columnar_memory.declared.PrimitiveType.TheVariants as kinds
-use Rattle.nested_arrays_arrays.specs.columns.Slots.{Slot, number, pair, triple}
-use Rattle.nested_arrays_arrays.specs.columns.StoredColumns.{Column, flat, numbers, slot_at}
-use Rattle.nested_arrays_arrays.specs.flat_arrays.Flat.{Flat}
-use Rattle.nested_arrays_arrays.specs.flat.FlatColumns.{primitive_column}
-use Rattle.nested_arrays_arrays.specs.parts.Forms.{bare}
-use Rattle.nested_arrays_arrays.specs.parts.Keys.{AreKeysOf, kind_of_keys, numbers_in}
-use Rattle.nested_arrays_arrays.specs.parts.Ranges.{number_slot}
-use Rattle.nested_arrays_arrays.proofs.parts_lemmas.SameNumbers.{stored_there}
-use Rattle.nested_arrays_builder_parts.specs.AnyNumbers.{kind_of_number, numbers_of_number, slot_of_number}
-use Rattle.nested_arrays_builder_parts.specs.declared.numbers.AnyNumber.{AnyNumber}
-use Rattle.nested_arrays_builder_parts.specs.declared.numbers.AnyNumber.TheVariants as variant
+use Rattle.nested_arrays_builder_arrays.specs.arrays.columnar_memory.Numbers.{Numbers, first_number}
+use Rattle.nested_arrays_builder_arrays.specs.arrays.columnar_memory.declared.IntegerType.{IntegerType}
+use Rattle.nested_arrays_builder_arrays.specs.arrays.columnar_memory.declared.IntegerType.TheVariants as integers
+use Rattle.nested_arrays_builder_arrays.specs.arrays.columnar_memory.declared.PhysicalType.{PhysicalType}
+use Rattle.nested_arrays_builder_arrays.specs.arrays.columnar_memory.declared.PhysicalType.TheVariants as physical
+use Rattle.nested_arrays_builder_arrays.specs.arrays.columnar_memory.declared.PrimitiveType.{PrimitiveType}
+use Rattle.nested_arrays_builder_arrays.specs.arrays.columnar_memory.declared.PrimitiveType.TheVariants as kinds
+use Rattle.nested_arrays_builder_arrays.specs.arrays.columns.Slots.{Slot, number, pair, triple}
+use Rattle.nested_arrays_builder_arrays.specs.arrays.columns.StoredColumns.{Column, flat, numbers, slot_at}
+use Rattle.nested_arrays_builder_arrays.specs.arrays.flat_arrays.Flat.{Flat}
+use Rattle.nested_arrays_builder_arrays.specs.arrays.flat.FlatColumns.{primitive_column}
+use Rattle.nested_arrays_builder_arrays.specs.arrays.parts.Forms.{bare}
+use Rattle.nested_arrays_builder_arrays.specs.arrays.parts.Keys.{AreKeysOf, kind_of_keys, numbers_in}
+use Rattle.nested_arrays_builder_arrays.specs.arrays.parts.Ranges.{number_slot}
+use Rattle.nested_arrays_builder_arrays.proofs.arrays_lemmas.parts_lemmas.SameNumbers.{stored_there}
+use Rattle.nested_arrays_builder_arrays.specs.parts.AnyNumbers.{kind_of_number, numbers_of_number, slot_of_number}
+use Rattle.nested_arrays_builder_arrays.specs.parts.declared.numbers.AnyNumber.{AnyNumber}
+use Rattle.nested_arrays_builder_arrays.specs.parts.declared.numbers.AnyNumber.TheVariants as variant
 use Rattle.nested_arrays_builder_cells.specs.Keys.{is_key_kind}
 
 -- the slot of a number that is stored

@@ -1,15 +1,15 @@
 -- Which slots of arrays are cells, and what is answered where cells are read.
 use Rattle.std.specs.Prelude.{◌≡◌, ℕ, Bool, true, false, List, map, Option, Result, MatchOption, MatchResult}
-use Rattle.nested_arrays_arrays.specs.columnar_memory.declared.DataType.{DataType}
-use Rattle.nested_arrays_arrays.specs.columnar_memory.declared.DataType.TheOpen as layer
-use Rattle.nested_arrays_arrays.specs.columnar_memory.declared.DataType.TheFolds.{fold-DataType}
-use Rattle.nested_arrays_arrays.specs.columnar_memory.declared.Error.{Error}
-use Rattle.nested_arrays_arrays.specs.columnar_memory.Error.{IsOutOfMemory}
-use Rattle.nested_arrays_arrays.specs.columns.Cells.{is_list_of, is_null, is_record_of}
-use Rattle.nested_arrays_arrays.specs.columns.Slots.{Slot}
-use Rattle.nested_arrays_arrays.specs.columns.StoredColumns.{Column, column_type, slot_at}
-use Rattle.nested_arrays_builder_parts.specs.Scalars.{scalar_slot}
-use Rattle.nested_arrays_builder_parts.specs.declared.scalars.AnyScalar.{AnyScalar}
+use Rattle.nested_arrays_builder_arrays.specs.arrays.columnar_memory.declared.DataType.{DataType}
+use Rattle.nested_arrays_builder_arrays.specs.arrays.columnar_memory.declared.DataType.TheOpen as layer
+use Rattle.nested_arrays_builder_arrays.specs.arrays.columnar_memory.declared.DataType.TheFolds.{fold-DataType}
+use Rattle.nested_arrays_builder_arrays.specs.arrays.columnar_memory.declared.Error.{Error}
+use Rattle.nested_arrays_builder_arrays.specs.arrays.columnar_memory.Error.{IsOutOfMemory}
+use Rattle.nested_arrays_builder_arrays.specs.arrays.columns.Cells.{is_list_of, is_null, is_record_of}
+use Rattle.nested_arrays_builder_arrays.specs.arrays.columns.Slots.{Slot}
+use Rattle.nested_arrays_builder_arrays.specs.arrays.columns.StoredColumns.{Column, column_type, slot_at}
+use Rattle.nested_arrays_builder_arrays.specs.parts.Scalars.{scalar_slot}
+use Rattle.nested_arrays_scalars.specs.declared.scalars.AnyScalar.{AnyScalar}
 
 abbrev pub any_slot : Slot → Bool
 any_slot slot = true

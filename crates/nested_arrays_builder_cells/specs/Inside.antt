@@ -1,9 +1,9 @@
 -- What stands inside a slot, and whether the slot is a cell.
 use Rattle.std.specs.Prelude.{◌≡◌, ◌<◌, ℕ, List}
 use Rattle.std.specs.List.{list_all}
-use Rattle.nested_arrays_arrays.specs.columns.Slots.{window}
-use Rattle.nested_arrays_arrays.specs.columns.StoredColumns.{Column, column_len, column_size, column_type, in_columns, slot_at}
-use Rattle.nested_arrays_arrays.specs.Places.{AreFields, AreItems}
+use Rattle.nested_arrays_builder_arrays.specs.arrays.columns.Slots.{window}
+use Rattle.nested_arrays_builder_arrays.specs.arrays.columns.StoredColumns.{Column, column_len, column_size, column_type, in_columns, slot_at}
+use Rattle.nested_arrays_builder_arrays.specs.arrays.Places.{AreFields, AreItems}
 use Rattle.nested_arrays_builder_cells.specs.ArrayCells.{has_cell, has_cell_at}
 
 -- a slot is a list of so many slots of a child from a place on, and a cell where each of those is one

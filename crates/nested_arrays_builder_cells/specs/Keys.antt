@@ -1,7 +1,7 @@
 -- Numbers that are keys of dictionaries.
 use Rattle.std.specs.Prelude.{Bool, true, false}
-use Rattle.nested_arrays_arrays.specs.columnar_memory.declared.PrimitiveType.{PrimitiveType}
-use Rattle.nested_arrays_arrays.specs.columnar_memory.declared.PrimitiveType.TheVariants as kinds
+use Rattle.nested_arrays_builder_arrays.specs.arrays.columnar_memory.declared.PrimitiveType.{PrimitiveType}
+use Rattle.nested_arrays_builder_arrays.specs.arrays.columnar_memory.declared.PrimitiveType.TheVariants as kinds
 
 -- whether keys may be of a kind: whole numbers of at most 64 bits
 abbrev pub is_key_kind : PrimitiveType → Bool

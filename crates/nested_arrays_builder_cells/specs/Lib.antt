@@ -1,5 +1,7 @@
 pub mod ArrayCells
 pub mod Inside
 pub mod Keys
-pub use Rattle.nested_arrays_arrays.specs as arrays
-pub use Rattle.nested_arrays_builder_parts.specs as parts
+pub use Rattle.nested_arrays_builder_arrays.specs as taken
+pub use Rattle.nested_arrays_builder_arrays.specs.builders
+pub use Rattle.nested_arrays_builder_arrays.specs.arrays
+pub use Rattle.nested_arrays_builder_arrays.specs.parts

@@ -1,18 +1,18 @@
 //! Cells of the slots of arrays of any type.
 ghost use Rattle.std.specs.Prelude.{◌≡◌, ◌+◌, ◌<◌, ◌≤◌};
 ghost use Rattle.std.specs.List.{list_all};
-ghost use Rattle.nested_arrays_arrays.specs.columns.Slots.{fields, in_slots, items, window};
-ghost use Rattle.nested_arrays_arrays.specs.columns.StoredColumns.{column_len, column_type, in_columns, slot_at, slots_at};
-ghost use Rattle.nested_arrays_arrays.specs.Places.{HavePlace};
+ghost use Rattle.nested_arrays_builder_arrays.specs.arrays.columns.Slots.{fields, in_slots, items, window};
+ghost use Rattle.nested_arrays_builder_arrays.specs.arrays.columns.StoredColumns.{column_len, column_type, in_columns, slot_at, slots_at};
+ghost use Rattle.nested_arrays_builder_arrays.specs.arrays.Places.{HavePlace};
 ghost use Rattle.nested_arrays_builder_cells.specs.ArrayCells.{has_cell, has_cell_at, IsCellAt, IsCellOf};
 
 use crate::flats::flat_cell;
 use crate::inside::{fixed_items, list_items, map_cell, named_value, record_fields, union_cell};
 use columnar_memory_types::Items;
-use nested_arrays_arrays::columnar_memory::Result;
-use nested_arrays_arrays::parts::{FlatArray, holds_values};
-use nested_arrays_arrays::{AnyArray, Node};
-use nested_arrays_builder_parts::AnyScalar;
+use nested_arrays_builder_arrays::arrays::columnar_memory::Result;
+use nested_arrays_builder_arrays::arrays::parts::{FlatArray, holds_values};
+use nested_arrays_builder_arrays::arrays::{AnyArray, Node};
+use nested_arrays_scalars::AnyScalar;
 use std::alloc::Global;
 
 /// The cell of the slot at a place of an array without children.

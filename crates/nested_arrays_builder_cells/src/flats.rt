@@ -1,18 +1,18 @@
 //! Cells of the slots of arrays without children.
 ghost use Rattle.std.specs.Prelude.{◌≡◌, ◌<◌};
-ghost use Rattle.nested_arrays_arrays.specs.columnar_memory.Results.{OrOutOfMemory};
-ghost use Rattle.nested_arrays_arrays.specs.columns.Slots.{bytes, text};
-ghost use Rattle.nested_arrays_arrays.specs.columns.StoredColumns.{column_len, slot_at};
-ghost use Rattle.nested_arrays_arrays.specs.flat.FlatColumns.{boolean_column};
-ghost use Rattle.nested_arrays_arrays.specs.parts.Forms.{bare};
-ghost use Rattle.nested_arrays_builder_parts.specs.Scalars.{scalar_slot};
+ghost use Rattle.nested_arrays_builder_arrays.specs.arrays.columnar_memory.Results.{OrOutOfMemory};
+ghost use Rattle.nested_arrays_builder_arrays.specs.arrays.columns.Slots.{bytes, text};
+ghost use Rattle.nested_arrays_builder_arrays.specs.arrays.columns.StoredColumns.{column_len, slot_at};
+ghost use Rattle.nested_arrays_builder_arrays.specs.arrays.flat.FlatColumns.{boolean_column};
+ghost use Rattle.nested_arrays_builder_arrays.specs.arrays.parts.Forms.{bare};
+ghost use Rattle.nested_arrays_builder_arrays.specs.parts.Scalars.{scalar_slot};
 
 use crate::numbers::{number_at, number_cell};
 use columnar_memory_types::{Items, Text};
-use nested_arrays_arrays::columnar_memory::Result;
-use nested_arrays_arrays::flat_arrays::BooleanArray;
-use nested_arrays_arrays::parts::{FlatArray, FlatNode, is_valid};
-use nested_arrays_builder_parts::AnyScalar;
+use nested_arrays_builder_arrays::arrays::columnar_memory::Result;
+use nested_arrays_builder_arrays::arrays::flat_arrays::BooleanArray;
+use nested_arrays_builder_arrays::arrays::parts::{FlatArray, FlatNode, is_valid};
+use nested_arrays_scalars::AnyScalar;
 use std::alloc::Global;
 
 /// The cell of a text.

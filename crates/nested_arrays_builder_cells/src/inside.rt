@@ -1,22 +1,22 @@
 //! What stands inside a slot.
 ghost use Rattle.std.specs.Prelude.{◌≡◌, ◌+◌, ◌<◌, ◌≤◌, length, true, MatchOption};
-ghost use Rattle.nested_arrays_arrays.specs.columnar_memory.Spans.{last_of, offset_at};
-ghost use Rattle.nested_arrays_arrays.specs.columns.Slots.{null};
-ghost use Rattle.nested_arrays_arrays.specs.columns.StoredColumns.{column_len, is_valid_at, slot_at};
-ghost use Rattle.nested_arrays_arrays.specs.AnyColumns.{column_of, IsWhole};
-ghost use Rattle.nested_arrays_arrays.specs.declared.any.Node.TheVariants as nodes;
-ghost use Rattle.nested_arrays_arrays.specs.flat.ColumnMasks.{column_mask};
-ghost use Rattle.nested_arrays_arrays.specs.parts.Widths.{spans_in};
+ghost use Rattle.nested_arrays_builder_arrays.specs.arrays.columnar_memory.Spans.{last_of, offset_at};
+ghost use Rattle.nested_arrays_builder_arrays.specs.arrays.columns.Slots.{null};
+ghost use Rattle.nested_arrays_builder_arrays.specs.arrays.columns.StoredColumns.{column_len, is_valid_at, slot_at};
+ghost use Rattle.nested_arrays_builder_arrays.specs.arrays.AnyColumns.{column_of, IsWhole};
+ghost use Rattle.nested_arrays_builder_arrays.specs.arrays.declared.any.Node.TheVariants as nodes;
+ghost use Rattle.nested_arrays_builder_arrays.specs.arrays.flat.ColumnMasks.{column_mask};
+ghost use Rattle.nested_arrays_builder_arrays.specs.arrays.parts.Widths.{spans_in};
 ghost use Rattle.nested_arrays_builder_cells.specs.ArrayCells.{has_cell_at, IsCell};
 ghost use Rattle.nested_arrays_builder_cells.specs.Inside.{AreCellFields, AreCellItems, IsCellValue};
 
 use crate::numbers::{number_at, place_named};
-use nested_arrays_arrays::flat::mark_at;
-use nested_arrays_arrays::parts::ListOffsets;
-use nested_arrays_arrays::{
+use nested_arrays_builder_arrays::arrays::flat::mark_at;
+use nested_arrays_builder_arrays::arrays::parts::ListOffsets;
+use nested_arrays_builder_arrays::arrays::{
     AnyArray, DictionaryNode, FixedSizeListArray, ListNode, MapArray, StructArray, UnionArray,
 };
-use nested_arrays_builder_parts::AnyScalar;
+use nested_arrays_scalars::AnyScalar;
 
 /// Where the items of a list begin and end.
 fn bounds(offsets: &ListOffsets, i: usize) -> (usize, usize)

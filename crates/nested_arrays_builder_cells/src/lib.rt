@@ -7,5 +7,5 @@ mod inside;
 mod numbers;
 
 pub use cells::cell_at;
-pub use nested_arrays_arrays as arrays;
-pub use nested_arrays_builder_parts as parts;
+pub use nested_arrays_builder_arrays as taken;
+pub use nested_arrays_builder_arrays::{arrays, builders, columnar_memory, parts};

@@ -1,18 +1,19 @@
 //! Numbers of arrays as cells.
 ghost use Rattle.std.specs.Prelude.{◌≡◌, ◌<◌, true};
-ghost use Rattle.nested_arrays_arrays.specs.columnar_memory.Numbers.{first_number};
-ghost use Rattle.nested_arrays_arrays.specs.columns.StoredColumns.{column_len, place_of, slot_at};
-ghost use Rattle.nested_arrays_arrays.specs.flat.FlatColumns.{primitive_column};
-ghost use Rattle.nested_arrays_arrays.specs.parts.Forms.{bare};
-ghost use Rattle.nested_arrays_arrays.specs.parts.Ranges.{number_slot};
-ghost use Rattle.nested_arrays_builder_parts.specs.AnyNumbers.{kind_of_number, numbers_of_number, slot_of_number};
-ghost use Rattle.nested_arrays_builder_parts.specs.Scalars.{scalar_slot};
+ghost use Rattle.nested_arrays_builder_arrays.specs.arrays.columnar_memory.Numbers.{first_number};
+ghost use Rattle.nested_arrays_builder_arrays.specs.arrays.columns.StoredColumns.{column_len, place_of, slot_at};
+ghost use Rattle.nested_arrays_builder_arrays.specs.arrays.flat.FlatColumns.{primitive_column};
+ghost use Rattle.nested_arrays_builder_arrays.specs.arrays.parts.Forms.{bare};
+ghost use Rattle.nested_arrays_builder_arrays.specs.arrays.parts.Ranges.{number_slot};
+ghost use Rattle.nested_arrays_builder_arrays.specs.parts.AnyNumbers.{kind_of_number, numbers_of_number, slot_of_number};
+ghost use Rattle.nested_arrays_builder_arrays.specs.parts.Scalars.{scalar_slot};
 ghost use Rattle.nested_arrays_builder_cells.specs.Keys.{is_key_kind};
 
-use nested_arrays_arrays::columnar_memory::{Index, NativeType};
-use nested_arrays_arrays::flat::{AnyPrimitive, PrimitiveNode};
-use nested_arrays_arrays::flat_arrays::PrimitiveArray;
-use nested_arrays_builder_parts::{AnyNumber, AnyScalar};
+use nested_arrays_builder_arrays::arrays::columnar_memory::{Index, NativeType};
+use nested_arrays_builder_arrays::arrays::flat::{AnyPrimitive, PrimitiveNode};
+use nested_arrays_builder_arrays::arrays::flat_arrays::PrimitiveArray;
+use nested_arrays_builder_arrays::parts::AnyNumber;
+use nested_arrays_scalars::AnyScalar;
 
 /// The number that is stored at a place, also where the slot is null.
 fn value_at<T: NativeType>(array: &PrimitiveArray<T>, i: usize) -> T

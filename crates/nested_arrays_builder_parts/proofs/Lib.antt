@@ -2,10 +2,11 @@ pub mod CellSlots
 pub mod FlatLayers
 pub mod FrozenStrings
 pub mod FrozenValues
+pub mod GrownMasks
 pub mod KeptSlots
 pub mod MarkLists
 pub mod NewNodes
 pub mod StringLists
 pub mod StringSlots
-pub use Rattle.nested_arrays_parts.proofs as arrays_lemmas
+pub use Rattle.nested_arrays_arrays.proofs as arrays_lemmas
 pub use Rattle.nested_arrays_growth.proofs as growth_lemmas

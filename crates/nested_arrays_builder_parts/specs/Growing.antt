@@ -2,20 +2,20 @@
 use Rattle.std.specs.Prelude.{◌≡◌, ◌⊎◌, ◌+◌, ◌*◌, ◌≤◌, ℕ, Bool, true, false, if◌then◌else◌, List, [], ◌∷◌, ◌++◌, length, map, take, sum_by, nat_le}
 use Rattle.std.specs.Prelude.{Option, Result, MatchOption, MatchResult}
 use Rattle.std.specs.List.{concat, flat_map}
-use Rattle.nested_arrays_parts.specs.columnar_memory.declared.DataType.{DataType}
-use Rattle.nested_arrays_parts.specs.columnar_memory.declared.Error.{Error}
-use Rattle.nested_arrays_parts.specs.columnar_memory.declared.PhysicalType.{PhysicalType}
-use Rattle.nested_arrays_parts.specs.columnar_memory.declared.PhysicalType.TheVariants as physical
-use Rattle.nested_arrays_parts.specs.columnar_memory.declared.PrimitiveType.{PrimitiveType}
-use Rattle.nested_arrays_parts.specs.columnar_memory.declared.PrimitiveType.TheVariants as kinds
-use Rattle.nested_arrays_parts.specs.columnar_memory.Error.{IsInvalidArgument, IsOutOfMemory, IsOverflow}
-use Rattle.nested_arrays_parts.specs.columnar_memory.Numbers.{Numbers, one, two, three, first_number, second_number, third_number}
-use Rattle.nested_arrays_parts.specs.flat_arrays.Fits.{binary_layout, text_layout}
-use Rattle.nested_arrays_parts.specs.columns.Cells.{is_null, is_truth, is_text, is_bytes, is_bytes_of}
-use Rattle.nested_arrays_parts.specs.columns.FreshColumns.{is_true, number_of, pair_of, triple_of, content_of, fixed_content_of, sums_from}
-use Rattle.nested_arrays_parts.specs.columns.OpenBatch.{most_short, most_long}
-use Rattle.nested_arrays_parts.specs.columns.Slots.{Slot}
-use Rattle.nested_arrays_parts.specs.columns.StoredColumns.{
+use Rattle.nested_arrays_arrays.specs.columnar_memory.declared.DataType.{DataType}
+use Rattle.nested_arrays_arrays.specs.columnar_memory.declared.Error.{Error}
+use Rattle.nested_arrays_arrays.specs.columnar_memory.declared.PhysicalType.{PhysicalType}
+use Rattle.nested_arrays_arrays.specs.columnar_memory.declared.PhysicalType.TheVariants as physical
+use Rattle.nested_arrays_arrays.specs.columnar_memory.declared.PrimitiveType.{PrimitiveType}
+use Rattle.nested_arrays_arrays.specs.columnar_memory.declared.PrimitiveType.TheVariants as kinds
+use Rattle.nested_arrays_arrays.specs.columnar_memory.Error.{IsInvalidArgument, IsOutOfMemory, IsOverflow}
+use Rattle.nested_arrays_arrays.specs.columnar_memory.Numbers.{Numbers, one, two, three, first_number, second_number, third_number}
+use Rattle.nested_arrays_arrays.specs.flat_arrays.Fits.{binary_layout, text_layout}
+use Rattle.nested_arrays_arrays.specs.columns.Cells.{is_null, is_truth, is_text, is_bytes, is_bytes_of}
+use Rattle.nested_arrays_arrays.specs.columns.FreshColumns.{is_true, number_of, pair_of, triple_of, content_of, fixed_content_of, sums_from}
+use Rattle.nested_arrays_arrays.specs.columns.OpenBatch.{most_short, most_long}
+use Rattle.nested_arrays_arrays.specs.columns.Slots.{Slot}
+use Rattle.nested_arrays_arrays.specs.columns.StoredColumns.{
   Column,
   nulls,
   flat,
@@ -40,6 +40,11 @@ pub data Growing : Type 0 where
   strings : Bool → Bool → List (List ℕ) → Growing
   -- so many bytes each, one string after another
   sized : ℕ → List ℕ → Growing
+
+-- whether nothing is stored, as of nulls alone
+abbrev pub is_nothing : Growing → Bool
+is_nothing nothing = true
+is_nothing _ = false
 
 -- the number of a kind that is stored for a slot; zeros for a null
 abbrev pub numbers_for : PrimitiveType → Slot → Numbers

@@ -9,5 +9,5 @@ pub mod NewValues
 pub mod Open
 pub mod Scalars
 pub mod Strings
-pub use Rattle.nested_arrays_parts.specs as arrays
+pub use Rattle.nested_arrays_arrays.specs as arrays
 pub use Rattle.nested_arrays_growth.specs as growth

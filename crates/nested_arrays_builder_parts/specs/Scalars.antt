@@ -1,7 +1,7 @@
 -- Cells of any type as they are pushed, and the slots that they become.
 use Rattle.std.specs.Prelude.{ℕ, ℤ, pos, List, [], ◌∷◌}
-use Rattle.nested_arrays_parts.specs.columnar_memory.declared.PrimitiveType.TheVariants as kinds
-use Rattle.nested_arrays_parts.specs.columns.Rows.{
+use Rattle.nested_arrays_arrays.specs.columnar_memory.declared.PrimitiveType.TheVariants as kinds
+use Rattle.nested_arrays_arrays.specs.columns.Rows.{
   Cell,
   Cells,
   null_cell,
@@ -12,11 +12,11 @@ use Rattle.nested_arrays_parts.specs.columns.Rows.{
   text_cell,
   bytes_cell,
 }
-use Rattle.nested_arrays_parts.specs.columns.Rows.{list_cell, record_cell, no_cell, cell_then, cell_slot}
-use Rattle.nested_arrays_parts.specs.columns.Slots.{Slot}
-use Rattle.nested_arrays_builder_parts.specs.declared.scalars.AnyScalar.{AnyScalar}
-use Rattle.nested_arrays_builder_parts.specs.declared.scalars.AnyScalar.TheOpen as layer
-use Rattle.nested_arrays_builder_parts.specs.declared.scalars.AnyScalar.TheFolds.{fold-AnyScalar}
+use Rattle.nested_arrays_arrays.specs.columns.Rows.{list_cell, record_cell, no_cell, cell_then, cell_slot}
+use Rattle.nested_arrays_arrays.specs.columns.Slots.{Slot}
+use Rattle.nested_arrays_scalars.specs.declared.scalars.AnyScalar.{AnyScalar}
+use Rattle.nested_arrays_scalars.specs.declared.scalars.AnyScalar.TheOpen as layer
+use Rattle.nested_arrays_scalars.specs.declared.scalars.AnyScalar.TheFolds.{fold-AnyScalar}
 
 -- cells one after another, as they stand in a list or a record
 abbrev pub in_cells : List Cell → Cells

@@ -1,32 +1,30 @@
 //! What a cell stores among values of one kind: nothing where it is of another.
 ghost use Rattle.std.specs.Prelude.{◌≡◌, true};
 ghost use Rattle.std.specs.List.{list_all};
-ghost use Rattle.nested_arrays_parts.specs.columns.Cells.{is_bytes, is_null, is_text, is_truth};
-ghost use Rattle.nested_arrays_parts.specs.columns.FreshColumns.{content_of, is_true};
+ghost use Rattle.nested_arrays_arrays.specs.columns.Cells.{is_bytes, is_null, is_text, is_truth};
+ghost use Rattle.nested_arrays_arrays.specs.columns.FreshColumns.{content_of, is_true};
 ghost use Rattle.nested_arrays_growth.specs.OpenParts.{is_of_kind};
 ghost use Rattle.nested_arrays_builder_parts.specs.Growing.{IsStoredFor, numbers_for};
 ghost use Rattle.nested_arrays_builder_parts.specs.Scalars.{scalar_slot};
 ghost use Rattle.nested_arrays_builder_parts.specs.AnyNumbers.{slot_of_number};
 
 use crate::numbers::{AnyNumber, NumberKind};
-use crate::parts::CellPart;
-use crate::scalars::AnyScalar;
-use nested_arrays_parts::flat::read_bytes;
+use crate::parts::{CellPart, part_of};
+use nested_arrays_arrays::flat::read_bytes;
+use nested_arrays_scalars::AnyScalar;
 
-impl AnyScalar {
-    /// Whether this is no value.
-    #[tactic(auto, using(crate::proofs::CellSlots::nulls))]
-    pub fn is_null(&self) -> bool
-        ensures { result ≡ is_null (scalar_slot self.now) }
-    {
-        match self.part() {
-            CellPart::Null => true,
-            CellPart::Truth(_) => false,
-            CellPart::Number(_) => false,
-            CellPart::Text(_) => false,
-            CellPart::Bytes(_) => false,
-            CellPart::Nested => false,
-        }
+/// Whether a cell is no value.
+#[tactic(auto, using(crate::proofs::CellSlots::nulls))]
+pub fn is_null(cell: &AnyScalar) -> bool
+    ensures { result ≡ is_null (scalar_slot cell.now) }
+{
+    match part_of(cell) {
+        CellPart::Null => true,
+        CellPart::Truth(_) => false,
+        CellPart::Number(_) => false,
+        CellPart::Text(_) => false,
+        CellPart::Bytes(_) => false,
+        CellPart::Nested => false,
     }
 }
 
@@ -35,7 +33,7 @@ impl AnyScalar {
 pub(crate) fn truth_in(cell: &AnyScalar) -> Option<bool>
     ensures { IsStoredFor is_truth (λ value. value) is_true (scalar_slot cell.now) result }
 {
-    match cell.part() {
+    match part_of(cell) {
         CellPart::Null => Some(false),
         CellPart::Truth(truth) => Some(truth),
         _ => None,
@@ -47,7 +45,7 @@ pub(crate) fn truth_in(cell: &AnyScalar) -> Option<bool>
 pub(crate) fn number_in<T: NumberKind>(cell: &AnyScalar) -> Option<T>
     ensures { IsStoredFor (is_of_kind T.PRIMITIVE) T.numbers (numbers_for T.PRIMITIVE) (scalar_slot cell.now) result }
 {
-    match cell.part() {
+    match part_of(cell) {
         CellPart::Null => Some(T::default()),
         CellPart::Number(number) => number_of::<T>(number),
         _ => None,
@@ -73,7 +71,7 @@ fn number_of<T: NumberKind>(number: AnyNumber) -> Option<T>
 pub(crate) fn text_in(cell: &AnyScalar) -> Option<&[u8]>
     ensures { IsStoredFor is_text (λ value. value.now) content_of (scalar_slot cell.now) result }
 {
-    match cell.part() {
+    match part_of(cell) {
         CellPart::Null => Some(&[]),
         CellPart::Text(text) => Some(text),
         _ => None,
@@ -85,7 +83,7 @@ pub(crate) fn text_in(cell: &AnyScalar) -> Option<&[u8]>
 pub(crate) fn bytes_in(cell: &AnyScalar) -> Option<&[u8]>
     ensures { IsStoredFor is_bytes (λ value. value.now) content_of (scalar_slot cell.now) result }
 {
-    match cell.part() {
+    match part_of(cell) {
         CellPart::Null => Some(&[]),
         CellPart::Bytes(bytes) => {
             read_bytes(bytes);

@@ -1,21 +1,24 @@
 //! Builders of arrays without children.
-ghost use Rattle.std.specs.Prelude.{◌≡◌, ◌<◌, ◌≤◌, [], length, MatchResult, IfErr, not, slice_index_or};
-ghost use Rattle.nested_arrays_parts.specs.columnar_memory.Error.{IsOutOfMemory};
-ghost use Rattle.nested_arrays_parts.specs.columns.Cells.{is_null};
-ghost use Rattle.nested_arrays_parts.specs.columnar_memory.Results.{OrOutOfMemory};
-ghost use Rattle.nested_arrays_parts.specs.columns.Slots.{null};
-ghost use Rattle.nested_arrays_parts.specs.columns.StoredColumns.{slots};
+ghost use Rattle.std.specs.Prelude.{◌≡◌, ◌<◌, ◌≤◌, [], length, MatchResult, IfErr, not, slice_index_or, true, option_copied};
+ghost use Rattle.nested_arrays_arrays.specs.columnar_memory.Error.{IsOutOfMemory};
+ghost use Rattle.nested_arrays_arrays.specs.columns.Cells.{is_null};
+ghost use Rattle.nested_arrays_arrays.specs.columnar_memory.Results.{OrOutOfMemory};
+ghost use Rattle.nested_arrays_arrays.specs.columns.FreshLaws.{is_buildable};
+ghost use Rattle.nested_arrays_arrays.specs.columns.Slots.{null};
+ghost use Rattle.nested_arrays_arrays.specs.columns.StoredColumns.{slots};
+ghost use Rattle.nested_arrays_arrays.specs.flat.ColumnMasks.{column_mask};
 ghost use Rattle.nested_arrays_builder_parts.specs.Growing.{HoldsAll};
 ghost use Rattle.nested_arrays_builder_parts.specs.KeptValues.{kept_column, AreKeptAs, TakesSlot};
 ghost use Rattle.nested_arrays_builder_parts.specs.NewValues.{IsNoGrowth};
 ghost use Rattle.nested_arrays_builder_parts.specs.Open.{column_of, first_slots, opened, IsPushed, IsWithin};
 ghost use Rattle.nested_arrays_builder_parts.specs.Scalars.{scalar_slot};
 
+use crate::cells::is_null;
 use crate::marks::Marks;
-use crate::scalars::AnyScalar;
 use crate::values::Values;
-use nested_arrays_parts::FlatArray;
-use nested_arrays_parts::columnar_memory::{DataType, Result};
+use nested_arrays_arrays::columnar_memory::{DataType, MutableBitmap, Result};
+use nested_arrays_arrays::parts::FlatArray;
+use nested_arrays_scalars::AnyScalar;
 use std::alloc::Global;
 use std::marker::Model;
 
@@ -31,7 +34,7 @@ pub struct FlatBuilder {
 }
 
 impl Model for FlatBuilder {
-    ghost use Rattle.nested_arrays_parts.specs.columns.StoredColumns.{slots};
+    ghost use Rattle.nested_arrays_arrays.specs.columns.StoredColumns.{slots};
     ghost use Rattle.nested_arrays_builder_parts.specs.KeptValues.{kept_column, open_of, AreKeptAs};
     ghost use Rattle.nested_arrays_builder_parts.specs.Open.{Open, open_code};
 
@@ -75,9 +78,10 @@ impl FlatBuilder {
         &self.data_type
     }
 
-    /// Hands to a proof that the slots fit the type.
+    /// Hands to a proof that the slots fit the type, and that slots of the type are stored as they come.
     pub fn whole(&self)
-        ensures { IsWithin self.now }
+        ensures within { IsWithin self.now }
+        ensures stored { is_buildable self.now.data_type ≡ true }
     {
         let _data_type = &self.data_type;
     }
@@ -88,6 +92,16 @@ impl FlatBuilder {
         ensures { result ≡ not (is_null (slice_index_or self.now.slots i null)) }
     {
         self.marks.is_valid(i)
+    }
+
+    /// The mask, which is there exactly where a slot is null; of nulls alone there is none.
+    pub fn validity(&self) -> Option<&MutableBitmap>
+        ensures { option_copied result ≡ column_mask (column_of self.now) }
+    {
+        if self.values.are_nulls() {
+            return None;
+        }
+        self.marks.validity()
     }
 
     /// Pushes a cell.
@@ -176,7 +190,7 @@ fn push_parts(marks: &mut Marks, values: &mut Values, cell: &AnyScalar) -> Resul
 {
     let held = marks.len();
     values.push(cell)?;
-    match marks.push(!cell.is_null()) {
+    match marks.push(!is_null(cell)) {
         Ok(()) => Ok(()),
         Err(error) => {
             values.truncate(held);

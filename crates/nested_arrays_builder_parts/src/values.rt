@@ -1,23 +1,23 @@
 //! Values of a type without children that grow, one for each slot: zeros or no bytes under a null.
 ghost use Rattle.std.specs.Prelude.{◌≡◌, ◌⊎◌, ◌*◌, ◌≤◌, [], ◌∷◌, ◌++◌, length, replicate, map, take, MatchResult, IfErr, true, false};
-ghost use Rattle.nested_arrays_parts.specs.columnar_memory.Error.{IsInvalidArgument, IsNotYetImplemented, IsOutOfMemory};
-ghost use Rattle.nested_arrays_parts.specs.columnar_memory.Layouts.{physical_type};
-ghost use Rattle.nested_arrays_parts.specs.columns.Slots as slot;
-ghost use Rattle.nested_arrays_builder_parts.specs.Growing.{first_values, nothing, sized, strings, truths, whole, HoldsFirst, TakesValue, values_of};
+ghost use Rattle.nested_arrays_arrays.specs.columnar_memory.Error.{IsInvalidArgument, IsNotYetImplemented, IsOutOfMemory};
+ghost use Rattle.nested_arrays_arrays.specs.columnar_memory.Layouts.{physical_type};
+ghost use Rattle.nested_arrays_arrays.specs.columns.Slots as slot;
+ghost use Rattle.nested_arrays_builder_parts.specs.Growing.{first_values, is_nothing, nothing, sized, strings, truths, whole, HoldsFirst, TakesValue, values_of};
 ghost use Rattle.nested_arrays_builder_parts.specs.KeptValues.{IsTyped};
 ghost use Rattle.nested_arrays_builder_parts.specs.Scalars.{scalar_slot};
 
-use crate::cells::{bytes_in, number_in, text_in, truth_in};
+use crate::cells::{bytes_in, is_null, number_in, text_in, truth_in};
 use crate::marks::truncate_bits;
 use crate::numbers::NumberKind;
-use crate::parts::CellPart;
-use crate::scalars::AnyScalar;
+use crate::parts::{CellPart, part_of};
 use crate::strings::Strings;
-use nested_arrays_parts::columnar_memory::{
+use nested_arrays_arrays::columnar_memory::{
     DataType, Error, MutableBitmap, Offset, PhysicalType, PrimitiveType, Result, days_ms, i256,
     months_days_ns,
 };
-use nested_arrays_parts::flat::read_bytes;
+use nested_arrays_arrays::flat::read_bytes;
+use nested_arrays_scalars::AnyScalar;
 use std::alloc::Global;
 use std::marker::Model;
 
@@ -63,6 +63,14 @@ impl Model for Values {
 }
 
 impl Values {
+    /// Whether nothing is stored, as of nulls alone.
+    #[tactic(auto, using(crate::proofs::GrownMasks::something))]
+    pub fn are_nulls(&self) -> bool
+        ensures { result ≡ is_nothing self.now }
+    {
+        matches!(self.node, ValuesNode::Nulls)
+    }
+
     /// Adds the value of a cell behind the others.
     ///
     /// # Errors
@@ -200,7 +208,7 @@ fn other_cell() -> Error
 fn push_nothing(cell: &AnyScalar) -> Result<()>
     ensures { TakesValue nothing (scalar_slot cell.now) nothing result }
 {
-    if cell.is_null() {
+    if is_null(cell) {
         Ok(())
     } else {
         Err(other_cell())
@@ -265,7 +273,7 @@ fn push_text<O: Offset>(values: &mut Strings<O>, cell: &AnyScalar) -> Result<()>
 fn push_sized(size: usize, bytes: &mut Vec<u8>, cell: &AnyScalar) -> Result<()>
     ensures { TakesValue (sized size bytes.old.items) (scalar_slot cell.now) (sized size bytes.new.items) result }
 {
-    match cell.part() {
+    match part_of(cell) {
         CellPart::Null => push_zeros(size, bytes),
         CellPart::Bytes(value) => push_string(size, bytes, value),
         _ => Err(other_cell()),

@@ -1,10 +1,11 @@
 use columnar_memory_types::{Boxed, DataType, Error, Field, IntegerType, Items, Text};
-use nested_arrays_builder_arrays::arrays::flat_arrays::Utf8Array;
-use nested_arrays_builder_arrays::arrays::parts::FlatNode;
-use nested_arrays_builder_arrays::arrays::{AnyArray, DictionaryNode, Node};
-use nested_arrays_builder_arrays::as_box;
-use nested_arrays_builder_arrays::builders::AnyMutableArray;
-use nested_arrays_builder_arrays::builders::parts::AnyScalar;
+use nested_arrays_builder_cells::arrays::flat_arrays::Utf8Array;
+use nested_arrays_builder_cells::arrays::parts::FlatNode;
+use nested_arrays_builder_cells::arrays::{AnyArray, DictionaryNode, Node};
+use nested_arrays_builder_cells::builders::AnyMutableArray;
+use nested_arrays_builder_cells::taken::MutableArray;
+use nested_arrays_builder_pushes::TryPushFrom;
+use nested_arrays_scalars::AnyScalar;
 use std::alloc::Global;
 use std::test::Fail;
 
@@ -45,6 +46,26 @@ fn stores(array: AnyArray, keys: &[i8], texts: &[&str]) -> bool {
     found
 }
 
+/// The last key of a dictionary whose keys have 8 bits.
+fn last_key(array: AnyArray) -> Option<i8> {
+    let Node::Dictionary(node) = array.node else {
+        return None;
+    };
+    let DictionaryNode {
+        data_type,
+        keys,
+        values,
+    } = node;
+    drop(data_type);
+    drop(values);
+    let Ok(keys) = keys.into_array::<i8>() else {
+        return None;
+    };
+    let last = keys.values().as_slice().last().copied();
+    drop(keys);
+    last
+}
+
 fn are_texts(values: &Utf8Array<i32>, texts: &[&str]) -> bool {
     if values.len() != texts.len() {
         return false;
@@ -66,10 +87,10 @@ fn a_cut_forgets_values_and_keys(rt: HostRuntime) -> Result<(), Fail> {
         builder.truncate(1);
     }
     push_text(&mut builder, rt.alloc(), "c")?;
-    let array = Box::into_inner(as_box(&mut builder, rt.alloc())?);
+    let array = builder.as_box(rt.alloc())?;
     assert!(rt; stores(array, &[0, 1], &["a", "c"]));
     push_text(&mut builder, rt.alloc(), "a")?;
-    let array = Box::into_inner(as_box(&mut builder, rt.alloc())?);
+    let array = builder.as_box(rt.alloc())?;
     assert!(rt; stores(array, &[0], &["a"]));
     drop(builder);
     Ok(())
@@ -85,7 +106,8 @@ fn keys_that_are_used_up_refuse_a_new_value(rt: HostRuntime) -> Result<(), Fail>
     assert!(rt; matches!(refused, Err(Error::Overflow)));
     drop(refused);
     push_text(&mut builder, rt.alloc(), "0")?;
-    assert_eq!(rt; builder.len(), 129);
+    let array = builder.as_box(rt.alloc())?;
+    assert!(rt; array.len() == 129 && last_key(array) == Some(0));
     drop(builder);
     Ok(())
 }
@@ -116,7 +138,7 @@ fn a_refused_row_leaves_no_text(rt: HostRuntime) -> Result<(), Fail> {
     assert!(rt; matches!(refused, Err(Error::InvalidArgumentError(_))));
     drop(refused);
     builder.try_push_scalar(&row(rt.alloc(), "y", AnyScalar::Null)?)?;
-    let array = Box::into_inner(as_box(&mut builder, rt.alloc())?);
+    let array = builder.as_box(rt.alloc())?;
     let Node::Struct(rows) = array.node else {
         return Err(Fail::from("an array of structs"));
     };
@@ -129,6 +151,23 @@ fn a_refused_row_leaves_no_text(rt: HostRuntime) -> Result<(), Fail> {
     let first = fields.remove(0);
     drop(fields);
     assert!(rt; stores(first, &[0], &["y"]));
+    drop(builder);
+    Ok(())
+}
+
+#[test]
+fn a_slot_is_pushed_from_an_array(rt: HostRuntime) -> Result<(), Fail> {
+    let mut builder = AnyMutableArray::new(rt.alloc(), &texts(rt.alloc())?)?;
+    push_text(&mut builder, rt.alloc(), "a")?;
+    push_text(&mut builder, rt.alloc(), "b")?;
+    let array = builder.as_box(rt.alloc())?;
+    if array.len() == 2 {
+        builder.try_push_from(rt.alloc(), &array, 1)?;
+        builder.try_push_from(rt.alloc(), &array, 0)?;
+    }
+    drop(array);
+    let array = builder.as_box(rt.alloc())?;
+    assert!(rt; stores(array, &[0, 1], &["b", "a"]));
     drop(builder);
     Ok(())
 }

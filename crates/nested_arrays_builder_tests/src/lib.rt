@@ -2,7 +2,11 @@
 #![tactic(auto)]
 
 #[cfg(test)]
+mod begun;
+#[cfg(test)]
 mod dictionaries;
+#[cfg(test)]
+mod lists;
 #[cfg(test)]
 mod marks;
 #[cfg(test)]

@@ -20,11 +20,11 @@ use Rattle.nested_arrays_builder_parts.specs.arrays.columns.Slots.{
   slot_then,
 }
 use Rattle.nested_arrays_builder_parts.specs.Scalars.{in_cells, cell_step, cell_of, scalar_slot}
-use Rattle.nested_arrays_builder_parts.specs.declared.scalars.AnyScalar.{AnyScalar, map-AnyScalar}
-use Rattle.nested_arrays_builder_parts.specs.declared.scalars.AnyScalar.TheFolds.{fold-roll-AnyScalar}
-use Rattle.nested_arrays_builder_parts.specs.declared.scalars.AnyScalar.TheOpen as layer
-use Rattle.nested_arrays_builder_parts.specs.declared.scalars.AnyScalar.TheVariants as variant
-use Rattle.nested_arrays_builder_parts.specs.declared.scalars.AnyScalar.TheViews.{roll-AnyScalar, out-AnyScalar, roll-out-AnyScalar}
+use Rattle.nested_arrays_scalars.specs.declared.scalars.AnyScalar.{AnyScalar, map-AnyScalar}
+use Rattle.nested_arrays_scalars.specs.declared.scalars.AnyScalar.TheFolds.{fold-roll-AnyScalar}
+use Rattle.nested_arrays_scalars.specs.declared.scalars.AnyScalar.TheOpen as layer
+use Rattle.nested_arrays_scalars.specs.declared.scalars.AnyScalar.TheVariants as variant
+use Rattle.nested_arrays_scalars.specs.declared.scalars.AnyScalar.TheViews.{roll-AnyScalar, out-AnyScalar, roll-out-AnyScalar}
 use denote.Hole.Carrier
 
 -- a layer of a cell, where each inside stands as what it is

@@ -2,7 +2,7 @@
 use Rattle.std.specs.Prelude.{◌≡◌, ◌≢◌, ℕ, ◌<◌, List, length, slice_index_or, Option, MatchOption, false, true}
 use Rattle.nested_arrays_builder_parts.specs.arrays.columns.SameSlots.{is_among, same_slot}
 use Rattle.nested_arrays_builder_parts.specs.arrays.columns.Slots.{Slot, null}
-use Rattle.nested_arrays_builder_parts.specs.declared.scalars.AnyScalar.{AnyScalar}
+use Rattle.nested_arrays_scalars.specs.declared.scalars.AnyScalar.{AnyScalar}
 
 -- the place of a cell among others, or none has it
 abbrev pub IsPlaceOf : List AnyScalar → AnyScalar → Option ℕ → Type 0

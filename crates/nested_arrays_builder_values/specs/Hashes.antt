@@ -1,8 +1,8 @@
 -- The hash of a cell.
 use Rattle.std.specs.Prelude.{ℕ, ◌+◌, ◌*◌, ◌%◌, ◌^◌, if◌then◌else◌, List, [], ◌∷◌, unsigned_abs}
-use Rattle.nested_arrays_builder_parts.specs.declared.scalars.AnyScalar.{AnyScalar}
-use Rattle.nested_arrays_builder_parts.specs.declared.scalars.AnyScalar.TheOpen as layer
-use Rattle.nested_arrays_builder_parts.specs.declared.scalars.AnyScalar.TheFolds.{fold-AnyScalar}
+use Rattle.nested_arrays_scalars.specs.declared.scalars.AnyScalar.{AnyScalar}
+use Rattle.nested_arrays_scalars.specs.declared.scalars.AnyScalar.TheOpen as layer
+use Rattle.nested_arrays_scalars.specs.declared.scalars.AnyScalar.TheFolds.{fold-AnyScalar}
 
 -- a hash with one more number
 abbrev pub mixed : ℕ → ℕ → ℕ

@@ -2,7 +2,7 @@
 ghost use Rattle.std.specs.Prelude.{◌≡◌, ◌↔◌, IsTrue, IfOk};
 
 use columnar_memory_types::Items;
-use nested_arrays_builder_parts::AnyScalar;
+use nested_arrays_scalars::AnyScalar;
 use std::alloc::AllocError;
 
 /// A copy of a cell. An error is for want of memory.

@@ -2,7 +2,7 @@
 ghost use Rattle.std.specs.Prelude.{◌≡◌, map};
 ghost use Rattle.nested_arrays_builder_values.specs.Hashes.{cell_hash, mixed, mixed_all};
 
-use nested_arrays_builder_parts::AnyScalar;
+use nested_arrays_scalars::AnyScalar;
 
 /// What a number is spread with.
 const SPREAD: usize = 1_099_511_628_211;

@@ -8,7 +8,8 @@ ghost use Rattle.nested_arrays_builder_values.specs.Keyed.{AddsUse, IsLearnt, Is
 use crate::uses::SlotUses;
 use crate::values::CellMap;
 use nested_arrays_builder_parts::columnar_memory::{Error, IntegerType, Result};
-use nested_arrays_builder_parts::{AnyScalar, Marks};
+use nested_arrays_builder_parts::{Marks, is_null};
+use nested_arrays_scalars::AnyScalar;
 
 /// What a dictionary that grows holds beside its values.
 #[derive(Drop)]
@@ -43,7 +44,7 @@ pub fn needed(known: &CellMap, cell: &AnyScalar) -> Option<usize>
     requires { are_distinct known.now ≡ true }
     ensures { IsNeeded known.now (scalar_slot cell.now) result }
 {
-    if cell.is_null() {
+    if is_null(cell) {
         return Some(0);
     }
     let _count = known.len();

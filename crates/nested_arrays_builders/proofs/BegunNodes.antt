@@ -4,7 +4,7 @@ use Rattle.std.proofs.Common.{get_or, Bool, true, false, refl, sym, ap, subst, a
 use Rattle.std.specs.Prelude.{◌&&◌, ◌⊎◌, ◌==◌, nat_le}
 use Rattle.std.proofs.lemmas.Bool.{and_from, le-leb}
 use Rattle.std.proofs.lemmas.List.{take_more}
-use Rattle.std.proofs.lemmas.List.Folds.{list_all_at, list_all_more, list_any_at}
+use Rattle.std.proofs.lemmas.List.Folds.{list_all_more, list_any_at}
 use Rattle.nested_arrays_builder_values.specs.parts.arrays.columnar_memory.declared.DataType.{DataType}
 use Rattle.nested_arrays_builder_values.specs.parts.arrays.columnar_memory.declared.DataType.TheOpen as layer
 use Rattle.nested_arrays_builder_values.specs.parts.arrays.columnar_memory.declared.Error.{Error}
@@ -20,10 +20,10 @@ use Rattle.nested_arrays_builder_values.proofs.parts_lemmas.growth_lemmas.Below.
 use Rattle.nested_arrays_builder_values.proofs.parts_lemmas.growth_lemmas.Below.{buildable_dictionary}
 use Rattle.nested_arrays_builder_values.proofs.parts_lemmas.growth_lemmas.Fits.{nothing_fits}
 use Rattle.nested_arrays_builder_values.specs.parts.Open.{Open, opened}
-use Rattle.nested_arrays_builders.specs.Begun.{are_unbuilt, fields_size, is_unbuilt, opened_none, IsNoBuilder}
+use Rattle.nested_arrays_builders.specs.Begun.{fields_size, opened_none, AreNoBuilders, IsNoBuilder}
+use Rattle.nested_arrays_builders.specs.BuiltTypes.{has_builder, has_floats, have_builders, is_invalid}
 use Rattle.nested_arrays_builders.specs.Parts.{Parts, listed, sized, of_fields, keyed, opened_each, parts_column, type_size, HoldsParts, IsKept}
 use Rattle.nested_arrays_builders.proofs.KeptNodes.{kept_again, view_kept}
-use Rattle.nested_arrays_builders.proofs.Unbuilt.{unbuilt_struct}
 
 module _ (t : DataType) (item : Field) (o : Open) (made : o ≡ opened item.data_type []) (can : is_buildable item.data_type ≡ true) where
   pub begun_list : (spans : Spans) → type_layer t ≡ layer.List item → spans ≡ no_spans → IsKept t [] (listed false spans o) []
@@ -74,6 +74,10 @@ begun_struct t us os made can is some = record {
   held = subst (λ x. HoldsParts x (of_fields os) []) (sym is) (made ∙ each_none us 0);
 }
 
+-- the type of what was begun is one whose slots are stored as they come
+pub stored_type : (o : Open) (t : DataType) → o ≡ opened t [] → is_buildable o.data_type ≡ true → is_buildable t ≡ true
+stored_type o t made can = ap (λ (o : Open). is_buildable o.data_type) (sym made) ∙ can
+
 -- ---- what is made of it
 
 module _ (t own : DataType) (marks : List Bool) (parts : Parts) (kept : IsKept t [] parts []) (typed : own ≡ t) (none : marks ≡ []) where
@@ -85,29 +89,6 @@ module _ (t own : DataType) (marks : List Bool) (parts : Parts) (kept : IsKept t
 
   pub made_seen : opened own (slots (parts_column own marks parts)) ≡ opened t []
   made_seen = view_kept own marks parts [] own_kept ∙ ap (λ t. opened t []) typed
-
--- ---- refusals
-
-left_fails : (a b : Bool) → b ≡ false → (a && b) ≡ false
-left_fails true b h = h
-left_fails false b h = refl
-
-pub unsized_fails : (t : DataType) (item : Field) (size : ℕ) → type_layer t ≡ layer.FixedSizeList item size → size ≡ 0 → is_buildable t ≡ false
-unsized_fails t item size is none = buildable_fixed_list t item size is ∙ ap (λ n. nat_le 1 n && is_buildable item.data_type) none
-
-pub sized_fails : (t : DataType) (item : Field) (size : ℕ) → type_layer t ≡ layer.FixedSizeList item size → is_buildable item.data_type ≡ false
-    → is_buildable t ≡ false
-sized_fails t item size is not = buildable_fixed_list t item size is ∙ left_fails (nat_le 1 size) (is_buildable item.data_type) not
-
-pub empty_struct_fails : (t : DataType) (us : List Field) → type_layer t ≡ layer.Struct us → length us ≡ 0 → is_buildable t ≡ false
-empty_struct_fails t us is none = buildable_struct t us is ∙ ap (λ n. nat_le 1 n && are_buildable us) none
-
-pub struct_refused : (t : DataType) (us : List Field) (e : Error) → type_layer t ≡ layer.Struct us
-    → IsOutOfMemory e ⊎ (IsNotYetImplemented e × (are_unbuilt us ≡ true)) ⊎ (IsInvalidArgument e × (are_buildable us ≡ false)) → IsNoBuilder t e
-struct_refused t us e is (inl out) = inl out
-struct_refused t us e is (inr (inl not_yet)) = inr (inl (not_yet.0, unbuilt_struct t us is ∙ not_yet.1))
-struct_refused t us e is (inr (inr other)) =
-    inr (inr (other.0, buildable_struct t us is ∙ left_fails (nat_le 1 (length us)) (are_buildable us) other.1))
 
 pub some_of : (n : ℕ) → (n == 0) ≡ false → 0 < n
 some_of zero other = absurd cc
@@ -137,19 +118,21 @@ module _ (us : List Field) (k : ℕ) (u : Field) (lt : k < length us) (is : u �
       ∙ and_from (are_buildable (take k us)) (is_buildable (get_or us k u).data_type) all
       (ap (λ (v : Field). is_buildable v.data_type) (sym is) ∙ can)
 
-  -- where one can't be begun not all can
-  pub one_refused : (e : Error) → IsNoBuilder u.data_type e
-      → IsOutOfMemory e ⊎ (IsNotYetImplemented e × (are_unbuilt us ≡ true)) ⊎ (IsInvalidArgument e × (are_buildable us ≡ false))
+  pub one_more_built : have_builders (take k us) ≡ true → has_builder u.data_type ≡ true → have_builders (take (k + 1) us) ≡ true
+  one_more_built all built = list_all_more (λ (v : Field). has_builder v.data_type) us k u lt
+      ∙ and_from (have_builders (take k us)) (has_builder (get_or us k u).data_type) all
+      (ap (λ (v : Field). has_builder v.data_type) (sym is) ∙ built)
+
+  -- where one has no builder not all have
+  pub one_refused : (e : Error) → IsNoBuilder u.data_type e → AreNoBuilders us e
   one_refused e (inl out) = inl out
-  one_refused e (inr (inl not_yet)) =
+  one_refused e (inr (inl floats)) =
       inr (inl (
-        not_yet.0,
-        list_any_at (λ (v : Field). is_unbuilt v.data_type) us k u lt
-            (ap (λ (v : Field). is_unbuilt v.data_type) (sym is) ∙ not_yet.1),
+        floats.0,
+        list_any_at (λ (v : Field). has_floats v.data_type) us k u lt (ap (λ (v : Field). has_floats v.data_type) (sym is) ∙ floats.1),
       ))
   one_refused e (inr (inr other)) =
       inr (inr (
         other.0,
-        list_all_at (λ (v : Field). is_buildable v.data_type) us k u lt
-            (ap (λ (v : Field). is_buildable v.data_type) (sym is) ∙ other.1),
+        list_any_at (λ (v : Field). is_invalid v.data_type) us k u lt (ap (λ (v : Field). is_invalid v.data_type) (sym is) ∙ other.1),
       ))

@@ -13,11 +13,11 @@ use Rattle.nested_arrays_builder_values.specs.parts.arrays.columns.Slots.{Slot, 
 use Rattle.nested_arrays_builder_values.specs.parts.growth.OpenParts.{is_list, is_list_sized, is_record_sized}
 use Rattle.nested_arrays_builder_values.proofs.parts_lemmas.growth_lemmas.Pieces.{listed}
 use Rattle.nested_arrays_builder_values.specs.parts.Scalars.{in_cells, cell_step, cell_of, scalar_slot}
-use Rattle.nested_arrays_builder_values.specs.parts.declared.scalars.AnyScalar.{AnyScalar, map-AnyScalar}
-use Rattle.nested_arrays_builder_values.specs.parts.declared.scalars.AnyScalar.TheFolds.{fold-roll-AnyScalar}
-use Rattle.nested_arrays_builder_values.specs.parts.declared.scalars.AnyScalar.TheOpen as layer
-use Rattle.nested_arrays_builder_values.specs.parts.declared.scalars.AnyScalar.TheVariants as variant
-use Rattle.nested_arrays_builder_values.specs.parts.declared.scalars.AnyScalar.TheViews.{roll-AnyScalar, out-AnyScalar, roll-out-AnyScalar}
+use Rattle.nested_arrays_scalars.specs.declared.scalars.AnyScalar.{AnyScalar, map-AnyScalar}
+use Rattle.nested_arrays_scalars.specs.declared.scalars.AnyScalar.TheFolds.{fold-roll-AnyScalar}
+use Rattle.nested_arrays_scalars.specs.declared.scalars.AnyScalar.TheOpen as layer
+use Rattle.nested_arrays_scalars.specs.declared.scalars.AnyScalar.TheVariants as variant
+use Rattle.nested_arrays_scalars.specs.declared.scalars.AnyScalar.TheViews.{roll-AnyScalar, out-AnyScalar, roll-out-AnyScalar}
 use denote.Hole.Carrier
 use Rattle.nested_arrays_builders.proofs.TakenSlots.{each_has_one}
 

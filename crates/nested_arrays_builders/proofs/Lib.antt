@@ -1,9 +1,11 @@
 pub mod AddedSlots
 pub mod BegunNodes
+pub mod BuiltTypes
 pub mod CellItems
 pub mod CutParts
 pub mod FirstSpans
 pub mod HeldNodes
+pub mod KeptMasks
 pub mod KeptNodes
 pub mod MoreFits
 pub mod MoreParts
@@ -13,8 +15,8 @@ pub mod PushedKeys
 pub mod PushedNodes
 pub mod SameNodes
 pub mod TakenSlots
-pub mod Unbuilt
 pub use Rattle.nested_arrays_builder_values.proofs as values_lemmas
 pub use Rattle.nested_arrays_builder_values.proofs.parts_lemmas
 pub use Rattle.nested_arrays_builder_values.proofs.parts_lemmas.growth_lemmas
 pub use Rattle.nested_arrays_builder_values.proofs.parts_lemmas.arrays_lemmas.columns_lemmas
+pub use Rattle.nested_arrays_builder_values.proofs.parts_lemmas.arrays_lemmas

@@ -1,4 +1,5 @@
 pub mod Begun
+pub mod BuiltTypes
 pub mod KeptColumns
 pub mod Keyed
 pub mod Nodes
@@ -11,3 +12,4 @@ pub use Rattle.nested_arrays_builder_values.specs.parts
 pub use Rattle.nested_arrays_builder_values.specs.parts.growth
 pub use Rattle.nested_arrays_builder_values.specs.parts.arrays.columns
 pub use Rattle.nested_arrays_builder_values.specs.parts.arrays.columnar_memory
+pub use Rattle.nested_arrays_builder_values.specs.parts.arrays

@@ -1,9 +1,11 @@
 //! Builders of any type.
-ghost use Rattle.std.specs.Prelude.{◌≡◌, ◌<◌, ◌≤◌, ◌↔◌, length, not, slice_index_or, true, IfErr, IsTrue};
+ghost use Rattle.std.specs.Prelude.{◌≡◌, ◌<◌, ◌≤◌, ◌↔◌, length, not, slice_index_or, true, option_copied, IfErr, IsTrue};
 ghost use Rattle.nested_arrays_builder_values.specs.parts.arrays.columnar_memory.Error.{IsOutOfMemory};
 ghost use Rattle.nested_arrays_builder_values.specs.parts.arrays.columns.Cells.{fits_cell, is_null};
+ghost use Rattle.nested_arrays_builder_values.specs.parts.arrays.columns.FreshLaws.{is_buildable};
 ghost use Rattle.nested_arrays_builder_values.specs.parts.arrays.columns.Slots.{null};
-ghost use Rattle.nested_arrays_builder_values.specs.parts.Open.{first_slots, IsPushed, IsWithin};
+ghost use Rattle.nested_arrays_builder_values.specs.parts.arrays.flat.ColumnMasks.{column_mask};
+ghost use Rattle.nested_arrays_builder_values.specs.parts.Open.{column_of, first_slots, IsPushed, IsWithin};
 ghost use Rattle.nested_arrays_builder_values.specs.parts.Scalars.{scalar_slot};
 ghost use Rattle.nested_arrays_builders.specs.Nodes.{held_of};
 ghost use Rattle.nested_arrays_builders.specs.Parts.{seen, IsHeld};
@@ -13,8 +15,11 @@ use crate::fitting::is_cell_of;
 use crate::offsets::MutableListOffsets;
 use crate::room::{reserve_nested, shrink_nested};
 use nested_arrays_builder_values::MutableKeys;
-use nested_arrays_builder_values::parts::columnar_memory::{DataType, Error, Result};
-use nested_arrays_builder_values::parts::{AnyScalar, FlatBuilder, Marks};
+use nested_arrays_builder_values::parts::columnar_memory::{
+    DataType, Error, MutableBitmap, Result,
+};
+use nested_arrays_builder_values::parts::{FlatBuilder, Marks};
+use nested_arrays_scalars::AnyScalar;
 use std::marker::Model;
 
 /// The data type of a builder with children, and a mark for each slot.
@@ -117,9 +122,10 @@ impl AnyMutableArray {
         }
     }
 
-    /// Hands to a proof that the slots fit the type.
+    /// Hands to a proof that the slots fit the type, and that slots of the type are stored as they come.
     pub fn whole(&self)
-        ensures { IsWithin self.now }
+        ensures within { IsWithin self.now }
+        ensures stored { is_buildable self.now.data_type ≡ true }
     {
         match &self.node {
             MutableNode::Flat(builder) => builder.whole(),
@@ -135,6 +141,16 @@ impl AnyMutableArray {
         match &self.node {
             MutableNode::Flat(builder) => builder.is_valid(i),
             MutableNode::Nested(head, _) => head.marks.is_valid(i),
+        }
+    }
+
+    /// The mask, which is there exactly where a slot is null; of nulls alone there is none.
+    pub fn validity(&self) -> Option<&MutableBitmap>
+        ensures { option_copied result ≡ column_mask (column_of self.now) }
+    {
+        match &self.node {
+            MutableNode::Flat(builder) => builder.validity(),
+            MutableNode::Nested(head, _) => head.marks.validity(),
         }
     }
 

@@ -9,8 +9,9 @@ use crate::any::{AnyMutableArray, MutableChildren};
 use crate::keyed::{push_keyed, truncate_keyed};
 use crate::lists::{push_list, push_sized, truncate_list, truncate_sized};
 use crate::records::push_record;
+use nested_arrays_builder_values::parts::Marks;
 use nested_arrays_builder_values::parts::columnar_memory::Result;
-use nested_arrays_builder_values::parts::{AnyScalar, Marks};
+use nested_arrays_scalars::AnyScalar;
 
 /// Keeps the first `len` marks alone, and below what belongs to these slots.
 #[cycle(truncating)]

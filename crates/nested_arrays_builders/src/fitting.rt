@@ -12,7 +12,8 @@ use nested_arrays_builder_values::parts::arrays::flat::read_bytes;
 use nested_arrays_builder_values::parts::columnar_memory::{
     DataType, Field, IntervalUnit, PrimitiveType,
 };
-use nested_arrays_builder_values::parts::{AnyNumber, AnyScalar, CellPart};
+use nested_arrays_builder_values::parts::{AnyNumber, CellPart, is_null, part_of};
+use nested_arrays_scalars::AnyScalar;
 
 /// Whether a cell fits a data type: the kind is the type's, a size is met exactly, items and fields fit the types of the children, and a
 /// dictionary or an extension takes what its inner type takes. A null fits every type, and nothing else a map, a union or floats.
@@ -22,7 +23,7 @@ pub fn is_cell_of(data_type: &DataType, cell: &AnyScalar) -> bool
     ensures { result ≡ fits_cell data_type.now (scalar_slot cell.now) }
 {
     match data_type {
-        DataType::Null => cell.is_null(),
+        DataType::Null => is_null(cell),
         DataType::Boolean => is_truth(cell),
         DataType::Int8 => is_number(PrimitiveType::Int8, cell),
         DataType::Int16 => is_number(PrimitiveType::Int16, cell),
@@ -32,9 +33,9 @@ pub fn is_cell_of(data_type: &DataType, cell: &AnyScalar) -> bool
         DataType::UInt16 => is_number(PrimitiveType::UInt16, cell),
         DataType::UInt32 => is_number(PrimitiveType::UInt32, cell),
         DataType::UInt64 => is_number(PrimitiveType::UInt64, cell),
-        DataType::Float16 => cell.is_null(),
-        DataType::Float32 => cell.is_null(),
-        DataType::Float64 => cell.is_null(),
+        DataType::Float16 => is_null(cell),
+        DataType::Float32 => is_null(cell),
+        DataType::Float64 => is_null(cell),
         DataType::Timestamp(_, _) => is_number(PrimitiveType::Int64, cell),
         DataType::Date32 => is_number(PrimitiveType::Int32, cell),
         DataType::Date64 => is_number(PrimitiveType::Int64, cell),
@@ -51,8 +52,8 @@ pub fn is_cell_of(data_type: &DataType, cell: &AnyScalar) -> bool
         DataType::FixedSizeList(item, size) => is_sized_list(item.get(), *size, cell),
         DataType::LargeList(item) => is_list(item.get(), cell),
         DataType::Struct(fields) => is_record(fields.as_slice(), cell),
-        DataType::Union(_, _, _) => cell.is_null(),
-        DataType::Map(_, _) => cell.is_null(),
+        DataType::Union(_, _, _) => is_null(cell),
+        DataType::Map(_, _) => is_null(cell),
         DataType::Dictionary(_, value, _) => is_cell_of(value.get(), cell),
         DataType::Decimal(_, _) => is_number(PrimitiveType::Int128, cell),
         DataType::Decimal256(_, _) => is_number(PrimitiveType::Int256, cell),
@@ -67,7 +68,7 @@ fn is_list(item: &Field, cell: &AnyScalar) -> bool
 {
     match cell {
         AnyScalar::List(cells) => are_cells_of(&item.data_type, cells.as_slice()),
-        _ => cell.is_null(),
+        _ => is_null(cell),
     }
 }
 
@@ -80,7 +81,7 @@ fn is_sized_list(item: &Field, size: usize, cell: &AnyScalar) -> bool
         AnyScalar::List(cells) => {
             cells.len() == size && are_cells_of(&item.data_type, cells.as_slice())
         }
-        _ => cell.is_null(),
+        _ => is_null(cell),
     }
 }
 
@@ -104,7 +105,7 @@ fn is_record(fields: &[Field], cell: &AnyScalar) -> bool
 {
     match cell {
         AnyScalar::Record(cells) => are_fields_of(fields, cells.as_slice()),
-        _ => cell.is_null(),
+        _ => is_null(cell),
     }
 }
 
@@ -128,7 +129,7 @@ fn are_fields_of(fields: &[Field], cells: &[AnyScalar]) -> bool
 fn is_truth(cell: &AnyScalar) -> bool
     ensures { result ≡ is_truth (scalar_slot cell.now) }
 {
-    match cell.part() {
+    match part_of(cell) {
         CellPart::Null => true,
         CellPart::Truth(_) => true,
         CellPart::Number(_) => false,
@@ -142,7 +143,7 @@ fn is_truth(cell: &AnyScalar) -> bool
 fn is_number(kind: PrimitiveType, cell: &AnyScalar) -> bool
     ensures { result ≡ is_of_kind kind (scalar_slot cell.now) }
 {
-    match cell.part() {
+    match part_of(cell) {
         CellPart::Null => true,
         CellPart::Truth(_) => false,
         CellPart::Number(number) => is_of(kind, number),
@@ -188,7 +189,7 @@ fn is_interval(unit: IntervalUnit, cell: &AnyScalar) -> bool
 fn is_text(cell: &AnyScalar) -> bool
     ensures { result ≡ is_text (scalar_slot cell.now) }
 {
-    match cell.part() {
+    match part_of(cell) {
         CellPart::Null => true,
         CellPart::Truth(_) => false,
         CellPart::Number(_) => false,
@@ -202,7 +203,7 @@ fn is_text(cell: &AnyScalar) -> bool
 fn is_byte_string(cell: &AnyScalar) -> bool
     ensures { result ≡ is_bytes (scalar_slot cell.now) }
 {
-    match cell.part() {
+    match part_of(cell) {
         CellPart::Null => true,
         CellPart::Truth(_) => false,
         CellPart::Number(_) => false,
@@ -219,7 +220,7 @@ fn is_byte_string(cell: &AnyScalar) -> bool
 fn is_sized_string(size: usize, cell: &AnyScalar) -> bool
     ensures { result ≡ is_bytes_of size (scalar_slot cell.now) }
 {
-    match cell.part() {
+    match part_of(cell) {
         CellPart::Null => true,
         CellPart::Truth(_) => false,
         CellPart::Number(_) => false,

@@ -5,7 +5,7 @@ ghost use Rattle.nested_arrays_builder_values.specs.parts.arrays.columns.Slots.{
 ghost use Rattle.nested_arrays_builder_values.specs.parts.Scalars.{scalar_slot};
 ghost use Rattle.nested_arrays_builder_values.specs.parts.growth.OpenParts.{is_list, is_list_sized, is_record_sized};
 
-use nested_arrays_builder_values::parts::AnyScalar;
+use nested_arrays_scalars::AnyScalar;
 
 /// How many items a list has, and a null none.
 pub(crate) fn item_count(cell: &AnyScalar) -> usize

@@ -9,8 +9,9 @@ ghost use Rattle.nested_arrays_builders.specs.Parts.{first_parts, keyed, AddsSlo
 
 use crate::any::AnyMutableArray;
 use nested_arrays_builder_values::columnar_memory::Result;
-use nested_arrays_builder_values::parts::{AnyScalar, Marks};
+use nested_arrays_builder_values::parts::{Marks, is_null};
 use nested_arrays_builder_values::{CellMap, MutableKeys, add_use, learn, most_values_of, needed};
+use nested_arrays_scalars::AnyScalar;
 
 /// Keeps what the first `len` slots name alone.
 #[cycle(truncating)]
@@ -91,7 +92,7 @@ pub(crate) fn push_keyed(
         (keyed keys.new.key keys.new.uses keys.new.known values.new) result }
 {
     match needed(&keys.known, cell) {
-        Some(need) => add_use(marks, &mut keys.uses, !cell.is_null(), need),
+        Some(need) => add_use(marks, &mut keys.uses, !is_null(cell), need),
         None => push_new(marks, keys, values, cell),
     }
 }

@@ -12,7 +12,8 @@ use crate::any::AnyMutableArray;
 use crate::inside::{item_count, item_in};
 use crate::offsets::MutableListOffsets;
 use nested_arrays_builder_values::parts::columnar_memory::Result;
-use nested_arrays_builder_values::parts::{AnyScalar, Marks};
+use nested_arrays_builder_values::parts::{Marks, is_null};
+use nested_arrays_scalars::AnyScalar;
 
 /// Keeps the first `len` lists alone, and their items.
 #[cycle(truncating)]
@@ -88,7 +89,7 @@ pub(crate) fn push_list(
     let held = values.len();
     let count = item_count(cell);
     push_all(values, count, cell)?;
-    match add_list(marks, offsets, count, !cell.is_null()) {
+    match add_list(marks, offsets, count, !is_null(cell)) {
         Ok(()) => Ok(()),
         Err(error) => {
             values.truncate(held);
@@ -132,7 +133,7 @@ pub(crate) fn push_sized(
 {
     let held = values.len();
     push_all(values, size, cell)?;
-    match marks.push(!cell.is_null()) {
+    match marks.push(!is_null(cell)) {
         Ok(()) => Ok(()),
         Err(error) => {
             values.truncate(held);

@@ -1,15 +1,16 @@
 //! Builders of a data type before any slot is pushed.
-ghost use Rattle.std.specs.Prelude.{◌≡◌, []};
+ghost use Rattle.std.specs.Prelude.{◌≡◌};
+ghost use Rattle.nested_arrays_builder_values.specs.parts.arrays.columnar_memory.Layouts.{physical_type};
 ghost use Rattle.nested_arrays_builder_values.specs.parts.arrays.columnar_memory.declared.DataType.TheOpen as layer;
 ghost use Rattle.nested_arrays_builder_values.specs.parts.arrays.columns.StoredColumns.{type_layer};
-ghost use Rattle.nested_arrays_builders.specs.Begun.{AreBegun, IsBegun, IsPlain};
+ghost use Rattle.nested_arrays_builders.specs.Begun.{AreBegun, CanBegin, IsBegun, IsPlain};
+ghost use Rattle.nested_arrays_builders.specs.BuiltTypes.{is_keyed};
 ghost use Rattle.nested_arrays_builders.specs.Nodes.{parts_of};
-ghost use Rattle.nested_arrays_builders.specs.Parts.{IsKept};
 
 use crate::any::{AnyMutableArray, Head, MutableChildren, MutableNode};
 use crate::offsets::MutableListOffsets;
 use nested_arrays_builder_values::columnar_memory::{
-    DataType, Error, Field, IntegerType, Offsets, Result,
+    DataType, Error, Field, IntegerType, Offsets, PhysicalType, Result,
 };
 use nested_arrays_builder_values::parts::{FlatBuilder, Marks};
 use nested_arrays_builder_values::{CellMap, MutableKeys, SlotUses};
@@ -19,9 +20,9 @@ impl AnyMutableArray {
     /// No slots of a data type.
     ///
     /// # Errors
-    /// `NotYetImplemented`: the type is of floats, a map, a union or a dictionary whose keys have the order of its values, or one of its
-    /// children is.
-    /// `InvalidArgumentError`: it is of byte strings or lists of size 0 or a struct without fields, or one of its children is.
+    /// `NotYetImplemented`: floats stand in the type.
+    /// `InvalidArgumentError`: a map, a union, a dictionary whose keys have the order of its values, a dictionary directly in a dictionary,
+    /// byte strings or lists of size 0, or a struct without fields stands in it.
     /// `OutOfMemory`: the builder found no memory.
     // match table: an arm for each layout.
     #[cycle(beginning)]
@@ -33,8 +34,8 @@ impl AnyMutableArray {
             DataType::LargeList(item) => new_large_list(alloc, data_type, item.get()),
             DataType::FixedSizeList(item, size) => new_sized(alloc, data_type, item.get(), *size),
             DataType::Struct(fields) => new_struct(alloc, data_type, fields.as_slice()),
-            DataType::Map(_, _) => Err(Error::NotYetImplemented("builders of maps")),
-            DataType::Union(_, _, _) => Err(Error::NotYetImplemented("builders of unions")),
+            DataType::Map(_, _) => Err(Error::InvalidArgumentError("a builder of maps")),
+            DataType::Union(_, _, _) => Err(Error::InvalidArgumentError("a builder of unions")),
             DataType::Dictionary(key, value, is_ordered) => {
                 new_dictionary(alloc, data_type, *key, value.get(), *is_ordered)
             }
@@ -54,6 +55,7 @@ fn new_list(alloc: Global, data_type: &DataType, item: &Field) -> Result<AnyMuta
     ensures { IsBegun data_type.now result }
 {
     let values = AnyMutableArray::new(alloc, &item.data_type)?;
+    values.whole();
     let offsets = MutableListOffsets::Small(Offsets::new(alloc)?);
     let values = Box::new(alloc, values)?;
     of_children(alloc, data_type, MutableChildren::List(offsets, values))
@@ -66,6 +68,7 @@ fn new_large_list(alloc: Global, data_type: &DataType, item: &Field) -> Result<A
     ensures { IsBegun data_type.now result }
 {
     let values = AnyMutableArray::new(alloc, &item.data_type)?;
+    values.whole();
     let offsets = MutableListOffsets::Large(Offsets::new(alloc)?);
     let values = Box::new(alloc, values)?;
     of_children(alloc, data_type, MutableChildren::List(offsets, values))
@@ -86,6 +89,7 @@ fn new_sized(
         return Err(Error::InvalidArgumentError("lists of no items"));
     }
     let values = AnyMutableArray::new(alloc, &item.data_type)?;
+    values.whole();
     let values = Box::new(alloc, values)?;
     of_children(
         alloc,
@@ -114,7 +118,9 @@ fn new_each(alloc: Global, fields: &[Field]) -> Result<Vec<AnyMutableArray>>
 {
     let mut builders = Vec::new(alloc);
     for field in fields {
-        builders.push(AnyMutableArray::new(alloc, &field.data_type)?)?;
+        let builder = AnyMutableArray::new(alloc, &field.data_type)?;
+        builder.whole();
+        builders.push(builder)?;
     }
     Ok(builders)
 }
@@ -132,14 +138,42 @@ fn new_dictionary(
     ensures { IsBegun data_type.now result }
 {
     if is_ordered {
-        return Err(Error::NotYetImplemented("builders of dictionaries with an order"));
+        return Err(Error::InvalidArgumentError("a dictionary with an order"));
+    }
+    if is_keyed(value) {
+        return Err(Error::InvalidArgumentError("a dictionary in a dictionary"));
     }
     let values = AnyMutableArray::new(alloc, value)?;
+    values.whole();
     let values = Box::new(alloc, values)?;
     let uses = SlotUses::new(alloc);
     let known = CellMap::new(alloc);
     let keys = MutableKeys { key, uses, known };
     of_children(alloc, data_type, MutableChildren::Dictionary(keys, values))
+}
+
+/// Whether a data type is a dictionary, or an extension of one.
+// match table: each layout.
+fn is_keyed(data_type: &DataType) -> bool
+    ensures { result ≡ is_keyed (physical_type data_type.now) }
+{
+    match data_type.to_physical_type() {
+        PhysicalType::Dictionary(_) => true,
+        PhysicalType::Null
+        | PhysicalType::Boolean
+        | PhysicalType::Primitive(_)
+        | PhysicalType::Binary
+        | PhysicalType::FixedSizeBinary
+        | PhysicalType::LargeBinary
+        | PhysicalType::Utf8
+        | PhysicalType::LargeUtf8
+        | PhysicalType::List
+        | PhysicalType::FixedSizeList
+        | PhysicalType::LargeList
+        | PhysicalType::Struct
+        | PhysicalType::Union
+        | PhysicalType::Map => false,
+    }
 }
 
 /// A builder of byte strings of one size.
@@ -168,7 +202,7 @@ fn of_children(
     data_type: &DataType,
     children: MutableChildren,
 ) -> Result<AnyMutableArray>
-    requires { IsKept data_type.now [] (parts_of children) [] }
+    requires { CanBegin data_type.now (parts_of children) }
     ensures { IsBegun data_type.now result }
 {
     let data_type = data_type.clone()?;

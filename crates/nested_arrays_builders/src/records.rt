@@ -9,7 +9,8 @@ use crate::any::AnyMutableArray;
 use crate::children::truncate_each;
 use crate::inside::field_in;
 use nested_arrays_builder_values::parts::columnar_memory::Result;
-use nested_arrays_builder_values::parts::{AnyScalar, Marks};
+use nested_arrays_builder_values::parts::{Marks, is_null};
+use nested_arrays_scalars::AnyScalar;
 
 /// Pushes each field of a record, or a null of a null, up to the first that is refused.
 #[cycle(pushing)]
@@ -53,7 +54,7 @@ pub(crate) fn push_record(
 {
     let held = marks.len();
     push_each(children, held, cell)?;
-    match marks.push(!cell.is_null()) {
+    match marks.push(!is_null(cell)) {
         Ok(()) => Ok(()),
         Err(error) => {
             truncate_each(children, held);

@@ -1,6 +1,7 @@
 use Rattle.std.proofs.Common.{◌≡◌, ◌+◌, ◌*◌, take, true}
 use Rattle.nested_arrays_builder_values.specs.parts.arrays.columns.FreshLaws.{are_buildable}
 use Rattle.nested_arrays_builders.specs.Begun.{fields_size, opened_none}
+use Rattle.nested_arrays_builders.specs.BuiltTypes.{have_builders}
 use Rattle.nested_arrays_builders.specs.Parts.{type_size}
 use Rattle.nested_arrays_builders.proofs.+beginning.Given as goal
 
@@ -8,6 +9,7 @@ use Rattle.nested_arrays_builders.proofs.+beginning.Given as goal
 abbrev pub invariant-new::new_each-loop-field : goal.invariant-new::new_each-loop-field
 invariant-new::new_each-loop-field l = record {
   made : l.builders.items ≡ opened_none (take l.field-index l.fields);
+  built : have_builders (take l.field-index l.fields) ≡ true;
   can : are_buildable (take l.field-index l.fields) ≡ true;
 }
 

@@ -2,7 +2,7 @@ use Rattle.std.proofs.Common.{rules, ◌≡◌, ◌∙◌, ◌≤◌, [], length
 use Rattle.std.proofs.lemmas.Iterator.Adapters.{YieldsList-from_vec}
 use Rattle.std.proofs.lemmas.Iterator.Consumers.{YieldsList-turn}
 use Rattle.nested_arrays_builders.specs.columnar_memory.Spans.{offsets_of}
-use Rattle.nested_arrays_arrays.specs.Lengths.{size_of}
+use Rattle.nested_arrays_builders.specs.arrays.Lengths.{size_of}
 use Rattle.nested_arrays_builders.specs.columns.SoundColumns.{is_sound}
 use Rattle.nested_arrays_builders.specs.columns.StoredColumns.{dictionary, fixed_lists, lists}
 use Rattle.nested_arrays_builders.specs.parts.Marks.{mask_of_marks}

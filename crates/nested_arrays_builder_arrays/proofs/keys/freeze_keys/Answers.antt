@@ -1,7 +1,7 @@
 use Rattle.std.proofs.Common.{ap, sym}
-use Rattle.nested_arrays_arrays.specs.columnar_memory.declared.PrimitiveType.TheVariants as kinds
-use Rattle.nested_arrays_arrays.specs.columnar_memory.Conversions.{type_of_primitive}
-use Rattle.nested_arrays_arrays.specs.parts.Keys.{kind_of_keys}
+use Rattle.nested_arrays_builders.specs.arrays.columnar_memory.declared.PrimitiveType.TheVariants as kinds
+use Rattle.nested_arrays_builders.specs.arrays.columnar_memory.Conversions.{type_of_primitive}
+use Rattle.nested_arrays_builders.specs.arrays.parts.Keys.{kind_of_keys}
 use Rattle.nested_arrays_builder_arrays.proofs.FrozenParts.{frozen_keys}
 use Rattle.nested_arrays_builder_arrays.proofs.keys.freeze_keys.Goals as goal
 

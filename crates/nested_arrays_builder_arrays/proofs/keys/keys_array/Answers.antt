@@ -1,12 +1,12 @@
 use Rattle.std.proofs.Common.{◌≡◌, ◌∙◌, length, map, ap}
-use Rattle.nested_arrays_arrays.specs.columnar_memory.Conversions.{type_of_primitive}
-use Rattle.nested_arrays_arrays.specs.columnar_memory.Layouts.{physical_type}
-use Rattle.nested_arrays_arrays.specs.columns.SoundColumns.{mask_fits}
-use Rattle.nested_arrays_arrays.specs.columns.StoredColumns.{flat}
-use Rattle.nested_arrays_arrays.specs.flat.FlatColumns.{primitive_column, stored_numbers}
-use Rattle.nested_arrays_arrays.specs.flat_arrays.Flat.{Flat}
-use Rattle.nested_arrays_arrays.proofs.flat_lemmas.SoundFlats.{masked_from}
-use Rattle.nested_arrays_arrays.proofs.flat_arrays_lemmas.values_lemmas.Layouts.{plainest_layout}
+use Rattle.nested_arrays_builders.specs.arrays.columnar_memory.Conversions.{type_of_primitive}
+use Rattle.nested_arrays_builders.specs.arrays.columnar_memory.Layouts.{physical_type}
+use Rattle.nested_arrays_builders.specs.arrays.columns.SoundColumns.{mask_fits}
+use Rattle.nested_arrays_builders.specs.arrays.columns.StoredColumns.{flat}
+use Rattle.nested_arrays_builders.specs.arrays.flat.FlatColumns.{primitive_column, stored_numbers}
+use Rattle.nested_arrays_builders.specs.arrays.flat_arrays.Flat.{Flat}
+use Rattle.nested_arrays_builders.proofs.arrays_lemmas.flat_lemmas.SoundFlats.{masked_from}
+use Rattle.nested_arrays_builders.proofs.arrays_lemmas.flat_arrays_lemmas.values_lemmas.Layouts.{plainest_layout}
 use Rattle.nested_arrays_builders.specs.values.Uses.{keys_from}
 use Rattle.nested_arrays_builder_arrays.proofs.FrozenParts.{as_many, stored_keys}
 use Rattle.nested_arrays_builder_arrays.proofs.keys.keys_array.Goals as goal

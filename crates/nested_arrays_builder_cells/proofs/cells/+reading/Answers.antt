@@ -1,11 +1,12 @@
 use Rattle.std.proofs.Common.{rules, ◌≡◌, ◌∙◌, ◌+◌, ◌≤◌, [], ◌∷◌, ◌++◌, length, map, true, ap, arith, subst, sym, List}
-use Rattle.nested_arrays_arrays.specs.AnyColumns.{column_of}
-use Rattle.nested_arrays_arrays.specs.columns.Slots.{Slot, fields, in_slots, items}
-use Rattle.nested_arrays_arrays.specs.columns.StoredColumns.{Column, column_len, column_size, column_type, columns_size, in_columns, slot_at}
-use Rattle.nested_arrays_arrays.specs.declared.any.Node.TheVariants as nodes
-use Rattle.nested_arrays_arrays.proofs.CutNodes.{one_size}
-use Rattle.nested_arrays_builder_parts.specs.Scalars.{scalar_slot}
-use Rattle.nested_arrays_builder_parts.specs.declared.scalars.AnyScalar.{AnyScalar}
+use Rattle.nested_arrays_builder_arrays.specs.arrays.AnyColumns.{column_of}
+use Rattle.nested_arrays_builder_arrays.specs.arrays.columns.Slots.{Slot, fields, in_slots, items}
+use Rattle.nested_arrays_builder_arrays.specs.arrays.columns.StoredColumns.{Column, column_len, column_size, column_type, columns_size, in_columns}
+use Rattle.nested_arrays_builder_arrays.specs.arrays.columns.StoredColumns.{slot_at}
+use Rattle.nested_arrays_builder_arrays.specs.arrays.declared.any.Node.TheVariants as nodes
+use Rattle.nested_arrays_builder_arrays.proofs.arrays_lemmas.CutNodes.{one_size}
+use Rattle.nested_arrays_builder_arrays.specs.parts.Scalars.{scalar_slot}
+use Rattle.nested_arrays_scalars.specs.declared.scalars.AnyScalar.{AnyScalar}
 use Rattle.nested_arrays_builder_cells.specs.ArrayCells.{has_cell, has_cell_at, IsCell}
 use Rattle.nested_arrays_builder_cells.proofs.CellForms.{list_slot, record_slot}
 use Rattle.nested_arrays_builder_cells.proofs.ReadCells.{AreRead, AreReadEach}

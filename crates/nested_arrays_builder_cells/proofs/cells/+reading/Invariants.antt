@@ -1,6 +1,6 @@
 use Rattle.std.proofs.Common.{◌+◌, ◌*◌, map}
-use Rattle.nested_arrays_arrays.specs.columns.StoredColumns.{column_size, column_type, columns_size, in_columns, slot_at}
-use Rattle.nested_arrays_builder_parts.specs.Scalars.{scalar_slot}
+use Rattle.nested_arrays_builder_arrays.specs.arrays.columns.StoredColumns.{column_size, column_type, columns_size, in_columns, slot_at}
+use Rattle.nested_arrays_builder_arrays.specs.parts.Scalars.{scalar_slot}
 use Rattle.nested_arrays_builder_cells.specs.ArrayCells.{has_cell}
 use Rattle.nested_arrays_builder_cells.proofs.ReadCells.{AreRead, AreReadEach}
 use Rattle.nested_arrays_builder_cells.proofs.cells.+reading.Given as goal

@@ -1,9 +1,9 @@
 use Rattle.std.proofs.Common.{◌∙◌, ap, option_copied, sym}
-use Rattle.nested_arrays_arrays.specs.AnyColumns.{column_of}
-use Rattle.nested_arrays_arrays.specs.columns.StoredColumns.{is_valid_at}
-use Rattle.nested_arrays_arrays.specs.declared.any.Node.TheVariants as nodes
-use Rattle.nested_arrays_arrays.proofs.flat_lemmas.ColumnParts.{mark_of_slot}
-use Rattle.nested_arrays_arrays.proofs.parts_lemmas.SameForms.{null_slot}
+use Rattle.nested_arrays_builder_arrays.specs.arrays.AnyColumns.{column_of}
+use Rattle.nested_arrays_builder_arrays.specs.arrays.columns.StoredColumns.{is_valid_at}
+use Rattle.nested_arrays_builder_arrays.specs.arrays.declared.any.Node.TheVariants as nodes
+use Rattle.nested_arrays_builder_arrays.proofs.arrays_lemmas.flat_lemmas.ColumnParts.{mark_of_slot}
+use Rattle.nested_arrays_builder_arrays.proofs.arrays_lemmas.parts_lemmas.SameForms.{null_slot}
 use Rattle.nested_arrays_builder_cells.proofs.inside.list_items.Goals as goal
 
 pub mark_at-requires : goal.mark_at-requires

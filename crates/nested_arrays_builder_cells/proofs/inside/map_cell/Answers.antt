@@ -1,7 +1,7 @@
 use Rattle.std.proofs.Common.{◌∙◌, ap, option_copied, sym}
-use Rattle.nested_arrays_arrays.specs.columns.StoredColumns.{is_valid_at}
-use Rattle.nested_arrays_arrays.proofs.flat_lemmas.ColumnParts.{mark_of_slot}
-use Rattle.nested_arrays_arrays.proofs.parts_lemmas.SameForms.{null_slot}
+use Rattle.nested_arrays_builder_arrays.specs.arrays.columns.StoredColumns.{is_valid_at}
+use Rattle.nested_arrays_builder_arrays.proofs.arrays_lemmas.flat_lemmas.ColumnParts.{mark_of_slot}
+use Rattle.nested_arrays_builder_arrays.proofs.arrays_lemmas.parts_lemmas.SameForms.{null_slot}
 use Rattle.nested_arrays_builder_cells.proofs.CellForms.{null_cell_slot}
 use Rattle.nested_arrays_builder_cells.proofs.CellPlaces.{map_is_none, null_is_cell}
 use Rattle.nested_arrays_builder_cells.proofs.inside.map_cell.Goals as goal

@@ -1,11 +1,11 @@
 use Rattle.std.proofs.Common.{◌≡◌, ◌∙◌, ℕ, ap, arith, length, subst, sym}
-use Rattle.nested_arrays_arrays.specs.AnyColumns.{column_of}
-use Rattle.nested_arrays_arrays.specs.columnar_memory.Layouts.{physical_type}
-use Rattle.nested_arrays_arrays.specs.columns.StoredColumns.{Column, column_len, place_of}
-use Rattle.nested_arrays_arrays.specs.declared.any.Node.TheVariants as nodes
-use Rattle.nested_arrays_arrays.specs.parts.Keys.{keyed, numbers_in}
-use Rattle.nested_arrays_arrays.proofs.KeyPlaces.{keys_count}
-use Rattle.nested_arrays_arrays.proofs.parts_lemmas.SameForms.{null_slot}
+use Rattle.nested_arrays_builder_arrays.specs.arrays.AnyColumns.{column_of}
+use Rattle.nested_arrays_builder_arrays.specs.arrays.columnar_memory.Layouts.{physical_type}
+use Rattle.nested_arrays_builder_arrays.specs.arrays.columns.StoredColumns.{Column, column_len, place_of}
+use Rattle.nested_arrays_builder_arrays.specs.arrays.declared.any.Node.TheVariants as nodes
+use Rattle.nested_arrays_builder_arrays.specs.arrays.parts.Keys.{keyed, numbers_in}
+use Rattle.nested_arrays_builder_arrays.proofs.arrays_lemmas.KeyPlaces.{keys_count}
+use Rattle.nested_arrays_builder_arrays.proofs.arrays_lemmas.parts_lemmas.SameForms.{null_slot}
 use Rattle.nested_arrays_builder_cells.specs.Inside.{IsCellValue}
 use Rattle.nested_arrays_builder_cells.proofs.CellPlaces.{value_cell}
 use Rattle.nested_arrays_builder_cells.proofs.StoredNumbers.{key_number}

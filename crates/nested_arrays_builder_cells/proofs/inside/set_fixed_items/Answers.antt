@@ -1,7 +1,7 @@
 use Rattle.std.proofs.Common.{◌≡◌, ◌∙◌, ◌*◌, ap, sym}
-use Rattle.nested_arrays_arrays.specs.columns.StoredColumns.{column_type, fixed_lists}
-use Rattle.nested_arrays_arrays.specs.flat.ColumnMasks.{column_mask}
-use Rattle.nested_arrays_arrays.proofs.SlotPlaces.{fixed_items}
+use Rattle.nested_arrays_builder_arrays.specs.arrays.columns.StoredColumns.{column_type, fixed_lists}
+use Rattle.nested_arrays_builder_arrays.specs.arrays.flat.ColumnMasks.{column_mask}
+use Rattle.nested_arrays_builder_arrays.proofs.arrays_lemmas.SlotPlaces.{fixed_items}
 use Rattle.nested_arrays_builder_cells.proofs.CellPlaces.{fixed_cells}
 use Rattle.nested_arrays_builder_cells.proofs.inside.set_fixed_items.Goals as goal
 

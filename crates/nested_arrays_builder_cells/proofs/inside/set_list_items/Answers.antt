@@ -1,9 +1,9 @@
 use Rattle.std.proofs.Common.{arith, subst, sym, ◌-◌}
-use Rattle.nested_arrays_arrays.specs.columnar_memory.Spans.{offsets_of}
-use Rattle.nested_arrays_arrays.specs.columns.StoredColumns.{Column, lists}
-use Rattle.nested_arrays_arrays.specs.parts.Widths.{spans_in}
-use Rattle.nested_arrays_arrays.proofs.SlotPlaces.{list_there}
-use Rattle.nested_arrays_arrays.proofs.parts_lemmas.OffsetLists.{spans_count}
+use Rattle.nested_arrays_builder_arrays.specs.arrays.columnar_memory.Spans.{offsets_of}
+use Rattle.nested_arrays_builder_arrays.specs.arrays.columns.StoredColumns.{Column, lists}
+use Rattle.nested_arrays_builder_arrays.specs.arrays.parts.Widths.{spans_in}
+use Rattle.nested_arrays_builder_arrays.proofs.arrays_lemmas.SlotPlaces.{list_there}
+use Rattle.nested_arrays_builder_arrays.proofs.arrays_lemmas.parts_lemmas.OffsetLists.{spans_count}
 use Rattle.nested_arrays_builder_cells.specs.Inside.{AreCellItems}
 use Rattle.nested_arrays_builder_cells.proofs.CellPlaces.{list_cells, no_map}
 use Rattle.nested_arrays_builder_cells.proofs.inside.set_list_items.Goals as goal

@@ -1,5 +1,5 @@
 use Rattle.std.proofs.Common.{arith}
-use Rattle.nested_arrays_arrays.proofs.flat_lemmas.SoundFlats.{primitive_len}
+use Rattle.nested_arrays_builder_arrays.proofs.arrays_lemmas.flat_lemmas.SoundFlats.{primitive_len}
 use Rattle.nested_arrays_builder_cells.proofs.StoredNumbers.{number_there}
 use Rattle.nested_arrays_builder_cells.proofs.numbers.value_at.Goals as goal
 

@@ -1,9 +1,9 @@
 //! Cells of any type by themselves.
 
-use columnar_memory_types::{Items, Text};
-use nested_arrays_parts::columnar_memory::{days_ms, i256, months_days_ns};
+use columnar_memory_native::types::{Items, Text};
+use columnar_memory_native::{days_ms, i256, months_days_ns};
 
-/// One value that is pushed. A contract sees the cell that it is (`cell_of`), and the slot that this becomes (`scalar_slot`).
+/// One value that is pushed.
 ///
 /// The cell of a dictionary or of an extension is that of its inner type.
 #[derive(Debug, Drop)]

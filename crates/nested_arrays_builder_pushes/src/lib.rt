@@ -1,0 +1,6 @@
+//! Builders of any type that take the slots of arrays.
+#![tactic(auto)]
+
+mod pushes;
+
+pub use pushes::TryPushFrom;

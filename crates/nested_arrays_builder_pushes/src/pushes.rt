@@ -1,0 +1,48 @@
+//! A slot of an array pushed into a builder.
+ghost use Rattle.std.specs.Prelude.{◌<◌};
+ghost use Rattle.nested_arrays_builder_cells.specs.ArrayCells.{has_cell_at};
+ghost use Rattle.nested_arrays_builder_cells.specs.arrays.columns.StoredColumns.{column_len, slot_at};
+ghost use Rattle.nested_arrays_builder_cells.specs.parts.Open.{IsPushed};
+ghost use Rattle.nested_arrays_builder_cells.specs.parts.Scalars.{scalar_slot};
+ghost use Rattle.nested_arrays_builder_pushes.specs.Pushes.{IsPushedIf};
+
+use nested_arrays_builder_cells::arrays::AnyArray;
+use nested_arrays_builder_cells::arrays::columnar_memory::{Error, Result};
+use nested_arrays_builder_cells::builders::AnyMutableArray;
+use nested_arrays_builder_cells::cell_at;
+use nested_arrays_builder_cells::taken::MutableArray;
+use nested_arrays_scalars::AnyScalar;
+use std::alloc::Global;
+
+/// Builders that take slots of arrays. A push that is refused changes nothing.
+pub trait TryPushFrom: MutableArray {
+    /// Pushes the cell of the slot at a place of an array.
+    ///
+    /// # Errors
+    /// - `InvalidArgumentError`: the slot has no cell, as that of a map which is not null and that of a union, or the cell does not fit the type.
+    /// - `Overflow`: the slots with this one are more than a column may have, at some depth, or their items or bytes than offsets may number, or
+    ///   the values of a dictionary than its keys tell apart.
+    /// - `OutOfMemory`: the cell or the slot found no memory.
+    fn try_push_from(&mut self, alloc: Global, array: &AnyArray, place: usize) -> Result<()>
+        requires { place < column_len array.now }
+        ensures { IsPushedIf (has_cell_at place array.now) (Self.open_column self.old) (slot_at array.now place) (Self.open_column self.new)
+            result };
+}
+
+impl TryPushFrom for AnyMutableArray {
+    fn try_push_from(&mut self, alloc: Global, array: &AnyArray, place: usize) -> Result<()> {
+        match cell_at(alloc, array, place)? {
+            Some(cell) => push_cell(self, cell),
+            None => Err(Error::InvalidArgumentError("a slot without a cell")),
+        }
+    }
+}
+
+/// Pushes a cell, which is let go.
+fn push_cell(builder: &mut AnyMutableArray, cell: AnyScalar) -> Result<()>
+    ensures { IsPushed builder.old (scalar_slot cell) builder.new result }
+{
+    let answer = builder.try_push_scalar(&cell);
+    drop(cell);
+    answer
+}

@@ -1,0 +1,110 @@
+use columnar_memory_types::{Boxed, DataType, Error, Field, Items, Text};
+use nested_arrays_builder_cells::arrays::parts::FlatNode;
+use nested_arrays_builder_cells::arrays::{AnyArray, Node};
+use nested_arrays_builder_cells::builders::AnyMutableArray;
+use nested_arrays_builder_cells::taken::MutableArray;
+use nested_arrays_scalars::AnyScalar;
+use std::alloc::Global;
+use std::test::Fail;
+
+/// The type of lists of two numbers.
+fn pairs(alloc: Global) -> Result<DataType, Error> {
+    let item = Field::new(alloc, Text::from_str(alloc, "item")?, DataType::Int32, true);
+    Ok(DataType::FixedSizeList(Boxed::new(alloc, item)?, 2))
+}
+
+/// A list of the first numbers from 1 on.
+fn list_of(alloc: Global, count: i32) -> Result<AnyScalar, Error> {
+    let mut cells = Items::new(alloc);
+    for i in 0..count {
+        cells.push(AnyScalar::Int32(i + 1))?;
+    }
+    Ok(AnyScalar::List(cells))
+}
+
+/// Whether an array is of these numbers, with these bytes as its mask.
+fn holds(array: AnyArray, values: &[i32], mask: &[u8]) -> bool {
+    let Node::Flat(flat) = array.node else {
+        return false;
+    };
+    let FlatNode::Primitive(numbers) = flat.node else {
+        return false;
+    };
+    let Ok(numbers) = numbers.into_array::<i32>() else {
+        return false;
+    };
+    let same = numbers.values().as_slice() == values;
+    let masked = match numbers.validity() {
+        Some(bits) => bits.as_slice().0 == mask,
+        None => mask.is_empty(),
+    };
+    drop(numbers);
+    same && masked
+}
+
+#[test]
+fn zeros_stand_under_the_items_of_a_null(rt: HostRuntime) -> Result<(), Fail> {
+    let mut builder = AnyMutableArray::new(rt.alloc(), &pairs(rt.alloc())?)?;
+    builder.try_push_scalar(&list_of(rt.alloc(), 2)?)?;
+    builder.push_null()?;
+    let array = builder.as_box(rt.alloc())?;
+    let Node::FixedSizeList(lists) = array.node else {
+        return Err(Fail::from("an array of lists"));
+    };
+    let items = lists.values().clone()?;
+    drop(lists);
+    assert!(rt; holds(items, &[1, 2, 0, 0], &[3]));
+    drop(builder);
+    Ok(())
+}
+
+/// The type of structs of a number and of a list of two numbers.
+fn numbered(alloc: Global) -> Result<DataType, Error> {
+    let mut fields = Items::new(alloc);
+    fields.push(Field::new(
+        alloc,
+        Text::from_str(alloc, "number")?,
+        DataType::Int32,
+        true,
+    ))?;
+    fields.push(Field::new(alloc, Text::from_str(alloc, "pair")?, pairs(alloc)?, true))?;
+    Ok(DataType::Struct(fields))
+}
+
+/// How many slots each of the two fields of an array of structs has.
+fn field_lengths(array: AnyArray) -> Option<(usize, usize)> {
+    let Node::Struct(rows) = array.node else {
+        return None;
+    };
+    let (data_type, fields, validity) = rows.into_data();
+    drop(data_type);
+    drop(validity);
+    let found = if fields.len() == 2 {
+        Some((fields[0].len(), fields[1].len()))
+    } else {
+        None
+    };
+    drop(fields);
+    found
+}
+
+/// A row of a number and of a list of three.
+fn long_row(alloc: Global) -> Result<AnyScalar, Error> {
+    let mut cells = Items::new(alloc);
+    cells.push(AnyScalar::Int32(5))?;
+    cells.push(list_of(alloc, 3)?)?;
+    Ok(AnyScalar::Record(cells))
+}
+
+#[test]
+fn a_refused_row_lengthens_no_field(rt: HostRuntime) -> Result<(), Fail> {
+    let mut builder = AnyMutableArray::new(rt.alloc(), &numbered(rt.alloc())?)?;
+    builder.push_null()?;
+    let refused = builder.try_push_scalar(&long_row(rt.alloc())?);
+    assert!(rt; matches!(refused, Err(Error::InvalidArgumentError(_))));
+    drop(refused);
+    let array = builder.as_box(rt.alloc())?;
+    assert!(rt; field_lengths(array) == Some((1, 1)));
+    drop(builder);
+    Ok(())
+}
