@@ -1,4 +1,4 @@
-# make demo    cuts the samples with the program as it stands, compiled with run-time checks and not proved, within a minute
+# make demo    cuts the samples with the program as it stands, compiled with run-time checks and not proved
 # make program proves the program and all below it, builds it as bin/tables and cuts the samples with it
 # make test    the whole gate: every proof from nothing, each test, each program, the must-fail edits;
 #              with MINUTES=n it ends after n minutes, and names what it skipped
@@ -47,7 +47,7 @@ test:
 	@for it in $(WORKED); do echo "$(PYTHON) $$it"; $(PYTHON) $$it || exit 1; done
 	$(PYTHON) tools/definitions/compare.py --count 400 --seed 7
 	$(PYTHON) tools/definitions/compare_commands.py --random 100
-	$(PYTHON) tools/writer/streams.py check crates/tables_files/data crates/tables_files/stdout
+	$(PYTHON) tools/writer/arrow_commands.py check crates/tables_files/data crates/tables_files/stdout
 	$(PYTHON) tools/gate.py --started $(STARTED) $(if $(MINUTES),--minutes $(MINUTES)) $(RT)
 
 definitions:

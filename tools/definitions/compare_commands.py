@@ -29,7 +29,7 @@ from compare import made_case
 from defined_values import Defined
 from definitions import deeply
 
-BATCHES = "tables_batches"
+BATCHES = "tables_chunks"
 MOST_COMPARED = 100_000
 
 

@@ -1,5 +1,5 @@
 //! Data that jobs of more than one group have, which follow from a place, and their checksum.
-use nested_arrays::columnar_memory::Result;
+use columnar_memory_types::Result;
 use std::alloc::Global;
 
 /// The texts that columns of texts hold.

@@ -1,6 +1,6 @@
 use crate::timing::{Named, show_checksums, show_time};
 use crate::{flat, memory, metadata, nested};
-use nested_arrays::columnar_memory::Result;
+use columnar_memory_types::Result;
 use std::rt::Clock;
 
 /// The jobs of a layer.

@@ -15,8 +15,8 @@ mod metadata;
 mod nested;
 mod timing;
 
+use columnar_memory_types::{Error, Result};
 use group::GROUPS;
-use nested_arrays::columnar_memory::{Error, Result};
 use std::env;
 use std::rt::Clock;
 use timing::choice_named;

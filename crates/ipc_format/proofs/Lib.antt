@@ -1,9 +1,34 @@
-pub use Rattle.ipc_format_values.proofs as values_lemmas
-pub use Rattle.ipc_format_values.proofs.flatbuffers_lemmas
-pub use Rattle.ipc_format_values.proofs.grammar_lemmas
-pub use Rattle.ipc_format_values.proofs.messages_lemmas
-pub use Rattle.ipc_format_values.proofs.metadata_lemmas
-pub use Rattle.ipc_format_values.proofs.writing_lemmas
-pub use Rattle.ipc_format_streams.proofs as streams_lemmas
-pub use Rattle.ipc_format_values.proofs.columns_lemmas
-pub use Rattle.ipc_format_values.proofs.columnar_memory_lemmas
+pub use Rattle.ipc_format_reading_laws.proofs.laws_lemmas.DefaultIds
+pub use Rattle.ipc_format_reading_laws.proofs.laws_lemmas.GivenIds
+pub use Rattle.ipc_format_reading_laws.proofs.laws_lemmas.LaterMessages
+pub use Rattle.ipc_format_reading_laws.proofs.laws_lemmas.NormalForms
+pub use Rattle.ipc_format_reading_laws.proofs.laws_lemmas.Places
+pub use Rattle.ipc_format_reading_laws.proofs.laws_lemmas.Room as LimitsOfRoom
+pub use Rattle.ipc_format_reading_laws.proofs.laws_lemmas.SentMessages
+pub use Rattle.ipc_format_reading_laws.proofs.laws_lemmas.StreamContents
+pub use Rattle.ipc_format_reading_laws.proofs.NormalColumnsKept
+pub use Rattle.ipc_format_reading_laws.proofs.NormalColumnsLayers
+pub use Rattle.ipc_format_reading_laws.proofs.SealedIds
+pub use Rattle.ipc_format_reading_laws.proofs.StoredGivenBrought
+pub use Rattle.ipc_format_reading_laws.proofs.StoredGivenFits
+pub use Rattle.ipc_format_reading_laws.proofs.StoredGivenFolds
+pub use Rattle.ipc_format_reading_laws.proofs.StoredGivenLists
+pub use Rattle.ipc_format_reading_laws.proofs.StoredGivenReady
+pub use Rattle.ipc_format_reading_laws.proofs.StoredGivenStanding
+pub use Rattle.ipc_format_reading_laws.proofs.StoredTablesBatches
+pub use Rattle.ipc_format_reading_laws.proofs.StoredTablesEntries
+pub use Rattle.ipc_format_reading_laws.proofs.StoredTablesNormal
+pub use Rattle.ipc_format_reading_laws.proofs.StoredTablesStreams
+pub use Rattle.ipc_format_reading_laws.proofs.StoredTypes
+pub use Rattle.ipc_format_stream_steps.proofs.Binding
+pub use Rattle.ipc_format_stream_steps.proofs.Places as StreamStepsPlaces
+pub use Rattle.ipc_format_stream_steps.proofs.Progress
+pub use Rattle.ipc_format_stream_steps.proofs.Rows
+pub use Rattle.ipc_format_stream_steps.proofs.Steps
+pub use Rattle.ipc_format_stream_steps.proofs.StreamParts
+pub use Rattle.ipc_format_chunk_writing.proofs.Appending
+pub use Rattle.ipc_format_chunk_writing.proofs.Claims
+pub use Rattle.ipc_format_chunk_writing.proofs.ColumnSizes
+pub use Rattle.ipc_format_chunk_writing.proofs.Columns
+pub use Rattle.ipc_format_chunk_writing.proofs.Cuts
+pub use Rattle.ipc_format_chunk_writing.proofs.Windows

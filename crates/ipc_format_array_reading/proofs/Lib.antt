@@ -4,5 +4,26 @@ pub mod SmallNodes
 pub mod UnionReads
 pub mod MadeChecks
 pub mod FixedColumns
-pub use Rattle.ipc_format_column_writing.proofs.reading_lemmas as column_lemmas
-pub use Rattle.ipc_format_column_writing.proofs as writing_lemmas
+pub use Rattle.ipc_format_column_writing.proofs.columnar_memory_lemmas.bitmap_lemmas.Lists
+pub use Rattle.ipc_format_column_writing.proofs.reading_lemmas.bytes_lemmas.Joined
+pub use Rattle.ipc_format_column_writing.proofs.reading_lemmas.bytes_lemmas.MessageLimits
+pub use Rattle.ipc_format_column_writing.proofs.reading_lemmas.bytes_lemmas.Stated
+pub use Rattle.ipc_format_column_writing.proofs.reading_lemmas.ColumnReads
+pub use Rattle.ipc_format_column_writing.proofs.reading_lemmas.Marks
+pub use Rattle.ipc_format_column_writing.proofs.reading_lemmas.NextBuffers
+pub use Rattle.ipc_format_column_writing.proofs.reading_lemmas.Readings
+pub use Rattle.ipc_format_column_writing.proofs.reading_lemmas.Skipping
+pub use Rattle.ipc_format_column_writing.proofs.grammar_lemmas.NormalReports
+pub use Rattle.ipc_format_column_writing.proofs.reading_lemmas.bytes_lemmas.streams_lemmas.Appending
+pub use Rattle.ipc_format_column_writing.proofs.reading_lemmas.bytes_lemmas.streams_lemmas.writing_lemmas.BesideLists
+pub use Rattle.ipc_format_column_writing.proofs.reading_lemmas.bytes_lemmas.streams_lemmas.writing_lemmas.FittingLists
+pub use Rattle.ipc_format_column_writing.proofs.columns_lemmas.Claims
+pub use Rattle.ipc_format_column_writing.proofs.columns_lemmas.ColumnSizes
+pub use Rattle.ipc_format_column_writing.proofs.columns_lemmas.Columns
+pub use Rattle.ipc_format_column_writing.proofs.columns_lemmas.Conditions
+pub use Rattle.ipc_format_column_writing.proofs.columns_lemmas.Cuts
+pub use Rattle.ipc_format_column_writing.proofs.columns_lemmas.CutsOfCuts
+pub use Rattle.ipc_format_column_writing.proofs.columns_lemmas.FreshLengths
+pub use Rattle.ipc_format_column_writing.proofs.columns_lemmas.SameSlotsDecide
+pub use Rattle.ipc_format_column_writing.proofs.columns_lemmas.TypeLayers
+pub use Rattle.ipc_format_column_writing.proofs.columns_lemmas.Windows

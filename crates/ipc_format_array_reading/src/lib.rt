@@ -11,6 +11,9 @@ mod null;
 pub use begun::{Beginning, Begun, begin, has_children, limit_below};
 pub use fixed_size_binary::read_fixed_size_binary;
 pub use ipc_format_column_writing as column_writing;
-pub use ipc_format_column_writing::{chunks, column_reading, nested_arrays};
+pub use ipc_format_column_writing::column_reading::{InMemory, Room};
+pub use ipc_format_column_writing::{
+    chunks, columnar_memory, flatbuffers, grammar, messages, metadata, nested_arrays,
+};
 pub use made::array_of;
 pub use null::read_null;

@@ -1,8 +1,7 @@
 //! Columns of nulls and of byte strings of one size.
 use columnar_memory::{DataType, Error};
-use ipc_format_array_reading::column_reading::InMemory;
-use ipc_format_array_reading::column_reading::messages::{Buffer, FieldNode};
-use ipc_format_array_reading::{read_fixed_size_binary, read_null};
+use ipc_format_array_reading::messages::{Buffer, FieldNode};
+use ipc_format_array_reading::{InMemory, read_fixed_size_binary, read_null};
 use std::alloc::Global;
 use std::collections::VecDeque;
 use std::test::*;

@@ -2,30 +2,30 @@
 use Rattle.std.proofs.Common.{◌≡◌, ◌∙◌, ◌≤◌, ℕ, List, [], Bool, true, false, length, drop, refl, sym, ap, subst, arith, inl, inr}
 use Rattle.std.specs.Prelude.{Option, Some, None, Result, Ok, Err, IfOk}
 use Rattle.std.proofs.lemmas.Bool.{false≢true, true≢false}
-use Rattle.ipc_format_array_reading.specs.column_reading.columnar_memory.Error.{IsOutOfMemory, IsOutOfSpec}
-use Rattle.ipc_format_array_reading.specs.column_reading.columnar_memory.Layouts.{physical_type}
-use Rattle.ipc_format_array_reading.specs.column_reading.columnar_memory.declared.DataType.{DataType}
-use Rattle.ipc_format_array_reading.specs.column_reading.columnar_memory.declared.DataType.TheOpen as layer
-use Rattle.ipc_format_array_reading.specs.column_reading.columnar_memory.declared.Error.{Error}
-use Rattle.ipc_format_array_reading.specs.column_reading.columnar_memory.declared.IntervalUnit.TheVariants as intervals
-use Rattle.ipc_format_array_reading.specs.column_reading.columnar_memory.declared.PhysicalType.{PhysicalType}
-use Rattle.ipc_format_array_reading.specs.column_reading.columnar_memory.declared.PhysicalType.TheVariants as physical
-use Rattle.ipc_format_array_reading.specs.column_reading.columns.Slots.{Slot}
-use Rattle.ipc_format_array_reading.specs.column_reading.columns.StoredColumns.{Column, column_type, slots, type_layer}
-use Rattle.ipc_format_array_reading.specs.column_reading.grammar.Columns.{Place, slots_in}
-use Rattle.ipc_format_array_reading.specs.column_reading.grammar.Layouts.{buffer_count, node_count}
-use Rattle.ipc_format_array_reading.specs.column_reading.grammar.Messages.{V5, Version}
-use Rattle.ipc_format_array_reading.specs.column_reading.messages.declared.values.Buffer.{Buffer}
-use Rattle.ipc_format_array_reading.specs.column_reading.messages.declared.values.FieldNode.{FieldNode}
-use Rattle.ipc_format_array_reading.specs.column_reading.Queues.{TakesOff}
-use Rattle.ipc_format_array_reading.specs.column_reading.Reads.{ReadsColumn, front, front_slots}
-use Rattle.ipc_format_array_reading.specs.column_reading.Rooms.{ForBytes, IsRefusal, ReadsAs, Stays, Told}
+use Rattle.ipc_format_array_reading.specs.columnar_memory.Error.{IsOutOfMemory, IsOutOfSpec}
+use Rattle.ipc_format_array_reading.specs.columnar_memory.Layouts.{physical_type}
+use Rattle.ipc_format_array_reading.specs.columnar_memory.declared.DataType.{DataType}
+use Rattle.ipc_format_array_reading.specs.columnar_memory.declared.DataType.TheOpen as layer
+use Rattle.ipc_format_array_reading.specs.columnar_memory.declared.Error.{Error}
+use Rattle.ipc_format_array_reading.specs.columnar_memory.declared.IntervalUnit.TheVariants as intervals
+use Rattle.ipc_format_array_reading.specs.columnar_memory.declared.PhysicalType.{PhysicalType}
+use Rattle.ipc_format_array_reading.specs.columnar_memory.declared.PhysicalType.TheVariants as physical
+use Rattle.ipc_format_array_reading.specs.nested_arrays.Slots.{Slot}
+use Rattle.ipc_format_array_reading.specs.nested_arrays.StoredColumns.{Column, column_type, slots, type_layer}
+use Rattle.ipc_format_array_reading.specs.grammar.Columns.{Place, slots_in}
+use Rattle.ipc_format_array_reading.specs.grammar.Layouts.{buffer_count, node_count}
+use Rattle.ipc_format_array_reading.specs.grammar.Messages.{V5, Version}
+use Rattle.ipc_format_array_reading.specs.messages.declared.values.Buffer.{Buffer}
+use Rattle.ipc_format_array_reading.specs.messages.declared.values.FieldNode.{FieldNode}
+use Rattle.ipc_format_array_reading.specs.Queues.{TakesOff}
+use Rattle.ipc_format_array_reading.specs.Reads.{ReadsColumn, front, front_slots}
+use Rattle.ipc_format_array_reading.specs.Rooms.{ForBytes, IsRefusal, ReadsAs, Stays, Told}
 use Rattle.ipc_format_array_reading.specs.ArrayReads.{Takes}
 use Rattle.ipc_format_array_reading.specs.TypedReads.{ReadsNulls, front_array}
 use Rattle.ipc_format_array_reading.proofs.Layers.{layer_plain, layer_reads, read_layer}
 use Rattle.ipc_format_array_reading.proofs.Taking.{drop_none, takes_as, takes_none, takes_stopped}
-use Rattle.ipc_format_array_reading.proofs.column_lemmas.Readings.{out_of_memory, out_of_spec}
-use Rattle.ipc_format_array_reading.proofs.column_lemmas.columns_lemmas.TypeLayers.{Layer, is_extension, layer_layout, layout_is}
+use Rattle.ipc_format_array_reading.proofs.Readings.{out_of_memory, out_of_spec}
+use Rattle.ipc_format_array_reading.proofs.TypeLayers.{Layer, is_extension, layer_layout, layout_is}
 use Rattle.ipc_format_childless_reading.specs.Flats.{IsAnyOf, ReadsFlat}
 use Rattle.ipc_format_childless_reading.specs.ReadArrays.{ReadsArray}
 

@@ -2,25 +2,25 @@
 use Rattle.std.proofs.Common.{◌≡◌, ◌∙◌, ℕ, List, Bool, true, false, refl, sym, ap}
 use Rattle.std.specs.Prelude.{Option, None}
 use Rattle.std.proofs.lemmas.Bool.{false≢true, true≢false}
-use Rattle.ipc_format_array_reading.specs.column_reading.columnar_memory.Layouts.{physical_type}
-use Rattle.ipc_format_array_reading.specs.column_reading.columnar_memory.declared.DataType.{DataType}
-use Rattle.ipc_format_array_reading.specs.column_reading.columnar_memory.declared.DataType.TheOpen as layer
-use Rattle.ipc_format_array_reading.specs.column_reading.columnar_memory.declared.IntegerType.{IntegerType}
-use Rattle.ipc_format_array_reading.specs.column_reading.columnar_memory.declared.IntervalUnit.TheVariants as intervals
-use Rattle.ipc_format_array_reading.specs.column_reading.columnar_memory.declared.PhysicalType.{PhysicalType}
-use Rattle.ipc_format_array_reading.specs.column_reading.columnar_memory.declared.PhysicalType.TheVariants as physical
-use Rattle.ipc_format_array_reading.specs.column_reading.columnar_memory.declared.PrimitiveType.{PrimitiveType}
-use Rattle.ipc_format_array_reading.specs.column_reading.columnar_memory.declared.PrimitiveType.TheVariants as kinds
-use Rattle.ipc_format_array_reading.specs.column_reading.columns.StoredColumns.{type_layer}
-use Rattle.ipc_format_array_reading.specs.column_reading.flatbuffers.Reading.{◌>>=◌, guard}
-use Rattle.ipc_format_array_reading.specs.column_reading.grammar.Columns.{Dictionary, buffer_at, byte_slots, fixed_slots}
-use Rattle.ipc_format_array_reading.specs.column_reading.grammar.Columns.{marked_in, offsets_in, slots_in, validity_in}
-use Rattle.ipc_format_array_reading.specs.column_reading.grammar.Layouts.{buffer_count, node_count}
-use Rattle.ipc_format_array_reading.specs.column_reading.grammar.Messages.{Version}
-use Rattle.ipc_format_array_reading.specs.column_reading.grammar.Schemas.{Ids, ids, no_ids}
-use Rattle.ipc_format_array_reading.specs.column_reading.messages.declared.values.Buffer.{Buffer}
-use Rattle.ipc_format_array_reading.specs.column_reading.messages.declared.values.FieldNode.{FieldNode}
-use Rattle.ipc_format_array_reading.specs.column_reading.Reads.{front, front_slots}
+use Rattle.ipc_format_array_reading.specs.columnar_memory.Layouts.{physical_type}
+use Rattle.ipc_format_array_reading.specs.columnar_memory.declared.DataType.{DataType}
+use Rattle.ipc_format_array_reading.specs.columnar_memory.declared.DataType.TheOpen as layer
+use Rattle.ipc_format_array_reading.specs.columnar_memory.declared.IntegerType.{IntegerType}
+use Rattle.ipc_format_array_reading.specs.columnar_memory.declared.IntervalUnit.TheVariants as intervals
+use Rattle.ipc_format_array_reading.specs.columnar_memory.declared.PhysicalType.{PhysicalType}
+use Rattle.ipc_format_array_reading.specs.columnar_memory.declared.PhysicalType.TheVariants as physical
+use Rattle.ipc_format_array_reading.specs.columnar_memory.declared.PrimitiveType.{PrimitiveType}
+use Rattle.ipc_format_array_reading.specs.columnar_memory.declared.PrimitiveType.TheVariants as kinds
+use Rattle.ipc_format_array_reading.specs.nested_arrays.StoredColumns.{type_layer}
+use Rattle.ipc_format_array_reading.specs.flatbuffers.Reading.{◌>>=◌, guard}
+use Rattle.ipc_format_array_reading.specs.grammar.Columns.{Dictionary, buffer_at, byte_slots, fixed_slots}
+use Rattle.ipc_format_array_reading.specs.grammar.Columns.{marked_in, offsets_in, slots_in, validity_in}
+use Rattle.ipc_format_array_reading.specs.grammar.Layouts.{buffer_count, node_count}
+use Rattle.ipc_format_array_reading.specs.grammar.Messages.{Version}
+use Rattle.ipc_format_array_reading.specs.grammar.Schemas.{Ids, ids, no_ids}
+use Rattle.ipc_format_array_reading.specs.messages.declared.values.Buffer.{Buffer}
+use Rattle.ipc_format_array_reading.specs.messages.declared.values.FieldNode.{FieldNode}
+use Rattle.ipc_format_array_reading.specs.Reads.{front, front_slots}
 use Rattle.ipc_format_array_reading.specs.nested_arrays.Childless.{is_childless}
 use Rattle.ipc_format_array_reading.specs.ArrayReads.{Test, array_slots, is_readable}
 use Rattle.ipc_format_array_reading.specs.Parts.{has_children}
@@ -28,7 +28,7 @@ use Rattle.ipc_format_array_reading.specs.TypedReads.{front_array}
 use Rattle.ipc_format_array_reading.proofs.Layers.{layer_buffers, layer_nodes, layer_plain, layer_reads}
 use Rattle.ipc_format_array_reading.proofs.Layers.{layer_tests, read_layer, test_layer, type_buffers}
 use Rattle.ipc_format_array_reading.proofs.Layers.{type_nodes}
-use Rattle.ipc_format_array_reading.proofs.column_lemmas.columns_lemmas.TypeLayers.{Layer, is_extension, layer_layout, layout_is}
+use Rattle.ipc_format_array_reading.proofs.TypeLayers.{Layer, is_extension, layer_layout, layout_is}
 use Rattle.ipc_format_childless_reading.specs.Flats.{has_all}
 use Rattle.ipc_format_childless_reading.specs.ReadArrays.{at_front}
 

@@ -4,29 +4,29 @@ use Rattle.std.specs.Prelude.{ℤ, Option, Some, None, Result, Ok, Err, ◌&&◌
 use Rattle.std.specs.List.{list_all}
 use Rattle.std.proofs.lemmas.Bool.{and_from, and_parts, cases_Bool, false≢true, true≢false}
 use Rattle.std.proofs.lemmas.List.{length-map}
-use Rattle.ipc_format_array_reading.specs.column_reading.columnar_memory.Equality.{same_type, same_type-Decides}
-use Rattle.ipc_format_array_reading.specs.column_reading.columnar_memory.Layouts.{physical_type}
-use Rattle.ipc_format_array_reading.specs.column_reading.columnar_memory.Numbers.{Numbers, first_number, one}
-use Rattle.ipc_format_array_reading.specs.column_reading.columnar_memory.declared.DataType.{DataType}
-use Rattle.ipc_format_array_reading.specs.column_reading.columnar_memory.declared.DataType.TheOpen as layer
-use Rattle.ipc_format_array_reading.specs.column_reading.columnar_memory.declared.Error.{Error}
-use Rattle.ipc_format_array_reading.specs.column_reading.columnar_memory.declared.IntegerType.{IntegerType}
-use Rattle.ipc_format_array_reading.specs.column_reading.columnar_memory.declared.IntegerType.TheVariants as integers
-use Rattle.ipc_format_array_reading.specs.column_reading.columnar_memory.declared.IntervalUnit.TheVariants as intervals
-use Rattle.ipc_format_array_reading.specs.column_reading.columnar_memory.declared.PhysicalType.{PhysicalType}
-use Rattle.ipc_format_array_reading.specs.column_reading.columnar_memory.declared.PhysicalType.TheVariants as physical
-use Rattle.ipc_format_array_reading.specs.column_reading.columnar_memory.declared.PrimitiveType.{PrimitiveType}
-use Rattle.ipc_format_array_reading.specs.column_reading.columns.Kinds.{is_key}
-use Rattle.ipc_format_array_reading.specs.column_reading.columns.SoundColumns.{has_size, has_value_at, has_value_type}
-use Rattle.ipc_format_array_reading.specs.column_reading.columns.SoundColumns.{holds_below, is_sound, is_stored_as}
-use Rattle.ipc_format_array_reading.specs.column_reading.columns.SoundColumns.{mask_fits}
-use Rattle.ipc_format_array_reading.specs.column_reading.columns.StoredColumns.{Column, column_len, column_type}
-use Rattle.ipc_format_array_reading.specs.column_reading.columns.StoredColumns.{dictionary, flat, stored_len, type_layer}
+use Rattle.ipc_format_array_reading.specs.columnar_memory.Equality.{same_type, same_type-Decides}
+use Rattle.ipc_format_array_reading.specs.columnar_memory.Layouts.{physical_type}
+use Rattle.ipc_format_array_reading.specs.columnar_memory.Numbers.{Numbers, first_number, one}
+use Rattle.ipc_format_array_reading.specs.columnar_memory.declared.DataType.{DataType}
+use Rattle.ipc_format_array_reading.specs.columnar_memory.declared.DataType.TheOpen as layer
+use Rattle.ipc_format_array_reading.specs.columnar_memory.declared.Error.{Error}
+use Rattle.ipc_format_array_reading.specs.columnar_memory.declared.IntegerType.{IntegerType}
+use Rattle.ipc_format_array_reading.specs.columnar_memory.declared.IntegerType.TheVariants as integers
+use Rattle.ipc_format_array_reading.specs.columnar_memory.declared.IntervalUnit.TheVariants as intervals
+use Rattle.ipc_format_array_reading.specs.columnar_memory.declared.PhysicalType.{PhysicalType}
+use Rattle.ipc_format_array_reading.specs.columnar_memory.declared.PhysicalType.TheVariants as physical
+use Rattle.ipc_format_array_reading.specs.columnar_memory.declared.PrimitiveType.{PrimitiveType}
+use Rattle.ipc_format_array_reading.specs.nested_arrays.Kinds.{is_key}
+use Rattle.ipc_format_array_reading.specs.nested_arrays.SoundColumns.{has_size, has_value_at, has_value_type}
+use Rattle.ipc_format_array_reading.specs.nested_arrays.SoundColumns.{holds_below, is_sound, is_stored_as}
+use Rattle.ipc_format_array_reading.specs.nested_arrays.SoundColumns.{mask_fits}
+use Rattle.ipc_format_array_reading.specs.nested_arrays.StoredColumns.{Column, column_len, column_type}
+use Rattle.ipc_format_array_reading.specs.nested_arrays.StoredColumns.{dictionary, flat, stored_len, type_layer}
 use Rattle.ipc_format_array_reading.specs.nested_arrays.Answers.{IsCheckedAs}
 use Rattle.ipc_format_array_reading.specs.nested_arrays.FlatColumns.{stored_numbers}
 use Rattle.ipc_format_array_reading.specs.nested_arrays.Keys.{kind_of_keys}
-use Rattle.ipc_format_array_reading.proofs.column_lemmas.columns_lemmas.Conditions.{parts_of_3, parts_of_4}
-use Rattle.ipc_format_array_reading.proofs.column_lemmas.columns_lemmas.TypeLayers.{Layer, is_extension, layer_layout, layout_is}
+use Rattle.ipc_format_array_reading.proofs.Conditions.{parts_of_3, parts_of_4}
+use Rattle.ipc_format_array_reading.proofs.TypeLayers.{Layer, is_extension, layer_layout, layout_is}
 use Rattle.ipc_format_array_reading.proofs.Layers.{layer_plain}
 use Rattle.ipc_format_childless_reading.specs.Keyed.{MakesKeyed, has_values, keyed_column}
 

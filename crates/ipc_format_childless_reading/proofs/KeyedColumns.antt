@@ -8,46 +8,46 @@ use Rattle.std.specs.Map.{lookup}
 use Rattle.std.specs.List.{list_all}
 use Rattle.std.proofs.lemmas.Bool.{and_from, and_parts, cases_Bool, false≢true, le-leb, ltb-true, true≢false}
 use Rattle.std.proofs.lemmas.List.{get_or-map, length-map}
-use Rattle.ipc_format_array_reading.specs.column_reading.columnar_memory.Bits as memory
-use Rattle.ipc_format_array_reading.specs.column_reading.columnar_memory.Equality.{same_type}
-use Rattle.ipc_format_array_reading.specs.column_reading.columnar_memory.Layouts.{physical_type}
-use Rattle.ipc_format_array_reading.specs.column_reading.columnar_memory.Numbers as memory_numbers
-use Rattle.ipc_format_array_reading.specs.column_reading.columnar_memory.Numbers.{Numbers, first_number, numbers_in, one}
-use Rattle.ipc_format_array_reading.specs.column_reading.columnar_memory.Windows.{window}
-use Rattle.ipc_format_array_reading.specs.column_reading.columnar_memory.declared.DataType.{DataType}
-use Rattle.ipc_format_array_reading.specs.column_reading.columnar_memory.declared.DataType.TheOpen as layer
-use Rattle.ipc_format_array_reading.specs.column_reading.columnar_memory.declared.IntegerType.{IntegerType}
-use Rattle.ipc_format_array_reading.specs.column_reading.columnar_memory.declared.IntegerType.TheVariants as integers
-use Rattle.ipc_format_array_reading.specs.column_reading.columnar_memory.declared.IntervalUnit.TheVariants as intervals
-use Rattle.ipc_format_array_reading.specs.column_reading.columnar_memory.declared.PhysicalType.{PhysicalType}
-use Rattle.ipc_format_array_reading.specs.column_reading.columnar_memory.declared.PhysicalType.TheVariants as physical
-use Rattle.ipc_format_array_reading.specs.column_reading.columnar_memory.declared.PrimitiveType.{PrimitiveType}
-use Rattle.ipc_format_array_reading.specs.column_reading.columns.Slots.{Slot, null}
-use Rattle.ipc_format_array_reading.specs.column_reading.columns.SoundColumns.{has_value_at, holds_below}
-use Rattle.ipc_format_array_reading.specs.column_reading.columns.StoredColumns.{Column, column_len, column_type, dictionary}
-use Rattle.ipc_format_array_reading.specs.column_reading.columns.StoredColumns.{is_valid_at, place_of, slot_at, slots}
-use Rattle.ipc_format_array_reading.specs.column_reading.columns.StoredColumns.{type_layer, unless_null}
-use Rattle.ipc_format_array_reading.specs.column_reading.flatbuffers.Reading.{◌>>=◌, guard}
-use Rattle.ipc_format_array_reading.specs.column_reading.grammar.Columns.{Dictionary, Marked, Place, Validity}
-use Rattle.ipc_format_array_reading.specs.column_reading.grammar.Columns.{all_valid, bitmap, buffer_at, dictionary_slots}
-use Rattle.ipc_format_array_reading.specs.column_reading.grammar.Columns.{is_valid_in, marked_in, names_value, own_id}
-use Rattle.ipc_format_array_reading.specs.column_reading.grammar.Columns.{slot_by, slot_of_key, slots_by, slots_in}
-use Rattle.ipc_format_array_reading.specs.column_reading.grammar.Columns.{standing_for, validity_in}
-use Rattle.ipc_format_array_reading.specs.column_reading.grammar.Messages.{Version}
-use Rattle.ipc_format_array_reading.specs.column_reading.grammar.Schemas.{Ids}
-use Rattle.ipc_format_array_reading.specs.column_reading.grammar.Values.{bit_at, element_bytes, key_at, key_of, key_size}
-use Rattle.ipc_format_array_reading.specs.column_reading.messages.declared.values.Buffer.{Buffer}
-use Rattle.ipc_format_array_reading.specs.column_reading.messages.declared.values.FieldNode.{FieldNode}
-use Rattle.ipc_format_array_reading.specs.column_reading.Buffers.{next_values, next_window, source_of, values_in}
-use Rattle.ipc_format_array_reading.specs.column_reading.Reads.{front, next_marked}
+use Rattle.ipc_format_array_reading.specs.columnar_memory.Bits as memory
+use Rattle.ipc_format_array_reading.specs.columnar_memory.Equality.{same_type}
+use Rattle.ipc_format_array_reading.specs.columnar_memory.Layouts.{physical_type}
+use Rattle.ipc_format_array_reading.specs.columnar_memory.Numbers as memory_numbers
+use Rattle.ipc_format_array_reading.specs.columnar_memory.Numbers.{Numbers, first_number, numbers_in, one}
+use Rattle.ipc_format_array_reading.specs.columnar_memory.Windows.{window}
+use Rattle.ipc_format_array_reading.specs.columnar_memory.declared.DataType.{DataType}
+use Rattle.ipc_format_array_reading.specs.columnar_memory.declared.DataType.TheOpen as layer
+use Rattle.ipc_format_array_reading.specs.columnar_memory.declared.IntegerType.{IntegerType}
+use Rattle.ipc_format_array_reading.specs.columnar_memory.declared.IntegerType.TheVariants as integers
+use Rattle.ipc_format_array_reading.specs.columnar_memory.declared.IntervalUnit.TheVariants as intervals
+use Rattle.ipc_format_array_reading.specs.columnar_memory.declared.PhysicalType.{PhysicalType}
+use Rattle.ipc_format_array_reading.specs.columnar_memory.declared.PhysicalType.TheVariants as physical
+use Rattle.ipc_format_array_reading.specs.columnar_memory.declared.PrimitiveType.{PrimitiveType}
+use Rattle.ipc_format_array_reading.specs.nested_arrays.Slots.{Slot, null}
+use Rattle.ipc_format_array_reading.specs.nested_arrays.SoundColumns.{has_value_at, holds_below}
+use Rattle.ipc_format_array_reading.specs.nested_arrays.StoredColumns.{Column, column_len, column_type, dictionary}
+use Rattle.ipc_format_array_reading.specs.nested_arrays.StoredColumns.{is_valid_at, place_of, slot_at, slots}
+use Rattle.ipc_format_array_reading.specs.nested_arrays.StoredColumns.{type_layer, unless_null}
+use Rattle.ipc_format_array_reading.specs.flatbuffers.Reading.{◌>>=◌, guard}
+use Rattle.ipc_format_array_reading.specs.grammar.Columns.{Dictionary, Marked, Place, Validity}
+use Rattle.ipc_format_array_reading.specs.grammar.Columns.{all_valid, bitmap, buffer_at, dictionary_slots}
+use Rattle.ipc_format_array_reading.specs.grammar.Columns.{is_valid_in, marked_in, names_value, own_id}
+use Rattle.ipc_format_array_reading.specs.grammar.Columns.{slot_by, slot_of_key, slots_by, slots_in}
+use Rattle.ipc_format_array_reading.specs.grammar.Columns.{standing_for, validity_in}
+use Rattle.ipc_format_array_reading.specs.grammar.Messages.{Version}
+use Rattle.ipc_format_array_reading.specs.grammar.Schemas.{Ids}
+use Rattle.ipc_format_array_reading.specs.grammar.Values.{bit_at, element_bytes, key_at, key_of, key_size}
+use Rattle.ipc_format_array_reading.specs.messages.declared.values.Buffer.{Buffer}
+use Rattle.ipc_format_array_reading.specs.messages.declared.values.FieldNode.{FieldNode}
+use Rattle.ipc_format_array_reading.specs.Buffers.{next_values, next_window, source_of, values_in}
+use Rattle.ipc_format_array_reading.specs.Reads.{front, next_marked}
 use Rattle.ipc_format_array_reading.specs.nested_arrays.Keys.{kind_of_keys}
 use Rattle.ipc_format_array_reading.specs.ArrayReads.{Test, array_slots, is_readable}
 use Rattle.ipc_format_array_reading.proofs.Layers.{layer_plain, layer_reads, layer_tests, read_layer, test_layer}
-use Rattle.ipc_format_array_reading.proofs.column_lemmas.Marks.{front_made, later_window, mask_of, marks_of}
-use Rattle.ipc_format_array_reading.proofs.column_lemmas.Readings.{through, through_two}
-use Rattle.ipc_format_array_reading.proofs.column_lemmas.columnar_memory_lemmas.bitmap_lemmas.Lists.{get_or-window, length-window, window_same}
-use Rattle.ipc_format_array_reading.proofs.column_lemmas.columns_lemmas.Conditions.{holds_at, holds_from}
-use Rattle.ipc_format_array_reading.proofs.column_lemmas.columns_lemmas.TypeLayers.{Layer, is_extension, layer_layout, layout_is}
+use Rattle.ipc_format_array_reading.proofs.Marks.{front_made, later_window, mask_of, marks_of}
+use Rattle.ipc_format_array_reading.proofs.Readings.{through, through_two}
+use Rattle.ipc_format_array_reading.proofs.Lists.{get_or-window, length-window, window_same}
+use Rattle.ipc_format_array_reading.proofs.Conditions.{holds_at, holds_from}
+use Rattle.ipc_format_array_reading.proofs.TypeLayers.{Layer, is_extension, layer_layout, layout_is}
 use Rattle.ipc_format_childless_reading.specs.Keyed.{has_values, if_values, keyed_column, keyed_slots, next_keys, values_for}
 use Rattle.ipc_format_childless_reading.specs.ReadArrays.{at_front, dictionary_of, standing_in}
 

@@ -5,32 +5,32 @@ use Rattle.std.specs.BTreeMap.{BTreeMap}
 use Rattle.std.specs.Map.{lookup}
 use Rattle.std.specs.Ordering.{int_eq}
 use Rattle.std.proofs.lemmas.Bool.{cases_Bool}
-use Rattle.ipc_format_array_reading.specs.column_reading.columnar_memory.Layouts.{physical_type}
-use Rattle.ipc_format_array_reading.specs.column_reading.columnar_memory.Numbers.{Numbers, first_number}
-use Rattle.ipc_format_array_reading.specs.column_reading.columnar_memory.declared.DataType.{DataType}
-use Rattle.ipc_format_array_reading.specs.column_reading.columnar_memory.declared.Error.{Error}
-use Rattle.ipc_format_array_reading.specs.column_reading.columnar_memory.declared.IntegerType.{IntegerType}
-use Rattle.ipc_format_array_reading.specs.column_reading.columnar_memory.declared.PhysicalType.TheVariants as physical
-use Rattle.ipc_format_array_reading.specs.column_reading.columnar_memory.declared.PrimitiveType.{PrimitiveType}
-use Rattle.ipc_format_array_reading.specs.column_reading.columns.Slots.{Slot}
-use Rattle.ipc_format_array_reading.specs.column_reading.columns.SoundColumns.{has_value_at, holds_below}
-use Rattle.ipc_format_array_reading.specs.column_reading.columns.StoredColumns.{Column, column_len, column_type, dictionary, slots, type_layer}
-use Rattle.ipc_format_array_reading.specs.column_reading.flatbuffers.Reading.{◌>>=◌}
-use Rattle.ipc_format_array_reading.specs.column_reading.grammar.Columns.{own_id}
-use Rattle.ipc_format_array_reading.specs.column_reading.grammar.Messages.{V5, Version}
-use Rattle.ipc_format_array_reading.specs.column_reading.grammar.Schemas.{Ids}
-use Rattle.ipc_format_array_reading.specs.column_reading.messages.declared.values.Buffer.{Buffer}
-use Rattle.ipc_format_array_reading.specs.column_reading.messages.declared.values.FieldNode.{FieldNode}
-use Rattle.ipc_format_array_reading.specs.column_reading.Buffers.{next_values}
-use Rattle.ipc_format_array_reading.specs.column_reading.Queues.{IsEnd}
-use Rattle.ipc_format_array_reading.specs.column_reading.Reads.{ReadsColumn, next_marked}
-use Rattle.ipc_format_array_reading.specs.column_reading.Rooms.{ForBytes, IsRefusal, ReadsAs, Told}
+use Rattle.ipc_format_array_reading.specs.columnar_memory.Layouts.{physical_type}
+use Rattle.ipc_format_array_reading.specs.columnar_memory.Numbers.{Numbers, first_number}
+use Rattle.ipc_format_array_reading.specs.columnar_memory.declared.DataType.{DataType}
+use Rattle.ipc_format_array_reading.specs.columnar_memory.declared.Error.{Error}
+use Rattle.ipc_format_array_reading.specs.columnar_memory.declared.IntegerType.{IntegerType}
+use Rattle.ipc_format_array_reading.specs.columnar_memory.declared.PhysicalType.TheVariants as physical
+use Rattle.ipc_format_array_reading.specs.columnar_memory.declared.PrimitiveType.{PrimitiveType}
+use Rattle.ipc_format_array_reading.specs.nested_arrays.Slots.{Slot}
+use Rattle.ipc_format_array_reading.specs.nested_arrays.SoundColumns.{has_value_at, holds_below}
+use Rattle.ipc_format_array_reading.specs.nested_arrays.StoredColumns.{Column, column_len, column_type, dictionary, slots, type_layer}
+use Rattle.ipc_format_array_reading.specs.flatbuffers.Reading.{◌>>=◌}
+use Rattle.ipc_format_array_reading.specs.grammar.Columns.{own_id}
+use Rattle.ipc_format_array_reading.specs.grammar.Messages.{V5, Version}
+use Rattle.ipc_format_array_reading.specs.grammar.Schemas.{Ids}
+use Rattle.ipc_format_array_reading.specs.messages.declared.values.Buffer.{Buffer}
+use Rattle.ipc_format_array_reading.specs.messages.declared.values.FieldNode.{FieldNode}
+use Rattle.ipc_format_array_reading.specs.Buffers.{next_values}
+use Rattle.ipc_format_array_reading.specs.Queues.{IsEnd}
+use Rattle.ipc_format_array_reading.specs.Reads.{ReadsColumn, next_marked}
+use Rattle.ipc_format_array_reading.specs.Rooms.{ForBytes, IsRefusal, ReadsAs, Told}
 use Rattle.ipc_format_array_reading.specs.nested_arrays.Keys.{kind_of_keys}
 use Rattle.ipc_format_array_reading.specs.ArrayReads.{array_slots}
 use Rattle.ipc_format_array_reading.proofs.Taking.{drop_none}
-use Rattle.ipc_format_array_reading.proofs.column_lemmas.ColumnReads.{Marks}
-use Rattle.ipc_format_array_reading.proofs.column_lemmas.Readings.{made_none, out_of_memory, out_of_spec, reads_behind, reads_made, reads_refused}
-use Rattle.ipc_format_array_reading.proofs.column_lemmas.columns_lemmas.TypeLayers.{Layer}
+use Rattle.ipc_format_array_reading.proofs.ColumnReads.{Marks}
+use Rattle.ipc_format_array_reading.proofs.Readings.{made_none, out_of_memory, out_of_spec, reads_behind, reads_made, reads_refused}
+use Rattle.ipc_format_array_reading.proofs.TypeLayers.{Layer}
 use Rattle.ipc_format_childless_reading.specs.Keyed.{MakesKeyed, has_values, if_values, keyed_column, keyed_slots, next_keys, values_for}
 use Rattle.ipc_format_childless_reading.specs.ReadArrays.{at_front, standing_in}
 use Rattle.ipc_format_childless_reading.proofs.KeyedColumns.{keyed_given}

@@ -2,25 +2,25 @@
 use Rattle.std.proofs.Common.{◌≡◌, ◌∙◌, sym, ap}
 use Rattle.std.specs.Prelude.{Bool, ℤ, Option}
 use denote.Hole.Carrier
-use Rattle.ipc_format_array_reading.specs.column_reading.columnar_memory.Conversions.{type_of_primitive}
-use Rattle.ipc_format_array_reading.specs.column_reading.columnar_memory.Layouts.{physical_step, physical_type}
-use Rattle.ipc_format_array_reading.specs.column_reading.columnar_memory.declared.DataType.{DataType, map-DataType}
-use Rattle.ipc_format_array_reading.specs.column_reading.columnar_memory.declared.DataType.TheFolds.{fold-Field, fold-roll-DataType}
-use Rattle.ipc_format_array_reading.specs.column_reading.columnar_memory.declared.DataType.TheOpen as layer
-use Rattle.ipc_format_array_reading.specs.column_reading.columnar_memory.declared.DataType.TheViews.{roll-DataType}
-use Rattle.ipc_format_array_reading.specs.column_reading.columnar_memory.declared.Field.{Field}
-use Rattle.ipc_format_array_reading.specs.column_reading.columnar_memory.declared.IntervalUnit.TheVariants as intervals
-use Rattle.ipc_format_array_reading.specs.column_reading.columnar_memory.declared.PhysicalType.{PhysicalType}
-use Rattle.ipc_format_array_reading.specs.column_reading.columnar_memory.declared.PhysicalType.TheVariants as physical
-use Rattle.ipc_format_array_reading.specs.column_reading.columnar_memory.declared.PrimitiveType.{PrimitiveType}
-use Rattle.ipc_format_array_reading.specs.column_reading.columnar_memory.declared.PrimitiveType.TheVariants as kinds
-use Rattle.ipc_format_array_reading.specs.column_reading.grammar.Columns.{own_id}
-use Rattle.ipc_format_array_reading.specs.column_reading.grammar.Schemas.{Ids}
-use Rattle.ipc_format_array_reading.specs.column_reading.metadata.Views.{ids_step, ids_view}
-use Rattle.ipc_format_array_reading.specs.column_reading.metadata.declared.ipc_schema.IpcField.{IpcField}
-use Rattle.ipc_format_array_reading.specs.column_reading.metadata.declared.ipc_schema.IpcField.TheFolds.{fold-roll-IpcField}
-use Rattle.ipc_format_array_reading.specs.column_reading.metadata.declared.ipc_schema.IpcField.TheViews.{out-IpcField}
-use Rattle.ipc_format_array_reading.specs.column_reading.metadata.declared.ipc_schema.IpcField.TheViews.{roll-IpcField, roll-out-IpcField}
+use Rattle.ipc_format_array_reading.specs.columnar_memory.Conversions.{type_of_primitive}
+use Rattle.ipc_format_array_reading.specs.columnar_memory.Layouts.{physical_step, physical_type}
+use Rattle.ipc_format_array_reading.specs.columnar_memory.declared.DataType.{DataType, map-DataType}
+use Rattle.ipc_format_array_reading.specs.columnar_memory.declared.DataType.TheFolds.{fold-Field, fold-roll-DataType}
+use Rattle.ipc_format_array_reading.specs.columnar_memory.declared.DataType.TheOpen as layer
+use Rattle.ipc_format_array_reading.specs.columnar_memory.declared.DataType.TheViews.{roll-DataType}
+use Rattle.ipc_format_array_reading.specs.columnar_memory.declared.Field.{Field}
+use Rattle.ipc_format_array_reading.specs.columnar_memory.declared.IntervalUnit.TheVariants as intervals
+use Rattle.ipc_format_array_reading.specs.columnar_memory.declared.PhysicalType.{PhysicalType}
+use Rattle.ipc_format_array_reading.specs.columnar_memory.declared.PhysicalType.TheVariants as physical
+use Rattle.ipc_format_array_reading.specs.columnar_memory.declared.PrimitiveType.{PrimitiveType}
+use Rattle.ipc_format_array_reading.specs.columnar_memory.declared.PrimitiveType.TheVariants as kinds
+use Rattle.ipc_format_array_reading.specs.grammar.Columns.{own_id}
+use Rattle.ipc_format_array_reading.specs.grammar.Schemas.{Ids}
+use Rattle.ipc_format_array_reading.specs.metadata.Views.{ids_step, ids_view}
+use Rattle.ipc_format_array_reading.specs.metadata.declared.ipc_schema.IpcField.{IpcField}
+use Rattle.ipc_format_array_reading.specs.metadata.declared.ipc_schema.IpcField.TheFolds.{fold-roll-IpcField}
+use Rattle.ipc_format_array_reading.specs.metadata.declared.ipc_schema.IpcField.TheViews.{out-IpcField}
+use Rattle.ipc_format_array_reading.specs.metadata.declared.ipc_schema.IpcField.TheViews.{roll-IpcField, roll-out-IpcField}
 
 -- the own id beside a field
 pub own_id_is : (field : IpcField) → own_id (ids_view field) ≡ (out-IpcField field).dictionary_id

@@ -1,16 +1,16 @@
 -- What calls answer that read columns whose arrays lie flat in memory.
 use Rattle.std.specs.Prelude.{◌≡◌, ℕ, Bool, true, false, List, Option, Result, Ok, Err, IfOk}
-use Rattle.ipc_format_array_reading.specs.column_reading.columnar_memory.declared.DataType.{DataType}
-use Rattle.ipc_format_array_reading.specs.column_reading.columnar_memory.declared.Error.{Error}
-use Rattle.ipc_format_array_reading.specs.column_reading.columnar_memory.declared.PhysicalType.{PhysicalType}
-use Rattle.ipc_format_array_reading.specs.column_reading.columnar_memory.declared.PhysicalType.TheVariants as physical
-use Rattle.ipc_format_array_reading.specs.column_reading.columnar_memory.declared.PrimitiveType.TheVariants as kinds
-use Rattle.ipc_format_array_reading.specs.column_reading.columns.StoredColumns.{Column, column_type, slots}
-use Rattle.ipc_format_array_reading.specs.column_reading.grammar.Layouts.{buffer_count, node_count}
-use Rattle.ipc_format_array_reading.specs.column_reading.grammar.Messages.{V5}
-use Rattle.ipc_format_array_reading.specs.column_reading.messages.declared.values.Buffer.{Buffer}
-use Rattle.ipc_format_array_reading.specs.column_reading.messages.declared.values.FieldNode.{FieldNode}
-use Rattle.ipc_format_array_reading.specs.column_reading.Rooms.{Told}
+use Rattle.ipc_format_array_reading.specs.columnar_memory.declared.DataType.{DataType}
+use Rattle.ipc_format_array_reading.specs.columnar_memory.declared.Error.{Error}
+use Rattle.ipc_format_array_reading.specs.columnar_memory.declared.PhysicalType.{PhysicalType}
+use Rattle.ipc_format_array_reading.specs.columnar_memory.declared.PhysicalType.TheVariants as physical
+use Rattle.ipc_format_array_reading.specs.columnar_memory.declared.PrimitiveType.TheVariants as kinds
+use Rattle.ipc_format_array_reading.specs.nested_arrays.StoredColumns.{Column, column_type, slots}
+use Rattle.ipc_format_array_reading.specs.grammar.Layouts.{buffer_count, node_count}
+use Rattle.ipc_format_array_reading.specs.grammar.Messages.{V5}
+use Rattle.ipc_format_array_reading.specs.messages.declared.values.Buffer.{Buffer}
+use Rattle.ipc_format_array_reading.specs.messages.declared.values.FieldNode.{FieldNode}
+use Rattle.ipc_format_array_reading.specs.Rooms.{Told}
 use Rattle.ipc_format_array_reading.specs.ArrayReads.{Takes}
 use Rattle.ipc_format_array_reading.specs.TypedReads.{front_array}
 

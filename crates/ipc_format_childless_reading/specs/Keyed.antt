@@ -4,22 +4,22 @@ use Rattle.std.specs.Prelude.{◌≡◌, ◌⊎◌, ℕ, ℤ, Bool, true, false,
 use Rattle.std.specs.Ordering.{int_eq}
 use Rattle.std.specs.BTreeMap.{BTreeMap}
 use Rattle.std.specs.Map.{lookup}
-use Rattle.ipc_format_array_reading.specs.column_reading.columnar_memory.Equality.{same_type}
-use Rattle.ipc_format_array_reading.specs.column_reading.columnar_memory.Error.{IsOutOfMemory, IsOutOfSpec}
-use Rattle.ipc_format_array_reading.specs.column_reading.columnar_memory.Numbers.{Numbers, first_number}
-use Rattle.ipc_format_array_reading.specs.column_reading.columnar_memory.declared.DataType.{DataType}
-use Rattle.ipc_format_array_reading.specs.column_reading.columnar_memory.declared.DataType.TheOpen as layer
-use Rattle.ipc_format_array_reading.specs.column_reading.columnar_memory.declared.Error.{Error}
-use Rattle.ipc_format_array_reading.specs.column_reading.columnar_memory.declared.Field.{Field}
-use Rattle.ipc_format_array_reading.specs.column_reading.columnar_memory.declared.PrimitiveType.{PrimitiveType}
-use Rattle.ipc_format_array_reading.specs.column_reading.columns.Slots.{Slot}
-use Rattle.ipc_format_array_reading.specs.column_reading.columns.SoundColumns.{has_value_at, holds_below}
-use Rattle.ipc_format_array_reading.specs.column_reading.columns.StoredColumns.{Column, column_len, column_type, dictionary, slots}
-use Rattle.ipc_format_array_reading.specs.column_reading.flatbuffers.Reading.{◌>>=◌}
-use Rattle.ipc_format_array_reading.specs.column_reading.messages.declared.values.Buffer.{Buffer}
-use Rattle.ipc_format_array_reading.specs.column_reading.messages.declared.values.FieldNode.{FieldNode}
-use Rattle.ipc_format_array_reading.specs.column_reading.Buffers.{next_values}
-use Rattle.ipc_format_array_reading.specs.column_reading.Reads.{next_marked}
+use Rattle.ipc_format_array_reading.specs.columnar_memory.Equality.{same_type}
+use Rattle.ipc_format_array_reading.specs.columnar_memory.Error.{IsOutOfMemory, IsOutOfSpec}
+use Rattle.ipc_format_array_reading.specs.columnar_memory.Numbers.{Numbers, first_number}
+use Rattle.ipc_format_array_reading.specs.columnar_memory.declared.DataType.{DataType}
+use Rattle.ipc_format_array_reading.specs.columnar_memory.declared.DataType.TheOpen as layer
+use Rattle.ipc_format_array_reading.specs.columnar_memory.declared.Error.{Error}
+use Rattle.ipc_format_array_reading.specs.columnar_memory.declared.Field.{Field}
+use Rattle.ipc_format_array_reading.specs.columnar_memory.declared.PrimitiveType.{PrimitiveType}
+use Rattle.ipc_format_array_reading.specs.nested_arrays.Slots.{Slot}
+use Rattle.ipc_format_array_reading.specs.nested_arrays.SoundColumns.{has_value_at, holds_below}
+use Rattle.ipc_format_array_reading.specs.nested_arrays.StoredColumns.{Column, column_len, column_type, dictionary, slots}
+use Rattle.ipc_format_array_reading.specs.flatbuffers.Reading.{◌>>=◌}
+use Rattle.ipc_format_array_reading.specs.messages.declared.values.Buffer.{Buffer}
+use Rattle.ipc_format_array_reading.specs.messages.declared.values.FieldNode.{FieldNode}
+use Rattle.ipc_format_array_reading.specs.Buffers.{next_values}
+use Rattle.ipc_format_array_reading.specs.Reads.{next_marked}
 
 -- ---- the values that stand
 

@@ -2,17 +2,17 @@
 -- (Arrow IPC, "RecordBatch message", "Dictionary Messages").
 use Rattle.std.specs.Prelude.{◌≡◌, ℕ, ℤ, Bool, List, map, Option, Result, IfOk}
 use Rattle.std.specs.BTreeMap.{BTreeMap}
-use Rattle.ipc_format_array_reading.specs.column_reading.columnar_memory.declared.DataType.{DataType}
-use Rattle.ipc_format_array_reading.specs.column_reading.columnar_memory.declared.Error.{Error}
-use Rattle.ipc_format_array_reading.specs.column_reading.columns.StoredColumns.{Column, column_type, slots}
-use Rattle.ipc_format_array_reading.specs.column_reading.grammar.Columns.{Dictionary, Place}
-use Rattle.ipc_format_array_reading.specs.column_reading.grammar.Layouts.{buffer_count, node_count}
-use Rattle.ipc_format_array_reading.specs.column_reading.grammar.Messages.{Version}
-use Rattle.ipc_format_array_reading.specs.column_reading.grammar.Schemas.{Ids}
-use Rattle.ipc_format_array_reading.specs.column_reading.messages.declared.values.Buffer.{Buffer}
-use Rattle.ipc_format_array_reading.specs.column_reading.messages.declared.values.FieldNode.{FieldNode}
-use Rattle.ipc_format_array_reading.specs.column_reading.Buffers.{source_of}
-use Rattle.ipc_format_array_reading.specs.column_reading.Rooms.{Told}
+use Rattle.ipc_format_array_reading.specs.columnar_memory.declared.DataType.{DataType}
+use Rattle.ipc_format_array_reading.specs.columnar_memory.declared.Error.{Error}
+use Rattle.ipc_format_array_reading.specs.nested_arrays.StoredColumns.{Column, column_type, slots}
+use Rattle.ipc_format_array_reading.specs.grammar.Columns.{Dictionary, Place}
+use Rattle.ipc_format_array_reading.specs.grammar.Layouts.{buffer_count, node_count}
+use Rattle.ipc_format_array_reading.specs.grammar.Messages.{Version}
+use Rattle.ipc_format_array_reading.specs.grammar.Schemas.{Ids}
+use Rattle.ipc_format_array_reading.specs.messages.declared.values.Buffer.{Buffer}
+use Rattle.ipc_format_array_reading.specs.messages.declared.values.FieldNode.{FieldNode}
+use Rattle.ipc_format_array_reading.specs.Buffers.{source_of}
+use Rattle.ipc_format_array_reading.specs.Rooms.{Told}
 use Rattle.ipc_format_array_reading.specs.ArrayReads.{Takes, array_slots}
 
 -- ---- dictionaries

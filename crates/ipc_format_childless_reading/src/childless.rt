@@ -1,25 +1,23 @@
 //! Columns of any type without columns below them.
 ghost use Rattle.std.specs.Prelude.{◌≡◌, false};
-ghost use Rattle.ipc_format_array_reading.specs.column_reading.columnar_memory.Layouts.{physical_type};
-ghost use Rattle.ipc_format_array_reading.specs.column_reading.columnar_memory.declared.PhysicalType.TheVariants as layouts;
-ghost use Rattle.ipc_format_array_reading.specs.column_reading.columns.StoredColumns.{type_layer};
-ghost use Rattle.ipc_format_array_reading.specs.column_reading.grammar.Messages.{V5};
-ghost use Rattle.ipc_format_array_reading.specs.column_reading.grammar.Schemas.{ids, no_ids};
-ghost use Rattle.ipc_format_array_reading.specs.column_reading.messages.MessageViews.{version_view};
-ghost use Rattle.ipc_format_array_reading.specs.column_reading.metadata.Views.{ids_view};
+ghost use Rattle.ipc_format_array_reading.specs.columnar_memory.Layouts.{physical_type};
+ghost use Rattle.ipc_format_array_reading.specs.columnar_memory.declared.PhysicalType.TheVariants as layouts;
+ghost use Rattle.ipc_format_array_reading.specs.nested_arrays.StoredColumns.{type_layer};
+ghost use Rattle.ipc_format_array_reading.specs.grammar.Messages.{V5};
+ghost use Rattle.ipc_format_array_reading.specs.grammar.Schemas.{ids, no_ids};
+ghost use Rattle.ipc_format_array_reading.specs.messages.MessageViews.{version_view};
+ghost use Rattle.ipc_format_array_reading.specs.metadata.Views.{ids_view};
 ghost use Rattle.ipc_format_array_reading.specs.Parts.{has_children};
 ghost use Rattle.ipc_format_childless_reading.specs.ReadArrays.{ReadsArray, at_front, standing_in};
 
 use crate::dictionaries::Dictionaries;
 use crate::flats::{any_of, read_flat};
 use crate::keyed::read_dictionary;
-use ipc_format_array_reading::column_reading::columnar_memory::{
-    DataType, IntegerType, PhysicalType, Result,
-};
-use ipc_format_array_reading::column_reading::messages::{FieldNode, MetadataVersion};
-use ipc_format_array_reading::column_reading::metadata::IpcField;
-use ipc_format_array_reading::column_reading::{Room, messages as ipc};
+use ipc_format_array_reading::columnar_memory::{DataType, IntegerType, PhysicalType, Result};
+use ipc_format_array_reading::messages::{FieldNode, MetadataVersion};
+use ipc_format_array_reading::metadata::IpcField;
 use ipc_format_array_reading::nested_arrays::{AnyArray, DictionaryKey};
+use ipc_format_array_reading::{Room, messages as ipc};
 use std::alloc::Global;
 use std::collections::VecDeque;
 

@@ -1,19 +1,17 @@
 //! Columns whose arrays lie flat in memory.
 ghost use Rattle.std.specs.Prelude.{◌≡◌, true};
 ghost use Rattle.ipc_format_array_reading.specs.nested_arrays.Childless.{is_childless};
-ghost use Rattle.ipc_format_array_reading.specs.column_reading.columnar_memory.Layouts.{physical_type};
+ghost use Rattle.ipc_format_array_reading.specs.columnar_memory.Layouts.{physical_type};
 ghost use Rattle.ipc_format_childless_reading.specs.Flats.{IsAnyOf, ReadsFlat};
 
 use crate::numbers::read_numbers;
-use ipc_format_array_reading::column_reading::columnar_memory::{
-    DataType, Error, PhysicalType, Result,
+use ipc_format_array_reading::column_writing::column_reading::{
+    read_binary, read_boolean, read_utf8,
 };
-use ipc_format_array_reading::column_reading::messages::FieldNode;
-use ipc_format_array_reading::column_reading::{
-    Room, messages as ipc, read_binary, read_boolean, read_utf8,
-};
+use ipc_format_array_reading::columnar_memory::{DataType, Error, PhysicalType, Result};
+use ipc_format_array_reading::messages::FieldNode;
 use ipc_format_array_reading::nested_arrays::{AnyArray, ToBoxed};
-use ipc_format_array_reading::{read_fixed_size_binary, read_null};
+use ipc_format_array_reading::{Room, messages as ipc, read_fixed_size_binary, read_null};
 use std::alloc::Global;
 use std::collections::VecDeque;
 

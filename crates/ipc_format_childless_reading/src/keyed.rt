@@ -2,26 +2,25 @@
 ghost use Rattle.std.specs.Prelude.{◌≡◌, ◌↔◌, IsTrue, map, is_some, option_copied, false, true};
 ghost use Rattle.std.specs.Map.{lookup};
 ghost use Rattle.std.specs.Ordering.{int_eq};
-ghost use Rattle.ipc_format_array_reading.specs.column_reading.columnar_memory.Layouts.{physical_type};
-ghost use Rattle.ipc_format_array_reading.specs.column_reading.columnar_memory.declared.PhysicalType.TheVariants as layouts;
-ghost use Rattle.ipc_format_array_reading.specs.column_reading.columns.StoredColumns.{column_type, type_layer};
-ghost use Rattle.ipc_format_array_reading.specs.column_reading.grammar.Messages.{V5};
-ghost use Rattle.ipc_format_array_reading.specs.column_reading.grammar.Schemas.{ids, no_ids};
-ghost use Rattle.ipc_format_array_reading.specs.column_reading.Queues.{TakesOff};
-ghost use Rattle.ipc_format_array_reading.specs.column_reading.Reads.{ReadsColumn};
-ghost use Rattle.ipc_format_array_reading.specs.column_reading.Rooms.{ReadsAs};
+ghost use Rattle.ipc_format_array_reading.specs.columnar_memory.Layouts.{physical_type};
+ghost use Rattle.ipc_format_array_reading.specs.columnar_memory.declared.PhysicalType.TheVariants as layouts;
+ghost use Rattle.ipc_format_array_reading.specs.nested_arrays.StoredColumns.{column_type, type_layer};
+ghost use Rattle.ipc_format_array_reading.specs.grammar.Messages.{V5};
+ghost use Rattle.ipc_format_array_reading.specs.grammar.Schemas.{ids, no_ids};
+ghost use Rattle.ipc_format_array_reading.specs.Queues.{TakesOff};
+ghost use Rattle.ipc_format_array_reading.specs.Reads.{ReadsColumn};
+ghost use Rattle.ipc_format_array_reading.specs.Rooms.{ReadsAs};
 ghost use Rattle.ipc_format_array_reading.specs.ArrayReads.{array_slots};
 ghost use Rattle.ipc_format_childless_reading.specs.ReadArrays.{at_front, standing_in};
 ghost use Rattle.ipc_format_childless_reading.specs.Keyed.{MakesKeyed, has_values, next_keys, values_for};
 
 use crate::dictionaries::Dictionaries;
-use ipc_format_array_reading::column_reading::columnar_memory::{
-    DataType, Error, PhysicalType, Result,
-};
-use ipc_format_array_reading::column_reading::messages::{BodyCompressionRef, FieldNode};
-use ipc_format_array_reading::column_reading::{Room, messages as ipc, read_buffer, read_marked};
+use ipc_format_array_reading::column_writing::column_reading::{read_buffer, read_marked};
+use ipc_format_array_reading::columnar_memory::{DataType, Error, PhysicalType, Result};
+use ipc_format_array_reading::messages::{BodyCompressionRef, FieldNode};
 use ipc_format_array_reading::nested_arrays::flat_arrays::PrimitiveArray;
 use ipc_format_array_reading::nested_arrays::{AnyArray, Array, DictionaryArray, DictionaryKey};
+use ipc_format_array_reading::{Room, messages as ipc};
 use std::alloc::Global;
 use std::collections::VecDeque;
 

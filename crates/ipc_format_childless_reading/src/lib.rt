@@ -10,5 +10,23 @@ mod numbers;
 
 pub use childless::read_childless;
 pub use dictionaries::Dictionaries;
-pub use ipc_format_array_reading as array_reading;
+pub use ipc_format_array_reading::chunks::Chunk;
+pub use ipc_format_array_reading::column_writing::column_reading::column_bytes::streams::owned::writing::{
+    first_beside, normalised,
+};
+pub use ipc_format_array_reading::column_writing::column_reading::column_bytes::streams::{
+    EncodedData, batch_queues, dictionary_values,
+};
+pub use ipc_format_array_reading::column_writing::column_reading::column_bytes::{
+    Placed, dictionary_metadata, record_metadata,
+};
+pub use ipc_format_array_reading::column_writing::{Compression, write};
+pub use ipc_format_array_reading::messages::{
+    BodyCompressionRef, Buffer, DictionaryBatchRef, FieldNode, MessageHeaderRef, MetadataVersion,
+    RecordBatchRef, dictionary_batch_in, message_in,
+};
+pub use ipc_format_array_reading::metadata::{IpcField, IpcSchema};
+pub use ipc_format_array_reading::{
+    InMemory, Room, array_of, begin, columnar_memory, has_children, limit_below, nested_arrays,
+};
 pub use keyed::read_dictionary;

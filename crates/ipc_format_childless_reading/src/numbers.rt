@@ -1,16 +1,17 @@
 //! Columns of numbers of any kind.
 ghost use Rattle.std.specs.Prelude.{◌≡◌, true};
-ghost use Rattle.ipc_format_array_reading.specs.column_reading.columnar_memory.Layouts.{physical_type};
-ghost use Rattle.ipc_format_array_reading.specs.column_reading.columnar_memory.declared.PhysicalType.TheVariants as layouts;
+ghost use Rattle.ipc_format_array_reading.specs.columnar_memory.Layouts.{physical_type};
+ghost use Rattle.ipc_format_array_reading.specs.columnar_memory.declared.PhysicalType.TheVariants as layouts;
 ghost use Rattle.ipc_format_childless_reading.specs.Flats.{ReadsFlat, has_all};
 
 use crate::flats::any_of;
-use ipc_format_array_reading::column_reading::columnar_memory::{
+use ipc_format_array_reading::column_writing::column_reading::read_primitive;
+use ipc_format_array_reading::columnar_memory::{
     DataType, Error, PrimitiveType, Result, days_ms, i256, months_days_ns,
 };
-use ipc_format_array_reading::column_reading::messages::FieldNode;
-use ipc_format_array_reading::column_reading::{Room, messages as ipc, read_primitive};
+use ipc_format_array_reading::messages::FieldNode;
 use ipc_format_array_reading::nested_arrays::{AnyArray, PrimitiveKind};
+use ipc_format_array_reading::{Room, messages as ipc};
 use std::alloc::Global;
 use std::collections::VecDeque;
 

@@ -12,9 +12,7 @@ pub mod Joined
 pub mod MessageLimits
 pub use Rattle.flat_arrays.proofs as flat_lemmas
 pub use Rattle.ipc_format_streams.proofs as streams_lemmas
-pub use Rattle.ipc_format_streams.proofs.messages_lemmas
 pub use Rattle.ipc_format_streams.proofs.columnar_memory_lemmas
 pub use Rattle.ipc_format_streams.proofs.flatbuffers_lemmas
 pub use Rattle.ipc_format_streams.proofs.columns_lemmas
 pub use Rattle.ipc_format_streams.proofs.grammar_lemmas
-pub use Rattle.ipc_format_streams.proofs.metadata_lemmas

@@ -16,7 +16,7 @@ use Rattle.ipc_format_streams.specs.grammar.Encoding.{Encoded}
 use Rattle.ipc_format_streams.specs.grammar.SchemaObjects.{message_object, record_batch_object, dictionary_batch_object}
 use Rattle.ipc_format_streams.specs.grammar.TagNumbers.{dictionary_tag, record_tag}
 use Rattle.ipc_format_streams.specs.grammar.WrittenMessages.{body_bytes, buffer_places, message_of}
-use Rattle.ipc_format_streams.specs.writing.MessageWriting.{WritesMessage, node_pair, buffer_pair, record_message, dictionary_message}
+use Rattle.ipc_format_streams.specs.owned.writing.MessageWriting.{WritesMessage, node_pair, buffer_pair, record_message, dictionary_message}
 use Rattle.ipc_format_column_bytes.specs.Placing.{IsPlaced, AreSignedNodes, AreSignedBuffers, WritesMetadata, batch_of_column}
 use Rattle.ipc_format_column_bytes.specs.Placing.{dictionary_of_column}
 use Rattle.ipc_format_column_bytes.specs.declared.placed.Placed.{Placed}

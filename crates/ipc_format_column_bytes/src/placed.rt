@@ -7,7 +7,7 @@ ghost use Rattle.ipc_format_column_bytes.specs.Placing.{batch_of_column, diction
 
 use ipc_format_streams::columnar_memory::Result;
 use ipc_format_streams::messages::{Buffer, FieldNode};
-use ipc_format_streams::writing::{dictionary_batch_to_bytes, record_batch_to_bytes};
+use ipc_format_streams::owned::writing::{dictionary_batch_to_bytes, record_batch_to_bytes};
 use std::alloc::Global;
 
 /// The nodes of columns in pre-order, and where their buffers stand in the body of their message.

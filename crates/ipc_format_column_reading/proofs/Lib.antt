@@ -12,11 +12,7 @@ pub mod OffsetReads
 pub mod ColumnReads
 pub mod TextReads
 pub use Rattle.ipc_format_column_bytes.proofs as bytes_lemmas
-pub use Rattle.ipc_format_column_bytes.proofs.flat_lemmas
-pub use Rattle.ipc_format_column_bytes.proofs.streams_lemmas
-pub use Rattle.ipc_format_column_bytes.proofs.messages_lemmas
 pub use Rattle.ipc_format_column_bytes.proofs.columnar_memory_lemmas
 pub use Rattle.ipc_format_column_bytes.proofs.flatbuffers_lemmas
 pub use Rattle.ipc_format_column_bytes.proofs.columns_lemmas
 pub use Rattle.ipc_format_column_bytes.proofs.grammar_lemmas
-pub use Rattle.ipc_format_column_bytes.proofs.metadata_lemmas

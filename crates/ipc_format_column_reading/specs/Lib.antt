@@ -6,7 +6,6 @@ pub mod Reads
 pub use Rattle.ipc_format_column_bytes.specs.flat_arrays.Flat
 pub use Rattle.ipc_format_column_bytes.specs as column_bytes
 pub use Rattle.ipc_format_column_bytes.specs.flat_arrays
-pub use Rattle.ipc_format_column_bytes.specs.streams
 pub use Rattle.ipc_format_column_bytes.specs.messages
 pub use Rattle.ipc_format_column_bytes.specs.columnar_memory
 pub use Rattle.ipc_format_column_bytes.specs.flatbuffers

@@ -29,10 +29,9 @@ pub use dictionary::skip_dictionary;
 pub use fixed_size_binary::skip_fixed_size_binary;
 pub use fixed_size_list::skip_fixed_size_list;
 pub use ipc_format_column_bytes as column_bytes;
-pub use ipc_format_column_bytes::streams::{
-    columnar_memory, columns, flatbuffers, grammar, messages, metadata,
+pub use ipc_format_column_bytes::{
+    columnar_memory, columns, flat_arrays, flatbuffers, grammar, messages, metadata,
 };
-pub use ipc_format_column_bytes::{flat_arrays, streams};
 pub use list::skip_list;
 pub use map::skip_map;
 pub use marked::{Marked, read_marked};

@@ -1,7 +1,7 @@
 //! Buffers that are read from devices.
 use crate::cases::buffers;
 use columnar_memory::{Buffer, Error};
-use ipc_format_column_reading::streams::{Counting, Faults};
+use ipc_format_column_reading::column_bytes::streams::{Counting, Faults};
 use ipc_format_column_reading::{Room, read_buffer};
 use std::alloc::Global;
 use std::io;

@@ -10,3 +10,6 @@ pub mod Widths
 pub mod Within
 pub use Rattle.ipc_format_column_reading.proofs as reading_lemmas
 pub use Rattle.ipc_format_chunks.proofs as chunk_lemmas
+pub use Rattle.ipc_format_column_reading.proofs.columns_lemmas
+pub use Rattle.ipc_format_column_reading.proofs.columnar_memory_lemmas
+pub use Rattle.ipc_format_column_reading.proofs.grammar_lemmas

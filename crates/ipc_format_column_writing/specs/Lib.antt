@@ -1,6 +1,11 @@
 pub mod Parts
 pub mod Written
 pub use Rattle.ipc_format_column_reading.specs as column_reading
-pub use Rattle.ipc_format_column_reading.specs.column_bytes
 pub use Rattle.ipc_format_chunks.specs as chunks
 pub use Rattle.ipc_format_chunks.specs.nested_arrays
+pub use Rattle.ipc_format_column_reading.specs.columnar_memory
+pub use Rattle.ipc_format_column_reading.specs.flatbuffers
+pub use Rattle.ipc_format_column_reading.specs.columns
+pub use Rattle.ipc_format_column_reading.specs.grammar
+pub use Rattle.ipc_format_column_reading.specs.messages
+pub use Rattle.ipc_format_column_reading.specs.metadata

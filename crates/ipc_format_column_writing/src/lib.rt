@@ -10,5 +10,5 @@ mod serialize;
 pub use ipc_format_chunks as chunks;
 pub use ipc_format_chunks::nested_arrays;
 pub use ipc_format_column_reading as column_reading;
-pub use ipc_format_column_reading::column_bytes;
+pub use ipc_format_column_reading::{columnar_memory, flatbuffers, grammar, messages, metadata};
 pub use serialize::{Compression, write, write_struct, write_union};

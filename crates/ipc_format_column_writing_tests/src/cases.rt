@@ -1,5 +1,5 @@
 //! Arrays that the tests write, and what is written of them.
-use ipc_format_column_writing::column_bytes::messages::{Buffer, FieldNode};
+use ipc_format_column_writing::messages::{Buffer, FieldNode};
 use ipc_format_column_writing::nested_arrays::columnar_memory::{
     Boxed, DataType, Error, Field, Items, OffsetsBuffer, Text, UnionMode,
 };

@@ -3,15 +3,15 @@ use Rattle.std.proofs.Common.{◌≡◌, ℕ, Bool, List, map, drop}
 use Rattle.std.specs.Prelude.{Option}
 use Rattle.ipc_format_childless_reading.specs.ReadArrays.{at_front}
 use Rattle.ipc_format_childless_reading.specs.array_reading.Limits.{Agree}
-use Rattle.ipc_format_childless_reading.specs.array_reading.column_reading.Buffers.{node_of, buffer_of}
-use Rattle.ipc_format_childless_reading.specs.array_reading.column_reading.columnar_memory.declared.DataType.{DataType}
-use Rattle.ipc_format_childless_reading.specs.array_reading.column_reading.columnar_memory.declared.Field.{Field}
-use Rattle.ipc_format_childless_reading.specs.array_reading.column_reading.grammar.Columns.{Dictionary, behind_column, first_below}
-use Rattle.ipc_format_childless_reading.specs.array_reading.column_reading.grammar.Layouts.{buffer_count, node_count}
-use Rattle.ipc_format_childless_reading.specs.array_reading.column_reading.grammar.Messages.{Version}
-use Rattle.ipc_format_childless_reading.specs.array_reading.column_reading.grammar.Schemas.{Ids, IdsList}
-use Rattle.ipc_format_childless_reading.specs.array_reading.column_reading.messages.declared.values.Buffer.{Buffer}
-use Rattle.ipc_format_childless_reading.specs.array_reading.column_reading.messages.declared.values.FieldNode.{FieldNode}
+use Rattle.ipc_format_childless_reading.specs.Buffers.{node_of, buffer_of}
+use Rattle.ipc_format_childless_reading.specs.columnar_memory.declared.DataType.{DataType}
+use Rattle.ipc_format_childless_reading.specs.columnar_memory.declared.Field.{Field}
+use Rattle.ipc_format_childless_reading.specs.grammar.Columns.{Dictionary, behind_column, first_below}
+use Rattle.ipc_format_childless_reading.specs.grammar.Layouts.{buffer_count, node_count}
+use Rattle.ipc_format_childless_reading.specs.grammar.Messages.{Version}
+use Rattle.ipc_format_childless_reading.specs.grammar.Schemas.{Ids, IdsList}
+use Rattle.ipc_format_childless_reading.specs.messages.declared.values.Buffer.{Buffer}
+use Rattle.ipc_format_childless_reading.specs.messages.declared.values.FieldNode.{FieldNode}
 use Rattle.ipc_format_reading.specs.Below.{arrays_below}
 use Rattle.ipc_format_reading.proofs.AlikeArrays.{behind_at_front, below_at_front}
 

@@ -5,22 +5,22 @@ use Rattle.std.specs.Prelude.{Option, Some, None, slice_get, slice_index_or}
 use Rattle.std.specs.List.{list_all}
 use Rattle.std.proofs.lemmas.Bool.{and_from}
 use Rattle.std.proofs.lemmas.List.{length-map}
-use Rattle.ipc_format_childless_reading.specs.array_reading.column_reading.columnar_memory.Equality.{same_type, same_type-Decides}
-use Rattle.ipc_format_childless_reading.specs.array_reading.column_reading.columnar_memory.declared.DataType.{DataType, map-DataType}
-use Rattle.ipc_format_childless_reading.specs.array_reading.column_reading.columnar_memory.declared.DataType.TheOpen as layer
-use Rattle.ipc_format_childless_reading.specs.array_reading.column_reading.columnar_memory.declared.DataType.TheViews.{out-DataType}
-use Rattle.ipc_format_childless_reading.specs.array_reading.column_reading.columnar_memory.declared.Field.{Field}
-use Rattle.ipc_format_childless_reading.specs.array_reading.column_reading.columnar_memory.declared.UnionMode.{UnionMode}
-use Rattle.ipc_format_childless_reading.specs.array_reading.column_reading.columnar_memory.declared.UnionMode.TheVariants as modes
-use Rattle.ipc_format_childless_reading.specs.array_reading.column_reading.columns.Kinds.{is_signed, most_offset}
-use Rattle.ipc_format_childless_reading.specs.array_reading.column_reading.columns.Slots.{Slot, fields, in_slots, items, pick, window}
-use Rattle.ipc_format_childless_reading.specs.array_reading.column_reading.columns.SoundColumns.{are_sound, has_an_id_each, have_types, is_entry, mask_fits}
-use Rattle.ipc_format_childless_reading.specs.array_reading.column_reading.columns.StoredColumns.{Column, column_type, in_columns, unless_null}
-use Rattle.ipc_format_childless_reading.specs.array_reading.column_reading.columns.Tables.{row_at}
-use Rattle.ipc_format_childless_reading.proofs.array_lemmas.column_lemmas.columns_lemmas.TypeLayers.{Layer, layer_layout}
-use Rattle.ipc_format_childless_reading.specs.array_reading.column_reading.flatbuffers.Reading.{◌>>=◌, guard}
-use Rattle.ipc_format_childless_reading.specs.array_reading.column_reading.grammar.Columns.{all_of, are_as_long, child_of, have_length, last_of, picked, piece_at, taken_of, Reader}
-use Rattle.ipc_format_childless_reading.specs.array_reading.column_reading.grammar.Messages.{natural}
+use Rattle.ipc_format_childless_reading.specs.columnar_memory.Equality.{same_type, same_type-Decides}
+use Rattle.ipc_format_childless_reading.specs.columnar_memory.declared.DataType.{DataType, map-DataType}
+use Rattle.ipc_format_childless_reading.specs.columnar_memory.declared.DataType.TheOpen as layer
+use Rattle.ipc_format_childless_reading.specs.columnar_memory.declared.DataType.TheViews.{out-DataType}
+use Rattle.ipc_format_childless_reading.specs.columnar_memory.declared.Field.{Field}
+use Rattle.ipc_format_childless_reading.specs.columnar_memory.declared.UnionMode.{UnionMode}
+use Rattle.ipc_format_childless_reading.specs.columnar_memory.declared.UnionMode.TheVariants as modes
+use Rattle.ipc_format_childless_reading.specs.columns.Kinds.{is_signed, most_offset}
+use Rattle.ipc_format_childless_reading.specs.columns.Slots.{Slot, fields, in_slots, items, pick, window}
+use Rattle.ipc_format_childless_reading.specs.columns.SoundColumns.{are_sound, has_an_id_each, have_types, is_entry, mask_fits}
+use Rattle.ipc_format_childless_reading.specs.columns.StoredColumns.{Column, column_type, in_columns, unless_null}
+use Rattle.ipc_format_childless_reading.specs.columns.Tables.{row_at}
+use Rattle.ipc_format_childless_reading.proofs.TypeLayers.{Layer, layer_layout}
+use Rattle.ipc_format_childless_reading.specs.flatbuffers.Reading.{◌>>=◌, guard}
+use Rattle.ipc_format_childless_reading.specs.grammar.Columns.{all_of, are_as_long, child_of, have_length, last_of, picked, piece_at, taken_of, Reader}
+use Rattle.ipc_format_childless_reading.specs.grammar.Messages.{natural}
 use Rattle.ipc_format_childless_reading.specs.array_reading.ArrayReads.{fields_below, has_arrays}
 use Rattle.ipc_format_childless_reading.specs.array_reading.Parts.{Parts, choices, marks, spans}
 

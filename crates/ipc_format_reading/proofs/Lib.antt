@@ -22,4 +22,21 @@ pub mod PartsUnions
 pub mod PartsReads
 pub mod NestedColumns
 pub mod KindReads
-pub use Rattle.ipc_format_childless_reading.proofs as childless_lemmas
+pub use Rattle.ipc_format_childless_reading.proofs.Joined
+pub use Rattle.ipc_format_childless_reading.proofs.MessageLimits
+pub use Rattle.ipc_format_childless_reading.proofs.Stated
+pub use Rattle.ipc_format_childless_reading.proofs.NextBuffers
+pub use Rattle.ipc_format_childless_reading.proofs.Readings
+pub use Rattle.ipc_format_childless_reading.proofs.NormalReports
+pub use Rattle.ipc_format_childless_reading.proofs.Appending
+pub use Rattle.ipc_format_childless_reading.proofs.BesideLists
+pub use Rattle.ipc_format_childless_reading.proofs.FittingLists
+pub use Rattle.ipc_format_childless_reading.proofs.Claims
+pub use Rattle.ipc_format_childless_reading.proofs.ColumnSizes
+pub use Rattle.ipc_format_childless_reading.proofs.Columns
+pub use Rattle.ipc_format_childless_reading.proofs.Conditions
+pub use Rattle.ipc_format_childless_reading.proofs.Cuts
+pub use Rattle.ipc_format_childless_reading.proofs.FreshLengths
+pub use Rattle.ipc_format_childless_reading.proofs.SameSlotsDecide
+pub use Rattle.ipc_format_childless_reading.proofs.TypeLayers
+pub use Rattle.ipc_format_childless_reading.proofs.Windows

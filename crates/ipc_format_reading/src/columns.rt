@@ -3,22 +3,17 @@ ghost use Rattle.std.specs.Prelude.{◌≡◌, false, map, true, IfOk};
 ghost use Rattle.ipc_format_childless_reading.specs.ReadArrays.{ReadsArray, at_front, standing_in};
 ghost use Rattle.ipc_format_childless_reading.specs.array_reading.ArrayReads.{Takes, fields_below};
 ghost use Rattle.ipc_format_childless_reading.specs.array_reading.Parts.{has_children};
-ghost use Rattle.ipc_format_childless_reading.specs.array_reading.column_reading.columns.StoredColumns.{column_type, slots, type_layer};
-ghost use Rattle.ipc_format_childless_reading.specs.array_reading.column_reading.messages.MessageViews.{version_view};
-ghost use Rattle.ipc_format_childless_reading.specs.array_reading.column_reading.metadata.Views.{ids_view, ids_views};
+ghost use Rattle.ipc_format_childless_reading.specs.columns.StoredColumns.{column_type, slots, type_layer};
+ghost use Rattle.ipc_format_childless_reading.specs.messages.MessageViews.{version_view};
+ghost use Rattle.ipc_format_childless_reading.specs.metadata.Views.{ids_view, ids_views};
 ghost use Rattle.ipc_format_reading.specs.Below.{arrays_below, buffers_below, no_own_ids, nodes_below, type_of};
 
-use ipc_format_childless_reading::array_reading::column_reading::columnar_memory::{
-    DataType, Error, Field, Result,
+use ipc_format_childless_reading::columnar_memory::{DataType, Error, Field, Result};
+use ipc_format_childless_reading::nested_arrays::AnyArray;
+use ipc_format_childless_reading::{
+    Buffer, Dictionaries, FieldNode, IpcField, MetadataVersion, Room, array_of, begin,
+    has_children, limit_below, read_childless,
 };
-use ipc_format_childless_reading::array_reading::column_reading::messages::{
-    FieldNode, MetadataVersion,
-};
-use ipc_format_childless_reading::array_reading::column_reading::metadata::IpcField;
-use ipc_format_childless_reading::array_reading::column_reading::{Room, messages as ipc};
-use ipc_format_childless_reading::array_reading::nested_arrays::AnyArray;
-use ipc_format_childless_reading::array_reading::{array_of, begin, has_children, limit_below};
-use ipc_format_childless_reading::{Dictionaries, read_childless};
 use std::alloc::Global;
 use std::collections::VecDeque;
 use std::slice::from_ref;
@@ -45,7 +40,7 @@ pub(crate) fn read_column<R: Room>(
     field_nodes: &mut VecDeque<FieldNode>,
     data_type: &DataType,
     ipc_field: &IpcField,
-    buffers: &mut VecDeque<ipc::Buffer>,
+    buffers: &mut VecDeque<Buffer>,
     reader: &mut R,
     dictionaries: &Dictionaries,
     block_offset: u64,
@@ -98,7 +93,7 @@ fn read_nested<R: Room>(
     field_nodes: &mut VecDeque<FieldNode>,
     data_type: &DataType,
     ipc_field: &IpcField,
-    buffers: &mut VecDeque<ipc::Buffer>,
+    buffers: &mut VecDeque<Buffer>,
     reader: &mut R,
     dictionaries: &Dictionaries,
     block_offset: u64,
@@ -153,7 +148,7 @@ pub fn read_children<R: Room>(
     field_nodes: &mut VecDeque<FieldNode>,
     fields: &[Field],
     ipc_fields: &[IpcField],
-    buffers: &mut VecDeque<ipc::Buffer>,
+    buffers: &mut VecDeque<Buffer>,
     reader: &mut R,
     dictionaries: &Dictionaries,
     block_offset: u64,

@@ -1,20 +1,15 @@
 //! A column of any type.
 ghost use Rattle.std.specs.Prelude.{is_some};
 ghost use Rattle.ipc_format_childless_reading.specs.ReadArrays.{ReadsArray, at_front, standing_in};
-ghost use Rattle.ipc_format_childless_reading.specs.array_reading.column_reading.messages.MessageViews.{version_view};
-ghost use Rattle.ipc_format_childless_reading.specs.array_reading.column_reading.metadata.Views.{ids_view};
+ghost use Rattle.ipc_format_childless_reading.specs.messages.MessageViews.{version_view};
+ghost use Rattle.ipc_format_childless_reading.specs.metadata.Views.{ids_view};
 
 use crate::columns::read_column;
-use ipc_format_childless_reading::Dictionaries;
-use ipc_format_childless_reading::array_reading::column_reading::columnar_memory::{
-    DataType, Error, Field, Result,
+use ipc_format_childless_reading::columnar_memory::{DataType, Error, Field, Result};
+use ipc_format_childless_reading::nested_arrays::AnyArray;
+use ipc_format_childless_reading::{
+    BodyCompressionRef, Buffer, Dictionaries, FieldNode, IpcField, MetadataVersion, Room,
 };
-use ipc_format_childless_reading::array_reading::column_reading::messages::{
-    BodyCompressionRef, FieldNode, MetadataVersion,
-};
-use ipc_format_childless_reading::array_reading::column_reading::metadata::IpcField;
-use ipc_format_childless_reading::array_reading::column_reading::{Room, messages as ipc};
-use ipc_format_childless_reading::array_reading::nested_arrays::AnyArray;
 use std::alloc::Global;
 use std::collections::VecDeque;
 
@@ -24,7 +19,7 @@ pub(crate) fn read_type<R: Room>(
     field_nodes: &mut VecDeque<FieldNode>,
     data_type: &DataType,
     ipc_field: &IpcField,
-    buffers: &mut VecDeque<ipc::Buffer>,
+    buffers: &mut VecDeque<Buffer>,
     reader: &mut R,
     dictionaries: &Dictionaries,
     block_offset: u64,
@@ -75,7 +70,7 @@ pub fn read<R: Room>(
     field_nodes: &mut VecDeque<FieldNode>,
     field: &Field,
     ipc_field: &IpcField,
-    buffers: &mut VecDeque<ipc::Buffer>,
+    buffers: &mut VecDeque<Buffer>,
     reader: &mut R,
     dictionaries: &Dictionaries,
     block_offset: u64,

@@ -8,5 +8,10 @@ mod typed;
 
 pub use columns::read_children;
 pub use deserialize::read;
-pub use ipc_format_childless_reading as childless_reading;
+pub use ipc_format_childless_reading::{
+    BodyCompressionRef, Buffer, Chunk, Compression, Dictionaries, DictionaryBatchRef, EncodedData,
+    FieldNode, InMemory, IpcField, IpcSchema, MessageHeaderRef, MetadataVersion, Placed,
+    RecordBatchRef, Room, batch_queues, columnar_memory, dictionary_batch_in, dictionary_metadata,
+    dictionary_values, first_beside, message_in, nested_arrays, normalised, record_metadata, write,
+};
 pub use typed::{read_fixed_size_list, read_map, read_struct, read_union};

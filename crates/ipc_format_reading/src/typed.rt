@@ -2,25 +2,20 @@
 ghost use Rattle.std.specs.Prelude.{◌≡◌, ◌↔◌, is_some, IsTrue};
 ghost use Rattle.ipc_format_childless_reading.specs.ReadArrays.{at_front, standing_in};
 ghost use Rattle.ipc_format_childless_reading.specs.array_reading.ArrayReads.{array_slots};
-ghost use Rattle.ipc_format_childless_reading.specs.array_reading.column_reading.Reads.{ReadsColumn};
-ghost use Rattle.ipc_format_childless_reading.specs.array_reading.column_reading.columnar_memory.Layouts.{physical_type};
-ghost use Rattle.ipc_format_childless_reading.specs.array_reading.column_reading.columnar_memory.declared.PhysicalType.TheVariants as layouts;
-ghost use Rattle.ipc_format_childless_reading.specs.array_reading.column_reading.grammar.Layouts.{buffer_count, node_count};
-ghost use Rattle.ipc_format_childless_reading.specs.array_reading.column_reading.messages.MessageViews.{version_view};
-ghost use Rattle.ipc_format_childless_reading.specs.array_reading.column_reading.metadata.Views.{ids_view};
+ghost use Rattle.ipc_format_childless_reading.specs.Reads.{ReadsColumn};
+ghost use Rattle.ipc_format_childless_reading.specs.columnar_memory.Layouts.{physical_type};
+ghost use Rattle.ipc_format_childless_reading.specs.columnar_memory.declared.PhysicalType.TheVariants as layouts;
+ghost use Rattle.ipc_format_childless_reading.specs.grammar.Layouts.{buffer_count, node_count};
+ghost use Rattle.ipc_format_childless_reading.specs.messages.MessageViews.{version_view};
+ghost use Rattle.ipc_format_childless_reading.specs.metadata.Views.{ids_view};
 
 use crate::deserialize::read_type;
-use ipc_format_childless_reading::Dictionaries;
-use ipc_format_childless_reading::array_reading::column_reading::columnar_memory::{
-    DataType, Error, PhysicalType, Result,
-};
-use ipc_format_childless_reading::array_reading::column_reading::messages::{
-    BodyCompressionRef, FieldNode, MetadataVersion,
-};
-use ipc_format_childless_reading::array_reading::column_reading::metadata::IpcField;
-use ipc_format_childless_reading::array_reading::column_reading::{Room, messages as ipc};
-use ipc_format_childless_reading::array_reading::nested_arrays::{
+use ipc_format_childless_reading::columnar_memory::{DataType, Error, PhysicalType, Result};
+use ipc_format_childless_reading::nested_arrays::{
     AnyArray, FixedSizeListArray, MapArray, StructArray, UnionArray,
+};
+use ipc_format_childless_reading::{
+    BodyCompressionRef, Buffer, Dictionaries, FieldNode, IpcField, MetadataVersion, Room,
 };
 use std::alloc::Global;
 use std::collections::VecDeque;
@@ -39,7 +34,7 @@ fn read_as<R: Room>(
     data_type: &DataType,
     layout: PhysicalType,
     ipc_field: &IpcField,
-    buffers: &mut VecDeque<ipc::Buffer>,
+    buffers: &mut VecDeque<Buffer>,
     reader: &mut R,
     dictionaries: &Dictionaries,
     block_offset: u64,
@@ -85,7 +80,7 @@ pub fn read_fixed_size_list<R: Room>(
     field_nodes: &mut VecDeque<FieldNode>,
     data_type: DataType,
     ipc_field: &IpcField,
-    buffers: &mut VecDeque<ipc::Buffer>,
+    buffers: &mut VecDeque<Buffer>,
     reader: &mut R,
     dictionaries: &Dictionaries,
     block_offset: u64,
@@ -133,7 +128,7 @@ pub fn read_map<R: Room>(
     field_nodes: &mut VecDeque<FieldNode>,
     data_type: DataType,
     ipc_field: &IpcField,
-    buffers: &mut VecDeque<ipc::Buffer>,
+    buffers: &mut VecDeque<Buffer>,
     reader: &mut R,
     dictionaries: &Dictionaries,
     block_offset: u64,
@@ -181,7 +176,7 @@ pub fn read_struct<R: Room>(
     field_nodes: &mut VecDeque<FieldNode>,
     data_type: DataType,
     ipc_field: &IpcField,
-    buffers: &mut VecDeque<ipc::Buffer>,
+    buffers: &mut VecDeque<Buffer>,
     reader: &mut R,
     dictionaries: &Dictionaries,
     block_offset: u64,
@@ -229,7 +224,7 @@ pub fn read_union<R: Room>(
     field_nodes: &mut VecDeque<FieldNode>,
     data_type: DataType,
     ipc_field: &IpcField,
-    buffers: &mut VecDeque<ipc::Buffer>,
+    buffers: &mut VecDeque<Buffer>,
     reader: &mut R,
     dictionaries: &Dictionaries,
     block_offset: u64,

@@ -1,15 +1,9 @@
 //! Batches that the tests read: their nodes, buffers and bytes.
-use ipc_format_reading::childless_reading::Dictionaries;
-use ipc_format_reading::childless_reading::array_reading::column_reading::InMemory;
-use ipc_format_reading::childless_reading::array_reading::column_reading::columnar_memory::{
-    Boxed, DataType, Error, Field, Items, Text,
+use ipc_format_reading::columnar_memory::{Boxed, DataType, Error, Field, Items, Text};
+use ipc_format_reading::nested_arrays::AnyArray;
+use ipc_format_reading::{
+    Buffer, Dictionaries, FieldNode, InMemory, IpcField, MetadataVersion, read,
 };
-use ipc_format_reading::childless_reading::array_reading::column_reading::messages::{
-    Buffer, FieldNode, MetadataVersion,
-};
-use ipc_format_reading::childless_reading::array_reading::column_reading::metadata::IpcField;
-use ipc_format_reading::childless_reading::array_reading::nested_arrays::AnyArray;
-use ipc_format_reading::read;
 use std::alloc::Global;
 use std::collections::VecDeque;
 

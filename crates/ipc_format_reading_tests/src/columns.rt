@@ -1,11 +1,8 @@
 //! Columns with columns below them.
 use crate::batches::{column, field, list_of, no_ids, one_field};
-use ipc_format_reading::childless_reading::Dictionaries;
-use ipc_format_reading::childless_reading::array_reading::column_reading::columnar_memory::{
-    Boxed, DataType, Error, UnionMode,
-};
-use ipc_format_reading::childless_reading::array_reading::column_reading::messages::MetadataVersion;
-use ipc_format_reading::childless_reading::array_reading::nested_arrays::Array;
+use ipc_format_reading::columnar_memory::{Boxed, DataType, Error, UnionMode};
+use ipc_format_reading::nested_arrays::Array;
+use ipc_format_reading::{Dictionaries, MetadataVersion};
 use std::test::*;
 
 #[test]

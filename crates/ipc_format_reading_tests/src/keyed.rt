@@ -1,12 +1,8 @@
 //! Columns of dictionaries' keys.
 use crate::batches::{column, no_id, one_field};
-use ipc_format_reading::childless_reading::Dictionaries;
-use ipc_format_reading::childless_reading::array_reading::column_reading::columnar_memory::{
-    Boxed, DataType, Error, IntegerType, Items,
-};
-use ipc_format_reading::childless_reading::array_reading::column_reading::messages::MetadataVersion;
-use ipc_format_reading::childless_reading::array_reading::column_reading::metadata::IpcField;
-use ipc_format_reading::childless_reading::array_reading::nested_arrays::AnyArray;
+use ipc_format_reading::columnar_memory::{Boxed, DataType, Error, IntegerType, Items};
+use ipc_format_reading::nested_arrays::AnyArray;
+use ipc_format_reading::{Dictionaries, IpcField, MetadataVersion};
 use std::alloc::Global;
 use std::test::*;
 

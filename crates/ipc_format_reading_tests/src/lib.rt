@@ -7,3 +7,5 @@ mod batches;
 mod columns;
 #[cfg(test)]
 mod keyed;
+#[cfg(test)]
+mod typed;

@@ -8,7 +8,6 @@ pub mod Queues
 pub mod Values
 pub mod EncodedMessages
 pub use Rattle.ipc_format_values.specs as owned
-pub use Rattle.ipc_format_values.specs.writing
 pub use Rattle.ipc_format_values.specs.messages
 pub use Rattle.ipc_format_values.specs.columnar_memory
 pub use Rattle.ipc_format_values.specs.flatbuffers

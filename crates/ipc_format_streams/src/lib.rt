@@ -21,9 +21,7 @@ pub use frames::{Frame, Framed, NextMessage};
 pub use framing::next_at;
 pub use incoming::{Incoming, next_message};
 pub use ipc_format_values as owned;
-pub use ipc_format_values::{
-    columnar_memory, columns, flatbuffers, grammar, messages, metadata, writing,
-};
+pub use ipc_format_values::{columnar_memory, columns, flatbuffers, grammar, messages, metadata};
 pub use output::{put, refusal};
 pub use queues::{BatchQueues, batch_queues};
 pub use stream_metadata::{

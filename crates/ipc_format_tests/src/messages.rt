@@ -1,12 +1,12 @@
 //! Messages, batches and footers: their views at the bounds of each rule, and what is written.
 use crate::samples::{DICTIONARY_BATCH, FOOTER, NO_FIELDS, RECORD_BATCH, X};
-use columnar_memory::{Error as MemoryError, Items, Schema};
+use columnar_memory_types::{Error as MemoryError, Items, Schema};
 use ipc_format::messages::{
     Block, Buffer, BuffersRef, DictionaryBatchRef, Error, FieldNode, FooterRef, MessageHeaderRef,
     MessageRef, MetadataVersion, RecordBatchRef, dictionary_batch_in, message_in, record_batch_in,
     version_in,
 };
-use ipc_format::writing::{dictionary_batch_to_bytes, footer_to_bytes, record_batch_to_bytes};
+use ipc_format::{dictionary_batch_to_bytes, footer_to_bytes, record_batch_to_bytes};
 use std::test::*;
 
 const NODES: [FieldNode; 1] = [FieldNode {

@@ -1,6 +1,6 @@
 //! Schemas read from the metadata of messages.
 use crate::samples::{DICTIONARY, EXTENSION, X};
-use columnar_memory::{Boxed, DataType, Error, Field, IntegerType, Items, Schema, Text};
+use columnar_memory_types::{Boxed, DataType, Error, Field, IntegerType, Items, Schema, Text};
 use ipc_format::metadata::deserialize_schema;
 use std::alloc::Global;
 use std::test::*;

@@ -1,7 +1,7 @@
 //! Which types are written: each of the 35, and the bounds of each limit.
 use crate::schemas::{extension, schema_of};
 use crate::writing::{dictionary, entry, field, single, union};
-use columnar_memory::{Boxed, DataType, IntervalUnit, Items, Text, TimeUnit};
+use columnar_memory_types::{Boxed, DataType, IntervalUnit, Items, Text, TimeUnit};
 use ipc_format::metadata::can_write;
 use std::alloc::Global;
 use std::test::*;

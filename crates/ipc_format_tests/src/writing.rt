@@ -1,12 +1,12 @@
 //! Schemas written, against metadata laid by plain Python, and read back.
 use crate::samples::{DICTIONARY, EXTENSION, NO_FIELDS, X};
 use crate::schemas::{extension, schema_of};
-use columnar_memory::{
+use columnar_memory_types::{
     Boxed, DataType, EXTENSION_METADATA, Error, Field, IntegerType, IntervalUnit, Items, Metadata,
     Schema, Text, TimeUnit, UnionMode,
 };
 use ipc_format::metadata::{IpcField, deserialize_schema};
-use ipc_format::writing::{default_ipc_fields, normalised, schema_to_bytes};
+use ipc_format::{default_ipc_fields, normalised, schema_to_bytes};
 use std::alloc::Global;
 use std::test::*;
 

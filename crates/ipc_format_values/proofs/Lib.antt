@@ -8,5 +8,3 @@ pub use Rattle.ipc_format_writing.proofs.columnar_memory_lemmas
 pub use Rattle.ipc_format_writing.proofs.flatbuffers_lemmas
 pub use Rattle.ipc_format_writing.proofs.columns_lemmas
 pub use Rattle.ipc_format_writing.proofs.grammar_lemmas
-pub use Rattle.ipc_format_writing.proofs.metadata_lemmas
-pub use Rattle.ipc_format_writing.proofs.messages_lemmas

@@ -1,9 +1,12 @@
 //! Values of schemas that are written.
 use crate::calling::message_of;
-use columnar_memory::{Boxed, DataType, Error, Field, IntegerType, Items, Metadata, Schema, Text};
+use columnar_memory_types::{
+    Boxed, DataType, Error, Field, IntegerType, Items, Metadata, Schema, Text,
+};
 use ipc_format::messages::MetadataVersion;
 use ipc_format::metadata::IpcField;
-use ipc_format::values::{DictionaryEncoding, Footer, Int, serialize_schema};
+use ipc_format::serialize_schema;
+use ipc_format::streams::owned::{DictionaryEncoding, Footer, Int};
 use std::alloc::Global;
 use std::test::*;
 

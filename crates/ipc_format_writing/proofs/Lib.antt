@@ -12,7 +12,6 @@ pub mod SchemaMessages
 pub mod NormalLists
 pub mod Laid
 pub mod LaidFooter
-pub use Rattle.ipc_format_messages.proofs as messages_lemmas
 pub use Rattle.ipc_format_messages.proofs.columnar_memory_lemmas
 pub use Rattle.ipc_format_messages.proofs.flatbuffers_lemmas
 pub use Rattle.ipc_format_messages.proofs.columns_lemmas

@@ -1,3 +1,6 @@
+mod Carrying
 mod ContentsLemmas
+mod JoinedRows
 mod Lines
+mod LongTables
 mod NumberLemmas

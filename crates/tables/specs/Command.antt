@@ -1,19 +1,27 @@
 -- What the words of a command line ask for.
-use Rattle.std.specs.Prelude.{ℕ, List, [], ◌∷◌, codes, Option, Some, None, if◌then◌else◌}
+use Rattle.std.specs.Prelude.{ℕ, List, [], ◌∷◌, codes, map, Option, Some, None, if◌then◌else◌}
 use Rattle.std.specs.Str.{bytes_eq}
-use Rattle.tables.specs.Contents.{Contents, Holds, Sets}
-use Rattle.tables.specs.Cutting.{IsCut}
+use Rattle.std.specs.String.{string_bytes}
 use Rattle.tables.specs.Number.{number_of}
 use Rattle.tables.specs.declared.commands.Command.{Command}
 use Rattle.tables.specs.declared.commands.Command.TheVariants as variant
 
 -- a command, with the bytes of each name
 pub data Asked : Type 0 where
+  Same : (left right : List ℕ) → Asked
   Cut : (offset length : ℕ) (input output : List ℕ) → Asked
+  Join : (output first : List ℕ) (others : List (List ℕ)) → Asked
 
 -- what a parsed command asks for
 abbrev pub asked_by : Command → Asked
+asked_by (variant.Same left right) = Same left.now right.now
 asked_by (variant.Cut offset length input output) = Cut offset length input.now output.now
+asked_by (variant.Join output first others) = Join output.now first.now (map string_bytes others.now)
+
+-- the words after the command's name, at `same`
+abbrev pub same_of : List (List ℕ) → Option Asked
+same_of (left ∷ right ∷ []) = Some (Same left right)
+same_of _ = None
 
 -- the cut between two numbers that may be missing
 abbrev pub cut_asked : Option ℕ → Option ℕ → List ℕ → List ℕ → Option Asked
@@ -26,13 +34,19 @@ abbrev pub cut_of : List (List ℕ) → Option Asked
 cut_of (offset ∷ length ∷ input ∷ output ∷ []) = cut_asked (number_of offset) (number_of length) input output
 cut_of _ = None
 
+-- the words after the command's name, at `join`: the output, and two inputs or more
+abbrev pub join_of : List (List ℕ) → Option Asked
+join_of (output ∷ first ∷ second ∷ others) = Some (Join output first (second ∷ others))
+join_of _ = None
+
 -- the command that the words state, where they state one
 abbrev pub command_of : List (List ℕ) → Option Asked
 command_of [] = None
-command_of (name ∷ rest) = if bytes_eq name (codes "cut") then cut_of rest else None
+command_of (name ∷ rest) = if bytes_eq name (codes "same") then same_of rest else (if bytes_eq name (codes "cut") then cut_of rest
+    else (if bytes_eq name (codes "join") then join_of rest else None))
 
--- a command that is done found bytes under each name that it reads, and put what they make under the name that it writes, and all else
--- stayed
-abbrev pub IsDone : Asked → Option Contents → Option Contents → Type 0
-IsDone (Cut offset length input output) old new =
-    (read written : List ℕ) × Holds old input (Some read) × Sets old new output written × IsCut offset length read written
+-- the inputs that a command reads, in order
+abbrev pub inputs_of : Asked → List (List ℕ)
+inputs_of (Same left right) = left ∷ right ∷ []
+inputs_of (Cut offset length input output) = input ∷ []
+inputs_of (Join output first others) = first ∷ others

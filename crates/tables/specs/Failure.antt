@@ -1,8 +1,8 @@
 -- The lines of the program's failures.
 use Rattle.std.specs.Prelude.{ℕ, List, ◌++◌, codes}
-use Rattle.tables_faults.specs.Texts.{text_of}
+use Rattle.tables_chunks.specs.Texts.{text_of}
 use Rattle.tables.specs.declared.program.Failure.{Failure}
-use Rattle.tables.specs.declared.program.Failure.TheVariants.{Fault, UnreadableInput, UnwritableOutput, RangeOutsideRows}
+use Rattle.tables.specs.declared.program.Failure.TheVariants.{Fault, UnreadableInput, UnwritableOutput, RangeOutsideRows, SchemasDiffer}
 
 -- a failure in words
 abbrev pub failure_text : Failure → List ℕ
@@ -10,6 +10,7 @@ failure_text (Fault fault) = text_of fault
 failure_text UnreadableInput = codes "cannot read the input"
 failure_text UnwritableOutput = codes "cannot write the output"
 failure_text RangeOutsideRows = codes "range outside the rows"
+failure_text SchemasDiffer = codes "schemas differ"
 
 -- the line that tells a failure
 abbrev pub failure_line : Failure → List ℕ

@@ -1,81 +1,98 @@
 -- What comes of a command: it is done, or it fails and says why.
-use Rattle.std.specs.Prelude.{◌≡◌, ℕ, ◌+◌, ◌≤◌, ◌<◌, false, List, Option, Some, None, Result, Ok, Err, ⊤}
-use Rattle.std.specs.List.{list_all}
+use Rattle.std.specs.Prelude.{◌≡◌, ◌⊎◌, ℕ, List, [], ◌∷◌, Option, Some, None, Result, Ok, Err}
 use Rattle.std.specs.Io.KnownBytes as known
 use Rattle.std.specs.declared.vec.Vec.{Vec}
 use Rattle.std.specs.declared.alloc.Global.{Global}
-use Rattle.columnar_memory.specs.declared.Error.TheVariants as errors
-use Rattle.ipc_format.specs.WrittenMessages.{fits_limit}
-use Rattle.tables_faults.specs.declared.fault.Fault.TheVariants as faults
-use Rattle.ipc_format.specs.streams.Devices.{AppendsBeginning}
-use Rattle.tables_stream.specs.Reading.{ReadsTable}
-use Rattle.tables_stream.specs.Tables.{Stored, row_count, table_messages}
-use Rattle.tables.specs.Command.{Asked, Cut, IsDone}
-use Rattle.tables.specs.Contents.{Contents, Keeps, Holds}
-use Rattle.tables.specs.Cutting.{form_in, IsStreamOf, IsCut, cut_table, cut_bytes}
+use Rattle.tables_chunks.specs.ipc_format.columnar_memory.declared.Error.TheVariants as errors
+use Rattle.tables_chunks.specs.declared.fault.Fault.TheVariants as faults
+use Rattle.tables_chunks.specs.ipc_format.streams.Devices.{AppendsBeginning}
+use Rattle.tables_chunks.specs.StoredTables.{Stored, as_table}
+use Rattle.tables.specs.Command.{Asked, Cut, Join, Same, inputs_of}
+use Rattle.tables.specs.Contents.{Contents, Keeps, Sets}
 use Rattle.tables.specs.Failure.{failure_line, usage_line}
+use Rattle.tables.specs.Inputs.{HoldTables, IsInputFailure}
+use Rattle.tables.specs.Made.{IsLong, IsNotMade, Makes, stream_of}
 use Rattle.tables.specs.declared.program.Failure.{Failure}
 use Rattle.tables.specs.declared.program.Failure.TheVariants as failures
+use Rattle.tables.specs.declared.program.Outcome.{Outcome}
+use Rattle.tables.specs.declared.program.Outcome.TheVariants as outcomes
 
--- ---- cuts
+-- ---- streams
 
--- a message of the stream of n rows from row o on is too long
-abbrev pub IsLongCut : ℕ → ℕ → Stored → Type 0
-IsLongCut o n stored = (o + n ≤ row_count stored) × (list_all fits_limit (table_messages (cut_table o n stored)) ≡ false)
+-- the stream of a table; or a message of it would be too long, or memory ran out
+abbrev pub Streams : Result (Vec ℕ Global) Failure → Stored → Type 0
+Streams (Ok bytes) table = bytes.items ≡ stream_of table
+Streams (Err (failures.Fault faults.Memory)) table = Unit {0}
+Streams (Err (failures.Fault (faults.Ipc errors.Overflow))) table = IsLong table
+Streams (Err _) table = ⊥
 
--- n rows from row o on of a table as a stream; or there are fewer rows, a message would be too long, or memory ran out
-abbrev pub CutsTable : Result (Vec ℕ Global) Failure → ℕ → ℕ → Stored → Type 0
-CutsTable (Ok bytes) o n stored = (o + n ≤ row_count stored) × (bytes.items ≡ cut_bytes o n stored)
-CutsTable (Err failures.RangeOutsideRows) o n stored = row_count stored < o + n
-CutsTable (Err (failures.Fault faults.Memory)) o n stored = Unit {0}
-CutsTable (Err (failures.Fault (faults.Ipc errors.Overflow))) o n stored = IsLongCut o n stored
-CutsTable (Err _) o n stored = ⊥
-
--- Why n rows from row o on of some bytes aren't cut: they are a stream of fewer rows, or one of whose cut a message would be too long; or
--- the fault is one that reading them gives.
-abbrev pub IsCutFailure : Failure → ℕ → ℕ → List ℕ → Type 0
-IsCutFailure failures.RangeOutsideRows o n read = (stored : Stored) × IsStreamOf read stored × (row_count stored < o + n)
-IsCutFailure (failures.Fault faults.Memory) o n read = Unit {0}
-IsCutFailure (failures.Fault (faults.Ipc errors.Overflow)) o n read = (stored : Stored) × IsStreamOf read stored × IsLongCut o n stored
-IsCutFailure (failures.Fault fault) o n read = ReadsTable (form_in read) (Err fault) read
-IsCutFailure _ o n read = ⊥
-
-abbrev pub CutsBytes : Result (Vec ℕ Global) Failure → ℕ → ℕ → List ℕ → Type 0
-CutsBytes (Ok bytes) o n read = IsCut o n read bytes.items
-CutsBytes (Err failure) o n read = IsCutFailure failure o n read
+-- the stream of a table stands under a name, where all else is as it was; or why not, and known contents stay as they were
+abbrev pub PutsTable : Result Outcome Failure → Option Contents → Option Contents → List ℕ → Stored → Type 0
+PutsTable (Ok outcomes.Done) old new output table = Sets old new output (stream_of table)
+PutsTable (Ok outcomes.Different) old new output table = ⊥
+PutsTable (Err failures.UnwritableOutput) old new output table = Keeps old new
+PutsTable (Err (failures.Fault faults.Memory)) old new output table = Keeps old new
+PutsTable (Err (failures.Fault (faults.Ipc errors.Overflow))) old new output table = IsLong table × Keeps old new
+PutsTable (Err _) old new output table = ⊥
 
 -- ---- commands
 
--- what stands under a name; or nothing does, or memory ran out
-abbrev pub ReadsInput : Result (Vec ℕ Global) Failure → Option Contents → List ℕ → Type 0
-ReadsInput (Ok bytes) contents name = Holds contents name (Some bytes.items)
-ReadsInput (Err failures.UnreadableInput) contents name = Holds contents name None
-ReadsInput (Err (failures.Fault faults.Memory)) contents name = Unit {0}
-ReadsInput (Err _) contents name = ⊥
+-- the tables that a command reads, and what it makes of them
+pub record IsMade (asked : Asked) (contents : Option Contents) (made : Stored) : Type 0 where
+  pub tables : List Stored
+  pub read : HoldTables contents (inputs_of asked) tables
+  pub makes : Makes asked tables made
+
+-- a table is made, and its stream stands under a name, where all else is as it was
+abbrev pub IsWritten : Asked → List ℕ → Option Contents → Option Contents → Type 0
+IsWritten asked output old new = (made : Stored) × IsMade asked old made × Sets old new output (stream_of made)
+
+-- two tables are read, of which something holds
+abbrev pub AreCompared : List ℕ → List ℕ → Option Contents → (Stored → Stored → Type 0) → Type 0
+AreCompared left right contents Holding =
+    (first : Stored) × (second : Stored) × HoldTables contents (left ∷ right ∷ []) (first ∷ second ∷ []) × Holding first second
+
+-- two tables have one schema and the same rows, however these are divided into batches
+abbrev pub AreSame : Stored → Stored → Type 0
+AreSame first second = as_table first ≡ as_table second
+
+-- nothing is made of the tables that are read
+abbrev pub IsUnmade : Failure → Asked → Option Contents → Type 0
+IsUnmade failure asked contents = (tables : List Stored) × HoldTables contents (inputs_of asked) tables × IsNotMade failure asked tables
+
+-- the stream of what is made has a message that is too long
+abbrev pub IsTooLong : Failure → Asked → Option Contents → Type 0
+IsTooLong (failures.Fault (faults.Ipc errors.Overflow)) asked contents = (made : Stored) × IsMade asked contents made × IsLong made
+IsTooLong _ asked contents = ⊥
 
 -- what a failure says of a command, and of what stood under each name
 abbrev pub IsFailure : Failure → Asked → Option Contents → Type 0
-IsFailure failures.UnreadableInput (Cut o n input output) contents = Holds contents input None
-IsFailure failures.UnwritableOutput (Cut o n input output) contents =
-    (read written : List ℕ) × Holds contents input (Some read) × IsCut o n read written
-IsFailure (failures.Fault faults.Memory) (Cut o n input output) contents = Unit {0}
-IsFailure failure (Cut o n input output) contents = (read : List ℕ) × Holds contents input (Some read) × IsCutFailure failure o n read
+IsFailure failures.UnwritableOutput asked contents = (made : Stored) × IsMade asked contents made
+IsFailure (failures.Fault faults.Memory) asked contents = Unit {0}
+IsFailure failure asked contents =
+    IsInputFailure failure contents (inputs_of asked) ⊎ (IsUnmade failure asked contents ⊎ IsTooLong failure asked contents)
 
--- a command is done; or it fails, and known contents stay as they were
-abbrev pub CarriesOut : Result ⊤ Failure → Asked → Option Contents → Option Contents → Type 0
-CarriesOut (Ok done) asked old new = IsDone asked old new
+-- a command is done, or two tables differ; or it fails, and known contents stay as they were
+abbrev pub CarriesOut : Result Outcome Failure → Asked → Option Contents → Option Contents → Type 0
+CarriesOut (Ok outcomes.Done) (Cut offset length input output) old new = IsWritten (Cut offset length input output) output old new
+CarriesOut (Ok outcomes.Done) (Join output first others) old new = IsWritten (Join output first others) output old new
+CarriesOut (Ok outcomes.Done) (Same left right) old new = AreCompared left right old AreSame × Keeps old new
+CarriesOut (Ok outcomes.Different) (Same left right) old new =
+    AreCompared left right old (λ first second. AreSame first second → ⊥) × Keeps old new
+CarriesOut (Ok outcomes.Different) _ old new = ⊥
 CarriesOut (Err failure) asked old new = IsFailure failure asked old × Keeps old new
 
 -- ---- the program
 
 -- the exit status of what came of a command
-abbrev pub status_of : Result ⊤ Failure → ℕ
-status_of (Ok done) = 0
+abbrev pub status_of : Result Outcome Failure → ℕ
+status_of (Ok outcomes.Done) = 0
+status_of (Ok outcomes.Different) = 1
 status_of (Err failure) = 2
 
 -- a failure's line is written where the writer takes it, and else a beginning of it
-abbrev pub Tells : Result ⊤ Failure → Option (List ℕ) → Option (List ℕ) → Type 0
-Tells (Ok done) before after = known.Keeps before after
+abbrev pub Tells : Result Outcome Failure → Option (List ℕ) → Option (List ℕ) → Type 0
+Tells (Ok outcome) before after = known.Keeps before after
 Tells (Err failure) before after = AppendsBeginning before after (failure_line failure)
 
 -- What the program answers for the command that its words state, if they state one: what stood under each name before and after, and what
@@ -83,4 +100,4 @@ Tells (Err failure) before after = AppendsBeginning before after (failure_line f
 abbrev pub Answers : ℕ → Option Asked → Option Contents → Option Contents → Option (List ℕ) → Option (List ℕ) → Type 0
 Answers status None old new before after = (status ≡ 3) × Keeps old new × AppendsBeginning before after usage_line
 Answers status (Some asked) old new before after =
-    (answer : Result ⊤ Failure) × (status ≡ status_of answer) × CarriesOut answer asked old new × Tells answer before after
+    (answer : Result Outcome Failure) × (status ≡ status_of answer) × CarriesOut answer asked old new × Tells answer before after

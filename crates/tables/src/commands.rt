@@ -1,18 +1,30 @@
+//! What the words of a command line ask for.
 ghost use Rattle.std.specs.Prelude.{◌≡◌, map};
 ghost use Rattle.std.specs.Option.{option_map};
 ghost use Rattle.std.specs.String.{string_bytes};
 ghost use Rattle.tables.specs.Number.{number_of};
-ghost use Rattle.tables.specs.Command.{command_of, asked_by, cut_of};
+ghost use Rattle.tables.specs.Command.{asked_by, command_of, cut_of, join_of, same_of};
 
 /// What the program is asked to do.
 #[derive(Clone, Copy, Debug)]
 pub enum Command<'a> {
+    /// Tell whether two inputs hold the same rows under the same schema.
+    Same {
+        left: &'a str,
+        right: &'a str,
+    },
     /// Write `length` rows of `input` from row `offset` on under the name `output`.
     Cut {
         offset: usize,
         length: usize,
         input: &'a str,
         output: &'a str,
+    },
+    /// Write the rows of two inputs or more, one input after another, under the name `output`.
+    Join {
+        output: &'a str,
+        first: &'a str,
+        others: &'a [String],
     },
 }
 
@@ -23,10 +35,24 @@ impl<'a> Command<'a> {
     {
         let (name, rest) = words.split_first()?;
         match name.as_str() {
+            "same" => parse_same(rest),
             "cut" => parse_cut(rest),
+            "join" => parse_join(rest),
             _ => None,
         }
     }
+}
+
+fn parse_same(words: &[String]) -> Option<Command<'_>>
+    ensures { option_map asked_by result ≡ same_of (map string_bytes words.now) }
+{
+    let [left, right] = words else {
+        return None;
+    };
+    Some(Command::Same {
+        left: left.as_str(),
+        right: right.as_str(),
+    })
 }
 
 fn parse_cut(words: &[String]) -> Option<Command<'_>>
@@ -40,6 +66,22 @@ fn parse_cut(words: &[String]) -> Option<Command<'_>>
         length: number(length.as_str())?,
         input: input.as_str(),
         output: output.as_str(),
+    })
+}
+
+fn parse_join(words: &[String]) -> Option<Command<'_>>
+    ensures { option_map asked_by result ≡ join_of (map string_bytes words.now) }
+{
+    let [output, first, others @ ..] = words else {
+        return None;
+    };
+    if others.is_empty() {
+        return None;
+    }
+    Some(Command::Join {
+        output: output.as_str(),
+        first: first.as_str(),
+        others,
     })
 }
 

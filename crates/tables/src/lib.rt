@@ -1,15 +1,19 @@
 //! Tables of rows in Arrow streams, and the commands of the program `tables` over them.
 #![tactic(auto)]
 
+mod carried;
 mod commands;
+mod inputs;
 mod memory_places;
 mod places;
 mod program;
 
 pub use commands::{Command, number};
-pub use ipc_format::Faults;
 pub use memory_places::MemoryPlaces;
 pub use places::{FilePlaces, Places};
-pub use program::{Failure, run};
-pub use tables_faults::{Fault, SealBar};
-pub use tables_stream::{Form, Table};
+pub use program::{Failure, Outcome, run};
+pub use tables_chunks::{
+    Chunk, Fault, Faults, Form, GrowingTable, SealBar, Table, choices_have_columns,
+    columnar_memory, cuts_and_choices_commute, cuts_have_parts, distinct, fits_schema,
+    is_table_schema, joins_have_both, nested_arrays, rows_are_columns,
+};

@@ -10,14 +10,15 @@ use Rattle.std.proofs.lemmas.List.Concat.{flat_map-append}
 use Rattle.columnar_memory_types.specs.Equality.{same_type}
 use Rattle.columnar_memory_types.specs.declared.data_type.Field.{Field}
 use Rattle.columnar_memory_types.specs.declared.schema.Schema.{Schema}
-use Rattle.ipc_format_chunks.specs.Chunks.{rows_of, AreAsLong}
-use Rattle.ipc_format_chunks.specs.nested_arrays.SoundColumns.{is_sound}
-use Rattle.ipc_format_chunks.specs.nested_arrays.StoredColumns.{Column, column_len, column_type, slots}
-use Rattle.ipc_format_chunks.specs.nested_arrays.Tables.{batch_rows, rows_of_batches}
-use Rattle.tables_batches.specs.Batches.{batch_len, is_batch, stored_rows, AreBatches}
-use Rattle.tables_batches.proofs.Lists.{list_all-append}
-use Rattle.tables_batches.proofs.LongColumns.{are_long, long_parts, long_from, rows_count}
+use Rattle.ipc_format.specs.Chunks.{rows_of, AreAsLong}
+use Rattle.ipc_format.specs.columns.SoundColumns.{is_sound}
+use Rattle.ipc_format.specs.columns.StoredColumns.{Column, column_len, column_type, slots}
+use Rattle.ipc_format.specs.columns.Tables.{batch_rows, rows_of_batches}
+use Rattle.tables_chunks.specs.Batches.{batch_len, is_batch, stored_rows, AreBatches}
+use Rattle.tables_chunks.proofs.Lists.{list_all-append}
+use Rattle.tables_chunks.proofs.LongColumns.{are_long, long_parts, long_from, rows_count}
 use Rattle.tables_chunks.specs.StoredTables.{IsTable, is_of_fields}
+use Rattle.tables_chunks.specs.TableSchemas.{IsTableSchema}
 
 -- ---- chunks
 
@@ -97,9 +98,9 @@ fits_width (field ∷ fields) (column ∷ columns) fits =
     ap suc (fits_width fields columns (and_parts (same_type field.data_type (column_type column)) (is_of_fields fields columns) fits).1)
 
 -- whole batches that fit a schema are those of a table
-pub table_from : (schema : Schema) (batches : List (List Column)) → list_all is_batch batches ≡ true
+pub table_from : (schema : Schema) (batches : List (List Column)) → IsTableSchema schema → list_all is_batch batches ≡ true
     → list_all (is_of_fields schema.fields) batches ≡ true → IsTable schema batches
-table_from schema batches whole fit = record { whole = widths batches whole fit; types = fit }
+table_from schema batches form whole fit = record { form = form; whole = widths batches whole fit; types = fit }
   where
     widths : (batches : List (List Column)) → list_all is_batch batches ≡ true → list_all (is_of_fields schema.fields) batches ≡ true
         → AreBatches (length schema.fields) batches
@@ -117,8 +118,10 @@ pub table_more : (schema : Schema) (batches : List (List Column)) (batch : List 
     → is_of_fields schema.fields batch ≡ true → IsTable schema (batches ++ batch ∷ [])
 table_more schema batches batch table whole fits =
     let one : IsTable schema (batch ∷ []) =
-    table_from schema (batch ∷ []) (and_from (is_batch batch) true whole refl) (and_from (is_of_fields schema.fields batch) true fits refl) in
+    table_from schema (batch ∷ []) table.form (and_from (is_batch batch) true whole refl) (and_from
+    (is_of_fields schema.fields batch) true fits refl) in
     record {
+      form = table.form;
       whole = list_all-append (λ (batch : List Column). is_batch batch && (length batch == length schema.fields)) batches (batch ∷ []) table.whole
           one.whole;
       types = list_all-append (is_of_fields schema.fields) batches (batch ∷ []) table.types one.types;

@@ -5,11 +5,11 @@ use Rattle.std.specs.Prelude.{Option, Some, None, slice_get}
 use Rattle.std.specs.List.{list_all, cons_option}
 use Rattle.std.proofs.lemmas.Bool.{and_parts, and_from, ltb-true, eq-eqb}
 use Rattle.std.proofs.lemmas.List.{take_all, take_more}
-use Rattle.ipc_format_chunks.specs.nested_arrays.StoredColumns.{Column}
-use Rattle.ipc_format_chunks.specs.nested_arrays.Tables.{chosen}
-use Rattle.tables_batches.specs.Batches.{AreBatches, is_batch}
-use Rattle.tables_batches.proofs.ChosenBatches.{choices_have_columns}
-use Rattle.tables_batches.proofs.CutBatches.{are_parts}
+use Rattle.ipc_format.specs.columns.StoredColumns.{Column}
+use Rattle.ipc_format.specs.columns.Tables.{chosen}
+use Rattle.tables_chunks.specs.Batches.{AreBatches, is_batch}
+use Rattle.tables_chunks.proofs.ChosenBatches.{choices_have_columns}
+use Rattle.tables_chunks.proofs.CutBatches.{are_parts}
 use Rattle.tables_chunks.specs.Choices.{are_below}
 
 append_option : {A : Type 0} (found : Option A) (xs ys : List A) → cons_option found (xs ++ ys) ≡ cons_option found xs ++ ys

@@ -1,16 +1,16 @@
 -- What is made of tables, as the code makes it: with a clone of the schema, and batches that were put together.
-use Rattle.std.proofs.Common.{◌≡◌, ◌∙◌, ℕ, ◌+◌, ◌≤◌, true, List, [], ◌∷◌, length, map, refl, ap, ap₂}
+use Rattle.std.proofs.Common.{◌≡◌, ◌∙◌, ℕ, ◌+◌, ◌≤◌, true, List, [], ◌∷◌, length, map, refl, sym, ap, ap₂, subst}
 use Rattle.std.specs.Prelude.{Ok}
 use Rattle.std.specs.List.{list_all}
 use Rattle.columnar_memory_types.specs.declared.schema.Schema.{Schema}
-use Rattle.ipc_format_chunks.specs.nested_arrays.StoredColumns.{Column}
-use Rattle.ipc_format_chunks.specs.nested_arrays.Tables.{chosen}
-use Rattle.tables_batches.specs.Batches.{stored_rows, cut_batches, choose_batches}
+use Rattle.ipc_format.specs.columns.StoredColumns.{Column}
+use Rattle.ipc_format.specs.columns.Tables.{chosen}
+use Rattle.tables_chunks.specs.Batches.{stored_rows, cut_batches, choose_batches}
 use Rattle.tables_chunks.specs.Choices.{IsChoice, are_below}
 use Rattle.tables_chunks.proofs.ChoiceSteps.{below_each}
 use Rattle.tables_chunks.specs.StoredTables.{Stored, IsTable, as_table, row_count}
 use Rattle.tables_chunks.specs.TableParts.{CutsTable, ChoosesColumns, cut_table, choose_columns}
-use Rattle.tables_chunks.proofs.TableBatches.{cut_is_table, cut_count, cut_is_part, choice_is_table, choice_count, choice_is_choice}
+use Rattle.tables_chunks.proofs.TableBatches.{cut_is_table, cut_count, cut_is_part, choice_form, choice_is_table, choice_count, choice_is_choice}
 
 -- batches that fit a schema have so many rows
 pub record IsMade (schema : Schema) (batches : List (List Column)) (rows : ℕ) : Type 0 where
@@ -56,6 +56,15 @@ pub choice_chooses : (table : Stored) (schema : Schema) (picked : List (List Col
 choice_chooses table schema picked ks same are is chooses made made_is =
     let whole : made ≡ choose_columns ks table = made_is ∙ ap₂ table_of same are in
     (whole, ap as_table whole ∙ choice_is_choice table ks is chooses)
+
+-- where no column is chosen there is no batch
+pub none_made : (table : Stored) (schema : Schema) (picked : List (List Column)) (ks : List ℕ)
+    → schema ≡ record table.schema { fields = chosen ks table.schema.fields } → picked ≡ [] → IsTable table.schema table.batches
+    → IsChoice (length table.schema.fields) ks → IsTable schema picked
+none_made table schema picked ks same none is chooses =
+    subst (λ (s : Schema). IsTable s picked) (sym same)
+    (subst (IsTable (record table.schema { fields = chosen ks table.schema.fields })) (sym none)
+    (record { form = choice_form table.schema ks is.form chooses; whole = refl; types = refl }))
 
 -- ---- choices as the code makes them
 

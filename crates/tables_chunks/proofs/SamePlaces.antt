@@ -4,18 +4,18 @@ use Rattle.std.proofs.Common.{length-append}
 use Rattle.std.specs.Prelude.{◌↔◌, IsTrue, Bool, sum_by}
 use Rattle.std.proofs.lemmas.List.{append_cancel_left, get_or_read, take_at}
 use Rattle.std.proofs.lemmas.List.Sums.{sum_by-append}
-use Rattle.ipc_format_chunks.specs.nested_arrays.Slots.{Slot}
-use Rattle.ipc_format_chunks.specs.nested_arrays.SlotNodes.{slot_nodes}
-use Rattle.ipc_format_chunks.specs.nested_arrays.StoredColumns.{Column}
-use Rattle.ipc_format_chunks.proofs.nested_lemmas.columns_lemmas.Windows.{length-window}
-use Rattle.tables_batches.specs.Batches.{batch_len, is_batch, stored_rows}
+use Rattle.ipc_format.specs.columns.Slots.{Slot}
+use Rattle.ipc_format.specs.columns.SlotNodes.{slot_nodes}
+use Rattle.ipc_format.specs.columns.StoredColumns.{Column}
+use Rattle.ipc_format.proofs.Windows.{length-window}
+use Rattle.tables_chunks.specs.Batches.{batch_len, is_batch, stored_rows}
 use Rattle.tables_chunks.specs.SameRows.{stored_row, rows_from, rows_behind, nodes_in, AreAlike, IsPlace}
 use Rattle.tables_chunks.proofs.BatchLists.{batch_at}
 use Rattle.tables_chunks.proofs.RowWindows.{rows_next}
 
 -- Before row a of batch i of one list and row b of batch j of another stand as many rows, the same ones, and each of their slots was compared
 -- once.
-pub record AreSameSameUntil (left right : List (List Column)) (i a j b before now : ℕ) : Type 0 where
+pub record AreSameUntil (left right : List (List Column)) (i a j b before now : ℕ) : Type 0 where
   pub same : (stored_rows left ≡ stored_rows right) ↔ (rows_behind left i a ≡ rows_behind right j b)
   pub counts : length (rows_behind left i a) ≡ length (rows_behind right j b)
   pub used : now + nodes_in (rows_behind left i a) ≡ before + nodes_in (stored_rows left)
@@ -41,8 +41,8 @@ right_next {left} {right} {i} {a} {j} {b} {n} {one} {other} w = rows_next right 
 
 -- where the windows are the same, what stands behind them decides
 pub same_more : (left right : List (List Column)) (i a j b n before now later : ℕ) (one other : List Column)
-    → AreSameSameUntil left right i a j b before now → AreWindows left right i a j b n one other → rows_from one a n ≡ rows_from other b n
-    → later ≡ now + nodes_in (rows_from one a n) → AreSameSameUntil left right i (a + n) j (b + n) before later
+    → AreSameUntil left right i a j b before now → AreWindows left right i a j b n one other → rows_from one a n ≡ rows_from other b n
+    → later ≡ now + nodes_in (rows_from one a n) → AreSameUntil left right i (a + n) j (b + n) before later
 same_more left right i a j b n before now later one other so_far w same ticked =
     let here : List (List Slot) = rows_from one a n in
     let rest_left : List (List Slot) = rows_behind left i (a + n) in
@@ -64,7 +64,7 @@ same_more left right i a j b n before now later one other so_far w same ticked =
 
 -- where they differ, so do all rows
 pub differ_here : (left right : List (List Column)) (i a j b n before now : ℕ) (one other : List Column)
-    → AreSameSameUntil left right i a j b before now → AreWindows left right i a j b n one other
+    → AreSameUntil left right i a j b before now → AreWindows left right i a j b n one other
     → (rows_from one a n ≡ rows_from other b n → ⊥) → stored_rows left ≡ stored_rows right → ⊥
 differ_here left right i a j b n before now one other so_far w differ h =
     let here : List (List Slot) = rows_from one a n in
@@ -77,7 +77,7 @@ differ_here left right i a j b n before now one other so_far w differ h =
 
 -- and no more slots were compared than the left side has
 pub used_here : (left right : List (List Column)) (i a j b n before now later : ℕ) (one other : List Column)
-    → AreSameSameUntil left right i a j b before now → AreWindows left right i a j b n one other
+    → AreSameUntil left right i a j b before now → AreWindows left right i a j b n one other
     → later ≤ now + nodes_in (rows_from one a n) → later ≤ before + nodes_in (stored_rows left)
 used_here left right i a j b n before now later one other so_far w few =
     let here : List (List Slot) = rows_from one a n in
@@ -118,8 +118,8 @@ widths_at left right i j one other alike left_inside right_inside left_is right_
     ∙ sym (batch_at alike.width right j other alike.right_batches right_inside right_is).1
 
 -- the same said of other places before which the same rows stand
-pub so_far_at : (left right : List (List Column)) (i a j b k c l d before now : ℕ) → AreSameSameUntil left right i a j b before now
-    → rows_behind left k c ≡ rows_behind left i a → rows_behind right l d ≡ rows_behind right j b → AreSameSameUntil left right k c l d before now
+pub so_far_at : (left right : List (List Column)) (i a j b k c l d before now : ℕ) → AreSameUntil left right i a j b before now
+    → rows_behind left k c ≡ rows_behind left i a → rows_behind right l d ≡ rows_behind right j b → AreSameUntil left right k c l d before now
 so_far_at left right i a j b k c l d before now so_far one other = record {
   same = (λ h. one ∙ so_far.same.0 h ∙ sym other, λ h. so_far.same.1 (sym one ∙ h ∙ other));
   counts = ap length one ∙ so_far.counts ∙ sym (ap length other);

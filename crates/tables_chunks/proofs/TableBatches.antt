@@ -8,16 +8,18 @@ use Rattle.std.proofs.lemmas.List.{length-map}
 use Rattle.columnar_memory_types.specs.Equality.{same_type}
 use Rattle.columnar_memory_types.specs.declared.data_type.Field.{Field}
 use Rattle.columnar_memory_types.specs.declared.schema.Schema.{Schema}
-use Rattle.ipc_format_chunks.specs.nested_arrays.Slots.{Slot}
-use Rattle.ipc_format_chunks.specs.nested_arrays.StoredColumns.{Column, column_type}
-use Rattle.ipc_format_chunks.specs.nested_arrays.Tables.{chosen, part, choice}
-use Rattle.ipc_format_chunks.proofs.nested_lemmas.columns_lemmas.Cuts.{column_type-cut}
-use Rattle.ipc_format_chunks.proofs.nested_lemmas.columns_lemmas.Windows.{length-cut_list}
-use Rattle.tables_batches.specs.Batches.{batch_len, is_batch, stored_rows, cut_batch, cut_batches, choose_batches}
-use Rattle.tables_batches.proofs.ChosenBatches.{choices_have_columns}
-use Rattle.tables_batches.proofs.CutBatches.{cuts_have_parts}
+use Rattle.ipc_format.specs.columns.Slots.{Slot}
+use Rattle.ipc_format.specs.columns.StoredColumns.{Column, column_type}
+use Rattle.ipc_format.specs.columns.Tables.{chosen, part, choice}
+use Rattle.ipc_format.proofs.Cuts.{column_type-cut}
+use Rattle.ipc_format.proofs.Windows.{length-cut_list}
+use Rattle.tables_chunks.specs.Batches.{batch_len, is_batch, stored_rows, cut_batch, cut_batches, choose_batches}
+use Rattle.tables_chunks.proofs.ChosenBatches.{choices_have_columns}
+use Rattle.tables_chunks.proofs.CutBatches.{cuts_have_parts}
 use Rattle.tables_chunks.specs.Choices.{are_below, IsChoice}
 use Rattle.tables_chunks.specs.StoredTables.{Stored, IsTable, as_table, is_of_fields, row_count}
+use Rattle.tables_chunks.specs.TableSchemas.{IsTableSchema}
+use Rattle.tables_chunks.proofs.ChosenSchemas.{chosen_schemas_are_written}
 use Rattle.tables_chunks.specs.TableParts.{cut_table, choose_columns}
 
 -- ---- parts
@@ -50,6 +52,7 @@ cuts_fit fields (batch ∷ batches) o n fit =
 pub cut_is_table : (schema : Schema) (batches : List (List Column)) (o n : ℕ) → IsTable schema batches → o + n ≤ length (stored_rows batches)
     → IsTable schema (cut_batches o n batches)
 cut_is_table schema batches o n table within = record {
+  form = table.form;
   whole = (cuts_have_parts (length schema.fields) o n batches table.whole within).1;
   types = cuts_fit schema.fields batches o n table.types;
 }
@@ -137,11 +140,19 @@ length-chosen {A} xs (k ∷ ks) below =
     one_more (Some x) is = refl
     one_more None is = absurd (nothing is.0 is.1)
 
+-- the schema of chosen fields is that of a table, where the whole schema is
+pub choice_form : (schema : Schema) (ks : List ℕ) → IsTableSchema schema → IsChoice (length schema.fields) ks
+    → IsTableSchema (record schema { fields = chosen ks schema.fields })
+choice_form schema ks form is =
+    let picked = chosen_schemas_are_written schema ks form.writable form.normal is.distinct is.below in
+    record { writable = picked.0; normal = picked.1 }
+
 -- a choice of a table's batches is a table's, under the chosen fields
 pub choice_is_table : (schema : Schema) (batches : List (List Column)) (ks : List ℕ) → IsTable schema batches
     → IsChoice (length schema.fields) ks → IsTable (record schema { fields = chosen ks schema.fields }) (choose_batches ks batches)
-choice_is_table schema batches [] table is = record { whole = refl; types = refl }
+choice_is_table schema batches [] table is = record { form = choice_form schema [] table.form is; whole = refl; types = refl }
 choice_is_table schema batches (k ∷ ks) table is = record {
+  form = choice_form schema (k ∷ ks) table.form is;
   whole = ap (λ width. list_all (λ (batch : List Column). is_batch batch && (length batch == width)) (choose_batches (k ∷ ks) batches))
       (length-chosen schema.fields (k ∷ ks) is.below)
       ∙ (choices_have_columns (length schema.fields) k ks batches table.whole is.below).1;

@@ -1,7 +1,15 @@
+pub mod Batches
 pub mod Choices
+pub mod Faults
+pub mod Messages
+pub mod PutMessages
+pub mod ReadTables
+pub mod Reading
+pub mod Refusals
 pub mod SameRows
 pub mod StoredTables
 pub mod TableParts
-pub use Rattle.ipc_format_chunks.specs as chunks
-pub use Rattle.tables_batches.specs.Batches
-pub use Rattle.tables_faults.specs as faults
+pub mod TableSchemas
+pub mod Texts
+pub mod WrittenTables
+pub use Rattle.ipc_format.specs as ipc_format

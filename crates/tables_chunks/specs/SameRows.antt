@@ -1,11 +1,11 @@
 -- When two tables are the same, and how many slots are compared to tell.
 use Rattle.std.specs.Prelude.{◌≡◌, ◌↔◌, IsTrue, ℕ, ◌<◌, ◌≤◌, Bool, List, [], length, map, drop, sum_by, nat_le, slice_index_or, Result, Ok, Err}
 use Rattle.std.specs.List.{list_all}
-use Rattle.ipc_format_chunks.specs.nested_arrays.SlotNodes.{slot_nodes}
-use Rattle.ipc_format_chunks.specs.nested_arrays.Slots.{Slot, window}
-use Rattle.ipc_format_chunks.specs.nested_arrays.StoredColumns.{Column, column_len, slot_at}
-use Rattle.tables_batches.specs.Batches.{batch_len, stored_rows, AreBatches}
-use Rattle.tables_faults.specs.declared.fault.Fault.{Fault}
+use Rattle.ipc_format.specs.columns.SlotNodes.{slot_nodes}
+use Rattle.ipc_format.specs.columns.Slots.{Slot, window}
+use Rattle.ipc_format.specs.columns.StoredColumns.{Column, column_len, slot_at}
+use Rattle.tables_chunks.specs.Batches.{batch_len, stored_rows, AreBatches}
+use Rattle.tables_chunks.specs.declared.fault.Fault.{Fault}
 use Rattle.tables_chunks.specs.StoredTables.{Stored, as_table}
 
 -- row i of a batch, by its columns

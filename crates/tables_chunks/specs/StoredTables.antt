@@ -5,13 +5,14 @@ use Rattle.std.specs.List.{list_all}
 use Rattle.columnar_memory_types.specs.contracts.schema.Schema as schema_type
 use Rattle.columnar_memory_types.specs.declared.data_type.Field.{Field}
 use Rattle.columnar_memory_types.specs.declared.schema.Schema.{Schema}
-use Rattle.ipc_format_chunks.specs.nested_arrays.SoundColumns.{have_types}
-use Rattle.ipc_format_chunks.specs.nested_arrays.StoredColumns.{Column, in_columns}
-use Rattle.ipc_format_chunks.specs.nested_arrays.Tables.{Table}
-use Rattle.nested_arrays_columns.specs.ColumnCodes.{column_code}
-use Rattle.tables_batches.specs.Batches.{batch_len, stored_rows, AreBatches}
-use Rattle.tables_faults.specs.declared.fault.Fault.{Fault}
-use Rattle.tables_faults.specs.declared.fault.Fault.TheVariants as faults
+use Rattle.ipc_format.specs.columns.SoundColumns.{have_types}
+use Rattle.ipc_format.specs.columns.StoredColumns.{Column, in_columns}
+use Rattle.ipc_format.specs.columns.Tables.{Table}
+use Rattle.ipc_format.specs.columns.ColumnCodes.{column_code}
+use Rattle.tables_chunks.specs.Batches.{batch_len, stored_rows, AreBatches}
+use Rattle.tables_chunks.specs.TableSchemas.{IsTableSchema}
+use Rattle.tables_chunks.specs.declared.fault.Fault.{Fault}
+use Rattle.tables_chunks.specs.declared.fault.Fault.TheVariants as faults
 
 -- a schema, and batch by batch what each column stores
 pub record Stored : Type 0 where
@@ -36,8 +37,10 @@ row_count stored = length (stored_rows stored.batches)
 abbrev pub is_of_fields : List Field → List Column → Bool
 is_of_fields fields batch = have_types fields (in_columns batch)
 
--- each batch has a column a field, of its field's type; each column is sound, and those of a batch are as long as its first
+-- the schema is that of a table; each batch has a column a field, of its field's type; each column is sound, and those of a batch are as long
+-- as its first
 pub record IsTable (schema : Schema) (batches : List (List Column)) : Type 0 where
+  pub form : IsTableSchema schema
   pub whole : AreBatches (length schema.fields) batches
   pub types : list_all (is_of_fields schema.fields) batches ≡ true
 

@@ -1,9 +1,9 @@
 -- What is made of stored tables: of their batches, with no cell copied, and so of their rows.
 use Rattle.std.specs.Prelude.{◌≡◌, ℕ, ◌+◌, ◌<◌, ◌^◌, List, ◌++◌, Result, Ok, Err}
-use Rattle.ipc_format_chunks.specs.nested_arrays.Tables.{part, choice, chosen, joined}
-use Rattle.tables_batches.specs.Batches.{cut_batches, choose_batches}
-use Rattle.tables_faults.specs.declared.fault.Fault.{Fault}
-use Rattle.tables_faults.specs.declared.fault.Fault.TheVariants as faults
+use Rattle.ipc_format.specs.columns.Tables.{part, choice, chosen, joined}
+use Rattle.tables_chunks.specs.Batches.{cut_batches, choose_batches}
+use Rattle.tables_chunks.specs.declared.fault.Fault.{Fault}
+use Rattle.tables_chunks.specs.declared.fault.Fault.TheVariants as faults
 use Rattle.tables_chunks.specs.StoredTables.{Stored, as_table, row_count}
 
 -- ---- parts

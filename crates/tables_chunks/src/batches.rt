@@ -1,13 +1,30 @@
 //! Batches of a table: whether one fits a schema, and how many rows some have.
-ghost use Rattle.std.specs.Prelude.{◌≡◌, ◌^◌, ◌<◌, ◌≤◌, ◌&&◌, ◌==◌, ◌↔◌, ◌++◌, IsTrue, IfOk, OnOk, SomeIff, length, true};
+ghost use Rattle.std.specs.Prelude.{◌≡◌, ◌^◌, ◌<◌, ◌≤◌, ◌&&◌, ◌==◌, ◌↔◌, ◌++◌, IsTrue, IfOk, MatchResult, OnOk, SomeIff, length, true};
 ghost use Rattle.std.specs.List.{list_all};
-ghost use Rattle.tables_batches.specs.Batches.{batch_len, is_batch, stored_rows};
+ghost use Rattle.columnar_memory_types.specs.Error.{IsOutOfMemory};
+ghost use Rattle.tables_chunks.specs.Batches.{batch_len, is_batch, stored_rows};
 ghost use Rattle.tables_chunks.specs.StoredTables.{IsTable, is_of_fields};
+ghost use Rattle.tables_chunks.specs.TableSchemas.{IsTableSchema};
 
-use ipc_format_chunks::Chunk;
-use ipc_format_chunks::columnar_memory::{Field, Schema};
-use ipc_format_chunks::nested_arrays::AnyArray;
-use std::alloc::AllocError;
+use columnar_memory_types::{Field, Result as Answer, Schema};
+use ipc_format::nested_arrays::AnyArray;
+use ipc_format::{Chunk, can_write, normalised};
+use std::alloc::{AllocError, Global};
+
+/// Whether a schema may be that of a table: whether it may be written, and is in its one form, where the keys of each field's extension are those of
+/// its type (Arrow columnar format, "Extension Types").
+///
+/// # Errors
+/// - `OutOfMemory`: there was no memory for the one form.
+pub fn is_table_schema(alloc: Global, schema: &Schema) -> Answer<bool>
+    ensures { MatchResult result (λ answer. IsTrue answer ↔ IsTableSchema schema.now) IsOutOfMemory }
+{
+    if !can_write(schema) {
+        return Ok(false);
+    }
+    let normal = normalised(alloc, schema)?;
+    Ok(normal == *schema)
+}
 
 /// Whether a batch has a column a field of a schema, each of its field's type. No memory is taken.
 pub fn fits_schema(schema: &Schema, batch: &Chunk<AnyArray>) -> bool
@@ -63,7 +80,8 @@ pub(crate) fn is_whole(batch: &Chunk<AnyArray>)
 
 /// Hands to a proof that batches of a schema's fields are those of a table.
 pub(crate) fn are_batches(schema: &Schema, batches: &[Chunk<AnyArray>])
-    requires { list_all (is_of_fields schema.now.fields) batches.now ≡ true }
+    requires form { IsTableSchema schema.now }
+    requires fields { list_all (is_of_fields schema.now.fields) batches.now ≡ true }
     ensures { IsTable schema.now batches.now }
 {
     for batch in batches {

@@ -1,18 +1,18 @@
 //! Columns of a table, in another order.
 ghost use Rattle.std.specs.Prelude.{◌≡◌, ◌↔◌, IsTrue, IfOk, List, length, map, true};
 ghost use Rattle.std.specs.List.{list_all};
-ghost use Rattle.ipc_format_chunks.specs.nested_arrays.StoredColumns.{Column};
-ghost use Rattle.ipc_format_chunks.specs.nested_arrays.Tables.{chosen};
+ghost use Rattle.ipc_format.specs.columns.StoredColumns.{Column};
+ghost use Rattle.ipc_format.specs.columns.Tables.{chosen};
 ghost use Rattle.tables_chunks.specs.Choices.{IsChoice, are_below, are_distinct};
 ghost use Rattle.tables_chunks.specs.TableParts.{ChoosesColumns};
 
 use crate::batches::{chunk_of, is_whole};
+use crate::fault::Fault;
 use crate::table::Table;
-use ipc_format_chunks::Chunk;
-use ipc_format_chunks::columnar_memory::{Items, Schema};
-use ipc_format_chunks::nested_arrays::AnyArray;
+use columnar_memory_types::{Items, Schema};
+use ipc_format::Chunk;
+use ipc_format::nested_arrays::AnyArray;
 use std::alloc::{AllocError, Global};
-use tables_faults::Fault;
 
 /// Whether no column is named twice. No memory is taken.
 pub fn distinct(columns: &[usize]) -> bool

@@ -1,15 +1,15 @@
 //! Rows of a table, as windows of its batches.
 ghost use Rattle.std.specs.Prelude.{◌≡◌, ◌+◌, ◌≤◌, ◌<◌, IfOk, length, true};
-ghost use Rattle.tables_batches.specs.Batches.{AreBatches, batch_len, cut_batch, cut_batches, is_batch};
+ghost use Rattle.tables_chunks.specs.Batches.{AreBatches, batch_len, cut_batch, cut_batches, is_batch};
 ghost use Rattle.tables_chunks.specs.StoredTables.{row_count};
 ghost use Rattle.tables_chunks.specs.TableParts.{CutsTable};
 
 use crate::batches::{chunk_of, is_whole, len_of};
+use crate::fault::Fault;
 use crate::table::Table;
-use ipc_format_chunks::Chunk;
-use ipc_format_chunks::nested_arrays::AnyArray;
+use ipc_format::Chunk;
+use ipc_format::nested_arrays::AnyArray;
 use std::alloc::{AllocError, Global};
-use tables_faults::Fault;
 
 impl Table {
     /// The `length` rows from `offset` on, with no cell copied: a window of each batch that has one of these rows, in order, under the same

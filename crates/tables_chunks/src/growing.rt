@@ -1,14 +1,15 @@
 //! Tables that grow batch by batch, as a reader hands them over.
 ghost use Rattle.std.specs.Prelude.{◌≡◌, [], true};
 ghost use Rattle.tables_chunks.specs.StoredTables.{AddsBatch, is_of_fields, row_count};
+ghost use Rattle.tables_chunks.specs.TableSchemas.{IsTableSchema};
 
+use crate::fault::Fault;
 use crate::table::Table;
-use ipc_format_chunks::Chunk;
-use ipc_format_chunks::columnar_memory::Schema;
-use ipc_format_chunks::nested_arrays::AnyArray;
+use columnar_memory_types::Schema;
+use ipc_format::Chunk;
+use ipc_format::nested_arrays::AnyArray;
 use std::alloc::Global;
 use std::marker::Model;
-use tables_faults::Fault;
 
 /// A schema, and the batches of a table under it that came so far. A contract sees the table of these.
 #[derive(Drop)]
@@ -27,8 +28,9 @@ impl Model for GrowingTable {
 }
 
 impl GrowingTable {
-    /// No batch yet, which takes no memory.
+    /// No batch yet, under a schema that may be written and is in its one form, which `is_table_schema` tests. No memory is taken.
     pub fn new(alloc: Global, schema: Schema) -> Self
+        requires { IsTableSchema schema }
         ensures { result ≡ record { schema = schema; batches = [] } }
     {
         GrowingTable {

@@ -3,9 +3,9 @@ ghost use Rattle.std.specs.Prelude.{◌≡◌, ◌↔◌, IsTrue};
 ghost use Rattle.tables_chunks.specs.TableParts.{CanJoin, JoinsTables};
 
 use crate::batches::add_clones;
+use crate::fault::Fault;
 use crate::table::{Table, has_schema_of};
 use std::alloc::Global;
-use tables_faults::Fault;
 
 impl Table {
     /// Whether two tables have one schema, and their rows together fit 64 bits. No memory is taken.

@@ -1,28 +1,33 @@
-//! Tables over chunks of arrays: a schema and its rows, batch by batch, with their parts, choices and joins, none of which copies a cell, and
-//! whether two of them are the same.
+//! Tables over chunks of arrays: a schema and its rows, batch by batch, read from bytes and written as a stream, with their parts, choices and
+//! joins, none of which copies a cell, and whether two of them are the same. The laws of these batches, and what can go wrong with a table.
 //!
-//! `tables` does not stand on it yet.
+//! This is a part of `tables`, which passes it on.
 #![tactic(auto)]
 
 mod batches;
 mod choices;
 mod cuts;
+mod fault;
 mod growing;
 mod joins;
+mod laws;
+mod messages;
+mod putting;
+mod read;
+mod reading;
 mod same;
 mod table;
+mod write;
+mod writing;
 
-pub use batches::fits_schema;
+pub use batches::{fits_schema, is_table_schema};
 pub use choices::distinct;
+pub use fault::{Fault, SealBar};
 pub use growing::GrowingTable;
-pub use ipc_format_chunks as chunks;
-pub use ipc_format_chunks::nested_arrays::{
-    a_choice_of_a_part_is_the_part_of_the_choice, a_limit_is_a_part, a_part_of_a_part_is_one_part,
-    joins_are_associative, two_parts_make_the_whole,
-};
-pub use table::Table;
-pub use tables_batches::{
+pub use ipc_format::{Chunk, Faults, columnar_memory, nested_arrays, put};
+pub use laws::{
     choices_have_columns, cuts_and_choices_commute, cuts_have_parts, joins_have_both,
     rows_are_columns,
 };
-pub use tables_faults::{Fault, SealBar};
+pub use read::Form;
+pub use table::Table;

@@ -1,14 +1,14 @@
 //! Whether two tables are the same.
 ghost use Rattle.std.specs.Prelude.{◌≡◌, ◌+◌, ◌<◌, ◌≤◌, ◌↔◌, IsTrue, IfOk, [], length, slice_index_or, true};
-ghost use Rattle.tables_batches.specs.Batches.{batch_len, is_batch, stored_rows};
+ghost use Rattle.tables_chunks.specs.Batches.{batch_len, is_batch, stored_rows};
 ghost use Rattle.tables_chunks.specs.SameRows.{AreAlike, IsPlace, TellsSame, have_rows, nodes_in, rows_behind, rows_from, table_nodes};
 
 use crate::batches::len_of;
+use crate::fault::Fault;
 use crate::table::{Table, has_schema_of};
-use ipc_format_chunks::Chunk;
-use ipc_format_chunks::columnar_memory::Steps;
-use ipc_format_chunks::nested_arrays::{AnyArray, same_slot_ranges};
-use tables_faults::Fault;
+use ipc_format::Chunk;
+use ipc_format::columnar_memory::Steps;
+use ipc_format::nested_arrays::{AnyArray, same_slot_ranges};
 
 impl Table {
     /// Whether two tables have one schema and the same rows, however these are divided into batches: as `same_slots` compares slots, so a

@@ -1,19 +1,20 @@
 //! Tables: a schema, and rows batch by batch.
 ghost use Rattle.std.specs.Prelude.{◌≡◌, ◌+◌, ◌≤◌, ◌<◌, ◌^◌, ◌↔◌, IsTrue, length, true};
 ghost use Rattle.std.specs.List.{list_all};
-ghost use Rattle.tables_batches.specs.Batches.{stored_rows};
+ghost use Rattle.tables_chunks.specs.Batches.{stored_rows};
 ghost use Rattle.tables_chunks.specs.StoredTables.{AddsBatch, IsTable, MakesTable, as_table, is_of_fields, row_count};
+ghost use Rattle.tables_chunks.specs.TableSchemas.{IsTableSchema};
 
 use crate::batches::{are_batches, is_whole, len_of, rows_of};
-use ipc_format_chunks::Chunk;
-use ipc_format_chunks::columnar_memory::Schema;
-use ipc_format_chunks::nested_arrays::AnyArray;
+use crate::fault::Fault;
+use columnar_memory_types::Schema;
+use ipc_format::Chunk;
+use ipc_format::nested_arrays::AnyArray;
 use std::alloc::{AllocError, Global};
 use std::marker::Model;
-use tables_faults::Fault;
 
 /// A schema, and rows under it, batch by batch: a contract sees the schema, and what each column of each batch stores. Arrays are shared between
-/// a table and what is made of it. Without fields there are no rows.
+/// a table and what is made of it. The schema may be written, and is in its one form. Without fields there are no rows.
 #[derive(Drop)]
 pub struct Table {
     schema: Schema,
@@ -23,7 +24,7 @@ pub struct Table {
 
 impl Model for Table {
     ghost use Rattle.std.specs.Prelude.{◌≡◌, length};
-    ghost use Rattle.tables_batches.specs.Batches.{stored_rows};
+    ghost use Rattle.tables_chunks.specs.Batches.{stored_rows};
     ghost use Rattle.tables_chunks.specs.StoredTables.{IsTable, Stored, stored_code};
 
     ghost Value = { Stored };
@@ -38,12 +39,14 @@ impl Model for Table {
 impl Table {
     /// The table of some batches under a schema, in order, empty ones too. No memory is taken.
     ///
-    /// Each batch has a column a field, of the field's type, which `fits_schema` tests.
+    /// The schema may be written and is in its one form, which `is_table_schema` tests, and each batch has a column a field, of the field's type,
+    /// which `fits_schema` tests.
     ///
     /// # Errors
     /// - `TooManyRows`: the number of rows doesn't fit 64 bits.
     pub fn of_batches(schema: Schema, batches: Vec<Chunk<AnyArray>>) -> Result<Table, Fault>
-        requires { list_all (is_of_fields schema.fields) batches.items ≡ true }
+        requires form { IsTableSchema schema }
+        requires fields { list_all (is_of_fields schema.fields) batches.items ≡ true }
         ensures { MakesTable schema batches.items result }
     {
         let Some(rows) = rows_of(&batches) else {

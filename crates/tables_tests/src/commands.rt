@@ -1,9 +1,9 @@
 use crate::samples::EXAMPLE;
-use columnar_memory::{Error, Result};
 use std::alloc::Global;
 use std::io;
 use std::io::{ErrorKind, Write};
 use std::test::Fail;
+use tables::columnar_memory::{Error, Result};
 use tables::{MemoryPlaces, Places, number, run};
 
 const BEFORE: &[u8] = b"before";

@@ -5,8 +5,14 @@ mod calling;
 #[cfg(test)]
 mod commands;
 #[cfg(test)]
+mod parts;
+#[cfg(test)]
+mod reading;
+#[cfg(test)]
 mod refusals;
 #[cfg(test)]
 mod samples;
+#[cfg(test)]
+mod streams;
 
 pub use calling::head;

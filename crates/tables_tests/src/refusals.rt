@@ -1,10 +1,10 @@
 use crate::calling::head;
 use crate::samples::EXAMPLE;
-use columnar_memory::Error;
 use std::alloc::Global;
 use std::io;
 use std::io::{ErrorKind, Write};
 use std::test::Fail;
+use tables::columnar_memory::Error;
 use tables::{Failure, Fault, Faults, Form, Table};
 
 // A device with room for so many bytes. Once it is full it fails and counts that, or takes nothing.

@@ -1,4 +1,4 @@
-// A stream laid by `tools/streams.py constants`.
+//! Streams that the tests read, laid by `tools/writer`.
 
 // A nullable column x with the rows 7 and null.
 pub const EXAMPLE: [u8; 496] = [

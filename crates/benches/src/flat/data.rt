@@ -1,6 +1,6 @@
 //! The data of the jobs, which follow from their sizes, and checksums.
 use crate::data::slot_at;
-use nested_arrays::columnar_memory::Result;
+use columnar_memory_types::Result;
 use std::alloc::Global;
 
 /// So many slots.

@@ -1,6 +1,6 @@
 use crate::flat::{numbers, texts};
 use crate::timing::{Job, Named, Timed, time_rounds};
-use nested_arrays::columnar_memory::Result;
+use columnar_memory_types::Result;
 use std::rt::Clock;
 
 /// A job that is timed.

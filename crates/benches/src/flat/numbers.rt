@@ -2,8 +2,9 @@
 use crate::data::bytes_checksum;
 use crate::flat::data::{numbers_checksum, slots};
 use crate::timing::Work;
-use nested_arrays::columnar_memory::{Error, MutableBitmap, Result};
-use nested_arrays::flat_arrays::{Int32Array, MutablePrimitiveArray};
+use columnar_memory_types::{Error, Result};
+use ipc_format::columnar_memory::MutableBitmap;
+use ipc_format::nested_arrays::flat_arrays::{Int32Array, MutablePrimitiveArray};
 use std::alloc::Global;
 
 /// How many slots a cut has.

@@ -2,8 +2,9 @@
 use crate::data::{bytes_checksum, short_texts};
 use crate::flat::data::numbers_checksum;
 use crate::timing::Work;
-use nested_arrays::columnar_memory::{Buffer, DataType, OffsetsBuffer, Result};
-use nested_arrays::flat_arrays::{MutableUtf8Array, Utf8Array};
+use columnar_memory_types::{DataType, Result};
+use ipc_format::columnar_memory::{Buffer, OffsetsBuffer};
+use ipc_format::nested_arrays::flat_arrays::{MutableUtf8Array, Utf8Array};
 use std::alloc::Global;
 
 /// `push` of texts.

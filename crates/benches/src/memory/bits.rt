@@ -4,9 +4,8 @@ ghost use Rattle.std.specs.Prelude.{◌+◌, ◌*◌, ◌^◌, ◌≤◌, ◌<�
 use crate::data::bytes_checksum;
 use crate::memory::data::{bitmap_checksum, noise, noise_bitmap};
 use crate::timing::Work;
-use nested_arrays::columnar_memory::{
-    Bitmap, Error, MutableBitmap, Result, SlicesIterator, and, count_zeros,
-};
+use columnar_memory_types::{Error, Result};
+use ipc_format::columnar_memory::{Bitmap, MutableBitmap, SlicesIterator, and, count_zeros};
 use std::alloc::Global;
 
 /// The offset of bits that begin amid a byte.

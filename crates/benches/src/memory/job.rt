@@ -2,7 +2,7 @@ use crate::memory::bits::{And, CountZeros, ExtendFromSlice, Slices};
 use crate::memory::data::{noise_bitmap, runs_bitmap};
 use crate::memory::values::{FromIter, OffsetsFromLengths, ZippedSum};
 use crate::timing::{Job, Named, Timed, time_rounds};
-use nested_arrays::columnar_memory::Result;
+use columnar_memory_types::Result;
 use std::rt::Clock;
 
 /// A job that is timed.

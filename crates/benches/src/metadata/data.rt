@@ -1,6 +1,6 @@
 //! The schema that the jobs read and write.
+use columnar_memory_types::{DataType, Field, Items, Metadata, Result, Schema, Text};
 use ipc_format::{IpcField, default_ipc_fields, schema_to_bytes};
-use nested_arrays::columnar_memory::{DataType, Field, Items, Metadata, Result, Schema, Text};
 use std::alloc::Global;
 
 /// How deep the fields stand.

@@ -1,7 +1,7 @@
 use crate::metadata::data::Data;
 use crate::timing::{Job, Named, Timed, Work, time_rounds};
+use columnar_memory_types::{Error, Result};
 use ipc_format::{deserialize_schema, schema_to_bytes};
-use nested_arrays::columnar_memory::{Error, Result};
 use std::alloc::Global;
 use std::rt::Clock;
 

@@ -1,10 +1,11 @@
 //! The data of the jobs, which follow from their sizes.
 use crate::data::{WORDS, mixed, number_at, short_texts, slot_at};
-use nested_arrays::columnar_memory::{
-    Boxed, Buffer, DataType, Field, MutableBitmap, Offsets, Result, Text,
+use columnar_memory_types::{Boxed, DataType, Field, Result, Text};
+use ipc_format::columnar_memory::{Buffer, MutableBitmap, Offsets};
+use ipc_format::nested_arrays::flat_arrays::{Int32Array, Utf8Array};
+use ipc_format::nested_arrays::{
+    AnyArray, AnyPrimitive, DictionaryArray, FlatArray, ListArray, ToBoxed,
 };
-use nested_arrays::flat_arrays::{Int32Array, Utf8Array};
-use nested_arrays::{AnyArray, AnyPrimitive, DictionaryArray, FlatArray, ListArray, ToBoxed};
 use std::alloc::Global;
 
 /// The short texts in another order.

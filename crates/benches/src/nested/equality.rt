@@ -1,7 +1,7 @@
 //! Work that compares.
 use crate::timing::Work;
-use nested_arrays::columnar_memory::Result;
-use nested_arrays::{AnyArray, equal};
+use columnar_memory_types::Result;
+use ipc_format::nested_arrays::{AnyArray, equal};
 
 /// `equal` of two arrays.
 #[derive(Drop)]

@@ -2,7 +2,7 @@ use crate::nested::data::{dictionaries, lists, numbers, slots, texts};
 use crate::nested::equality::Equal;
 use crate::nested::tables::Cut;
 use crate::timing::{Job, Named, Timed, time_rounds};
-use nested_arrays::columnar_memory::Result;
+use columnar_memory_types::Result;
 use std::rt::Clock;
 
 /// A job that is timed.

@@ -1,5 +1,5 @@
 use crate::timing::{Named, Timed, choice_named};
-use nested_arrays::columnar_memory::Result;
+use columnar_memory_types::Result;
 use std::rt::Clock;
 
 /// A job of a group that is timed.

@@ -1,4 +1,4 @@
-use nested_arrays::columnar_memory::Result;
+use columnar_memory_types::Result;
 use std::time::{Clock, Duration, Instant};
 
 /// What is done to be timed, with its data.

@@ -1,4 +1,4 @@
-use nested_arrays::columnar_memory::{Error, Result};
+use columnar_memory_types::{Error, Result};
 
 /// What has a name by which it is asked for.
 pub(crate) trait Named: Copy {

@@ -1,15 +1,15 @@
 -- Keys by the id at the field, and columns of flat arrays whatever the ids.
 use Rattle.std.proofs.Common.{◌≡◌, ◌∙◌, ap, false, refl, rules, subst, sym}
-use Rattle.ipc_format_array_reading.specs.column_reading.columnar_memory.Layouts.{physical_type}
-use Rattle.ipc_format_array_reading.specs.column_reading.columnar_memory.declared.DataType.{DataType}
-use Rattle.ipc_format_array_reading.specs.column_reading.columnar_memory.declared.PhysicalType.TheVariants as physical
-use Rattle.ipc_format_array_reading.specs.column_reading.columns.StoredColumns.{type_layer}
-use Rattle.ipc_format_array_reading.specs.column_reading.grammar.Layouts.{buffer_count, node_count}
-use Rattle.ipc_format_array_reading.specs.column_reading.grammar.Messages.{V5}
-use Rattle.ipc_format_array_reading.specs.column_reading.grammar.Schemas.{ids, no_ids}
-use Rattle.ipc_format_array_reading.specs.column_reading.messages.MessageViews.{version_view}
-use Rattle.ipc_format_array_reading.specs.column_reading.metadata.Views.{ids_view}
-use Rattle.ipc_format_array_reading.specs.column_reading.metadata.declared.ipc_schema.IpcField.TheViews.{out-IpcField}
+use Rattle.ipc_format_array_reading.specs.columnar_memory.Layouts.{physical_type}
+use Rattle.ipc_format_array_reading.specs.columnar_memory.declared.DataType.{DataType}
+use Rattle.ipc_format_array_reading.specs.columnar_memory.declared.PhysicalType.TheVariants as physical
+use Rattle.ipc_format_array_reading.specs.nested_arrays.StoredColumns.{type_layer}
+use Rattle.ipc_format_array_reading.specs.grammar.Layouts.{buffer_count, node_count}
+use Rattle.ipc_format_array_reading.specs.grammar.Messages.{V5}
+use Rattle.ipc_format_array_reading.specs.grammar.Schemas.{ids, no_ids}
+use Rattle.ipc_format_array_reading.specs.messages.MessageViews.{version_view}
+use Rattle.ipc_format_array_reading.specs.metadata.Views.{ids_view}
+use Rattle.ipc_format_array_reading.specs.metadata.declared.ipc_schema.IpcField.TheViews.{out-IpcField}
 use Rattle.ipc_format_array_reading.specs.ArrayReads.{array_slots}
 use Rattle.ipc_format_array_reading.specs.Parts.{has_children}
 use Rattle.ipc_format_array_reading.specs.TypedReads.{front_array}

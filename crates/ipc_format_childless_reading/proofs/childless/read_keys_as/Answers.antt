@@ -1,11 +1,11 @@
 -- Keys of one type, by their own reader.
 use Rattle.std.proofs.Common.{◌≡◌, ◌∙◌, List, ap, refl, ℕ}
-use Rattle.ipc_format_array_reading.specs.column_reading.columnar_memory.Layouts.{physical_type}
-use Rattle.ipc_format_array_reading.specs.column_reading.columnar_memory.declared.PhysicalType.TheVariants as physical
-use Rattle.ipc_format_array_reading.specs.column_reading.columns.StoredColumns.{Column}
-use Rattle.ipc_format_array_reading.specs.column_reading.grammar.Layouts.{buffer_count, node_count}
-use Rattle.ipc_format_array_reading.specs.column_reading.grammar.Messages.{V5}
-use Rattle.ipc_format_array_reading.specs.column_reading.grammar.Schemas.{ids, no_ids}
+use Rattle.ipc_format_array_reading.specs.columnar_memory.Layouts.{physical_type}
+use Rattle.ipc_format_array_reading.specs.columnar_memory.declared.PhysicalType.TheVariants as physical
+use Rattle.ipc_format_array_reading.specs.nested_arrays.StoredColumns.{Column}
+use Rattle.ipc_format_array_reading.specs.grammar.Layouts.{buffer_count, node_count}
+use Rattle.ipc_format_array_reading.specs.grammar.Messages.{V5}
+use Rattle.ipc_format_array_reading.specs.grammar.Schemas.{ids, no_ids}
 use Rattle.ipc_format_array_reading.specs.ArrayReads.{array_slots}
 use Rattle.ipc_format_childless_reading.specs.ReadArrays.{at_front, standing_in}
 use Rattle.ipc_format_childless_reading.proofs.ArrayReading.{any_read}

@@ -1,8 +1,8 @@
 -- Keys in the range of their type, and values of the type that the array's says.
 use Rattle.std.proofs.Common.{◌≡◌, ◌∙◌, ap, map, rules, subst, sym}
-use Rattle.ipc_format_array_reading.specs.column_reading.columnar_memory.Layouts.{physical_type}
-use Rattle.ipc_format_array_reading.specs.column_reading.columnar_memory.declared.PhysicalType.TheVariants as physical
-use Rattle.ipc_format_array_reading.specs.column_reading.columns.StoredColumns.{Column, dictionary}
+use Rattle.ipc_format_array_reading.specs.columnar_memory.Layouts.{physical_type}
+use Rattle.ipc_format_array_reading.specs.columnar_memory.declared.PhysicalType.TheVariants as physical
+use Rattle.ipc_format_array_reading.specs.nested_arrays.StoredColumns.{Column, dictionary}
 use Rattle.ipc_format_array_reading.specs.nested_arrays.Answers.{IsCheckedAs}
 use Rattle.ipc_format_childless_reading.proofs.KeyedArrays.{keyed_made}
 use Rattle.ipc_format_childless_reading.proofs.keyed.dictionary_of.Goals as goal

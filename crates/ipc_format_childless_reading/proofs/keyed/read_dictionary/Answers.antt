@@ -2,10 +2,10 @@
 use Rattle.std.proofs.Common.{◌≡◌, ◌∙◌, Bool, ap, false, inl, inr, refl, sym, true}
 use Rattle.std.specs.Prelude.{is_some}
 use Rattle.std.proofs.lemmas.Bool.{false≢true}
-use Rattle.ipc_format_array_reading.specs.column_reading.columnar_memory.Layouts.{physical_type}
-use Rattle.ipc_format_array_reading.specs.column_reading.columnar_memory.declared.PhysicalType.TheVariants as physical
-use Rattle.ipc_format_array_reading.specs.column_reading.grammar.Messages.{V5}
-use Rattle.ipc_format_array_reading.specs.column_reading.grammar.Schemas.{ids, no_ids}
+use Rattle.ipc_format_array_reading.specs.columnar_memory.Layouts.{physical_type}
+use Rattle.ipc_format_array_reading.specs.columnar_memory.declared.PhysicalType.TheVariants as physical
+use Rattle.ipc_format_array_reading.specs.grammar.Messages.{V5}
+use Rattle.ipc_format_array_reading.specs.grammar.Schemas.{ids, no_ids}
 use Rattle.ipc_format_array_reading.specs.ArrayReads.{array_slots}
 use Rattle.ipc_format_array_reading.proofs.Taking.{drop_none}
 use Rattle.ipc_format_childless_reading.specs.ReadArrays.{at_front, standing_in}

@@ -1,9 +1,9 @@
 -- Marks, and the keys behind them.
 use Rattle.std.proofs.Common.{◌≡◌, ◌∙◌, List, Bool, map, refl, sym, ap, rules}
 use Rattle.std.specs.Prelude.{Err, Option}
-use Rattle.ipc_format_array_reading.specs.column_reading.columnar_memory.Numbers.{Numbers}
-use Rattle.ipc_format_array_reading.proofs.column_lemmas.ColumnReads.{Marks, takes_behind}
-use Rattle.ipc_format_array_reading.proofs.column_lemmas.Skipping.{end_behind}
+use Rattle.ipc_format_array_reading.specs.columnar_memory.Numbers.{Numbers}
+use Rattle.ipc_format_array_reading.proofs.ColumnReads.{Marks, takes_behind}
+use Rattle.ipc_format_array_reading.proofs.Skipping.{end_behind}
 use Rattle.ipc_format_childless_reading.proofs.KeyedReading.{Found, keys_made, keys_refused, marks_refused}
 use Rattle.ipc_format_childless_reading.proofs.OwnIds.{plainest_layout}
 use Rattle.ipc_format_childless_reading.proofs.keyed.read_keys.Goals as goal

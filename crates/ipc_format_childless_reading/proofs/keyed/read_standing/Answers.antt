@@ -1,12 +1,12 @@
 -- The values that stand, and the keys.
 use Rattle.std.proofs.Common.{◌≡◌, ◌∙◌, Bool, ap, inl, map, refl, rules, sym}
 use Rattle.std.specs.Prelude.{Err, None, Option, Some}
-use Rattle.ipc_format_array_reading.specs.column_reading.columnar_memory.Layouts.{physical_type}
-use Rattle.ipc_format_array_reading.specs.column_reading.columnar_memory.declared.PhysicalType.TheVariants as physical
-use Rattle.ipc_format_array_reading.specs.column_reading.columns.Slots.{Slot}
-use Rattle.ipc_format_array_reading.specs.column_reading.columns.StoredColumns.{Column, type_layer}
-use Rattle.ipc_format_array_reading.specs.column_reading.grammar.Messages.{V5}
-use Rattle.ipc_format_array_reading.specs.column_reading.grammar.Schemas.{ids, no_ids}
+use Rattle.ipc_format_array_reading.specs.columnar_memory.Layouts.{physical_type}
+use Rattle.ipc_format_array_reading.specs.columnar_memory.declared.PhysicalType.TheVariants as physical
+use Rattle.ipc_format_array_reading.specs.nested_arrays.Slots.{Slot}
+use Rattle.ipc_format_array_reading.specs.nested_arrays.StoredColumns.{Column, type_layer}
+use Rattle.ipc_format_array_reading.specs.grammar.Messages.{V5}
+use Rattle.ipc_format_array_reading.specs.grammar.Schemas.{ids, no_ids}
 use Rattle.ipc_format_array_reading.specs.ArrayReads.{array_slots}
 use Rattle.ipc_format_array_reading.proofs.Taking.{drop_none}
 use Rattle.ipc_format_childless_reading.specs.Keyed.{values_for}

@@ -4,8 +4,8 @@ use Rattle.std.specs.Prelude.{None, Option, Some, if◌then◌else◌}
 use Rattle.std.specs.Map.{lookup}
 use Rattle.std.specs.Ordering.{int_eq}
 use Rattle.std.proofs.lemmas.Int.{to_z-of_z}
-use Rattle.ipc_format_array_reading.specs.column_reading.columns.StoredColumns.{Column, column_type, type_layer}
-use Rattle.ipc_format_array_reading.specs.column_reading.flatbuffers.Reading.{◌>>=◌}
+use Rattle.ipc_format_array_reading.specs.nested_arrays.StoredColumns.{Column, column_type, type_layer}
+use Rattle.ipc_format_array_reading.specs.flatbuffers.Reading.{◌>>=◌}
 use Rattle.ipc_format_childless_reading.specs.Keyed.{has_values, if_values, values_for}
 use Rattle.ipc_format_childless_reading.proofs.keyed.values_for.Goals as goal
 

@@ -1,11 +1,11 @@
 -- Numbers of a kind that is no float.
 use Rattle.std.proofs.Common.{◌≡◌, ◌∙◌, ap}
-use Rattle.ipc_format_array_reading.specs.column_reading.columnar_memory.Layouts.{physical_type}
-use Rattle.ipc_format_array_reading.specs.column_reading.columnar_memory.declared.PhysicalType.TheVariants as physical
-use Rattle.ipc_format_array_reading.specs.column_reading.grammar.Layouts.{buffer_count, node_count}
-use Rattle.ipc_format_array_reading.specs.column_reading.grammar.Messages.{V5}
-use Rattle.ipc_format_array_reading.specs.column_reading.FlatColumns.{primitive_column}
-use Rattle.ipc_format_array_reading.specs.column_reading.Reads.{front_slots}
+use Rattle.ipc_format_array_reading.specs.columnar_memory.Layouts.{physical_type}
+use Rattle.ipc_format_array_reading.specs.columnar_memory.declared.PhysicalType.TheVariants as physical
+use Rattle.ipc_format_array_reading.specs.grammar.Layouts.{buffer_count, node_count}
+use Rattle.ipc_format_array_reading.specs.grammar.Messages.{V5}
+use Rattle.ipc_format_array_reading.specs.FlatColumns.{primitive_column}
+use Rattle.ipc_format_array_reading.specs.Reads.{front_slots}
 use Rattle.ipc_format_array_reading.specs.nested_arrays.Childless.{is_childless}
 use Rattle.ipc_format_array_reading.specs.TypedReads.{front_array}
 use Rattle.ipc_format_childless_reading.specs.Flats.{has_all}

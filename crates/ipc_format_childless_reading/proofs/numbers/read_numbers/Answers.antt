@@ -1,7 +1,7 @@
 -- Floats have no arrays.
 use Rattle.std.proofs.Common.{◌≡◌, ◌∙◌, ap, refl, sym, true}
-use Rattle.ipc_format_array_reading.specs.column_reading.columnar_memory.Layouts.{physical_type}
-use Rattle.ipc_format_array_reading.specs.column_reading.columnar_memory.declared.PhysicalType.TheVariants as physical
+use Rattle.ipc_format_array_reading.specs.columnar_memory.Layouts.{physical_type}
+use Rattle.ipc_format_array_reading.specs.columnar_memory.declared.PhysicalType.TheVariants as physical
 use Rattle.ipc_format_array_reading.proofs.Taking.{drop_none}
 use Rattle.ipc_format_childless_reading.proofs.ChildlessLayers.{is_float, none_read}
 use Rattle.ipc_format_childless_reading.proofs.numbers.read_numbers.Goals as goal

@@ -1,7 +1,7 @@
 -- The batches so far are whole.
 use Rattle.std.proofs.Common.{◌≡◌, true, take}
 use Rattle.std.specs.List.{list_all}
-use Rattle.tables_batches.specs.Batches.{is_batch}
+use Rattle.tables_chunks.specs.Batches.{is_batch}
 use Rattle.tables_chunks.proofs.batches.are_batches.Given as goal
 
 abbrev pub invariant-loop-batch : goal.invariant-loop-batch

@@ -1,6 +1,6 @@
 -- The rows are counted batch by batch.
 use Rattle.std.proofs.Common.{◌≡◌, ◌∙◌, ◌+◌, ◌≤◌, ◌<◌, ◌^◌, ap, arith, rules}
-use Rattle.tables_batches.specs.Batches.{batch_len}
+use Rattle.tables_chunks.specs.Batches.{batch_len}
 use Rattle.tables_chunks.proofs.BatchLists.{count_past, count_next, count_all}
 use Rattle.tables_chunks.proofs.batches.rows_of.Goals as goal
 

@@ -1,6 +1,6 @@
 -- The arrays so far are the cuts of those of the batch.
 use Rattle.std.proofs.Common.{◌≡◌, take}
-use Rattle.tables_batches.specs.Batches.{cut_batch}
+use Rattle.tables_chunks.specs.Batches.{cut_batch}
 use Rattle.tables_chunks.proofs.cuts.window_of.Given as goal
 
 abbrev pub invariant-loop-array : goal.invariant-loop-array

@@ -1,8 +1,8 @@
 -- Window by window.
 use Rattle.std.proofs.Common.{◌≡◌, ◌∙◌, ◌+◌, List, length, ap, sym, arith}
 use Rattle.std.specs.Prelude.{◌↔◌, IsTrue}
-use Rattle.ipc_format_chunks.specs.nested_arrays.StoredColumns.{Column}
-use Rattle.tables_batches.specs.Batches.{is_batch, stored_rows}
+use Rattle.ipc_format.specs.columns.StoredColumns.{Column}
+use Rattle.tables_chunks.specs.Batches.{is_batch, stored_rows}
 use Rattle.tables_chunks.specs.SameRows.{have_rows, rows_from, nodes_in}
 use Rattle.tables_chunks.proofs.RowWindows.{batch_has_rows}
 use Rattle.tables_chunks.proofs.SamePlaces.{differ_here, same_more, so_far_at, used_here, widths_at, window_tells, windows_at}

@@ -1,6 +1,6 @@
 -- One batch more.
 use Rattle.std.proofs.Common.{◌≡◌, ◌∙◌, ◌+◌, ◌++◌, ◌∷◌, [], ◌<◌, ◌^◌, length, ap, sym, rules, arith}
-use Rattle.tables_batches.specs.Batches.{batch_len, stored_rows}
+use Rattle.tables_chunks.specs.Batches.{batch_len, stored_rows}
 use Rattle.tables_chunks.proofs.BatchLists.{count_more, table_more}
 use Rattle.tables_chunks.proofs.table.Table.add.Goals as goal
 

@@ -1,6 +1,6 @@
 -- The windows have the part of the rows.
 use Rattle.std.proofs.Common.{◌≡◌, rules}
-use Rattle.tables_batches.specs.Batches.{cut_batches}
+use Rattle.tables_chunks.specs.Batches.{cut_batches}
 use Rattle.tables_chunks.proofs.MadeTables.{cut_made, cut_cuts}
 use Rattle.tables_chunks.proofs.table.Table.cut.Goals as goal
 

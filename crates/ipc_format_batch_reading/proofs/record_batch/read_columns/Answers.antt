@@ -1,0 +1,45 @@
+-- The queues of a batch, and what is read at their fronts.
+use Rattle.std.proofs.Common.{◌≡◌, List, map, rules}
+use Rattle.std.specs.Prelude.{Err}
+use Rattle.ipc_format_reading.specs.Below.{no_own_ids}
+use Rattle.ipc_format_reading.specs.childless_reading.ReadArrays.{standing_in}
+use Rattle.ipc_format_reading.specs.columns.StoredColumns.{slots}
+use Rattle.ipc_format_reading.specs.flatbuffers.Views.{table_of}
+use Rattle.ipc_format_reading.specs.grammar.Messages.{record_batch}
+use Rattle.ipc_format_reading.specs.messages.MessageViews.{version_view}
+use Rattle.ipc_format_reading.specs.metadata.Views.{ids_views}
+use Rattle.ipc_format_batch_reading.specs.BatchReads.{placed_arrays}
+use Rattle.ipc_format_batch_reading.proofs.QueueReads.{queues_read, queues_refused}
+use Rattle.ipc_format_batch_reading.proofs.record_batch.read_columns.Goals as goal
+
+pub returns-in_err-queues-clause-read : goal.returns-in_err-queues-clause-read
+returns-in_err-queues-clause-read g c =
+    let error = c.in_err-queues.field-0.0 in
+    let schema = c.args.ipc_schema.now in
+    let table = table_of c.args.batch.now.table.place in
+    let is : c.from_residual.result ≡ Err error = search rules in
+    rw is (queues_refused c.args.batch.now.table.bytes.now table c.args.file_size (g.R.Room.told c.args.reader.now) schema.is_little_endian
+    (record_batch table) (version_view c.args.version) c.args.block_offset
+    (λ source. placed_arrays c.args.fields.now (ids_views schema.fields) (record {
+      source = source;
+      standing = standing_in c.args.dictionaries.now;
+      limit = c.args.limit;
+      node = 0;
+      buffer = 0;
+      ids = no_own_ids;
+    })) (map slots) error c.in_err-queues.ensures)
+
+pub returns-clause-read : goal.returns-clause-read
+returns-clause-read g c =
+    let schema = c.args.ipc_schema.now in
+    let table = table_of c.args.batch.now.table.place in
+    queues_read c.args.batch.now.table.bytes.now table c.args.file_size (g.R.Room.told c.args.reader.now) (g.R.Room.told c.read_chunk.new.reader)
+    schema.is_little_endian (record_batch table) (version_view c.args.version) c.args.block_offset c.in_ok-queues.queues
+    (λ source. placed_arrays c.args.fields.now (ids_views schema.fields) (record {
+      source = source;
+      standing = standing_in c.args.dictionaries.now;
+      limit = c.args.limit;
+      node = 0;
+      buffer = 0;
+      ids = no_own_ids;
+    })) (map slots) c.read_chunk.result c.in_ok-queues.ensures c.read_chunk.ensures.read

@@ -1,0 +1,20 @@
+pub mod Standing
+pub mod BatchReads
+pub mod DictionaryReads
+pub mod Readable
+pub use Rattle.ipc_format_reading.specs as reading
+pub use Rattle.ipc_format_reading.specs.columnar_memory
+pub use Rattle.ipc_format_reading.specs.flatbuffers
+pub use Rattle.ipc_format_reading.specs.columns
+pub use Rattle.ipc_format_reading.specs.grammar
+pub use Rattle.ipc_format_reading.specs.messages
+pub use Rattle.ipc_format_reading.specs.metadata
+pub use Rattle.ipc_format_reading.specs.nested_arrays
+pub use Rattle.ipc_format_reading.specs.Rooms
+pub use Rattle.ipc_format_reading.specs.Below
+pub use Rattle.ipc_format_reading.specs.childless_reading.ReadArrays
+pub use Rattle.ipc_format_reading.specs.childless_reading.array_reading.ArrayReads
+pub use Rattle.ipc_format_reading.specs.childless_reading.array_reading.chunks
+pub use Rattle.ipc_format_reading.specs.childless_reading.array_reading.column_writing.column_reading.column_bytes.streams
+pub use Rattle.ipc_format_reading.specs.childless_reading.array_reading.column_writing.column_reading.column_bytes.Bodies
+pub use Rattle.ipc_format_reading.specs.childless_reading.array_reading.column_writing.column_reading.column_bytes.Placing

@@ -1,0 +1,17 @@
+pub mod Told
+pub mod Tracking
+pub mod ToldInTurn
+pub mod Bare
+pub mod ChunkAnswers
+pub mod Encoding
+pub mod Finding
+pub mod Fitted
+pub mod Forms
+pub mod Passed
+pub mod PlacedBodies
+pub use Rattle.ipc_format_batch_reading.proofs.Appending
+pub use Rattle.ipc_format_batch_reading.proofs.Claims
+pub use Rattle.ipc_format_batch_reading.proofs.ColumnSizes
+pub use Rattle.ipc_format_batch_reading.proofs.Columns
+pub use Rattle.ipc_format_batch_reading.proofs.Cuts
+pub use Rattle.ipc_format_batch_reading.proofs.Windows

@@ -1,0 +1,3 @@
+pub mod Steps
+pub mod Behind
+pub use Rattle.ipc_format_streams.specs as streams

@@ -1,0 +1,161 @@
+//! Commands carried out: all of each, or nothing where it fails.
+ghost use Rattle.std.specs.Prelude.{◌≡◌, map};
+ghost use Rattle.std.specs.String.{string_bytes};
+ghost use Rattle.tables.specs.Command.{Cut, Join, Same, asked_by};
+ghost use Rattle.tables.specs.Made.{AddsBatches, MakesCut, MakesJoin};
+ghost use Rattle.tables.specs.Outcome.{CarriesOut, PutsTable, Streams};
+
+use crate::commands::Command;
+use crate::inputs::{read_input, read_inputs};
+use crate::places::Places;
+use crate::program::{Failure, Outcome};
+use std::alloc::Global;
+use tables_chunks::columnar_memory::Error;
+use tables_chunks::{Fault, GrowingTable, Table};
+
+/// Carries a command out.
+pub(crate) fn execute<P: Places>(
+    alloc: Global,
+    places: &mut P,
+    command: &Command<'_>,
+) -> Result<Outcome, Failure>
+    ensures { CarriesOut result (asked_by command.now) (P.contents places.old) (P.contents places.new) }
+{
+    match *command {
+        Command::Cut {
+            offset,
+            length,
+            input,
+            output,
+        } => cut(alloc, places, offset, length, input, output),
+        Command::Join {
+            output,
+            first,
+            others,
+        } => join(alloc, places, output, first, others),
+        Command::Same { left, right } => same(alloc, places, left, right),
+    }
+}
+
+/// Puts the stream of `length` rows of `input` from row `offset` on under the name `output`.
+fn cut<P: Places>(
+    alloc: Global,
+    places: &mut P,
+    offset: usize,
+    length: usize,
+    input: &str,
+    output: &str,
+) -> Result<Outcome, Failure>
+    ensures { CarriesOut result (Cut offset length input.now output.now) (P.contents places.old) (P.contents places.new) }
+{
+    let table = read_input(alloc, places, input)?;
+    let window = cut_of(alloc, &table, offset, length)?;
+    put_table(alloc, places, output, &window)
+}
+
+/// `length` rows of a table from row `offset` on.
+fn cut_of(alloc: Global, table: &Table, offset: usize, length: usize) -> Result<Table, Failure>
+    ensures { MakesCut result offset length table.now }
+{
+    if !table.in_range(offset, length) {
+        return Err(Failure::RangeOutsideRows);
+    }
+    table.cut(alloc, offset, length).map_err(Failure::Fault)
+}
+
+/// Puts the stream of the rows of all inputs under the name `output`.
+fn join<P: Places>(
+    alloc: Global,
+    places: &mut P,
+    output: &str,
+    first: &str,
+    others: &[String],
+) -> Result<Outcome, Failure>
+    ensures { CarriesOut result (Join output.now first.now (map string_bytes others.now)) (P.contents places.old)
+        (P.contents places.new) }
+{
+    let table = read_input(alloc, places, first)?;
+    let tables = read_inputs(alloc, places, others)?;
+    let joined = join_of(alloc, &table, &tables)?;
+    put_table(alloc, places, output, &joined)
+}
+
+/// The rows of some tables, one table behind another.
+fn join_of(alloc: Global, first: &Table, others: &[Table]) -> Result<Table, Failure>
+    ensures { MakesJoin result first.now others.now }
+{
+    first.whole();
+    let Ok(schema) = first.schema().clone() else {
+        return Err(Failure::Fault(Fault::Memory));
+    };
+    let mut joined = GrowingTable::new(alloc, schema);
+    add_batches(&mut joined, first).map_err(Failure::Fault)?;
+    for table in others {
+        if table.schema() != first.schema() {
+            return Err(Failure::SchemasDiffer);
+        }
+        add_batches(&mut joined, table).map_err(Failure::Fault)?;
+    }
+    Ok(joined.finish())
+}
+
+/// Puts the batches of a table behind others, under one schema.
+fn add_batches(joined: &mut GrowingTable, table: &Table) -> Result<(), Fault>
+    requires { table.now.schema ≡ joined.old.schema }
+    ensures { AddsBatches joined.old table.now.batches result joined.new }
+{
+    let _rows = joined.rows();
+    table.whole();
+    for batch in table.batches() {
+        joined.push(batch.clone()?)?;
+    }
+    Ok(())
+}
+
+/// Tells whether two inputs have one schema and the same rows.
+fn same<P: Places>(
+    alloc: Global,
+    places: &mut P,
+    left: &str,
+    right: &str,
+) -> Result<Outcome, Failure>
+    ensures { CarriesOut result (Same left.now right.now) (P.contents places.old) (P.contents places.new) }
+{
+    let first = read_input(alloc, places, left)?;
+    let second = read_input(alloc, places, right)?;
+    match Table::same(&first, &second) {
+        Ok(true) => Ok(Outcome::Done),
+        Ok(false) => Ok(Outcome::Different),
+        Err(fault) => Err(Failure::Fault(fault)),
+    }
+}
+
+/// Puts the stream of a table under a name. It is made in memory before.
+fn put_table<P: Places>(
+    alloc: Global,
+    places: &mut P,
+    output: &str,
+    table: &Table,
+) -> Result<Outcome, Failure>
+    ensures { PutsTable result (P.contents places.old) (P.contents places.new) output.now table.now }
+{
+    let stream = stream_of(alloc, table)?;
+    match places.put(output, stream) {
+        Ok(true) => Ok(Outcome::Done),
+        Ok(false) => Err(Failure::UnwritableOutput),
+        Err(_) => Err(Failure::Fault(Fault::Memory)),
+    }
+}
+
+/// The stream of a table.
+fn stream_of(alloc: Global, table: &Table) -> Result<Vec<u8>, Failure>
+    ensures { Streams result table.now }
+{
+    let mut bytes = Vec::new(alloc);
+    match table.write_stream(alloc, &mut bytes) {
+        Ok(()) => Ok(bytes),
+        Err(Fault::Ipc(Error::Overflow)) => Err(Failure::Fault(Fault::Ipc(Error::Overflow))),
+        // A vector refuses a write only where it cannot grow.
+        Err(_) => Err(Failure::Fault(Fault::Memory)),
+    }
+}

@@ -1,0 +1,85 @@
+-- The schema that a stream begins with.
+use Rattle.std.proofs.Common.{◌≡◌, ◌∙◌, ℕ, Bool, true, false, List, refl, ap, subst}
+use Rattle.std.specs.Prelude.{Some, None, Err}
+use Rattle.ipc_format.specs.Readable.{HasArrays, SchemasHaveArrays}
+use Rattle.columnar_memory_types.specs.Error.{IsOutOfMemory}
+use Rattle.ipc_format.specs.columnar_memory.declared.Error.{Error}
+use Rattle.ipc_format.specs.columnar_memory.declared.Error.TheVariants as errors
+use Rattle.ipc_format.specs.Framing.{Framed, first_of}
+use Rattle.ipc_format.specs.Messages.{Header, Version, schema, dictionary_batch, record_batch, version_in}
+use Rattle.ipc_format.specs.Reading.{guard}
+use Rattle.ipc_format.specs.FlatBuffers.{Table}
+use Rattle.ipc_format.specs.SchemaGrammar.{schema_in}
+use Rattle.ipc_format.specs.Schemas.{SchemaIn, any_schema_in}
+use Rattle.ipc_format.specs.Writable.{is_writable, normalised}
+use Rattle.ipc_format.specs.columnar_memory.Texts.{HasTexts}
+use Rattle.ipc_format.specs.Tables.{schema_of, layout_of}
+use Rattle.ipc_format.specs.streams.Starts.{Start, start_in}
+use Rattle.tables_chunks.specs.Faults.{fault_of}
+use Rattle.tables_chunks.specs.Reading.{ReadsStream}
+use Rattle.tables_chunks.specs.TableSchemas.{IsTableSchema}
+use Rattle.ipc_format.proofs.StoredTablesNormal.{normal_again}
+use Rattle.ipc_format.proofs.NormalForms.{keeps_writable}
+use Rattle.ipc_format.proofs.Binding.{came_of, same_some}
+
+-- a message's schema has arrays
+found_has_arrays : (framed : Framed) (header : Header) (found : SchemaIn) → SchemasHaveArrays → schema_of framed header ≡ Some found
+    → HasArrays (layout_of found)
+found_has_arrays framed (schema table) found have e = have framed.metadata table found e
+found_has_arrays framed (dictionary_batch table) found have e = absurd cc
+found_has_arrays framed (record_batch table) found have e = absurd cc
+
+pub start_has_arrays : (bytes : List ℕ) (start : Start) (place : ℕ) → SchemasHaveArrays → start_in bytes ≡ Some (start, place)
+    → HasArrays (layout_of start.schema)
+start_has_arrays bytes start place have e =
+    let a = came_of {A = Framed × ℕ} (first_of bytes) _ (start, place) e in
+    let b = came_of {A = Version} (version_in a.0.0.metadata) _ (start, place) a.2 in
+    let c = came_of {A = SchemaIn} (schema_of a.0.0 a.0.0.header) _ (start, place) b.2 in
+    let pair : (record { version = b.0; schema = c.0 }, a.0.1) ≡ (start, place) =
+    same_some {A = Start × ℕ} (record { version = b.0; schema = c.0 }, a.0.1) (start, place) c.2 in
+    let same : c.0 ≡ start.schema = ap (λ (p : Start × ℕ). p.0.schema) pair in
+    subst (λ (s : SchemaIn). HasArrays (layout_of s)) same (found_has_arrays a.0.0 a.0.0.header c.0 have c.1)
+
+-- ---- the schema is that of a table
+
+guarded : (test : Bool) (found : Bool) → guard test ≡ Some found → test ≡ true
+guarded true found e = refl
+guarded false found e = absurd cc
+
+-- a schema that is read is one that is written
+schema_written : (bytes : List ℕ) (table : Table) (found : SchemaIn) → schema_in bytes table ≡ Some found → is_writable found.schema ≡ true
+unfolding schema_in
+schema_written bytes table found e =
+    let any = came_of {A = SchemaIn} (any_schema_in None bytes table) _ found e in
+    let some = came_of {A = Bool} _ _ found any.2 in
+    subst (λ (found : SchemaIn). is_writable found.schema ≡ true) (same_some {A = SchemaIn} any.0 found some.2)
+    (guarded (is_writable any.0.schema) some.0 some.1)
+
+found_written : (framed : Framed) (header : Header) (found : SchemaIn) → schema_of framed header ≡ Some found → is_writable found.schema ≡ true
+found_written framed (schema table) found e = schema_written framed.metadata table found e
+found_written framed (dictionary_batch table) found e = absurd cc
+found_written framed (record_batch table) found e = absurd cc
+
+-- the schema that a stream begins with has the form of a table's, once it is normalised
+pub start_form : (bytes : List ℕ) (start : Start) (place : ℕ) → start_in bytes ≡ Some (start, place) → HasTexts start.schema.schema
+    → IsTableSchema (normalised start.schema.schema)
+start_form bytes start place e texts =
+    let a = came_of {A = Framed × ℕ} (first_of bytes) _ (start, place) e in
+    let b = came_of {A = Version} (version_in a.0.0.metadata) _ (start, place) a.2 in
+    let c = came_of {A = SchemaIn} (schema_of a.0.0 a.0.0.header) _ (start, place) b.2 in
+    let pair : (record { version = b.0; schema = c.0 }, a.0.1) ≡ (start, place) =
+    same_some {A = Start × ℕ} (record { version = b.0; schema = c.0 }, a.0.1) (start, place) c.2 in
+    let same : c.0 ≡ start.schema = ap (λ (p : Start × ℕ). p.0.schema) pair in
+    let written = subst (λ (s : SchemaIn). is_writable s.schema ≡ true) same (found_written a.0.0 a.0.0.header c.0 c.1) in
+    record { writable = keeps_writable start.schema.schema ∙ written; normal = normal_again start.schema.schema texts }
+
+-- want of memory
+pub memory_refused : (error : Error) (bytes : List ℕ) → IsOutOfMemory error → ReadsStream (Err (fault_of error)) bytes
+memory_refused errors.OutOfMemory bytes is = tt
+memory_refused errors.Overflow bytes is = absurd is
+memory_refused (errors.Io what) bytes is = absurd is
+memory_refused (errors.NotYetImplemented what) bytes is = absurd is
+memory_refused (errors.InvalidArgumentError what) bytes is = absurd is
+memory_refused (errors.ExternalFormat what) bytes is = absurd is
+memory_refused (errors.OutOfSpec what) bytes is = absurd is
+memory_refused (errors.External from what) bytes is = absurd is
