@@ -49,8 +49,10 @@ def read_table(name, places):
     content = places.get(name)
     if content is None:
         raise Failed("cannot read the input")
+    # No input is a whole file: what begins as one ends as none.
     if content.startswith(b"ARROW1"):
-        raise Failed(TEXTS[NOT_IMPLEMENTED])
+        assert not content.endswith(b"ARROW1")
+        raise Failed(TEXTS[OUT_OF_SPEC])
     try:
         return read_stored(content)
     except Refused as refused:

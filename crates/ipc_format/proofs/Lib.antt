@@ -20,15 +20,17 @@ pub use Rattle.ipc_format_reading_laws.proofs.StoredTablesEntries
 pub use Rattle.ipc_format_reading_laws.proofs.StoredTablesNormal
 pub use Rattle.ipc_format_reading_laws.proofs.StoredTablesStreams
 pub use Rattle.ipc_format_reading_laws.proofs.StoredTypes
-pub use Rattle.ipc_format_stream_steps.proofs.Binding
-pub use Rattle.ipc_format_stream_steps.proofs.Places as StreamStepsPlaces
-pub use Rattle.ipc_format_stream_steps.proofs.Progress
-pub use Rattle.ipc_format_stream_steps.proofs.Rows
-pub use Rattle.ipc_format_stream_steps.proofs.Steps
-pub use Rattle.ipc_format_stream_steps.proofs.StreamParts
-pub use Rattle.ipc_format_chunk_writing.proofs.Appending
-pub use Rattle.ipc_format_chunk_writing.proofs.Claims
-pub use Rattle.ipc_format_chunk_writing.proofs.ColumnSizes
-pub use Rattle.ipc_format_chunk_writing.proofs.Columns
-pub use Rattle.ipc_format_chunk_writing.proofs.Cuts
-pub use Rattle.ipc_format_chunk_writing.proofs.Windows
+pub use Rattle.ipc_format_file_writer.proofs.NoFloats
+pub use Rattle.ipc_format_file_writer.proofs.stream_writer_lemmas.reader_lemmas.steps_lemmas.Binding
+pub use Rattle.ipc_format_file_writer.proofs.stream_writer_lemmas.reader_lemmas.steps_lemmas.Places as StreamStepsPlaces
+pub use Rattle.ipc_format_file_writer.proofs.stream_writer_lemmas.reader_lemmas.steps_lemmas.Progress
+pub use Rattle.ipc_format_file_writer.proofs.stream_writer_lemmas.reader_lemmas.steps_lemmas.Rows
+pub use Rattle.ipc_format_file_writer.proofs.stream_writer_lemmas.reader_lemmas.steps_lemmas.Steps
+pub use Rattle.ipc_format_file_writer.proofs.stream_writer_lemmas.reader_lemmas.steps_lemmas.StreamParts
+pub use Rattle.ipc_format_file_writer.proofs.stream_writer_lemmas.reader_lemmas.chunk_lemmas.Appending
+pub use Rattle.ipc_format_file_writer.proofs.stream_writer_lemmas.reader_lemmas.chunk_lemmas.Claims
+pub use Rattle.ipc_format_file_writer.proofs.stream_writer_lemmas.reader_lemmas.chunk_lemmas.ColumnSizes
+pub use Rattle.ipc_format_file_writer.proofs.stream_writer_lemmas.reader_lemmas.chunk_lemmas.Columns
+pub use Rattle.ipc_format_file_writer.proofs.stream_writer_lemmas.reader_lemmas.chunk_lemmas.Cuts
+pub use Rattle.ipc_format_file_writer.proofs.stream_writer_lemmas.reader_lemmas.chunk_lemmas.Windows
+pub use Rattle.ipc_format_file_writer.proofs.stream_writer_lemmas.PutMessages

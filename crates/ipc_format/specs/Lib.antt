@@ -1,65 +1,84 @@
-pub use Rattle.ipc_format_chunk_writing.specs.flatbuffers.Reading
-pub use Rattle.ipc_format_chunk_writing.specs.flatbuffers.FlatBuffers
-pub use Rattle.ipc_format_chunk_writing.specs.flatbuffers.Laying
-pub use Rattle.ipc_format_chunk_writing.specs.flatbuffers.Objects
-pub use Rattle.ipc_format_chunk_writing.specs.flatbuffers.Views
-pub use Rattle.ipc_format_chunk_writing.specs.grammar.Messages
-pub use Rattle.ipc_format_chunk_writing.specs.grammar.Types
-pub use Rattle.ipc_format_chunk_writing.specs.grammar.Schemas
-pub use Rattle.ipc_format_chunk_writing.specs.grammar.SchemaGrammar
-pub use Rattle.ipc_format_chunk_writing.specs.grammar.Writable
-pub use Rattle.ipc_format_chunk_writing.specs.grammar.Layouts
-pub use Rattle.ipc_format_chunk_writing.specs.grammar.Values
-pub use Rattle.ipc_format_chunk_writing.specs.grammar.Columns
-pub use Rattle.ipc_format_chunk_writing.specs.grammar.Dictionaries
-pub use Rattle.ipc_format_chunk_writing.specs.grammar.Framing
-pub use Rattle.ipc_format_chunk_writing.specs.grammar.Files
-pub use Rattle.ipc_format_chunk_writing.specs.grammar.Tables
-pub use Rattle.ipc_format_chunk_writing.specs.grammar.Refusals
-pub use Rattle.ipc_format_chunk_writing.specs.grammar.SchemaObjects
-pub use Rattle.ipc_format_chunk_writing.specs.grammar.Buffers
-pub use Rattle.ipc_format_chunk_writing.specs.grammar.Encoding
-pub use Rattle.ipc_format_chunk_writing.specs.grammar.StoredEncoding
-pub use Rattle.ipc_format_chunk_writing.specs.grammar.Ids
-pub use Rattle.ipc_format_chunk_writing.specs.grammar.GivenDictionaries
-pub use Rattle.ipc_format_chunk_writing.specs.grammar.WrittenMessages
-pub use Rattle.ipc_format_chunk_writing.specs.grammar.WrittenStreams
-pub use Rattle.ipc_format_chunk_writing.specs.grammar.WrittenFiles
-pub use Rattle.ipc_format_chunk_writing.specs.grammar.Seals
-pub use Rattle.ipc_format_chunk_writing.specs.messages.MessageSlots
-pub use Rattle.ipc_format_chunk_writing.specs.messages.MessageViews
-pub use Rattle.ipc_format_chunk_writing.specs.messages.SchemaSlots
-pub use Rattle.ipc_format_chunk_writing.specs.messages.SchemaRefs
-pub use Rattle.ipc_format_chunk_writing.specs.messages.TypeSlots
-pub use Rattle.ipc_format_chunk_writing.specs.messages.TypeRefs
-pub use Rattle.ipc_format_chunk_writing.specs.messages.WholeMessages
-pub use Rattle.ipc_format_chunk_writing.specs.messages.BufferLengths
-pub use Rattle.ipc_format_stream_steps.specs.streams.owned.writing.MessageWriting
-pub use Rattle.ipc_format_stream_steps.specs.streams.owned.writing.FooterWriting
-pub use Rattle.ipc_format_stream_steps.specs.streams.Frames
-pub use Rattle.ipc_format_stream_steps.specs.streams.Failures
-pub use Rattle.ipc_format_stream_steps.specs.streams.owned as values
-pub use Rattle.ipc_format_chunk_writing.specs.columns
-pub use Rattle.ipc_format_chunk_writing.specs.flatbuffers
-pub use Rattle.ipc_format_chunk_writing.specs.grammar
-pub use Rattle.ipc_format_chunk_writing.specs.messages
-pub use Rattle.ipc_format_chunk_writing.specs.metadata
-pub use Rattle.ipc_format_stream_steps.specs.streams.owned.writing
-pub use Rattle.ipc_format_stream_steps.specs.streams
-pub use Rattle.ipc_format_chunk_writing.specs.grammar.WriterRuns
-pub use Rattle.ipc_format_chunk_writing.specs.grammar.AppendedFiles
-pub use Rattle.ipc_format_chunk_writing.specs.columnar_memory
-pub use Rattle.ipc_format_chunk_writing.specs.nested_arrays
-pub use Rattle.ipc_format_chunk_writing.specs.chunks.Chunks
-pub use Rattle.ipc_format_chunk_writing.specs.EncodedChunks
-pub use Rattle.ipc_format_chunk_writing.specs.Tracking
-pub use Rattle.ipc_format_chunk_writing.specs.Types as OneForms
-pub use Rattle.ipc_format_chunk_writing.specs.BatchReads
-pub use Rattle.ipc_format_chunk_writing.specs.DictionaryReads
-pub use Rattle.ipc_format_chunk_writing.specs.Readable
-pub use Rattle.ipc_format_chunk_writing.specs.Standing
-pub use Rattle.ipc_format_chunk_writing.specs.ReadArrays
-pub use Rattle.ipc_format_chunk_writing.specs.Rooms
-pub use Rattle.ipc_format_stream_steps.specs.Steps
-pub use Rattle.ipc_format_stream_steps.specs.Behind
+pub use Rattle.ipc_format_file_writer.specs.stream_writer.reader.chunk_writing.flatbuffers.Reading
+pub use Rattle.ipc_format_file_writer.specs.stream_writer.reader.chunk_writing.flatbuffers.FlatBuffers
+pub use Rattle.ipc_format_file_writer.specs.stream_writer.reader.chunk_writing.flatbuffers.Laying
+pub use Rattle.ipc_format_file_writer.specs.stream_writer.reader.chunk_writing.flatbuffers.Objects
+pub use Rattle.ipc_format_file_writer.specs.stream_writer.reader.chunk_writing.flatbuffers.Views
+pub use Rattle.ipc_format_file_writer.specs.stream_writer.reader.chunk_writing.grammar.Messages
+pub use Rattle.ipc_format_file_writer.specs.stream_writer.reader.chunk_writing.grammar.Types
+pub use Rattle.ipc_format_file_writer.specs.stream_writer.reader.chunk_writing.grammar.Schemas
+pub use Rattle.ipc_format_file_writer.specs.stream_writer.reader.chunk_writing.grammar.SchemaGrammar
+pub use Rattle.ipc_format_file_writer.specs.stream_writer.reader.chunk_writing.grammar.Writable
+pub use Rattle.ipc_format_file_writer.specs.stream_writer.reader.chunk_writing.grammar.Layouts
+pub use Rattle.ipc_format_file_writer.specs.stream_writer.reader.chunk_writing.grammar.Values
+pub use Rattle.ipc_format_file_writer.specs.stream_writer.reader.chunk_writing.grammar.Columns
+pub use Rattle.ipc_format_file_writer.specs.stream_writer.reader.chunk_writing.grammar.Dictionaries
+pub use Rattle.ipc_format_file_writer.specs.stream_writer.reader.chunk_writing.grammar.Framing
+pub use Rattle.ipc_format_file_writer.specs.stream_writer.reader.chunk_writing.grammar.Files
+pub use Rattle.ipc_format_file_writer.specs.stream_writer.reader.chunk_writing.grammar.Tables
+pub use Rattle.ipc_format_file_writer.specs.stream_writer.reader.chunk_writing.grammar.Refusals
+pub use Rattle.ipc_format_file_writer.specs.stream_writer.reader.chunk_writing.grammar.SchemaObjects
+pub use Rattle.ipc_format_file_writer.specs.stream_writer.reader.chunk_writing.grammar.Buffers
+pub use Rattle.ipc_format_file_writer.specs.stream_writer.reader.chunk_writing.grammar.Encoding
+pub use Rattle.ipc_format_file_writer.specs.stream_writer.reader.chunk_writing.grammar.StoredEncoding
+pub use Rattle.ipc_format_file_writer.specs.stream_writer.reader.chunk_writing.grammar.Ids
+pub use Rattle.ipc_format_file_writer.specs.stream_writer.reader.chunk_writing.grammar.GivenDictionaries
+pub use Rattle.ipc_format_file_writer.specs.stream_writer.reader.chunk_writing.grammar.WrittenMessages
+pub use Rattle.ipc_format_file_writer.specs.stream_writer.reader.chunk_writing.grammar.WrittenStreams
+pub use Rattle.ipc_format_file_writer.specs.stream_writer.reader.chunk_writing.grammar.WrittenFiles
+pub use Rattle.ipc_format_file_writer.specs.stream_writer.reader.chunk_writing.grammar.Seals
+pub use Rattle.ipc_format_file_writer.specs.stream_writer.reader.chunk_writing.messages.MessageSlots
+pub use Rattle.ipc_format_file_writer.specs.stream_writer.reader.chunk_writing.messages.MessageViews
+pub use Rattle.ipc_format_file_writer.specs.stream_writer.reader.chunk_writing.messages.SchemaSlots
+pub use Rattle.ipc_format_file_writer.specs.stream_writer.reader.chunk_writing.messages.SchemaRefs
+pub use Rattle.ipc_format_file_writer.specs.stream_writer.reader.chunk_writing.messages.TypeSlots
+pub use Rattle.ipc_format_file_writer.specs.stream_writer.reader.chunk_writing.messages.TypeRefs
+pub use Rattle.ipc_format_file_writer.specs.stream_writer.reader.chunk_writing.messages.WholeMessages
+pub use Rattle.ipc_format_file_writer.specs.stream_writer.reader.chunk_writing.messages.BufferLengths
+pub use Rattle.ipc_format_file_writer.specs.stream_writer.reader.steps.streams.owned.writing.MessageWriting
+pub use Rattle.ipc_format_file_writer.specs.stream_writer.reader.steps.streams.owned.writing.FooterWriting
+pub use Rattle.ipc_format_file_writer.specs.stream_writer.reader.steps.streams.Frames
+pub use Rattle.ipc_format_file_writer.specs.stream_writer.reader.steps.streams.Failures
+pub use Rattle.ipc_format_file_writer.specs.stream_writer.reader.steps.streams.owned as values
+pub use Rattle.ipc_format_file_writer.specs.stream_writer.reader.chunk_writing.columns
+pub use Rattle.ipc_format_file_writer.specs.stream_writer.reader.chunk_writing.flatbuffers
+pub use Rattle.ipc_format_file_writer.specs.stream_writer.reader.chunk_writing.grammar
+pub use Rattle.ipc_format_file_writer.specs.stream_writer.reader.chunk_writing.messages
+pub use Rattle.ipc_format_file_writer.specs.stream_writer.reader.chunk_writing.metadata
+pub use Rattle.ipc_format_file_writer.specs.stream_writer.reader.steps.streams.owned.writing
+pub use Rattle.ipc_format_file_writer.specs.stream_writer.reader.steps.streams
+pub use Rattle.ipc_format_file_writer.specs.stream_writer.reader.chunk_writing.grammar.WriterRuns
+pub use Rattle.ipc_format_file_writer.specs.stream_writer.reader.chunk_writing.grammar.AppendedFiles
+pub use Rattle.ipc_format_file_writer.specs.stream_writer.reader.chunk_writing.columnar_memory
+pub use Rattle.ipc_format_file_writer.specs.stream_writer.reader.chunk_writing.nested_arrays
+pub use Rattle.ipc_format_file_writer.specs.stream_writer.reader.chunk_writing.chunks.Chunks
+pub use Rattle.ipc_format_file_writer.specs.stream_writer.reader.chunk_writing.EncodedChunks
+pub use Rattle.ipc_format_file_writer.specs.stream_writer.reader.chunk_writing.Tracking
+pub use Rattle.ipc_format_file_writer.specs.stream_writer.reader.chunk_writing.Types as OneForms
+pub use Rattle.ipc_format_file_writer.specs.stream_writer.reader.chunk_writing.BatchReads
+pub use Rattle.ipc_format_file_writer.specs.stream_writer.reader.chunk_writing.DictionaryReads
+pub use Rattle.ipc_format_file_writer.specs.stream_writer.reader.chunk_writing.Readable
+pub use Rattle.ipc_format_file_writer.specs.stream_writer.reader.chunk_writing.Standing
+pub use Rattle.ipc_format_file_writer.specs.stream_writer.reader.chunk_writing.ReadArrays
+pub use Rattle.ipc_format_file_writer.specs.stream_writer.reader.chunk_writing.Rooms
+pub use Rattle.ipc_format_file_writer.specs.stream_writer.reader.steps.Steps
+pub use Rattle.ipc_format_file_writer.specs.stream_writer.reader.steps.Behind
 pub use Rattle.ipc_format_reading_laws.specs as reading_laws
+pub use Rattle.ipc_format_file_writer.specs.stream_writer.reader.Turns
+pub use Rattle.ipc_format_file_writer.specs.stream_writer.reader.States as StreamStates
+pub use Rattle.ipc_format_file_writer.specs.stream_writer.reader.Hearing
+pub use Rattle.ipc_format_file_writer.specs.stream_writer.reader.Readings
+pub use Rattle.ipc_format_file_writer.specs.stream_writer.reader.Laws as TurnLaws
+pub use Rattle.ipc_format_file_writer.specs.stream_writer.Objections
+pub use Rattle.ipc_format_file_writer.specs.stream_writer.Opening
+pub use Rattle.ipc_format_file_writer.specs.stream_writer.Phases
+pub use Rattle.ipc_format_file_writer.specs.stream_writer.Room as ShortColumns
+pub use Rattle.ipc_format_file_writer.specs.stream_writer.Sending
+pub use Rattle.ipc_format_file_writer.specs.stream_writer.Streams as OpenedStreams
+pub use Rattle.ipc_format_file_writer.specs.stream_writer.Writing
+pub use Rattle.ipc_format_file_writer.specs.Adding
+pub use Rattle.ipc_format_file_writer.specs.Ends
+pub use Rattle.ipc_format_file_writer.specs.Opening as FileOpening
+pub use Rattle.ipc_format_file_writer.specs.Phases as FilePhases
+pub use Rattle.ipc_format_file_writer.specs.Placing as BlockPlacing
+pub use Rattle.ipc_format_file_writer.specs.Runs as FileRuns
+pub use Rattle.ipc_format_file_writer.specs.Writing as FileWriting

@@ -2,24 +2,79 @@
 //! dictionaries read and written, streams of messages, and the definitions of the format with their laws.
 #![tactic(auto)]
 
-pub use ipc_format_chunk_writing::{
+pub use ipc_format_file_writer::FileWriter;
+pub use ipc_format_file_writer::stream_writer::reader::chunk_writing::{
     Chunk, Compression, Dictionaries, DictionaryTracker, InMemory, Room, WriteOptions,
     encode_batch, encode_chunk, encode_chunk_amortized, have_one_form, look_ups_are_enough,
-    nested_arrays, read, read_children, read_dictionary, read_fixed_size_list, read_map,
-    read_record_batch, read_struct, read_union, schemas_have_arrays, write,
+    nested_arrays, read, read_children, read_dictionary, read_fixed_size_list, read_large_list,
+    read_list, read_map, read_record_batch, read_struct, read_union, schemas_have_arrays, write,
 };
-pub use ipc_format_reading_laws as reading_laws;
-pub use ipc_format_stream_steps::streams::metadata::{
+pub use ipc_format_file_writer::stream_writer::reader::steps::stream_start;
+pub use ipc_format_file_writer::stream_writer::reader::steps::streams::metadata::{
     IpcField, IpcSchema, OutOfSpecKind, can_write, deserialize_schema, deserialize_schema_counted,
     schema_in,
 };
-pub use ipc_format_stream_steps::streams::owned::serialize_schema;
-pub use ipc_format_stream_steps::streams::owned::writing::{
+pub use ipc_format_file_writer::stream_writer::reader::steps::streams::owned::serialize_schema;
+pub use ipc_format_file_writer::stream_writer::reader::steps::streams::owned::writing::{
     default_ipc_fields, dictionary_batch_to_bytes, footer_to_bytes, normalised,
     record_batch_to_bytes, schema_to_bytes,
 };
-pub use ipc_format_stream_steps::streams::{
+pub use ipc_format_file_writer::stream_writer::reader::steps::streams::{
     Counting, EncodedData, Faults, Frame, Framed, NextMessage, StreamMetadata, columnar_memory,
-    flatbuffers, grammar, messages, metadata, next_at, put, refusal,
+    flatbuffers, next_at, put, read_stream_metadata, refusal, write_continuation, write_message,
 };
-pub use ipc_format_stream_steps::{stream_start, streams};
+pub use ipc_format_file_writer::stream_writer::reader::{
+    StreamReader, StreamState, streams_are_read_by_turns,
+};
+pub use ipc_format_file_writer::stream_writer::{StreamWriter, put_message, put_messages};
+
+/// What `ipc_format_file_writer::stream_writer::reader::steps::streams::messages` has.
+pub mod messages {
+    pub use ipc_format_file_writer::stream_writer::reader::steps::streams::messages::{
+        Block, BlocksRef, BodyCompressionRef, Buffer, BuffersRef, DateRef, DateUnit, DecimalRef,
+        DictionaryBatchParts, DictionaryBatchRef, DictionaryEncodingRef, DurationRef, Endianness,
+        Error, FieldNode, FieldNodesRef, FieldRef, FieldsRef, FixedSizeBinaryRef, FixedSizeListRef,
+        FooterRef, IntRef, IntervalRef, KeyValueRef, KeyValuesRef, MapRef, MessageHeaderRef,
+        MessageParts, MessageRef, MetadataVersion, RecordBatchParts, RecordBatchRef, SchemaRef,
+        TableRef, TablesRef, TimeRef, TimestampRef, TypeRef, UnionRef, as_memory_error,
+        dictionary_batch_in, message_in, record_batch_in, version_in,
+    };
+}
+
+/// What `ipc_format_file_writer::stream_writer::reader::steps::streams::metadata` has.
+pub mod metadata {
+    pub use ipc_format_file_writer::stream_writer::reader::steps::streams::metadata::{
+        IpcField, IpcSchema, MOST_LEVELS, OutOfSpecKind, Tag, any_schema_in, can_write,
+        deserialize_schema, deserialize_schema_counted, mode_of, schema_in, schema_in_counted,
+        sizes, slots, tag_numbers, tag_of, unit_in,
+    };
+}
+
+/// What `ipc_format_reading_laws` has.
+pub mod reading_laws {
+    pub use ipc_format_reading_laws::{
+        appended_files_read_back, choices_are_isolated, columns_have_parts, columns_read_at_fronts,
+        grown_files_read_back, normal_columns_stay_whole, normalised_types_read_the_same_slots,
+        seals_read_back, seals_tell_tables_apart, stated_ends_are_enough, stored_columns_read_back,
+        stored_files_read_back, stored_streams_read_back,
+    };
+}
+
+/// What `ipc_format_file_writer::stream_writer::reader::steps::streams` has.
+pub mod streams {
+    pub use ipc_format_file_writer::stream_writer::reader::steps::streams::{
+        BatchQueues, Counting, DictionaryValues, EncodedData, Faults, Frame, Framed, Incoming,
+        NextMessage, StreamMetadata, batch_queues, deserialize_stream_metadata, dictionary_values,
+        fill, next_at, next_message, put, read_refusal, read_stream_metadata, refusal,
+        write_continuation, write_message,
+    };
+
+    /// Of `owned`.
+    pub mod owned {
+        pub use ipc_format_file_writer::stream_writer::reader::steps::streams::owned::{
+            DictionaryEncoding, Field, Footer, Int, Message, MessageHeader, Type_,
+            dictionary_batch_of, field_of, footer_of, key_value_of, message_header_of, message_of,
+            record_batch_of, schema_of, type_of,
+        };
+    }
+}

@@ -12,7 +12,8 @@ pub use ipc_format_reading::{
     FieldNode, InMemory, IpcField, IpcSchema, MessageHeaderRef, MetadataVersion, Placed,
     RecordBatchRef, Room, batch_queues, columnar_memory, dictionary_batch_in, dictionary_metadata,
     dictionary_values, first_beside, message_in, nested_arrays, normalised, read, read_children,
-    read_fixed_size_list, read_map, read_struct, read_union, record_metadata, write,
+    read_fixed_size_list, read_large_list, read_list, read_map, read_struct, read_union,
+    record_metadata, write,
 };
 pub use laws::{look_ups_are_enough, schemas_have_arrays};
 pub use record_batch::read_record_batch;

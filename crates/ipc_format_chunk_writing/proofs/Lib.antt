@@ -15,3 +15,4 @@ pub use Rattle.ipc_format_batch_reading.proofs.ColumnSizes
 pub use Rattle.ipc_format_batch_reading.proofs.Columns
 pub use Rattle.ipc_format_batch_reading.proofs.Cuts
 pub use Rattle.ipc_format_batch_reading.proofs.Windows
+pub use Rattle.ipc_format_batch_reading.proofs.Conditions

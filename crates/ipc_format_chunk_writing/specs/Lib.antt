@@ -19,3 +19,5 @@ pub use Rattle.ipc_format_batch_reading.specs.Readable
 pub use Rattle.ipc_format_batch_reading.specs.Standing
 pub use Rattle.ipc_format_batch_reading.specs.ReadArrays
 pub use Rattle.ipc_format_batch_reading.specs.Rooms
+pub use Rattle.ipc_format_batch_reading.specs.Below
+pub use Rattle.ipc_format_batch_reading.specs.ArrayReads

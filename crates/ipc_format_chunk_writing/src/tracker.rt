@@ -93,7 +93,7 @@ impl DictionaryTracker {
     }
 
     /// Another tracker that was told the same.
-    pub(crate) fn copy(&self) -> Result<DictionaryTracker>
+    pub fn copy(&self) -> Result<DictionaryTracker>
         ensures { MatchResult result (λ copy. tracked copy ≡ tracked self.now) IsOutOfMemory }
     {
         Ok(DictionaryTracker {

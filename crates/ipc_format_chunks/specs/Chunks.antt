@@ -1,8 +1,8 @@
 -- Arrays of one length, as the columns of a batch of rows (Arrow IPC, "RecordBatch message").
 use Rattle.std.specs.Prelude.{◌≡◌, ℕ, Bool, List, [], ◌∷◌, slice_get, Some, Result, Ok, Err}
 use Rattle.std.specs.Bool.{Decides}
-use Rattle.columnar_memory.specs.declared.Error.{Error}
-use Rattle.columnar_memory.specs.Error.{IsInvalidArgument}
+use Rattle.nested_arrays.specs.columnar_memory.declared.Error.{Error}
+use Rattle.nested_arrays.specs.columnar_memory.Error.{IsInvalidArgument}
 use Rattle.nested_arrays.specs.StoredColumns.{Column, column_len, column_type, slots}
 
 -- how many rows some arrays have: as many as the first has slots, and without an array none

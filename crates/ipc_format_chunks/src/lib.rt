@@ -9,4 +9,3 @@ mod walks;
 pub use chunk::Chunk;
 pub use clones::CloneArray;
 pub use nested_arrays;
-pub use nested_arrays::columnar_memory;

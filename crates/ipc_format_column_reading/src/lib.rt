@@ -28,10 +28,7 @@ pub use deserialize::skip;
 pub use dictionary::skip_dictionary;
 pub use fixed_size_binary::skip_fixed_size_binary;
 pub use fixed_size_list::skip_fixed_size_list;
-pub use ipc_format_column_bytes as column_bytes;
-pub use ipc_format_column_bytes::{
-    columnar_memory, columns, flat_arrays, flatbuffers, grammar, messages, metadata,
-};
+pub use ipc_format_column_bytes::columnar_memory;
 pub use list::skip_list;
 pub use map::skip_map;
 pub use marked::{Marked, read_marked};
@@ -43,3 +40,45 @@ pub use room::{InMemory, Room};
 pub use struct_::skip_struct;
 pub use union::skip_union;
 pub use utf8::{read_utf8, skip_utf8};
+
+/// What `ipc_format_column_bytes` has, as far as packages above use it.
+pub mod column_bytes {
+    pub use ipc_format_column_bytes::{
+        Body, Lengths, Placed, columnar_memory, dictionary_metadata, offset_at, record_metadata,
+    };
+
+    /// Of `messages`.
+    pub mod messages {
+        pub use ipc_format_column_bytes::messages::{Buffer, FieldNode};
+    }
+
+    /// Of `streams`.
+    pub mod streams {
+        pub use ipc_format_column_bytes::streams::{
+            Counting, EncodedData, Faults, batch_queues, dictionary_values,
+        };
+
+        /// Of `owned`.
+        pub mod owned {
+            /// Of `writing`.
+            pub mod writing {
+                pub use ipc_format_column_bytes::streams::owned::writing::{
+                    first_beside, normalised,
+                };
+            }
+        }
+    }
+}
+
+/// What `ipc_format_column_bytes::messages` has, as far as packages above use it.
+pub mod messages {
+    pub use ipc_format_column_bytes::messages::{
+        BodyCompressionRef, Buffer, DictionaryBatchRef, FieldNode, MessageHeaderRef,
+        MetadataVersion, RecordBatchRef, TableRef, dictionary_batch_in, message_in,
+    };
+}
+
+/// What `ipc_format_column_bytes::metadata` has, as far as packages above use it.
+pub mod metadata {
+    pub use ipc_format_column_bytes::metadata::{IpcField, IpcSchema};
+}

@@ -6,4 +6,3 @@
 
 pub use columnar_memory;
 pub use ipc_format_flatbuffers as flatbuffers;
-pub use nested_arrays_columns as columns;

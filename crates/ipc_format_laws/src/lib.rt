@@ -27,8 +27,6 @@ pub use fresh_laws::{
     slots_bring_the_dictionaries_that_are_stored,
 };
 pub use id_laws::{default_ids_count_in_pre_order, default_ids_fit};
-pub use ipc_format_grammar as grammar;
-pub use ipc_format_grammar::{columnar_memory, columns, flatbuffers};
 pub use normal_form_laws::{
     a_normal_form_is_its_own, a_normal_form_is_valid, a_normal_form_is_written_where_the_schema_is,
 };

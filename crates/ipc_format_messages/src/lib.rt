@@ -21,8 +21,7 @@ pub use batches::{BodyCompressionRef, DictionaryBatchRef, RecordBatchRef};
 pub use error::{Error, as_memory_error};
 pub use fields::{DictionaryEncodingRef, FieldRef, IntRef, KeyValueRef};
 pub use footer::FooterRef;
-pub use ipc_format_metadata as metadata;
-pub use ipc_format_metadata::{columnar_memory, columns, flatbuffers, grammar};
+pub use ipc_format_metadata::{columnar_memory, flatbuffers};
 pub use messages::{MessageHeaderRef, MessageRef};
 pub use reading::{
     DictionaryBatchParts, MessageParts, RecordBatchParts, dictionary_batch_in, message_in,
@@ -36,3 +35,12 @@ pub use types::{
 };
 pub use values::{Block, Buffer, FieldNode, MetadataVersion};
 pub use vectors::{BlocksRef, BuffersRef, FieldNodesRef, TablesRef};
+
+/// What `ipc_format_metadata` has, as far as packages above use it.
+pub mod metadata {
+    pub use ipc_format_metadata::{
+        IpcField, IpcSchema, MOST_LEVELS, OutOfSpecKind, Tag, any_schema_in, can_write,
+        deserialize_schema, deserialize_schema_counted, mode_of, schema_in, schema_in_counted,
+        sizes, slots, tag_numbers, tag_of, unit_in,
+    };
+}

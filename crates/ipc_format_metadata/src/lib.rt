@@ -14,8 +14,7 @@ mod tags;
 mod types;
 mod writable;
 
-pub use ipc_format_grammar as grammar;
-pub use ipc_format_grammar::{columnar_memory, columns, flatbuffers};
+pub use ipc_format_grammar::{columnar_memory, flatbuffers};
 pub use ipc_schema::{IpcField, IpcSchema};
 pub use messages::{
     MOST_LEVELS, any_schema_in, deserialize_schema, deserialize_schema_counted, schema_in,

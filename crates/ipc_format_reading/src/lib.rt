@@ -14,4 +14,6 @@ pub use ipc_format_childless_reading::{
     RecordBatchRef, Room, batch_queues, columnar_memory, dictionary_batch_in, dictionary_metadata,
     dictionary_values, first_beside, message_in, nested_arrays, normalised, record_metadata, write,
 };
-pub use typed::{read_fixed_size_list, read_map, read_struct, read_union};
+pub use typed::{
+    read_fixed_size_list, read_large_list, read_list, read_map, read_struct, read_union,
+};

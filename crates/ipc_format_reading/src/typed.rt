@@ -12,7 +12,7 @@ ghost use Rattle.ipc_format_childless_reading.specs.metadata.Views.{ids_view};
 use crate::deserialize::read_type;
 use ipc_format_childless_reading::columnar_memory::{DataType, Error, PhysicalType, Result};
 use ipc_format_childless_reading::nested_arrays::{
-    AnyArray, FixedSizeListArray, MapArray, StructArray, UnionArray,
+    AnyArray, FixedSizeListArray, ListArray, MapArray, StructArray, UnionArray,
 };
 use ipc_format_childless_reading::{
     BodyCompressionRef, Buffer, Dictionaries, FieldNode, IpcField, MetadataVersion, Room,
@@ -69,6 +69,102 @@ fn read_as<R: Room>(
         );
     }
     Err(Error::OutOfSpec("InvalidDataType"))
+}
+
+/// Reads a column of lists with offsets of 32 bits, with the columns below it, as `read` does.
+///
+/// # Errors
+/// As `read`; `OutOfSpec` also where the type is of another kind, and then the queues stay.
+pub fn read_list<R: Room>(
+    alloc: Global,
+    field_nodes: &mut VecDeque<FieldNode>,
+    data_type: DataType,
+    ipc_field: &IpcField,
+    buffers: &mut VecDeque<Buffer>,
+    reader: &mut R,
+    dictionaries: &Dictionaries,
+    block_offset: u64,
+    is_little_endian: bool,
+    compression: Option<BodyCompressionRef<'_>>,
+    limit: Option<usize>,
+    version: MetadataVersion,
+    scratch: &mut Vec<u8>,
+) -> Result<ListArray<i32>>
+    ensures { ReadsColumn (physical_type data_type ≡ layouts.List) (is_some compression.entry) (R.told reader.old) (R.told reader.new)
+        (λ array. array) data_type
+        (λ room. array_slots data_type (at_front field_nodes.old.items buffers.old.items (version_view version) is_little_endian
+        (standing_in dictionaries.now) limit block_offset (ids_view ipc_field.now) room))
+        (node_count data_type) (buffer_count (version_view version) data_type)
+        field_nodes.old.items field_nodes.new.items buffers.old.items buffers.new.items result }
+{
+    let array = read_as(
+        alloc,
+        field_nodes,
+        &data_type,
+        PhysicalType::List,
+        ipc_field,
+        buffers,
+        reader,
+        dictionaries,
+        block_offset,
+        is_little_endian,
+        compression,
+        limit,
+        version,
+        scratch,
+    )?;
+    match ListArray::<i32>::try_from(array) {
+        Ok(array) => Ok(array),
+        Err(_) => Err(Error::OutOfSpec("InvalidDataType")),
+    }
+}
+
+/// Reads a column of lists with offsets of 64 bits, with the columns below it, as `read` does.
+///
+/// # Errors
+/// As `read`; `OutOfSpec` also where the type is of another kind, and then the queues stay.
+pub fn read_large_list<R: Room>(
+    alloc: Global,
+    field_nodes: &mut VecDeque<FieldNode>,
+    data_type: DataType,
+    ipc_field: &IpcField,
+    buffers: &mut VecDeque<Buffer>,
+    reader: &mut R,
+    dictionaries: &Dictionaries,
+    block_offset: u64,
+    is_little_endian: bool,
+    compression: Option<BodyCompressionRef<'_>>,
+    limit: Option<usize>,
+    version: MetadataVersion,
+    scratch: &mut Vec<u8>,
+) -> Result<ListArray<i64>>
+    ensures { ReadsColumn (physical_type data_type ≡ layouts.LargeList) (is_some compression.entry) (R.told reader.old) (R.told reader.new)
+        (λ array. array) data_type
+        (λ room. array_slots data_type (at_front field_nodes.old.items buffers.old.items (version_view version) is_little_endian
+        (standing_in dictionaries.now) limit block_offset (ids_view ipc_field.now) room))
+        (node_count data_type) (buffer_count (version_view version) data_type)
+        field_nodes.old.items field_nodes.new.items buffers.old.items buffers.new.items result }
+{
+    let array = read_as(
+        alloc,
+        field_nodes,
+        &data_type,
+        PhysicalType::LargeList,
+        ipc_field,
+        buffers,
+        reader,
+        dictionaries,
+        block_offset,
+        is_little_endian,
+        compression,
+        limit,
+        version,
+        scratch,
+    )?;
+    match ListArray::<i64>::try_from(array) {
+        Ok(array) => Ok(array),
+        Err(_) => Err(Error::OutOfSpec("InvalidDataType")),
+    }
 }
 
 /// Reads a column of lists of one size, with the columns below it, as `read` does.

@@ -4,7 +4,7 @@ use ipc_format_reading::columnar_memory::{Boxed, DataType, Error, Items, UnionMo
 use ipc_format_reading::nested_arrays::Array;
 use ipc_format_reading::{
     Buffer, Dictionaries, FieldNode, InMemory, IpcField, MetadataVersion, read_fixed_size_list,
-    read_map, read_struct, read_union,
+    read_large_list, read_list, read_map, read_struct, read_union,
 };
 use std::alloc::Global;
 use std::collections::VecDeque;
@@ -55,6 +55,62 @@ fn a_list_of_two_numbers(rt: HostRuntime) -> Result<(), Fail> {
         &no_ids(alloc)?,
         &mut sent.buffers,
         &mut InMemory { bytes: &[7, 8] },
+        &sent.none,
+        0,
+        true,
+        None,
+        None,
+        MetadataVersion::V5,
+        &mut sent.scratch,
+    )?;
+    assert_eq!(rt; found.len(), 1);
+    Ok(())
+}
+
+#[test]
+fn a_list_of_two(rt: HostRuntime) -> Result<(), Fail> {
+    let alloc = rt.alloc();
+    let item = Boxed::new(alloc, field(alloc, DataType::Int8)?)?;
+    let mut sent = Sent::new(alloc, &[(1, 0), (2, 0)], &[(0, 0), (0, 8), (0, 0), (8, 2)])?;
+    let found = read_list(
+        alloc,
+        &mut sent.nodes,
+        DataType::List(item),
+        &no_ids(alloc)?,
+        &mut sent.buffers,
+        &mut InMemory {
+            bytes: &[0, 0, 0, 0, 2, 0, 0, 0, 7, 8],
+        },
+        &sent.none,
+        0,
+        true,
+        None,
+        None,
+        MetadataVersion::V5,
+        &mut sent.scratch,
+    )?;
+    assert_eq!(rt; found.len(), 1);
+    Ok(())
+}
+
+#[test]
+fn a_large_list_of_one(rt: HostRuntime) -> Result<(), Fail> {
+    let alloc = rt.alloc();
+    let item = Boxed::new(alloc, field(alloc, DataType::Int8)?)?;
+    let mut sent = Sent::new(
+        alloc,
+        &[(1, 0), (1, 0)],
+        &[(0, 0), (0, 16), (0, 0), (16, 1)],
+    )?;
+    let found = read_large_list(
+        alloc,
+        &mut sent.nodes,
+        DataType::LargeList(item),
+        &no_ids(alloc)?,
+        &mut sent.buffers,
+        &mut InMemory {
+            bytes: &[0, 0, 0, 0, 0, 0, 0, 0, 1, 0, 0, 0, 0, 0, 0, 0, 7],
+        },
         &sent.none,
         0,
         true,

@@ -51,3 +51,4 @@ pub use Rattle.nested_arrays_nulls.specs.Lengths as PartLengths
 pub use Rattle.nested_arrays_nulls.specs.NullAnswers
 pub use Rattle.nested_arrays_nulls.specs.NullColumns
 pub use Rattle.nested_arrays_nulls.specs.NullLaws as NullSlots
+pub use Rattle.nested_arrays_nulls.specs.columnar_memory

@@ -8,5 +8,33 @@ mod taken;
 
 pub use frozen::into_array;
 pub use mutable_array::MutableArray;
-pub use nested_arrays_builders as builders;
-pub use nested_arrays_builders::{arrays, columnar_memory, parts};
+
+/// What `nested_arrays_builders::arrays` has, as far as packages above use it.
+pub mod arrays {
+    pub use nested_arrays_builders::arrays::{
+        AnyArray, DictionaryNode, FixedSizeListArray, ListNode, MapArray, Node, StructArray,
+        UnionArray, columnar_memory, flat_arrays,
+    };
+
+    /// Of `flat`.
+    pub mod flat {
+        pub use nested_arrays_builders::arrays::flat::{AnyPrimitive, PrimitiveNode, mark_at};
+    }
+
+    /// Of `parts`.
+    pub mod parts {
+        pub use nested_arrays_builders::arrays::parts::{
+            FlatArray, FlatNode, ListOffsets, holds_values, is_valid,
+        };
+    }
+}
+
+/// What `nested_arrays_builders` has, as far as packages above use it.
+pub mod builders {
+    pub use nested_arrays_builders::AnyMutableArray;
+}
+
+/// What `nested_arrays_builders::parts` has, as far as packages above use it.
+pub mod parts {
+    pub use nested_arrays_builders::parts::{AnyNumber, Marks, Strings};
+}

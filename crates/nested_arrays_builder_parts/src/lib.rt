@@ -14,12 +14,31 @@ mod values;
 pub use cells::is_null;
 pub use flat::FlatBuilder;
 pub use marks::Marks;
-pub use nested_arrays_arrays as arrays;
-pub use nested_arrays_arrays::{columnar_memory, columns, flat_arrays};
-pub use nested_arrays_growth as growth;
-pub use nested_arrays_scalars as scalars;
+pub use nested_arrays_arrays::columnar_memory;
 pub use nested_arrays_scalars::AnyScalar;
 pub use numbers::{AnyNumber, NumberKind};
 pub use parts::{CellPart, part_of};
 pub use strings::Strings;
 pub use values::{Values, ValuesNode};
+
+/// What `nested_arrays_arrays` has, as far as packages above use it.
+pub mod arrays {
+    pub use nested_arrays_arrays::{
+        AnyArray, DictionaryNode, FixedSizeListArray, ListNode, MapArray, Node, StructArray,
+        UnionArray, columnar_memory, flat_arrays,
+    };
+
+    /// Of `flat`.
+    pub mod flat {
+        pub use nested_arrays_arrays::flat::{
+            AnyPrimitive, PrimitiveKind, PrimitiveNode, mark_at, read_bytes,
+        };
+    }
+
+    /// Of `parts`.
+    pub mod parts {
+        pub use nested_arrays_arrays::parts::{
+            FlatArray, FlatNode, ListOffsets, holds_values, is_valid,
+        };
+    }
+}

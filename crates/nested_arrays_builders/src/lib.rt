@@ -14,6 +14,37 @@ mod room;
 
 pub use any::{AnyMutableArray, Head, MutableChildren, MutableNode};
 pub use fitting::is_cell_of;
-pub use nested_arrays_builder_values as values;
-pub use nested_arrays_builder_values::{arrays, columnar_memory, parts};
+pub use nested_arrays_builder_values::columnar_memory;
 pub use offsets::MutableListOffsets;
+
+/// What `nested_arrays_builder_values::arrays` has, as far as packages above use it.
+pub mod arrays {
+    pub use nested_arrays_builder_values::arrays::{
+        AnyArray, DictionaryNode, FixedSizeListArray, ListNode, MapArray, Node, StructArray,
+        UnionArray, columnar_memory, flat_arrays,
+    };
+
+    /// Of `flat`.
+    pub mod flat {
+        pub use nested_arrays_builder_values::arrays::flat::{
+            AnyPrimitive, PrimitiveKind, PrimitiveNode, mark_at,
+        };
+    }
+
+    /// Of `parts`.
+    pub mod parts {
+        pub use nested_arrays_builder_values::arrays::parts::{
+            FlatArray, FlatNode, ListOffsets, holds_values, is_valid,
+        };
+    }
+}
+
+/// What `nested_arrays_builder_values::parts` has, as far as packages above use it.
+pub mod parts {
+    pub use nested_arrays_builder_values::parts::{AnyNumber, Marks, Strings};
+}
+
+/// What `nested_arrays_builder_values` has, as far as packages above use it.
+pub mod values {
+    pub use nested_arrays_builder_values::{MutableKeys, SlotUses};
+}

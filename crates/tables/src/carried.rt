@@ -104,6 +104,7 @@ fn add_batches(joined: &mut GrowingTable, table: &Table) -> Result<(), Fault>
     requires { table.now.schema ≡ joined.old.schema }
     ensures { AddsBatches joined.old table.now.batches result joined.new }
 {
+    // A proof then has that the rows so far fit 64 bits.
     let _rows = joined.rows();
     table.whole();
     for batch in table.batches() {

@@ -1,5 +1,4 @@
 pub mod BatchLists
-pub mod BodyReads
 pub mod ChoiceSteps
 pub mod ChosenBatches
 pub mod ChosenSchemas
@@ -7,13 +6,13 @@ pub mod Chunks
 pub mod ColumnsOfRows
 pub mod CutBatches
 pub mod CutSteps
+pub mod FileTables
 pub mod JoinedBatches
 pub mod KeptColumns
 pub mod Lists
 pub mod LongColumns
 pub mod MadeTables
 pub mod NextRefused
-pub mod NoFloats
 pub mod PutBatches
 pub mod PutTables
 pub mod ReadTables
@@ -32,5 +31,5 @@ pub mod TellingTables
 pub mod Unread
 pub mod WithinLimits
 pub mod WrittenIds
-pub use Rattle.ipc_format.proofs.Appending
-pub use Rattle.ipc_format.proofs.Windows
+pub use Rattle.tables_file_reading.proofs.ipc_format_lemmas.Appending
+pub use Rattle.tables_file_reading.proofs.ipc_format_lemmas.Windows

@@ -9,42 +9,33 @@ use Rattle.std.proofs.lemmas.Grind.{flat_map-append, take_at_read}
 use Rattle.std.proofs.lemmas.List.{append-nil, map-append, take-append-drop}
 use Rattle.std.proofs.lemmas.List.Folds.{list_all-append}
 use Rattle.columnar_memory_types.specs.Error.{IsIo}
-use Rattle.ipc_format.specs.columnar_memory.declared.Error.{Error}
-use Rattle.ipc_format.specs.columnar_memory.declared.Error.TheVariants as errors
-use Rattle.ipc_format.specs.columnar_memory.declared.Schema.{Schema}
-use Rattle.ipc_format.specs.columns.StoredColumns.{Column}
-use Rattle.ipc_format.specs.GivenDictionaries.{Given, agree, to_write}
-use Rattle.ipc_format.specs.Ids.{ids_fit_fields}
-use Rattle.ipc_format.specs.Schemas.{IdsList}
-use Rattle.ipc_format.specs.Writable.{is_writable}
-use Rattle.ipc_format.specs.WriterRuns.{may_tell}
-use Rattle.ipc_format.specs.WrittenMessages.{Written, body_limit, dictionary_message, fits_limit, framed, message_bytes}
-use Rattle.ipc_format.specs.WrittenMessages.{most_metadata, prefix_size, record_message, schema_written}
-use Rattle.ipc_format.specs.WrittenStreams.{Batch, batch_messages, bytes_of_messages}
-use Rattle.ipc_format.proofs.DefaultIds.{defaults_fit}
-use Rattle.ipc_format.specs.EncodedChunks.{Encodes, IsBarred, IsEncoded}
-use Rattle.ipc_format.specs.Tracking.{form_by, told_by}
-use Rattle.ipc_format.specs.streams.Devices.{AppendsBeginning, Puts}
-use Rattle.ipc_format.specs.writing.Floats.{has_float}
-use Rattle.ipc_format.specs.writing.Writing.{WritesSchema, may_write}
-use Rattle.ipc_format.proofs.Appending.{appends_both, appends_nothing, begins_behind}
-use Rattle.ipc_format.proofs.Appending.{begins_first, begins_nothing, begins_same}
+use Rattle.tables_file_reading.specs.ipc_format.columnar_memory.declared.Error.{Error}
+use Rattle.tables_file_reading.specs.ipc_format.columnar_memory.declared.Error.TheVariants as errors
+use Rattle.tables_file_reading.specs.ipc_format.columnar_memory.declared.Schema.{Schema}
+use Rattle.tables_file_reading.specs.ipc_format.columns.StoredColumns.{Column}
+use Rattle.tables_file_reading.specs.ipc_format.GivenDictionaries.{Given, agree, to_write}
+use Rattle.tables_file_reading.specs.ipc_format.Ids.{ids_fit_fields}
+use Rattle.tables_file_reading.specs.ipc_format.Schemas.{IdsList}
+use Rattle.tables_file_reading.specs.ipc_format.Writable.{is_writable}
+use Rattle.tables_file_reading.specs.ipc_format.WriterRuns.{may_tell}
+use Rattle.tables_file_reading.specs.ipc_format.WrittenMessages.{Written, body_limit, dictionary_message, fits_limit, framed, message_bytes}
+use Rattle.tables_file_reading.specs.ipc_format.WrittenMessages.{most_metadata, prefix_size, record_message, schema_written}
+use Rattle.tables_file_reading.specs.ipc_format.WrittenStreams.{Batch, batch_messages, bytes_of_messages}
+use Rattle.tables_file_reading.proofs.ipc_format_lemmas.PutMessages.{prefix_fits}
+use Rattle.tables_file_reading.proofs.ipc_format_lemmas.DefaultIds.{defaults_fit}
+use Rattle.tables_file_reading.specs.ipc_format.EncodedChunks.{Encodes, IsBarred, IsEncoded}
+use Rattle.tables_file_reading.specs.ipc_format.Tracking.{form_by, told_by}
+use Rattle.tables_file_reading.specs.ipc_format.streams.Devices.{AppendsBeginning, Puts}
+use Rattle.tables_file_reading.specs.ipc_format.writing.Floats.{has_float}
+use Rattle.tables_file_reading.specs.ipc_format.writing.Writing.{WritesSchema, may_write}
+use Rattle.tables_file_reading.proofs.ipc_format_lemmas.Appending.{appends_both, appends_nothing, begins_behind}
+use Rattle.tables_file_reading.proofs.ipc_format_lemmas.Appending.{begins_first, begins_nothing, begins_same}
 use Rattle.tables_chunks.specs.PutMessages.{IsPast, PutsBatch, PutsSchema}
 use Rattle.tables_chunks.specs.Refusals.{IsRefusal, StopsAtSchema}
 use Rattle.tables_chunks.specs.WrittenTables.{table_ids}
-use Rattle.tables_chunks.proofs.NoFloats.{no_float}
+use Rattle.tables_file_reading.proofs.ipc_format_lemmas.NoFloats.{no_float}
 use Rattle.tables_chunks.proofs.RefusedWrites.{io_refused}
 use Rattle.tables_chunks.proofs.WithinLimits.{dictionaries_fit, has_limits}
-
--- ---- one message
-
--- the metadata of a message that fits has few bytes
-pub prefix_fits : (message : Written) (metadata : List ℕ) → metadata ≡ message.metadata → fits_limit message ≡ true
-    → prefix_size + length metadata ≤ most_metadata
-prefix_fits message metadata same fits =
-    subst (λ (bytes : List ℕ). prefix_size + length bytes ≤ most_metadata) (sym same)
-    (leb-true (prefix_size + length message.metadata) most_metadata
-    (and_parts (nat_lt (length message.body) body_limit) (nat_le (prefix_size + length message.metadata) most_metadata) fits).1)
 
 -- ---- a schema
 
@@ -97,61 +88,6 @@ schema_put (Err error) old new schema ids metadata body same made none put = (
       (begins_same old new _ _ (schema_framed schema ids metadata body made.2 none) put.1),
   io_refused (StopsAtSchema old new schema) error put.0,
 )
-
--- ---- messages one after another
-
--- the messages of some first things
-module _ {A : Type 0} (message : A → Written) where
-  abbrev pub FirstMessages : List A → ℕ → List Written
-  FirstMessages all i = map message (take i all)
-
-  more_taken : (all : List A) (i : ℕ) (x : A) → i < length all → get_or all i x ≡ x → take (i + 1) all ≡ take i all ++ x ∷ []
-  more_taken all i x inside here = (take_at_read all i x inside).1 ∙ ap (λ (y : A). take i all ++ y ∷ []) here
-
-  parts : (all : List A) (i : ℕ) (x : A) → i < length all → get_or all i x ≡ x → all ≡ take i all ++ x ∷ drop (i + 1) all
-  parts all i x inside here =
-      sym (take-append-drop (i + 1) all) ∙ ap (λ (front : List A). front ++ drop (i + 1) all) (more_taken all i x inside here)
-      ∙ append_assoc (take i all) (x ∷ []) (drop (i + 1) all)
-
-  bytes_append : (xs ys : List A)
-      → bytes_of_messages (map message (xs ++ ys)) ≡ bytes_of_messages (map message xs) ++ bytes_of_messages (map message ys)
-  bytes_append xs ys = ap bytes_of_messages (map-append message xs ys) ∙ flat_map-append message_bytes (map message xs) (map message ys)
-
-  -- each of them is short
-  pub message_fits : (all : List A) (i : ℕ) (x : A) → i < length all → get_or all i x ≡ x → list_all fits_limit (map message all) ≡ true
-      → fits_limit (message x) ≡ true
-  message_fits all i x inside here fit =
-      let split = ap (map message) (parts all i x inside here) ∙ map-append message (take i all) (x ∷ drop (i + 1) all) in
-      let both = sym (list_all-append fits_limit (map message (take i all)) (map message (x ∷ drop (i + 1) all)))
-      ∙ sym (ap (list_all fits_limit) split) ∙ fit in
-      let second = and_parts (list_all fits_limit (map message (take i all))) (list_all fits_limit (map message (x ∷ drop (i + 1) all))) both in
-      (and_parts (fits_limit (message x)) (list_all fits_limit (map message (drop (i + 1) all))) second.1).0
-
-  -- one more is put
-  pub message_more : (old between new : Option (List ℕ)) (all : List A) (i : ℕ) (x : A) → i < length all → get_or all i x ≡ x
-      → Appends old between (bytes_of_messages (FirstMessages all i)) → Appends between new (message_bytes (message x))
-      → Appends old new (bytes_of_messages (FirstMessages all (i + 1)))
-  message_more old between new all i x inside here first next =
-      let same = ap (λ (some : List A). bytes_of_messages (map message some)) (more_taken all i x inside here)
-      ∙ bytes_append (take i all) (x ∷ [])
-      ∙ ap (λ (bytes : List ℕ). bytes_of_messages (FirstMessages all i) ++ bytes) (append-nil (message_bytes (message x))) in
-      subst (λ (bytes : List ℕ). Appends old new bytes) (sym same)
-      (appends_both old between new (bytes_of_messages (FirstMessages all i)) (message_bytes (message x)) first next)
-
-  -- one is refused
-  pub message_refused : (error : Error) (old between new : Option (List ℕ)) (all : List A) (i : ℕ) (x : A) → i < length all → get_or all i x ≡ x
-      → Appends old between (bytes_of_messages (FirstMessages all i)) → IsIo error × AppendsBeginning between new (message_bytes (message x))
-      → IsIo error × AppendsBeginning old new (bytes_of_messages (map message all))
-  message_refused error old between new all i x inside here first refused =
-      let done = bytes_of_messages (FirstMessages all i) in
-      let rest = bytes_of_messages (map message (drop (i + 1) all)) in
-      let same = ap (λ (some : List A). bytes_of_messages (map message some)) (parts all i x inside here)
-      ∙ bytes_append (take i all) (x ∷ drop (i + 1) all) in (
-        refused.0,
-        begins_same old new _ _ (sym same)
-            (begins_behind old between new done (message_bytes (message x) ++ rest) first
-            (begins_first between new (message_bytes (message x)) rest refused.1)),
-      )
 
 -- ---- a batch
 

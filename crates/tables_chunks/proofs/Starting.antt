@@ -1,26 +1,24 @@
 -- The schema that a stream begins with.
-use Rattle.std.proofs.Common.{◌≡◌, ◌∙◌, ℕ, Bool, true, false, List, refl, ap, subst}
-use Rattle.std.specs.Prelude.{Some, None, Err}
-use Rattle.ipc_format.specs.Readable.{HasArrays, SchemasHaveArrays}
+use Rattle.std.proofs.Common.{◌≡◌, ◌∙◌, ℕ, true, List, ap, subst}
+use Rattle.std.specs.Prelude.{Some, Err}
+use Rattle.tables_file_reading.specs.ipc_format.Readable.{HasArrays, SchemasHaveArrays}
 use Rattle.columnar_memory_types.specs.Error.{IsOutOfMemory}
-use Rattle.ipc_format.specs.columnar_memory.declared.Error.{Error}
-use Rattle.ipc_format.specs.columnar_memory.declared.Error.TheVariants as errors
-use Rattle.ipc_format.specs.Framing.{Framed, first_of}
-use Rattle.ipc_format.specs.Messages.{Header, Version, schema, dictionary_batch, record_batch, version_in}
-use Rattle.ipc_format.specs.Reading.{guard}
-use Rattle.ipc_format.specs.FlatBuffers.{Table}
-use Rattle.ipc_format.specs.SchemaGrammar.{schema_in}
-use Rattle.ipc_format.specs.Schemas.{SchemaIn, any_schema_in}
-use Rattle.ipc_format.specs.Writable.{is_writable, normalised}
-use Rattle.ipc_format.specs.columnar_memory.Texts.{HasTexts}
-use Rattle.ipc_format.specs.Tables.{schema_of, layout_of}
-use Rattle.ipc_format.specs.streams.Starts.{Start, start_in}
+use Rattle.tables_file_reading.specs.ipc_format.columnar_memory.declared.Error.{Error}
+use Rattle.tables_file_reading.specs.ipc_format.columnar_memory.declared.Error.TheVariants as errors
+use Rattle.tables_file_reading.specs.ipc_format.Framing.{Framed, first_of}
+use Rattle.tables_file_reading.specs.ipc_format.Messages.{Header, Version, schema, dictionary_batch, record_batch, version_in}
+use Rattle.tables_file_reading.specs.ipc_format.Schemas.{SchemaIn}
+use Rattle.tables_file_reading.specs.ipc_format.Writable.{is_writable, normalised}
+use Rattle.tables_file_reading.specs.ipc_format.columnar_memory.Texts.{HasTexts}
+use Rattle.tables_file_reading.specs.ipc_format.Tables.{schema_of, layout_of}
+use Rattle.tables_file_reading.specs.ipc_format.streams.Starts.{Start, start_in}
 use Rattle.tables_chunks.specs.Faults.{fault_of}
 use Rattle.tables_chunks.specs.Reading.{ReadsStream}
 use Rattle.tables_chunks.specs.TableSchemas.{IsTableSchema}
-use Rattle.ipc_format.proofs.StoredTablesNormal.{normal_again}
-use Rattle.ipc_format.proofs.NormalForms.{keeps_writable}
-use Rattle.ipc_format.proofs.Binding.{came_of, same_some}
+use Rattle.tables_file_reading.proofs.ipc_format_lemmas.StoredTablesNormal.{normal_again}
+use Rattle.tables_file_reading.proofs.ipc_format_lemmas.NormalForms.{keeps_writable}
+use Rattle.tables_file_reading.proofs.ipc_format_lemmas.Binding.{came_of, same_some}
+use Rattle.tables_file_reading.proofs.Files.{schema_written}
 
 -- a message's schema has arrays
 found_has_arrays : (framed : Framed) (header : Header) (found : SchemaIn) → SchemasHaveArrays → schema_of framed header ≡ Some found
@@ -41,19 +39,6 @@ start_has_arrays bytes start place have e =
     subst (λ (s : SchemaIn). HasArrays (layout_of s)) same (found_has_arrays a.0.0 a.0.0.header c.0 have c.1)
 
 -- ---- the schema is that of a table
-
-guarded : (test : Bool) (found : Bool) → guard test ≡ Some found → test ≡ true
-guarded true found e = refl
-guarded false found e = absurd cc
-
--- a schema that is read is one that is written
-schema_written : (bytes : List ℕ) (table : Table) (found : SchemaIn) → schema_in bytes table ≡ Some found → is_writable found.schema ≡ true
-unfolding schema_in
-schema_written bytes table found e =
-    let any = came_of {A = SchemaIn} (any_schema_in None bytes table) _ found e in
-    let some = came_of {A = Bool} _ _ found any.2 in
-    subst (λ (found : SchemaIn). is_writable found.schema ≡ true) (same_some {A = SchemaIn} any.0 found some.2)
-    (guarded (is_writable any.0.schema) some.0 some.1)
 
 found_written : (framed : Framed) (header : Header) (found : SchemaIn) → schema_of framed header ≡ Some found → is_writable found.schema ≡ true
 found_written framed (schema table) found e = schema_written framed.metadata table found e

@@ -12,4 +12,4 @@ pub mod TableParts
 pub mod TableSchemas
 pub mod Texts
 pub mod WrittenTables
-pub use Rattle.ipc_format.specs as ipc_format
+pub use Rattle.tables_file_reading.specs.ipc_format as ipc_format

@@ -24,10 +24,10 @@ pub use batches::{fits_schema, is_table_schema};
 pub use choices::distinct;
 pub use fault::{Fault, SealBar};
 pub use growing::GrowingTable;
-pub use ipc_format::{Chunk, Faults, columnar_memory, nested_arrays, put};
 pub use laws::{
     choices_have_columns, cuts_and_choices_commute, cuts_have_parts, joins_have_both,
     rows_are_columns,
 };
 pub use read::Form;
 pub use table::Table;
+pub use tables_file_reading::ipc_format::{Chunk, Faults, columnar_memory, nested_arrays, put};

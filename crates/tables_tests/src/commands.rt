@@ -1,4 +1,4 @@
-use crate::samples::EXAMPLE;
+use crate::samples::{EXAMPLE, EXAMPLE_FILE};
 use std::alloc::Global;
 use std::io;
 use std::io::{ErrorKind, Write};
@@ -110,13 +110,20 @@ fn cuts_rows(rt: HostRuntime) -> Result<()> {
 }
 
 #[test]
+fn cuts_rows_of_a_file(rt: HostRuntime) -> Result<()> {
+    let outcome = run_over(rt.alloc(), &EXAMPLE_FILE, &CUT)?;
+    assert!(rt; outcome.is(0, "", &EXAMPLE));
+    Ok(())
+}
+
+#[test]
 fn names_each_failure(rt: HostRuntime) -> Result<()> {
     let cases: [(&[u8], [&str; 2], &str); 6] = [
         (&EXAMPLE, ["1", "in"], "tables: range outside the rows\n"),
         (&EXAMPLE[..488], ["1", "in"], "tables: unfinished stream\n"),
         (&EXAMPLE[..492], ["1", "in"], OUT_OF_SPEC),
         (&[], ["0", "in"], OUT_OF_SPEC),
-        (b"ARROW1\0\0", ["0", "in"], "tables: ipc: not implemented\n"),
+        (b"ARROW1\0\0", ["0", "in"], OUT_OF_SPEC),
         (&EXAMPLE, ["1", "no"], "tables: cannot read the input\n"),
     ];
     for (input, [length, name], line) in cases {

@@ -1,11 +1,17 @@
-//! Streams that are read, and streams that are refused.
+//! Streams and a file that are read, and those that are refused.
+use crate::samples::EXAMPLE_FILE;
 use crate::streams::{MANY_NULLS, NESTED, REPLACED, ROWS, TOO_MANY_NULLS, TWO_BATCHES};
 use std::alloc::{AllocError, Global};
 use tables::{Fault, Form, Table};
 
-/// What a stream holds, by its numbers of columns, of batches and of rows, or why it is refused.
+/// What a stream holds, as `answer_in` says.
 fn answer(alloc: Global, bytes: &[u8]) -> Result<String, AllocError> {
-    match Table::read(alloc, Form::Stream, bytes) {
+    answer_in(alloc, Form::Stream, bytes)
+}
+
+/// What bytes hold, by their numbers of columns, of batches and of rows, or why they are refused.
+fn answer_in(alloc: Global, form: Form, bytes: &[u8]) -> Result<String, AllocError> {
+    match Table::read(alloc, form, bytes) {
         Ok(read) => {
             format!(in alloc;
                 "{} {} {}",
@@ -47,6 +53,28 @@ fn streams_that_end_early(rt: HostRuntime) -> Result<(), Fault> {
             answer(rt.alloc(), &ROWS[..size - missing])?.as_str(),
             expected,
             "{missing}"
+        );
+    }
+    Ok(())
+}
+
+#[test]
+fn a_file_in_both_forms(rt: HostRuntime) -> Result<(), Fault> {
+    let cases: [(Form, &[u8], &str); 4] = [
+        (Form::File, &EXAMPLE_FILE, "1 1 2"),
+        (Form::Stream, &EXAMPLE_FILE[8..], "1 1 2"),
+        (
+            Form::File,
+            &EXAMPLE_FILE[..745],
+            "ipc: out of specification",
+        ),
+        (Form::File, &EXAMPLE_FILE[8..], "ipc: out of specification"),
+    ];
+    for (form, bytes, expected) in cases {
+        assert_eq!(rt;
+            answer_in(rt.alloc(), form, bytes)?.as_str(),
+            expected,
+            "{expected}"
         );
     }
     Ok(())

@@ -1,18 +1,18 @@
 -- The arrays of a schema's batch are its columns.
 use Rattle.std.proofs.Common.{rules, ◌≡◌, true, List, map, subst}
 use Rattle.std.specs.Prelude.{Result, Err, Ok}
-use Rattle.ipc_format.specs.BatchReads.{entry_in}
-use Rattle.ipc_format.specs.ReadArrays.{standing_in}
-use Rattle.ipc_format.specs.columnar_memory.declared.Error.{Error}
-use Rattle.ipc_format.specs.columns.StoredColumns.{Column, slots}
-use Rattle.ipc_format.specs.Views.{table_of}
-use Rattle.ipc_format.specs.Messages.{record_batch}
-use Rattle.ipc_format.specs.Tables.{batch_in}
-use Rattle.ipc_format.specs.MessageViews.{version_view}
-use Rattle.ipc_format.specs.metadata.Reading.{Reads}
-use Rattle.ipc_format.specs.streams.Queues.{is_compressed}
+use Rattle.tables_file_reading.specs.ipc_format.BatchReads.{entry_in}
+use Rattle.tables_file_reading.specs.ipc_format.ReadArrays.{standing_in}
+use Rattle.tables_file_reading.specs.ipc_format.columnar_memory.declared.Error.{Error}
+use Rattle.tables_file_reading.specs.ipc_format.columns.StoredColumns.{Column, slots}
+use Rattle.tables_file_reading.specs.ipc_format.Views.{table_of}
+use Rattle.tables_file_reading.specs.ipc_format.Messages.{record_batch}
+use Rattle.tables_file_reading.specs.ipc_format.Tables.{batch_in}
+use Rattle.tables_file_reading.specs.ipc_format.MessageViews.{version_view}
+use Rattle.tables_file_reading.specs.ipc_format.metadata.Reading.{Reads}
+use Rattle.tables_file_reading.specs.ipc_format.streams.Queues.{is_compressed}
 use Rattle.tables_chunks.specs.Messages.{layout_by}
-use Rattle.tables_chunks.proofs.BodyReads.{batch_read}
+use Rattle.tables_file_reading.proofs.RoomReads.{batch_read}
 use Rattle.tables_chunks.proofs.messages.batch_of.Goals as goal
 
 pub returns-in_err-chunk-clause-value : goal.returns-in_err-chunk-clause-value
@@ -22,7 +22,7 @@ returns-in_err-chunk-clause-value c =
     let metadata = c.args.header.now.table.bytes.now in
     let table = table_of c.args.header.now.table.place in
     let version = version_view c.args.version in
-    let whole = batch_read layout standing metadata (record_batch table) version table _ c.args.body.now _ c.read_record_batch.result c.requires
+    let whole = batch_read layout standing metadata (record_batch table) version table 0 _ c.args.body.now _ c.read_record_batch.result c.requires
     (search rules) c.read_record_batch.ensures.read in
     let error = c.in_err-chunk.field-0.0 in
     let is : c.read_record_batch.result ≡ Err error = search rules in
@@ -37,7 +37,7 @@ returns-clause-value c =
     let metadata = c.args.header.now.table.bytes.now in
     let table = table_of c.args.header.now.table.place in
     let version = version_view c.args.version in
-    let whole = batch_read layout standing metadata (record_batch table) version table _ c.args.body.now _ c.read_record_batch.result c.requires
+    let whole = batch_read layout standing metadata (record_batch table) version table 0 _ c.args.body.now _ c.read_record_batch.result c.requires
     (search rules) c.read_record_batch.ensures.read in
     let is : c.read_record_batch.result ≡ Ok c.in_ok-chunk.chunk = search rules in
     subst (λ (result : Result (List Column) Error). Reads (map slots) (is_compressed metadata table ≡ true) result

@@ -1,0 +1,8 @@
+pub mod Turns
+pub mod States
+pub mod Hearing
+pub mod ReadingCodes
+pub mod Readings
+pub mod Laws
+pub use Rattle.ipc_format_chunk_writing.specs as chunk_writing
+pub use Rattle.ipc_format_stream_steps.specs as steps

@@ -1,0 +1,7 @@
+pub mod Bars
+pub mod Batches
+pub mod Room
+pub mod Writes
+pub mod Opened
+pub mod PutMessages
+pub use Rattle.ipc_format_stream_reader.proofs as reader_lemmas

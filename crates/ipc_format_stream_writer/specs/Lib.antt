@@ -1,0 +1,9 @@
+pub mod Objections
+pub mod Opening
+pub mod Phases
+pub mod Room
+pub mod Sending
+pub mod Streams
+pub mod WriterCodes
+pub mod Writing
+pub use Rattle.ipc_format_stream_reader.specs as reader

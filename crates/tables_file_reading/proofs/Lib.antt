@@ -1,0 +1,10 @@
+pub mod BlockLists
+pub mod Entries
+pub mod Files
+pub mod Lists
+pub mod MessageReads
+pub mod Passed
+pub mod RoomReads
+pub mod Starts
+pub mod Unread
+pub use Rattle.ipc_format.proofs as ipc_format_lemmas
