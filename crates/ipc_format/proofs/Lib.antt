@@ -1,4 +1,5 @@
 pub use Rattle.ipc_format_reading_laws.proofs.laws_lemmas.DefaultIds
+pub use Rattle.ipc_format_reading_laws.proofs.laws_lemmas.FreshBatches
 pub use Rattle.ipc_format_reading_laws.proofs.laws_lemmas.GivenIds
 pub use Rattle.ipc_format_reading_laws.proofs.laws_lemmas.LaterMessages
 pub use Rattle.ipc_format_reading_laws.proofs.laws_lemmas.NormalForms
@@ -9,6 +10,9 @@ pub use Rattle.ipc_format_reading_laws.proofs.laws_lemmas.StreamContents
 pub use Rattle.ipc_format_reading_laws.proofs.NormalColumnsKept
 pub use Rattle.ipc_format_reading_laws.proofs.NormalColumnsLayers
 pub use Rattle.ipc_format_reading_laws.proofs.SealedIds
+pub use Rattle.ipc_format_reading_laws.proofs.SealedRoom
+pub use Rattle.ipc_format_reading_laws.proofs.SealedRows
+pub use Rattle.ipc_format_reading_laws.proofs.SealedTypes
 pub use Rattle.ipc_format_reading_laws.proofs.StoredGivenBrought
 pub use Rattle.ipc_format_reading_laws.proofs.StoredGivenFits
 pub use Rattle.ipc_format_reading_laws.proofs.StoredGivenFolds
@@ -21,12 +25,12 @@ pub use Rattle.ipc_format_reading_laws.proofs.StoredTablesNormal
 pub use Rattle.ipc_format_reading_laws.proofs.StoredTablesStreams
 pub use Rattle.ipc_format_reading_laws.proofs.StoredTypes
 pub use Rattle.ipc_format_file_writer.proofs.NoFloats
-pub use Rattle.ipc_format_file_writer.proofs.stream_writer_lemmas.reader_lemmas.steps_lemmas.Binding
-pub use Rattle.ipc_format_file_writer.proofs.stream_writer_lemmas.reader_lemmas.steps_lemmas.Places as StreamStepsPlaces
-pub use Rattle.ipc_format_file_writer.proofs.stream_writer_lemmas.reader_lemmas.steps_lemmas.Progress
-pub use Rattle.ipc_format_file_writer.proofs.stream_writer_lemmas.reader_lemmas.steps_lemmas.Rows
-pub use Rattle.ipc_format_file_writer.proofs.stream_writer_lemmas.reader_lemmas.steps_lemmas.Steps
-pub use Rattle.ipc_format_file_writer.proofs.stream_writer_lemmas.reader_lemmas.steps_lemmas.StreamParts
+pub use Rattle.ipc_format_file_writer.proofs.stream_writer_lemmas.reader_lemmas.Binding
+pub use Rattle.ipc_format_file_writer.proofs.stream_writer_lemmas.reader_lemmas.Places as StreamStepsPlaces
+pub use Rattle.ipc_format_file_writer.proofs.stream_writer_lemmas.reader_lemmas.Progress
+pub use Rattle.ipc_format_file_writer.proofs.stream_writer_lemmas.reader_lemmas.Rows
+pub use Rattle.ipc_format_file_writer.proofs.stream_writer_lemmas.reader_lemmas.Steps
+pub use Rattle.ipc_format_file_writer.proofs.stream_writer_lemmas.reader_lemmas.StreamParts
 pub use Rattle.ipc_format_file_writer.proofs.stream_writer_lemmas.reader_lemmas.chunk_lemmas.Appending
 pub use Rattle.ipc_format_file_writer.proofs.stream_writer_lemmas.reader_lemmas.chunk_lemmas.Claims
 pub use Rattle.ipc_format_file_writer.proofs.stream_writer_lemmas.reader_lemmas.chunk_lemmas.ColumnSizes

@@ -34,18 +34,18 @@ pub use Rattle.ipc_format_file_writer.specs.stream_writer.reader.chunk_writing.m
 pub use Rattle.ipc_format_file_writer.specs.stream_writer.reader.chunk_writing.messages.TypeRefs
 pub use Rattle.ipc_format_file_writer.specs.stream_writer.reader.chunk_writing.messages.WholeMessages
 pub use Rattle.ipc_format_file_writer.specs.stream_writer.reader.chunk_writing.messages.BufferLengths
-pub use Rattle.ipc_format_file_writer.specs.stream_writer.reader.steps.streams.owned.writing.MessageWriting
-pub use Rattle.ipc_format_file_writer.specs.stream_writer.reader.steps.streams.owned.writing.FooterWriting
-pub use Rattle.ipc_format_file_writer.specs.stream_writer.reader.steps.streams.Frames
-pub use Rattle.ipc_format_file_writer.specs.stream_writer.reader.steps.streams.Failures
-pub use Rattle.ipc_format_file_writer.specs.stream_writer.reader.steps.streams.owned as values
+pub use Rattle.ipc_format_file_writer.specs.stream_writer.reader.streams.owned.writing.MessageWriting
+pub use Rattle.ipc_format_file_writer.specs.stream_writer.reader.streams.owned.writing.FooterWriting
+pub use Rattle.ipc_format_file_writer.specs.stream_writer.reader.streams.Frames
+pub use Rattle.ipc_format_file_writer.specs.stream_writer.reader.streams.Failures
+pub use Rattle.ipc_format_file_writer.specs.stream_writer.reader.streams.owned as values
 pub use Rattle.ipc_format_file_writer.specs.stream_writer.reader.chunk_writing.columns
 pub use Rattle.ipc_format_file_writer.specs.stream_writer.reader.chunk_writing.flatbuffers
 pub use Rattle.ipc_format_file_writer.specs.stream_writer.reader.chunk_writing.grammar
 pub use Rattle.ipc_format_file_writer.specs.stream_writer.reader.chunk_writing.messages
 pub use Rattle.ipc_format_file_writer.specs.stream_writer.reader.chunk_writing.metadata
-pub use Rattle.ipc_format_file_writer.specs.stream_writer.reader.steps.streams.owned.writing
-pub use Rattle.ipc_format_file_writer.specs.stream_writer.reader.steps.streams
+pub use Rattle.ipc_format_file_writer.specs.stream_writer.reader.streams.owned.writing
+pub use Rattle.ipc_format_file_writer.specs.stream_writer.reader.streams
 pub use Rattle.ipc_format_file_writer.specs.stream_writer.reader.chunk_writing.grammar.WriterRuns
 pub use Rattle.ipc_format_file_writer.specs.stream_writer.reader.chunk_writing.grammar.AppendedFiles
 pub use Rattle.ipc_format_file_writer.specs.stream_writer.reader.chunk_writing.columnar_memory
@@ -60,8 +60,8 @@ pub use Rattle.ipc_format_file_writer.specs.stream_writer.reader.chunk_writing.R
 pub use Rattle.ipc_format_file_writer.specs.stream_writer.reader.chunk_writing.Standing
 pub use Rattle.ipc_format_file_writer.specs.stream_writer.reader.chunk_writing.ReadArrays
 pub use Rattle.ipc_format_file_writer.specs.stream_writer.reader.chunk_writing.Rooms
-pub use Rattle.ipc_format_file_writer.specs.stream_writer.reader.steps.Steps
-pub use Rattle.ipc_format_file_writer.specs.stream_writer.reader.steps.Behind
+pub use Rattle.ipc_format_file_writer.specs.stream_writer.reader.Steps
+pub use Rattle.ipc_format_file_writer.specs.stream_writer.reader.Behind
 pub use Rattle.ipc_format_reading_laws.specs as reading_laws
 pub use Rattle.ipc_format_file_writer.specs.stream_writer.reader.Turns
 pub use Rattle.ipc_format_file_writer.specs.stream_writer.reader.States as StreamStates

@@ -9,28 +9,27 @@ pub use ipc_format_file_writer::stream_writer::reader::chunk_writing::{
     nested_arrays, read, read_children, read_dictionary, read_fixed_size_list, read_large_list,
     read_list, read_map, read_record_batch, read_struct, read_union, schemas_have_arrays, write,
 };
-pub use ipc_format_file_writer::stream_writer::reader::steps::stream_start;
-pub use ipc_format_file_writer::stream_writer::reader::steps::streams::metadata::{
+pub use ipc_format_file_writer::stream_writer::reader::streams::metadata::{
     IpcField, IpcSchema, OutOfSpecKind, can_write, deserialize_schema, deserialize_schema_counted,
     schema_in,
 };
-pub use ipc_format_file_writer::stream_writer::reader::steps::streams::owned::serialize_schema;
-pub use ipc_format_file_writer::stream_writer::reader::steps::streams::owned::writing::{
+pub use ipc_format_file_writer::stream_writer::reader::streams::owned::serialize_schema;
+pub use ipc_format_file_writer::stream_writer::reader::streams::owned::writing::{
     default_ipc_fields, dictionary_batch_to_bytes, footer_to_bytes, normalised,
     record_batch_to_bytes, schema_to_bytes,
 };
-pub use ipc_format_file_writer::stream_writer::reader::steps::streams::{
+pub use ipc_format_file_writer::stream_writer::reader::streams::{
     Counting, EncodedData, Faults, Frame, Framed, NextMessage, StreamMetadata, columnar_memory,
     flatbuffers, next_at, put, read_stream_metadata, refusal, write_continuation, write_message,
 };
 pub use ipc_format_file_writer::stream_writer::reader::{
-    StreamReader, StreamState, streams_are_read_by_turns,
+    StreamReader, StreamState, stream_start, streams_are_read_by_turns,
 };
 pub use ipc_format_file_writer::stream_writer::{StreamWriter, put_message, put_messages};
 
-/// What `ipc_format_file_writer::stream_writer::reader::steps::streams::messages` has.
+/// What `ipc_format_file_writer::stream_writer::reader::streams::messages` has.
 pub mod messages {
-    pub use ipc_format_file_writer::stream_writer::reader::steps::streams::messages::{
+    pub use ipc_format_file_writer::stream_writer::reader::streams::messages::{
         Block, BlocksRef, BodyCompressionRef, Buffer, BuffersRef, DateRef, DateUnit, DecimalRef,
         DictionaryBatchParts, DictionaryBatchRef, DictionaryEncodingRef, DurationRef, Endianness,
         Error, FieldNode, FieldNodesRef, FieldRef, FieldsRef, FixedSizeBinaryRef, FixedSizeListRef,
@@ -41,9 +40,9 @@ pub mod messages {
     };
 }
 
-/// What `ipc_format_file_writer::stream_writer::reader::steps::streams::metadata` has.
+/// What `ipc_format_file_writer::stream_writer::reader::streams::metadata` has.
 pub mod metadata {
-    pub use ipc_format_file_writer::stream_writer::reader::steps::streams::metadata::{
+    pub use ipc_format_file_writer::stream_writer::reader::streams::metadata::{
         IpcField, IpcSchema, MOST_LEVELS, OutOfSpecKind, Tag, any_schema_in, can_write,
         deserialize_schema, deserialize_schema_counted, mode_of, schema_in, schema_in_counted,
         sizes, slots, tag_numbers, tag_of, unit_in,
@@ -60,9 +59,9 @@ pub mod reading_laws {
     };
 }
 
-/// What `ipc_format_file_writer::stream_writer::reader::steps::streams` has.
+/// What `ipc_format_file_writer::stream_writer::reader::streams` has.
 pub mod streams {
-    pub use ipc_format_file_writer::stream_writer::reader::steps::streams::{
+    pub use ipc_format_file_writer::stream_writer::reader::streams::{
         BatchQueues, Counting, DictionaryValues, EncodedData, Faults, Frame, Framed, Incoming,
         NextMessage, StreamMetadata, batch_queues, deserialize_stream_metadata, dictionary_values,
         fill, next_at, next_message, put, read_refusal, read_stream_metadata, refusal,
@@ -71,7 +70,7 @@ pub mod streams {
 
     /// Of `owned`.
     pub mod owned {
-        pub use ipc_format_file_writer::stream_writer::reader::steps::streams::owned::{
+        pub use ipc_format_file_writer::stream_writer::reader::streams::owned::{
             DictionaryEncoding, Field, Footer, Int, Message, MessageHeader, Type_,
             dictionary_batch_of, field_of, footer_of, key_value_of, message_header_of, message_of,
             record_batch_of, schema_of, type_of,

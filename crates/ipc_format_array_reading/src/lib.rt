@@ -39,15 +39,50 @@ pub mod column_writing {
             /// Of `streams`.
             pub mod streams {
                 pub use ipc_format_column_writing::column_reading::column_bytes::streams::{
-                    EncodedData, batch_queues, dictionary_values,
+                    BatchQueues, Counting, DictionaryValues, EncodedData, Faults, Frame, Framed,
+                    Incoming, NextMessage, StreamMetadata, batch_queues, columnar_memory,
+                    deserialize_stream_metadata, dictionary_values, fill, flatbuffers, next_at,
+                    next_message, put, read_refusal, read_stream_metadata, refusal,
+                    write_continuation, write_message,
                 };
+
+                /// Of `messages`.
+                pub mod messages {
+                    pub use ipc_format_column_writing::column_reading::column_bytes::streams::messages::{
+                        Block, BlocksRef, BodyCompressionRef, Buffer, BuffersRef, DateRef,
+                        DateUnit, DecimalRef, DictionaryBatchParts, DictionaryBatchRef,
+                        DictionaryEncodingRef, DurationRef, Endianness, Error, FieldNode,
+                        FieldNodesRef, FieldRef, FieldsRef, FixedSizeBinaryRef, FixedSizeListRef,
+                        FooterRef, IntRef, IntervalRef, KeyValueRef, KeyValuesRef, MapRef,
+                        MessageHeaderRef, MessageParts, MessageRef, MetadataVersion,
+                        RecordBatchParts, RecordBatchRef, SchemaRef, TableRef, TablesRef, TimeRef,
+                        TimestampRef, TypeRef, UnionRef, as_memory_error, dictionary_batch_in,
+                        message_in, record_batch_in, version_in,
+                    };
+                }
+
+                /// Of `metadata`.
+                pub mod metadata {
+                    pub use ipc_format_column_writing::column_reading::column_bytes::streams::metadata::{
+                        IpcField, IpcSchema, MOST_LEVELS, OutOfSpecKind, Tag, any_schema_in,
+                        can_write, deserialize_schema, deserialize_schema_counted, mode_of,
+                        schema_in, schema_in_counted, sizes, slots, tag_numbers, tag_of, unit_in,
+                    };
+                }
 
                 /// Of `owned`.
                 pub mod owned {
+                    pub use ipc_format_column_writing::column_reading::column_bytes::streams::owned::{
+                        DictionaryEncoding, Field, Footer, Int, Message, MessageHeader, Type_,
+                        dictionary_batch_of, field_of, footer_of, key_value_of, message_header_of,
+                        message_of, record_batch_of, schema_of, serialize_schema, type_of,
+                    };
+
                     /// Of `writing`.
                     pub mod writing {
                         pub use ipc_format_column_writing::column_reading::column_bytes::streams::owned::writing::{
-                            first_beside, normalised,
+                            default_ipc_fields, dictionary_batch_to_bytes, first_beside,
+                            footer_to_bytes, normalised, record_batch_to_bytes, schema_to_bytes,
                         };
                     }
                 }

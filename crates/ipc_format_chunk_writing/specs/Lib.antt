@@ -21,3 +21,4 @@ pub use Rattle.ipc_format_batch_reading.specs.ReadArrays
 pub use Rattle.ipc_format_batch_reading.specs.Rooms
 pub use Rattle.ipc_format_batch_reading.specs.Below
 pub use Rattle.ipc_format_batch_reading.specs.ArrayReads
+pub use Rattle.ipc_format_batch_reading.specs.streams

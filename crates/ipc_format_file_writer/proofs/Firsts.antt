@@ -7,8 +7,8 @@ use Rattle.ipc_format_stream_writer.specs.reader.chunk_writing.columns.StoredCol
 use Rattle.ipc_format_stream_writer.specs.reader.chunk_writing.grammar.Schemas.{IdsList}
 use Rattle.ipc_format_stream_writer.specs.reader.chunk_writing.grammar.WrittenFiles.{file_start, place_after}
 use Rattle.ipc_format_stream_writer.specs.reader.chunk_writing.grammar.WrittenMessages.{Written, message_bytes, schema_written}
-use Rattle.ipc_format_stream_writer.specs.reader.steps.streams.messages.declared.Block.{Block}
-use Rattle.ipc_format_stream_writer.specs.reader.steps.streams.owned.writing.FooterWriting.{blocks_view}
+use Rattle.ipc_format_stream_writer.specs.reader.streams.messages.declared.Block.{Block}
+use Rattle.ipc_format_stream_writer.specs.reader.streams.owned.writing.FooterWriting.{blocks_view}
 use Rattle.ipc_format_file_writer.specs.Opening.{first_progress}
 
 -- how long a message is

@@ -9,9 +9,9 @@ use Rattle.ipc_format_stream_writer.specs.reader.chunk_writing.grammar.Ids.{ids_
 use Rattle.ipc_format_stream_writer.specs.reader.chunk_writing.grammar.Schemas.{IdsList}
 use Rattle.ipc_format_stream_writer.specs.reader.chunk_writing.grammar.Writable.{is_writable}
 use Rattle.ipc_format_stream_writer.specs.reader.chunk_writing.metadata.Views.{ids_views}
-use Rattle.ipc_format_stream_writer.specs.reader.steps.streams.owned.writing.Floats.{has_float}
-use Rattle.ipc_format_stream_writer.specs.reader.steps.streams.owned.writing.FooterWriting.{WritesFooter}
-use Rattle.ipc_format_stream_writer.specs.reader.steps.streams.owned.writing.Writing.{may_write}
+use Rattle.ipc_format_stream_writer.specs.reader.streams.owned.writing.Floats.{has_float}
+use Rattle.ipc_format_stream_writer.specs.reader.streams.owned.writing.FooterWriting.{WritesFooter}
+use Rattle.ipc_format_stream_writer.specs.reader.streams.owned.writing.Writing.{may_write}
 use Rattle.ipc_format_file_writer.specs.Ends.{GivesFooter, GivesFooterIn, HasNoFooter, footer_of}
 use Rattle.ipc_format_file_writer.specs.Phases.{Phase, Progress, Writer, started}
 use Rattle.ipc_format_file_writer.proofs.NoFloats.{no_float}

@@ -16,7 +16,7 @@ use Rattle.ipc_format_stream_writer.specs.reader.chunk_writing.grammar.Limits.{m
 use Rattle.ipc_format_stream_writer.specs.reader.chunk_writing.grammar.Writable.{Report, field_step, is_dictionary, is_plain, is_size}
 use Rattle.ipc_format_stream_writer.specs.reader.chunk_writing.grammar.Writable.{is_struct_of_two, is_writable}
 use Rattle.ipc_format_stream_writer.specs.reader.chunk_writing.grammar.Writable.{over_all, plain, report_of, report_step, reports_of}
-use Rattle.ipc_format_stream_writer.specs.reader.steps.streams.owned.writing.Floats.{float_step, has_float, in_field, in_type}
+use Rattle.ipc_format_stream_writer.specs.reader.streams.owned.writing.Floats.{float_step, has_float, in_field, in_type}
 
 abbrev Layer : Type 0
 Layer = layer.DataType-F DataType Field

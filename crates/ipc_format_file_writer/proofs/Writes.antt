@@ -17,7 +17,7 @@ use Rattle.ipc_format_stream_writer.specs.reader.chunk_writing.grammar.WrittenMe
 use Rattle.ipc_format_stream_writer.specs.reader.chunk_writing.grammar.WrittenStreams.{bytes_of_messages}
 use Rattle.ipc_format_stream_writer.specs.reader.chunk_writing.metadata.Views.{ids_views}
 use Rattle.ipc_format_stream_writer.specs.reader.chunk_writing.metadata.declared.ipc_schema.IpcField.{IpcField}
-use Rattle.ipc_format_stream_writer.specs.reader.steps.streams.declared.EncodedData.{EncodedData}
+use Rattle.ipc_format_stream_writer.specs.reader.streams.declared.EncodedData.{EncodedData}
 use Rattle.ipc_format_file_writer.specs.declared.state as kept
 use Rattle.ipc_format_file_writer.specs.Adding.{AddsBatch}
 use Rattle.ipc_format_file_writer.specs.Ends.{first_bytes}
@@ -59,10 +59,10 @@ module _ {W : Type 0} (contents : W → Option (List ℕ)) (failures : W → ℕ
       → IsMadeStarted contents failures (Err error) device schema ids compression
   not_made made after device schema ids compression error is_new starts =
       why (subst (λ (phase : Phase). StartsIn contents failures phase made after (Err error)) is_new.nothing starts) where
-    why : StartsFresh contents failures made after (Err error) → IsMadeStarted contents failures (Err error) device schema ids compression
-    why (inl stays) = inl (subst (λ (its : Schema). IsNotStarted error its ids) is_new.same_schema
-        (subst (λ (its : IdsList). IsNotStarted error made.schema its) is_new.same_ids stays.0))
-    why (inr breaks) = inr (record { made = made; after = after; is_new = is_new; breaks = breaks })
+        why : StartsFresh contents failures made after (Err error) → IsMadeStarted contents failures (Err error) device schema ids compression
+        why (inl stays) = inl (subst (λ (its : Schema). IsNotStarted error its ids) is_new.same_schema
+            (subst (λ (its : IdsList). IsNotStarted error made.schema its) is_new.same_ids stays.0))
+        why (inr breaks) = inr (record { made = made; after = after; is_new = is_new; breaks = breaks })
 
   -- a writer whose file is started, and compresses nothing, has written a batch
   pub batch_written : (old new : Writer W) (before after : Progress) (given : Option (List IpcField)) (columns : List Column)

@@ -13,7 +13,7 @@ use Rattle.ipc_format_stream_writer.specs.reader.chunk_writing.grammar.Schemas.{
 use Rattle.ipc_format_stream_writer.specs.reader.chunk_writing.grammar.WrittenFiles.{file_end, file_start, footer_object, is_footer}
 use Rattle.ipc_format_stream_writer.specs.reader.chunk_writing.grammar.WrittenMessages.{Written, end_mark, message_bytes, schema_written}
 use Rattle.ipc_format_stream_writer.specs.reader.chunk_writing.metadata.Views.{ids_views}
-use Rattle.ipc_format_stream_writer.specs.reader.steps.streams.owned.writing.Writing.{may_write}
+use Rattle.ipc_format_stream_writer.specs.reader.streams.owned.writing.Writing.{may_write}
 use Rattle.ipc_format_file_writer.specs.Phases.{Phase, Progress, Writer, started}
 
 -- what is written first: the file's start, and a message

@@ -8,7 +8,7 @@ use Rattle.ipc_format_stream_writer.specs.reader.chunk_writing.grammar.Schemas.{
 use Rattle.ipc_format_stream_writer.specs.reader.chunk_writing.grammar.WrittenFiles.{file_start, place_after}
 use Rattle.ipc_format_stream_writer.specs.reader.chunk_writing.grammar.WrittenMessages.{fits_limit, schema_written}
 use Rattle.ipc_format_stream_writer.specs.reader.chunk_writing.grammar.WrittenStreams.{is_written_with}
-use Rattle.ipc_format_stream_writer.specs.reader.steps.streams.declared.EncodedData.{EncodedData}
+use Rattle.ipc_format_stream_writer.specs.reader.streams.declared.EncodedData.{EncodedData}
 use Rattle.ipc_format_file_writer.specs.Phases.{Progress, progress_of}
 use Rattle.ipc_format_file_writer.specs.declared.state as kept
 use Rattle.ipc_format_file_writer.specs.Placing.{no_blocks}

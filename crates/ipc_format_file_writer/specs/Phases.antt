@@ -5,7 +5,7 @@ use Rattle.ipc_format_stream_writer.specs.reader.chunk_writing.columns.StoredCol
 use Rattle.ipc_format_stream_writer.specs.reader.chunk_writing.declared.Compression.{Compression}
 use Rattle.ipc_format_stream_writer.specs.reader.chunk_writing.grammar.WrittenFiles.{Blocks}
 use Rattle.ipc_format_stream_writer.specs.reader.chunk_writing.metadata.declared.ipc_schema.IpcField.{IpcField}
-use Rattle.ipc_format_stream_writer.specs.reader.steps.streams.owned.writing.FooterWriting.{blocks_view}
+use Rattle.ipc_format_stream_writer.specs.reader.streams.owned.writing.FooterWriting.{blocks_view}
 use Rattle.ipc_format_file_writer.specs.declared.state as kept
 use Rattle.ipc_format_file_writer.specs.declared.state.State.{State}
 use Rattle.ipc_format_file_writer.specs.declared.state.State.TheVariants as states

@@ -10,8 +10,8 @@ use Rattle.ipc_format_stream_writer.specs.reader.chunk_writing.grammar.WrittenFi
 use Rattle.ipc_format_stream_writer.specs.reader.chunk_writing.grammar.WrittenFiles.{Blocks, block_of, place_after}
 use Rattle.ipc_format_stream_writer.specs.reader.chunk_writing.grammar.WrittenMessages.{Written}
 use Rattle.ipc_format_stream_writer.specs.reader.chunk_writing.grammar.WrittenStreams.{bytes_of_messages}
-use Rattle.ipc_format_stream_writer.specs.reader.steps.streams.messages.declared.Block.{Block}
-use Rattle.ipc_format_stream_writer.specs.reader.steps.streams.owned.writing.FooterWriting.{block_view}
+use Rattle.ipc_format_stream_writer.specs.reader.streams.messages.declared.Block.{Block}
+use Rattle.ipc_format_stream_writer.specs.reader.streams.owned.writing.FooterWriting.{block_view}
 use Rattle.ipc_format_file_writer.specs.Phases.{Progress}
 
 -- the place behind some messages

@@ -20,8 +20,8 @@ use Rattle.ipc_format_stream_writer.specs.reader.chunk_writing.grammar.WrittenSt
 use Rattle.ipc_format_stream_writer.specs.reader.chunk_writing.grammar.WrittenStreams.{is_written_with, stored_columns}
 use Rattle.ipc_format_stream_writer.specs.reader.chunk_writing.metadata.Views.{ids_views}
 use Rattle.ipc_format_stream_writer.specs.reader.chunk_writing.metadata.declared.ipc_schema.IpcField.{IpcField}
-use Rattle.ipc_format_stream_writer.specs.reader.steps.streams.Devices.{AppendsBeginning}
-use Rattle.ipc_format_stream_writer.specs.reader.steps.streams.EncodedMessages.{IsRefusedWrite}
+use Rattle.ipc_format_stream_writer.specs.reader.streams.Devices.{AppendsBeginning}
+use Rattle.ipc_format_stream_writer.specs.reader.streams.EncodedMessages.{IsRefusedWrite}
 use Rattle.ipc_format_file_writer.specs.Adding.{IsBehind, IsNotAdded}
 use Rattle.ipc_format_file_writer.specs.Ends.{HasNoFooter, IsFooter, end_with, footer_of, start_bytes}
 use Rattle.ipc_format_file_writer.specs.Opening.{first_progress}

@@ -8,9 +8,9 @@ use crate::state::Progress;
 use ipc_format_stream_writer::encode;
 use ipc_format_stream_writer::reader::chunk_writing::Chunk;
 use ipc_format_stream_writer::reader::chunk_writing::nested_arrays::AnyArray;
-use ipc_format_stream_writer::reader::steps::streams::EncodedData;
-use ipc_format_stream_writer::reader::steps::streams::columnar_memory::{Result, Schema};
-use ipc_format_stream_writer::reader::steps::streams::metadata::IpcField;
+use ipc_format_stream_writer::reader::streams::EncodedData;
+use ipc_format_stream_writer::reader::streams::columnar_memory::{Result, Schema};
+use ipc_format_stream_writer::reader::streams::metadata::IpcField;
 use std::alloc::Global;
 
 /// The messages of a batch with some ids, behind what is written of a file: those of dictionaries are answered, and its own takes the place of

@@ -5,7 +5,7 @@
 ghost use Rattle.ipc_format_file_writer.specs.Runs.{FilesAreWritten};
 
 use crate::writer::FileWriter;
-use ipc_format_stream_writer::reader::steps::streams::Faults;
+use ipc_format_stream_writer::reader::streams::Faults;
 use std::io::Write;
 
 impl<W: Write + Faults> FileWriter<W> {

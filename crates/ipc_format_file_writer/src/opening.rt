@@ -5,10 +5,10 @@ ghost use Rattle.ipc_format_file_writer.specs.Opening.{OpensFile};
 use crate::state::Progress;
 use ipc_format_stream_writer::all_are_ids;
 use ipc_format_stream_writer::reader::chunk_writing::DictionaryTracker;
-use ipc_format_stream_writer::reader::steps::streams::EncodedData;
-use ipc_format_stream_writer::reader::steps::streams::columnar_memory::{Result, Schema};
-use ipc_format_stream_writer::reader::steps::streams::metadata::IpcField;
-use ipc_format_stream_writer::reader::steps::streams::owned::writing::schema_to_bytes;
+use ipc_format_stream_writer::reader::streams::EncodedData;
+use ipc_format_stream_writer::reader::streams::columnar_memory::{Result, Schema};
+use ipc_format_stream_writer::reader::streams::metadata::IpcField;
+use ipc_format_stream_writer::reader::streams::owned::writing::schema_to_bytes;
 use std::alloc::Global;
 
 /// How many bytes stand before the first message's metadata: the mark with two zeros, and the message's prefix.

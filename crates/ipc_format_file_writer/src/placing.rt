@@ -3,14 +3,14 @@ ghost use Rattle.std.specs.Prelude.{◌≡◌, ◌+◌, ◌≤◌, ◌++◌, ◌
 ghost use Rattle.std.specs.List.{list_all};
 ghost use Rattle.ipc_format_stream_writer.specs.reader.chunk_writing.EncodedChunks.{message_in, messages_in};
 ghost use Rattle.ipc_format_stream_writer.specs.reader.chunk_writing.grammar.WrittenMessages.{fits_limit, most_metadata, prefix_size};
-ghost use Rattle.ipc_format_stream_writer.specs.reader.steps.streams.owned.writing.FooterWriting.{block_view};
+ghost use Rattle.ipc_format_stream_writer.specs.reader.streams.owned.writing.FooterWriting.{block_view};
 ghost use Rattle.ipc_format_file_writer.specs.Phases.{progress_of};
 ghost use Rattle.ipc_format_file_writer.specs.Placing.{JoinsBlocks, PlacesBatch, StandAt, StandsAt};
 
 use crate::state::Progress;
-use ipc_format_stream_writer::reader::steps::streams::EncodedData;
-use ipc_format_stream_writer::reader::steps::streams::columnar_memory::{Error, Result};
-use ipc_format_stream_writer::reader::steps::streams::messages::Block;
+use ipc_format_stream_writer::reader::streams::EncodedData;
+use ipc_format_stream_writer::reader::streams::columnar_memory::{Error, Result};
+use ipc_format_stream_writer::reader::streams::messages::Block;
 use std::alloc::Global;
 
 /// How many bytes stand before a message's metadata: the marker, and the length of the metadata.

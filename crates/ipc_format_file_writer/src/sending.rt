@@ -3,12 +3,12 @@ ghost use Rattle.std.specs.Prelude.{◌≡◌, ◌<◌, ◌^◌, length, true};
 ghost use Rattle.ipc_format_stream_writer.specs.Sending.{Delivers};
 ghost use Rattle.ipc_format_stream_writer.specs.reader.chunk_writing.EncodedChunks.{message_in};
 ghost use Rattle.ipc_format_stream_writer.specs.reader.chunk_writing.grammar.WrittenMessages.{fits_limit};
-ghost use Rattle.ipc_format_stream_writer.specs.reader.steps.streams.Devices.{Puts};
+ghost use Rattle.ipc_format_stream_writer.specs.reader.streams.Devices.{Puts};
 ghost use Rattle.ipc_format_file_writer.specs.Ends.{end_with, file_tail, first_bytes};
 
 use ipc_format_stream_writer::put_message;
-use ipc_format_stream_writer::reader::steps::streams::columnar_memory::Result;
-use ipc_format_stream_writer::reader::steps::streams::{EncodedData, Faults, put, refusal};
+use ipc_format_stream_writer::reader::streams::columnar_memory::Result;
+use ipc_format_stream_writer::reader::streams::{EncodedData, Faults, put, refusal};
 use std::io::Write;
 
 /// The mark of a file, and two zeros.

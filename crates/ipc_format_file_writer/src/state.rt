@@ -2,7 +2,7 @@
 ghost use Rattle.std.specs.Prelude.{◌≡◌, true};
 
 use ipc_format_stream_writer::reader::chunk_writing::DictionaryTracker;
-use ipc_format_stream_writer::reader::steps::streams::messages::Block;
+use ipc_format_stream_writer::reader::streams::messages::Block;
 
 /// What is written of a file behind its schema.
 #[derive(Drop)]

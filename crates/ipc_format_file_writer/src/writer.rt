@@ -15,12 +15,10 @@ use crate::sending::{send_end, send_start};
 use crate::state::State;
 use ipc_format_stream_writer::reader::chunk_writing::nested_arrays::AnyArray;
 use ipc_format_stream_writer::reader::chunk_writing::{Chunk, WriteOptions};
-use ipc_format_stream_writer::reader::steps::streams::columnar_memory::{
-    Error, Items, Result, Schema,
-};
-use ipc_format_stream_writer::reader::steps::streams::metadata::IpcField;
-use ipc_format_stream_writer::reader::steps::streams::owned::writing::footer_to_bytes;
-use ipc_format_stream_writer::reader::steps::streams::{EncodedData, Faults};
+use ipc_format_stream_writer::reader::streams::columnar_memory::{Error, Items, Result, Schema};
+use ipc_format_stream_writer::reader::streams::metadata::IpcField;
+use ipc_format_stream_writer::reader::streams::owned::writing::footer_to_bytes;
+use ipc_format_stream_writer::reader::streams::{EncodedData, Faults};
 use ipc_format_stream_writer::{fields_or, ids_or_default, send};
 use std::alloc::Global;
 use std::io::Write;

@@ -4,10 +4,10 @@ use Rattle.std.specs.Ordering.{int_eq}
 use Rattle.std.specs.Prelude.{if◌then◌else◌}
 use Rattle.ipc_format_flatbuffers.specs.Reading.{◌>>=◌, guard}
 use Rattle.ipc_format_flatbuffers.specs.FlatBuffers as flat
-use Rattle.columnar_memory.specs.declared.DataType.{DataType}
-use Rattle.columnar_memory.specs.declared.DataType.TheOpen as layer
-use Rattle.columnar_memory.specs.declared.DataType.TheFolds.{para-DataType}
-use Rattle.columnar_memory.specs.declared.Field.{Field}
+use Rattle.nested_arrays_columns.specs.columnar_memory.declared.DataType.{DataType}
+use Rattle.nested_arrays_columns.specs.columnar_memory.declared.DataType.TheOpen as layer
+use Rattle.nested_arrays_columns.specs.columnar_memory.declared.DataType.TheFolds.{para-DataType}
+use Rattle.nested_arrays_columns.specs.columnar_memory.declared.Field.{Field}
 use Rattle.ipc_format_grammar.specs.Messages as message
 use Rattle.ipc_format_grammar.specs.Messages.{Version, record_batch_in, dictionary_batch_in, lengths_sum, structs_in, as_node, as_buffer}
 use Rattle.ipc_format_grammar.specs.Schemas.{Ids, IdsList, ids}

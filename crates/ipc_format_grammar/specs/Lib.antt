@@ -29,4 +29,4 @@ pub mod AppendedFiles
 pub mod Seals
 pub use Rattle.ipc_format_flatbuffers.specs as flatbuffers
 pub use Rattle.nested_arrays_columns.specs as columns
-pub use Rattle.columnar_memory.specs as columnar_memory
+pub use Rattle.nested_arrays_columns.specs.columnar_memory

@@ -4,19 +4,19 @@ use Rattle.std.specs.List.{flat_map}
 use Rattle.std.specs.Int.{w8, w16, w32, w64, to_le_bytes, cast_unsigned}
 use Rattle.ipc_format_flatbuffers.specs.Objects.{Object, Fields, Objects, table, references, elements, text, no_field, absent_then}
 use Rattle.ipc_format_flatbuffers.specs.Objects.{number_then, refers_then, no_object, object_then}
-use Rattle.columnar_memory.specs.declared.DataType.{DataType}
-use Rattle.columnar_memory.specs.declared.DataType.TheOpen as layer
-use Rattle.columnar_memory.specs.declared.DataType.TheFolds.{fold-DataType}
-use Rattle.columnar_memory.specs.declared.Field.{Field}
-use Rattle.columnar_memory.specs.declared.Schema.{Schema}
-use Rattle.columnar_memory.specs.declared.TimeUnit.{TimeUnit}
-use Rattle.columnar_memory.specs.declared.TimeUnit.TheVariants as units
-use Rattle.columnar_memory.specs.declared.IntervalUnit.{IntervalUnit}
-use Rattle.columnar_memory.specs.declared.IntervalUnit.TheVariants as intervals
-use Rattle.columnar_memory.specs.declared.IntegerType.{IntegerType}
-use Rattle.columnar_memory.specs.declared.IntegerType.TheVariants as integers
-use Rattle.columnar_memory.specs.declared.UnionMode.{UnionMode}
-use Rattle.columnar_memory.specs.declared.UnionMode.TheVariants as modes
+use Rattle.nested_arrays_columns.specs.columnar_memory.declared.DataType.{DataType}
+use Rattle.nested_arrays_columns.specs.columnar_memory.declared.DataType.TheOpen as layer
+use Rattle.nested_arrays_columns.specs.columnar_memory.declared.DataType.TheFolds.{fold-DataType}
+use Rattle.nested_arrays_columns.specs.columnar_memory.declared.Field.{Field}
+use Rattle.nested_arrays_columns.specs.columnar_memory.declared.Schema.{Schema}
+use Rattle.nested_arrays_columns.specs.columnar_memory.declared.TimeUnit.{TimeUnit}
+use Rattle.nested_arrays_columns.specs.columnar_memory.declared.TimeUnit.TheVariants as units
+use Rattle.nested_arrays_columns.specs.columnar_memory.declared.IntervalUnit.{IntervalUnit}
+use Rattle.nested_arrays_columns.specs.columnar_memory.declared.IntervalUnit.TheVariants as intervals
+use Rattle.nested_arrays_columns.specs.columnar_memory.declared.IntegerType.{IntegerType}
+use Rattle.nested_arrays_columns.specs.columnar_memory.declared.IntegerType.TheVariants as integers
+use Rattle.nested_arrays_columns.specs.columnar_memory.declared.UnionMode.{UnionMode}
+use Rattle.nested_arrays_columns.specs.columnar_memory.declared.UnionMode.TheVariants as modes
 use Rattle.ipc_format_grammar.specs.Schemas.{Ids, IdsList, ids, no_ids, ids_then, extension_name_key, extension_metadata_key}
 use Rattle.ipc_format_grammar.specs.Writable.{without_key}
 use Rattle.ipc_format_grammar.specs.TagNumbers as tags

@@ -5,11 +5,11 @@ use Rattle.std.specs.Int.{w8, w16, w32, w64}
 use Rattle.ipc_format_flatbuffers.specs.Reading.{◌>>=◌, guard}
 use Rattle.ipc_format_flatbuffers.specs.FlatBuffers.{Table, Vector, number_field, signed_field, truth_field, table_field, vector_field}
 use Rattle.ipc_format_flatbuffers.specs.FlatBuffers.{string_field, element_at}
-use Rattle.columnar_memory.specs.declared.DataType.{DataType}
-use Rattle.columnar_memory.specs.declared.DataType.TheVariants as types
-use Rattle.columnar_memory.specs.declared.Field.{Field}
-use Rattle.columnar_memory.specs.declared.Schema.{Schema}
-use Rattle.columnar_memory.specs.Pairs.{value_at, with_pair}
+use Rattle.nested_arrays_columns.specs.columnar_memory.declared.DataType.{DataType}
+use Rattle.nested_arrays_columns.specs.columnar_memory.declared.DataType.TheVariants as types
+use Rattle.nested_arrays_columns.specs.columnar_memory.declared.Field.{Field}
+use Rattle.nested_arrays_columns.specs.columnar_memory.declared.Schema.{Schema}
+use Rattle.nested_arrays_columns.specs.columnar_memory.Pairs.{value_at, with_pair}
 use Rattle.ipc_format_grammar.specs.Types as kind
 use Rattle.ipc_format_grammar.specs.Types.{Tag, tag_of, integer_in, type_of_integer, size_of, decimal_in, date_of, time_in, timestamp_in}
 use Rattle.ipc_format_grammar.specs.Types.{interval_of, time_unit_of, union_in}

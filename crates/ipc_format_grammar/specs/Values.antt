@@ -2,10 +2,10 @@
 use Rattle.std.specs.Prelude.{ℕ, ◌+◌, ◌-◌, ◌*◌, ◌/◌, ◌%◌, ◌^◌, ℤ, pos, negsuc, Bool, true, false, List, take, drop, nat_lt, ◌==◌}
 use Rattle.std.specs.Prelude.{if◌then◌else◌, slice_index}
 use Rattle.std.specs.Int.{Width, w8, w16, w32, w64, w128, from_le_bytes, from_be_bytes, cast_signed}
-use Rattle.columnar_memory.specs.declared.IntegerType.{IntegerType}
-use Rattle.columnar_memory.specs.declared.IntegerType.TheVariants as integers
-use Rattle.columnar_memory.specs.declared.PrimitiveType.{PrimitiveType}
-use Rattle.columnar_memory.specs.declared.PrimitiveType.TheVariants as kinds
+use Rattle.nested_arrays_columns.specs.columnar_memory.declared.IntegerType.{IntegerType}
+use Rattle.nested_arrays_columns.specs.columnar_memory.declared.IntegerType.TheVariants as integers
+use Rattle.nested_arrays_columns.specs.columnar_memory.declared.PrimitiveType.{PrimitiveType}
+use Rattle.nested_arrays_columns.specs.columnar_memory.declared.PrimitiveType.TheVariants as kinds
 use Rattle.nested_arrays_columns.specs.Slots.{Slot, null, number, pair, triple}
 
 -- bit i of some bytes, the lowest bit of a byte first

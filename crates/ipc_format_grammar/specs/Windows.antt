@@ -6,13 +6,13 @@ use Rattle.std.specs.List.{All, flat_map}
 use Rattle.std.specs.Int.{Width, w32, w64, byte_len}
 use Rattle.ipc_format_flatbuffers.specs.Reading.{◌>>=◌, window_at}
 use Rattle.ipc_format_flatbuffers.specs.FlatBuffers as flat
-use Rattle.columnar_memory.specs.declared.DataType.{DataType}
-use Rattle.columnar_memory.specs.declared.DataType.TheOpen as layer
-use Rattle.columnar_memory.specs.declared.DataType.TheFolds.{para-DataType}
-use Rattle.columnar_memory.specs.declared.Field.{Field}
-use Rattle.columnar_memory.specs.declared.PrimitiveType.{PrimitiveType}
-use Rattle.columnar_memory.specs.declared.UnionMode.{UnionMode}
-use Rattle.columnar_memory.specs.declared.UnionMode.TheVariants as modes
+use Rattle.nested_arrays_columns.specs.columnar_memory.declared.DataType.{DataType}
+use Rattle.nested_arrays_columns.specs.columnar_memory.declared.DataType.TheOpen as layer
+use Rattle.nested_arrays_columns.specs.columnar_memory.declared.DataType.TheFolds.{para-DataType}
+use Rattle.nested_arrays_columns.specs.columnar_memory.declared.Field.{Field}
+use Rattle.nested_arrays_columns.specs.columnar_memory.declared.PrimitiveType.{PrimitiveType}
+use Rattle.nested_arrays_columns.specs.columnar_memory.declared.UnionMode.{UnionMode}
+use Rattle.nested_arrays_columns.specs.columnar_memory.declared.UnionMode.TheVariants as modes
 use Rattle.ipc_format_grammar.specs.Messages as message
 use Rattle.ipc_format_grammar.specs.Messages.{FieldNode, natural, dictionary_batch_in}
 use Rattle.ipc_format_grammar.specs.Schemas.{IdsList, ids}

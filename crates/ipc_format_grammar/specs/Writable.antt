@@ -6,15 +6,15 @@ use Rattle.std.specs.Map.{remove_entry}
 use Rattle.std.specs.List.{list_all, list_any}
 use Rattle.std.specs.Cmp.Lexicographic.{pointwise}
 use Rattle.std.specs.Prelude.{nat_eq}
-use Rattle.columnar_memory.specs.declared.DataType.{DataType}
-use Rattle.columnar_memory.specs.declared.DataType.TheOpen as layer
-use Rattle.columnar_memory.specs.declared.DataType.TheFolds.{fold-DataType}
-use Rattle.columnar_memory.specs.declared.DataType.TheViews.{roll-DataType, roll-Field, out-DataType}
-use Rattle.columnar_memory.specs.declared.Field.{Field}
-use Rattle.columnar_memory.specs.declared.Schema.{Schema}
-use Rattle.columnar_memory.specs.declared.TimeUnit.{TimeUnit}
-use Rattle.columnar_memory.specs.declared.TimeUnit.TheVariants as units
-use Rattle.columnar_memory.specs.Pairs.{with_pair}
+use Rattle.nested_arrays_columns.specs.columnar_memory.declared.DataType.{DataType}
+use Rattle.nested_arrays_columns.specs.columnar_memory.declared.DataType.TheOpen as layer
+use Rattle.nested_arrays_columns.specs.columnar_memory.declared.DataType.TheFolds.{fold-DataType}
+use Rattle.nested_arrays_columns.specs.columnar_memory.declared.DataType.TheViews.{roll-DataType, roll-Field, out-DataType}
+use Rattle.nested_arrays_columns.specs.columnar_memory.declared.Field.{Field}
+use Rattle.nested_arrays_columns.specs.columnar_memory.declared.Schema.{Schema}
+use Rattle.nested_arrays_columns.specs.columnar_memory.declared.TimeUnit.{TimeUnit}
+use Rattle.nested_arrays_columns.specs.columnar_memory.declared.TimeUnit.TheVariants as units
+use Rattle.nested_arrays_columns.specs.columnar_memory.Pairs.{with_pair}
 use Rattle.nested_arrays_columns.specs.Tables.{Table, FitsRows}
 use Rattle.ipc_format_grammar.specs.Schemas.{extension_name_key, extension_metadata_key}
 use Rattle.ipc_format_grammar.specs.Limits.{most_levels, most_dictionaries}

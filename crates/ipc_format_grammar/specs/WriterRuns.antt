@@ -3,7 +3,7 @@
 use Rattle.std.specs.Prelude.{Bool, not, List, [], ◌∷◌, ◌++◌, Option, Some, None, if◌then◌else◌}
 use Rattle.std.specs.List.{list_all}
 use Rattle.ipc_format_flatbuffers.specs.Reading.{◌>>=◌, guard}
-use Rattle.columnar_memory.specs.declared.Schema.{Schema}
+use Rattle.nested_arrays_columns.specs.columnar_memory.declared.Schema.{Schema}
 use Rattle.ipc_format_grammar.specs.Schemas.{IdsList}
 use Rattle.ipc_format_grammar.specs.Tables.{Form, stream, file}
 use Rattle.ipc_format_grammar.specs.GivenDictionaries.{Given, agree, written_after}

@@ -3,7 +3,7 @@ use Rattle.std.specs.Prelude.{ℕ, ◌+◌, ◌-◌, ◌^◌, Bool, ◌&&◌, Li
 use Rattle.std.specs.List.{flat_map}
 use Rattle.std.specs.Int.{w32, to_le_bytes, next_multiple_of}
 use Rattle.ipc_format_flatbuffers.specs.Objects.{Object, laid}
-use Rattle.columnar_memory.specs.declared.Schema.{Schema}
+use Rattle.nested_arrays_columns.specs.columnar_memory.declared.Schema.{Schema}
 use Rattle.ipc_format_grammar.specs.Schemas.{IdsList}
 use Rattle.ipc_format_grammar.specs.SchemaObjects.{message_object, schema_message, record_batch_object, dictionary_batch_object}
 use Rattle.ipc_format_grammar.specs.Encoding.{Encoded, joined}

@@ -3,11 +3,11 @@ use Rattle.std.specs.Prelude.{ℕ, Bool, true, false, not, ◌&&◌, ◌==◌, L
 use Rattle.std.specs.List.{flat_map, list_all}
 use Rattle.ipc_format_flatbuffers.specs.Reading.{◌>>=◌, guard}
 use Rattle.columnar_memory_types.specs.Equality.{same_type}
-use Rattle.columnar_memory.specs.declared.DataType.{DataType}
-use Rattle.columnar_memory.specs.declared.DataType.TheOpen as layer
-use Rattle.columnar_memory.specs.declared.DataType.TheFolds.{fold-DataType}
-use Rattle.columnar_memory.specs.declared.Field.{Field}
-use Rattle.columnar_memory.specs.declared.Schema.{Schema}
+use Rattle.nested_arrays_columns.specs.columnar_memory.declared.DataType.{DataType}
+use Rattle.nested_arrays_columns.specs.columnar_memory.declared.DataType.TheOpen as layer
+use Rattle.nested_arrays_columns.specs.columnar_memory.declared.DataType.TheFolds.{fold-DataType}
+use Rattle.nested_arrays_columns.specs.columnar_memory.declared.Field.{Field}
+use Rattle.nested_arrays_columns.specs.columnar_memory.declared.Schema.{Schema}
 use Rattle.nested_arrays_columns.specs.Cells.{is_list_of, fits_step}
 use Rattle.nested_arrays_columns.specs.OpenBatch.{is_within}
 use Rattle.nested_arrays_columns.specs.Slots.{Slot}

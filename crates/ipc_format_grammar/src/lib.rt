@@ -4,5 +4,5 @@
 //! It has definitions for contracts, and no code.
 #![tactic(auto)]
 
-pub use columnar_memory;
 pub use ipc_format_flatbuffers as flatbuffers;
+pub use nested_arrays_columns::columnar_memory;

@@ -26,7 +26,7 @@ use Rattle.ipc_format_chunk_writing.specs.grammar.Messages.{dictionary_batch_in,
 use Rattle.ipc_format_chunk_writing.specs.grammar.Schemas.{ids}
 use Rattle.ipc_format_chunk_writing.specs.grammar.Tables.{agree_in_length}
 use Rattle.ipc_format_chunk_writing.specs.Below.{arrays_below, no_own_ids}
-use Rattle.ipc_format_stream_steps.specs.streams.Queues.{is_compressed, is_compressed_by}
+use Rattle.ipc_format_chunk_writing.specs.streams.Queues.{is_compressed, is_compressed_by}
 use Rattle.ipc_format_stream_reader.specs.Hearing.{HasTypes, Hears, HearsColumns, HearsDictionary, heard_in, is_not_read_in}
 use Rattle.ipc_format_stream_reader.specs.Turns.{Said, dictionary_stands, columns_come, said_by, heard, is_not_read}
 use Rattle.ipc_format_stream_reader.proofs.Dropped.{bind_is}

@@ -1,3 +1,10 @@
+pub mod Binding
+pub mod Rows
+pub mod Steps
+pub mod Places
+pub mod Progress
+pub mod StreamParts
+pub mod Passed
 pub mod Dropped
 pub mod TurnLaws
 pub mod Headers
@@ -6,4 +13,3 @@ pub mod Heard
 pub mod Turning
 pub mod Nexts
 pub use Rattle.ipc_format_chunk_writing.proofs as chunk_lemmas
-pub use Rattle.ipc_format_stream_steps.proofs as steps_lemmas

@@ -8,8 +8,8 @@ use Rattle.ipc_format_chunk_writing.specs.columnar_memory.declared.Error.{Error}
 use Rattle.ipc_format_chunk_writing.specs.columnar_memory.declared.Error.TheVariants as errors
 use Rattle.ipc_format_chunk_writing.specs.columns.StoredColumns.{Column}
 use Rattle.ipc_format_chunk_writing.specs.grammar.Columns.{Dictionary}
-use Rattle.ipc_format_stream_steps.specs.streams.Starts.{IsReadRefusal}
-use Rattle.ipc_format_stream_steps.specs.streams.declared.stream_metadata.StreamMetadata.{StreamMetadata}
+use Rattle.ipc_format_chunk_writing.specs.streams.Starts.{IsReadRefusal}
+use Rattle.ipc_format_chunk_writing.specs.streams.declared.stream_metadata.StreamMetadata.{StreamMetadata}
 use Rattle.ipc_format_stream_reader.specs.Readings.{Reading, Opens, at_start, Takes, Refuses, Answers, NextGives}
 use Rattle.ipc_format_stream_reader.specs.declared.state.StreamState.{StreamState}
 

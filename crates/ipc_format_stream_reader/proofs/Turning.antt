@@ -15,8 +15,8 @@ use Rattle.ipc_format_chunk_writing.specs.grammar.Framing.{Framed, Next, nothing
 use Rattle.ipc_format_chunk_writing.specs.grammar.Limits.{most_dictionaries}
 use Rattle.ipc_format_chunk_writing.specs.grammar.Messages.{Message, Version, message_in}
 use Rattle.ipc_format_chunk_writing.specs.grammar.Schemas.{IdsList}
-use Rattle.ipc_format_stream_steps.specs.streams.Incoming.{ForLeft, IsNextMessage, TakesNext}
-use Rattle.ipc_format_stream_steps.specs.streams.declared.incoming.Incoming.TheVariants as incoming
+use Rattle.ipc_format_chunk_writing.specs.streams.Incoming.{ForLeft, IsNextMessage, TakesNext}
+use Rattle.ipc_format_chunk_writing.specs.streams.declared.incoming.Incoming.TheVariants as incoming
 use Rattle.ipc_format_stream_reader.specs.Hearing.{HasTypes, Hears, Spot, StandsAt, TakesTurn, heard_in, is_not_read_in, turn_at}
 use Rattle.ipc_format_stream_reader.specs.Turns.{Said, dictionary_stands, columns_come, heard, Turn, waits, ends, gives, turn_with, turn_within}
 use Rattle.ipc_format_stream_reader.specs.Turns.{next_turn, is_not_read, is_not_read_behind, HasNotRead}

@@ -14,8 +14,8 @@ use Rattle.ipc_format_chunk_writing.specs.grammar.Limits.{most_dictionaries}
 use Rattle.ipc_format_chunk_writing.specs.grammar.Messages as message
 use Rattle.ipc_format_chunk_writing.specs.grammar.Messages.{Version, message_in}
 use Rattle.ipc_format_chunk_writing.specs.Below.{type_of}
-use Rattle.ipc_format_stream_steps.specs.streams.Incoming.{ForLeft}
-use Rattle.ipc_format_stream_steps.specs.streams.Queues.{is_compressed}
+use Rattle.ipc_format_chunk_writing.specs.streams.Incoming.{ForLeft}
+use Rattle.ipc_format_chunk_writing.specs.streams.Queues.{is_compressed}
 use Rattle.ipc_format_stream_reader.specs.Turns.{Said, dictionary_stands, columns_come, heard, is_not_read, HasNotRead, Turn, next_turn}
 use Rattle.ipc_format_stream_reader.specs.Turns.{waits, ends, gives}
 use Rattle.ipc_format_stream_reader.specs.declared.state.StreamState.{StreamState}

@@ -1,3 +1,5 @@
+pub mod Steps
+pub mod Behind
 pub mod Turns
 pub mod States
 pub mod Hearing
@@ -5,4 +7,4 @@ pub mod ReadingCodes
 pub mod Readings
 pub mod Laws
 pub use Rattle.ipc_format_chunk_writing.specs as chunk_writing
-pub use Rattle.ipc_format_stream_steps.specs as steps
+pub use Rattle.ipc_format_chunk_writing.specs.streams

@@ -7,8 +7,8 @@ use Rattle.ipc_format_chunk_writing.specs.columnar_memory.declared.DataType.{Dat
 use Rattle.ipc_format_chunk_writing.specs.columns.SlotCodes.{slot_code}
 use Rattle.ipc_format_chunk_writing.specs.columns.Slots.{Slot}
 use Rattle.ipc_format_chunk_writing.specs.grammar.Columns.{Dictionary}
-use Rattle.ipc_format_stream_steps.specs.streams.contracts.stream_metadata.StreamMetadata as stream_metadata
-use Rattle.ipc_format_stream_steps.specs.streams.declared.stream_metadata.StreamMetadata.{StreamMetadata}
+use Rattle.ipc_format_chunk_writing.specs.streams.contracts.stream_metadata.StreamMetadata as stream_metadata
+use Rattle.ipc_format_chunk_writing.specs.streams.declared.stream_metadata.StreamMetadata.{StreamMetadata}
 use Rattle.ipc_format_stream_reader.specs.Hearing.{Spot}
 use Rattle.ipc_format_stream_reader.specs.Readings.{Reading}
 

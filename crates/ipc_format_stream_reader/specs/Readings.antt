@@ -6,9 +6,9 @@ use Rattle.ipc_format_chunk_writing.specs.grammar.Dictionaries.{Layout}
 use Rattle.ipc_format_chunk_writing.specs.grammar.Messages.{Version}
 use Rattle.ipc_format_chunk_writing.specs.grammar.Tables.{layout_of}
 use Rattle.ipc_format_chunk_writing.specs.messages.MessageViews.{version_view}
-use Rattle.ipc_format_stream_steps.specs.streams.Incoming.{ForLeft}
-use Rattle.ipc_format_stream_steps.specs.streams.Starts.{IsUncounted, start_view}
-use Rattle.ipc_format_stream_steps.specs.streams.declared.stream_metadata.StreamMetadata.{StreamMetadata}
+use Rattle.ipc_format_chunk_writing.specs.streams.Incoming.{ForLeft}
+use Rattle.ipc_format_chunk_writing.specs.streams.Starts.{IsUncounted, start_view}
+use Rattle.ipc_format_chunk_writing.specs.streams.declared.stream_metadata.StreamMetadata.{StreamMetadata}
 use Rattle.ipc_format_stream_reader.specs.Hearing.{Spot, TakesTurn, turn_at}
 use Rattle.ipc_format_stream_reader.specs.Turns.{Turn}
 use Rattle.ipc_format_stream_reader.specs.declared.state.StreamState.{StreamState}

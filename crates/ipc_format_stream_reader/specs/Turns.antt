@@ -12,7 +12,7 @@ use Rattle.ipc_format_chunk_writing.specs.grammar.Limits.{most_dictionaries}
 use Rattle.ipc_format_chunk_writing.specs.grammar.Messages as message
 use Rattle.ipc_format_chunk_writing.specs.grammar.Messages.{Version}
 use Rattle.ipc_format_chunk_writing.specs.grammar.Tables.{stream_entry}
-use Rattle.ipc_format_stream_steps.specs.streams.Queues.{is_compressed}
+use Rattle.ipc_format_chunk_writing.specs.streams.Queues.{is_compressed}
 
 -- ---- one message
 

@@ -8,11 +8,11 @@ ghost use Rattle.ipc_format_stream_reader.specs.Hearing.{Hears, HearsColumns, He
 
 use ipc_format_chunk_writing::columnar_memory::{Error, Field, Result};
 use ipc_format_chunk_writing::nested_arrays::AnyArray;
-use ipc_format_chunk_writing::{Chunk, Dictionaries, InMemory, read_dictionary, read_record_batch};
-use ipc_format_stream_steps::streams::messages::{
+use ipc_format_chunk_writing::streams::messages::{
     DictionaryBatchRef, MessageHeaderRef, MetadataVersion, RecordBatchRef, message_in,
 };
-use ipc_format_stream_steps::streams::metadata::IpcSchema;
+use ipc_format_chunk_writing::streams::metadata::IpcSchema;
+use ipc_format_chunk_writing::{Chunk, Dictionaries, InMemory, read_dictionary, read_record_batch};
 use std::alloc::Global;
 
 /// How many dictionary messages stand in a row at most.

@@ -9,10 +9,10 @@ ghost use Rattle.ipc_format_stream_reader.specs.Hearing.{TakesTurn};
 use crate::message::read_message;
 use crate::state::StreamState;
 use ipc_format_chunk_writing::columnar_memory::{Field, Result};
+use ipc_format_chunk_writing::streams::messages::MetadataVersion;
+use ipc_format_chunk_writing::streams::metadata::IpcSchema;
+use ipc_format_chunk_writing::streams::{Incoming, next_message};
 use ipc_format_chunk_writing::{Dictionaries, look_ups_are_enough};
-use ipc_format_stream_steps::streams::messages::MetadataVersion;
-use ipc_format_stream_steps::streams::metadata::IpcSchema;
-use ipc_format_stream_steps::streams::{Incoming, next_message};
 use std::alloc::Global;
 use std::io::Read;
 

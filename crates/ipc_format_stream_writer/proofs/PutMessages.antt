@@ -12,7 +12,7 @@ use Rattle.ipc_format_stream_reader.specs.chunk_writing.columnar_memory.declared
 use Rattle.ipc_format_stream_reader.specs.chunk_writing.grammar.WrittenMessages.{Written, body_limit, fits_limit, message_bytes, most_metadata}
 use Rattle.ipc_format_stream_reader.specs.chunk_writing.grammar.WrittenMessages.{prefix_size}
 use Rattle.ipc_format_stream_reader.specs.chunk_writing.grammar.WrittenStreams.{bytes_of_messages}
-use Rattle.ipc_format_stream_reader.specs.steps.streams.Devices.{AppendsBeginning, Puts}
+use Rattle.ipc_format_stream_reader.specs.streams.Devices.{AppendsBeginning, Puts}
 use Rattle.ipc_format_stream_reader.proofs.chunk_lemmas.Appending.{appends_both, begins_behind, begins_first, begins_same, puts_behind, puts_first}
 
 -- ---- one message

@@ -11,7 +11,7 @@ use Rattle.ipc_format_stream_reader.specs.chunk_writing.grammar.WrittenMessages.
 use Rattle.ipc_format_stream_reader.specs.chunk_writing.grammar.WrittenStreams.{is_written_with}
 use Rattle.ipc_format_stream_reader.specs.chunk_writing.metadata.Views.{ids_views}
 use Rattle.ipc_format_stream_reader.specs.chunk_writing.metadata.declared.ipc_schema.IpcField.{IpcField}
-use Rattle.ipc_format_stream_reader.specs.steps.streams.declared.EncodedData.{EncodedData}
+use Rattle.ipc_format_stream_reader.specs.streams.declared.EncodedData.{EncodedData}
 use Rattle.ipc_format_stream_writer.specs.Objections.{IsNotStarted}
 use Rattle.ipc_format_stream_writer.specs.declared.state.Stream.{Stream}
 

@@ -16,8 +16,8 @@ use Rattle.ipc_format_stream_reader.specs.chunk_writing.grammar.WrittenStreams.{
 use Rattle.ipc_format_stream_reader.specs.chunk_writing.grammar.WrittenStreams.{is_written_with, stored_columns}
 use Rattle.ipc_format_stream_reader.specs.chunk_writing.metadata.Views.{ids_views}
 use Rattle.ipc_format_stream_reader.specs.chunk_writing.metadata.declared.ipc_schema.IpcField.{IpcField}
-use Rattle.ipc_format_stream_reader.specs.steps.streams.Devices.{AppendsBeginning}
-use Rattle.ipc_format_stream_reader.specs.steps.streams.EncodedMessages.{IsRefusedWrite}
+use Rattle.ipc_format_stream_reader.specs.streams.Devices.{AppendsBeginning}
+use Rattle.ipc_format_stream_reader.specs.streams.EncodedMessages.{IsRefusedWrite}
 use Rattle.ipc_format_stream_reader.specs.chunk_writing.Tracking.{Tells}
 use Rattle.ipc_format_stream_writer.specs.Objections.{IsNotStarted, IsNotWritten}
 use Rattle.ipc_format_stream_writer.specs.Opening.{fields_or}

@@ -3,7 +3,7 @@ ghost use Rattle.std.specs.Prelude.{◌≡◌, false};
 
 use ipc_format_stream_reader::chunk_writing::DictionaryTracker;
 use ipc_format_stream_reader::chunk_writing::columnar_memory::{Items, Schema};
-use ipc_format_stream_reader::steps::streams::metadata::IpcField;
+use ipc_format_stream_reader::streams::metadata::IpcField;
 
 /// A stream whose schema is written.
 #[derive(Drop)]

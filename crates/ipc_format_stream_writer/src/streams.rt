@@ -19,11 +19,9 @@ use ipc_format_stream_reader::chunk_writing::nested_arrays::AnyArray;
 use ipc_format_stream_reader::chunk_writing::{
     Chunk, DictionaryTracker, encode_batch, have_one_form, ids_fit,
 };
-use ipc_format_stream_reader::steps::streams::EncodedData;
-use ipc_format_stream_reader::steps::streams::metadata::IpcField;
-use ipc_format_stream_reader::steps::streams::owned::writing::{
-    default_ipc_fields, schema_to_bytes,
-};
+use ipc_format_stream_reader::streams::EncodedData;
+use ipc_format_stream_reader::streams::metadata::IpcField;
+use ipc_format_stream_reader::streams::owned::writing::{default_ipc_fields, schema_to_bytes};
 use std::alloc::Global;
 
 /// The ids that are given, or numbers from 0 on.

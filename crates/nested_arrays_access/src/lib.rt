@@ -16,9 +16,24 @@ pub use slot_ranges::{same_slot_ranges, same_slots};
 pub mod arrays {
     pub use nested_arrays_arrays::{
         AnyArray, CompareSlots, DictionaryNode, FixedSizeListArray, ListNode, MapArray, Node,
-        StructArray, UnionArray, equal, equal_counted, is_null_slot, item_field, same_arrays,
-        same_items, same_slot,
+        StructArray, UnionArray, columnar_memory, equal, equal_counted, flat_arrays, is_null_slot,
+        item_field, same_arrays, same_items, same_slot,
     };
+
+    /// Of `flat`.
+    pub mod flat {
+        pub use nested_arrays_arrays::flat::{
+            AnyPrimitive, FixedSizeBinaryArray, NullArray, PrimitiveKind, PrimitiveNode, mark_at,
+            read_bytes,
+        };
+    }
+
+    /// Of `parts`.
+    pub mod parts {
+        pub use nested_arrays_arrays::parts::{
+            FlatArray, FlatNode, ListOffsets, holds_values, is_valid,
+        };
+    }
 }
 
 /// What `nested_arrays_arrays::columns` has, as far as packages above use it.

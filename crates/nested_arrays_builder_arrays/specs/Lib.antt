@@ -4,3 +4,4 @@ pub mod Taken
 pub use Rattle.nested_arrays_builders.specs as builders
 pub use Rattle.nested_arrays_builders.specs.arrays
 pub use Rattle.nested_arrays_builders.specs.parts
+pub use Rattle.nested_arrays_builders.specs.nulls

@@ -5,3 +5,4 @@ pub use Rattle.nested_arrays_builder_arrays.specs as taken
 pub use Rattle.nested_arrays_builder_arrays.specs.builders
 pub use Rattle.nested_arrays_builder_arrays.specs.arrays
 pub use Rattle.nested_arrays_builder_arrays.specs.parts
+pub use Rattle.nested_arrays_builder_arrays.specs.nulls

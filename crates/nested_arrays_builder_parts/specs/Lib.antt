@@ -9,5 +9,6 @@ pub mod NewValues
 pub mod Open
 pub mod Scalars
 pub mod Strings
-pub use Rattle.nested_arrays_arrays.specs as arrays
+pub use Rattle.nested_arrays_nulls.specs.arrays
 pub use Rattle.nested_arrays_growth.specs as growth
+pub use Rattle.nested_arrays_nulls.specs as nulls

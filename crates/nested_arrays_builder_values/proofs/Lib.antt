@@ -4,3 +4,4 @@ pub mod Needs
 pub mod Totals
 pub mod UsedValues
 pub use Rattle.nested_arrays_builder_parts.proofs as parts_lemmas
+pub use Rattle.nested_arrays_builder_parts.proofs.nulls_lemmas

@@ -3,3 +3,4 @@ pub mod Hashes
 pub mod Keyed
 pub mod Uses
 pub use Rattle.nested_arrays_builder_parts.specs as parts
+pub use Rattle.nested_arrays_builder_parts.specs.nulls

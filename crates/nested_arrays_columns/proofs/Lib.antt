@@ -25,3 +25,4 @@ pub mod SoundParts
 pub mod TextBytes
 pub mod TypeLayers
 pub mod Windows
+pub use Rattle.columnar_memory.proofs as columnar_memory_lemmas

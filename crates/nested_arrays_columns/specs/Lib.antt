@@ -17,3 +17,4 @@ pub mod SoundColumns
 pub mod StoredColumns
 pub mod TableLaws
 pub mod Tables
+pub use Rattle.columnar_memory.specs as columnar_memory

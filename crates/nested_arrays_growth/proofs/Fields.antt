@@ -3,7 +3,7 @@ use Rattle.std.proofs.Common.{◌≡◌, ◌∙◌, ℕ, zero, suc, ◌+◌, ◌
 use Rattle.std.proofs.Common.{sym, ap, arith, ◌==◌}
 use Rattle.std.proofs.lemmas.Bool.{and_parts, and_from, and_left, and_right}
 use Rattle.std.proofs.lemmas.List.{map-append, take-map}
-use Rattle.columnar_memory.specs.declared.Field.{Field}
+use Rattle.nested_arrays_columns.specs.columnar_memory.declared.Field.{Field}
 use Rattle.nested_arrays_columns.specs.Children.{slot_number, field_of, field_slots}
 use Rattle.nested_arrays_columns.specs.FreshColumns.{fresh}
 use Rattle.nested_arrays_columns.specs.OpenBatch.{fits}

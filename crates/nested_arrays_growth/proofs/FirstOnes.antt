@@ -4,11 +4,11 @@ use Rattle.std.specs.Prelude.{Some, pos}
 use Rattle.std.specs.List.{flat_map, list_all}
 use Rattle.std.proofs.lemmas.Bool.{and_parts, eqb-true}
 use Rattle.std.proofs.lemmas.List.{length-take-le, length-replicate, take-map}
-use Rattle.columnar_memory.specs.declared.DataType.{DataType}
-use Rattle.columnar_memory.specs.declared.DataType.TheOpen as layer
-use Rattle.columnar_memory.specs.declared.Field.{Field}
-use Rattle.columnar_memory.specs.declared.IntegerType.{IntegerType}
-use Rattle.columnar_memory.specs.Spans.{offset_at}
+use Rattle.nested_arrays_columns.specs.columnar_memory.declared.DataType.{DataType}
+use Rattle.nested_arrays_columns.specs.columnar_memory.declared.DataType.TheOpen as layer
+use Rattle.nested_arrays_columns.specs.columnar_memory.declared.Field.{Field}
+use Rattle.nested_arrays_columns.specs.columnar_memory.declared.IntegerType.{IntegerType}
+use Rattle.nested_arrays_columns.specs.columnar_memory.Spans.{offset_at}
 use Rattle.nested_arrays_columns.specs.Cells.{is_bytes_of}
 use Rattle.nested_arrays_columns.specs.Children.{items_of, fixed_items_of, joined_items, joined_fixed_items, dictionary_values}
 use Rattle.nested_arrays_columns.specs.FreshColumns.{is_true, content_of, fixed_content_of, content_offsets, item_offsets, fresh}

@@ -6,14 +6,14 @@ use Rattle.std.proofs.lemmas.Bool.{and_parts, and_from, cases_Bool, or_cases, eq
 use Rattle.std.proofs.lemmas.List.{length-map}
 use Rattle.std.proofs.lemmas.List.Folds.{list_all-append}
 use mathlib.Core.Logic.{inl, inr}
-use Rattle.columnar_memory.specs.declared.DataType.{DataType, map-DataType}
-use Rattle.columnar_memory.specs.declared.DataType.TheOpen as layer
-use Rattle.columnar_memory.specs.declared.Field.{Field}
-use Rattle.columnar_memory.specs.declared.IntegerType.{IntegerType}
-use Rattle.columnar_memory.specs.declared.IntervalUnit.TheVariants as intervals
-use Rattle.columnar_memory.specs.declared.PhysicalType.TheVariants as physical
-use Rattle.columnar_memory.specs.declared.PrimitiveType.{PrimitiveType}
-use Rattle.columnar_memory.specs.Layouts.{physical_type}
+use Rattle.nested_arrays_columns.specs.columnar_memory.declared.DataType.{DataType, map-DataType}
+use Rattle.nested_arrays_columns.specs.columnar_memory.declared.DataType.TheOpen as layer
+use Rattle.nested_arrays_columns.specs.columnar_memory.declared.Field.{Field}
+use Rattle.nested_arrays_columns.specs.columnar_memory.declared.IntegerType.{IntegerType}
+use Rattle.nested_arrays_columns.specs.columnar_memory.declared.IntervalUnit.TheVariants as intervals
+use Rattle.nested_arrays_columns.specs.columnar_memory.declared.PhysicalType.TheVariants as physical
+use Rattle.nested_arrays_columns.specs.columnar_memory.declared.PrimitiveType.{PrimitiveType}
+use Rattle.nested_arrays_columns.specs.columnar_memory.Layouts.{physical_type}
 use Rattle.nested_arrays_columns.specs.Cells.{is_null, is_truth, is_text, is_bytes, is_bytes_of, is_list_of, is_list_of_size, fit_each, is_record_of}
 use Rattle.nested_arrays_columns.specs.Cells.{fits_cell}
 use Rattle.nested_arrays_columns.specs.Children.{items_of, fixed_items_of, field_of, joined_items, joined_fixed_items, field_slots, dictionary_values}

@@ -1,7 +1,7 @@
 -- The layout of a type tells its layer.
 use Rattle.std.proofs.Common.{◌≡◌, ◌∙◌, false, refl, sym, subst}
-use Rattle.columnar_memory.specs.declared.DataType.TheOpen as layer
-use Rattle.columnar_memory.specs.declared.IntervalUnit.TheVariants as intervals
+use Rattle.nested_arrays_columns.specs.columnar_memory.declared.DataType.TheOpen as layer
+use Rattle.nested_arrays_columns.specs.columnar_memory.declared.IntervalUnit.TheVariants as intervals
 use Rattle.nested_arrays_columns.specs.StoredColumns.{type_layer}
 use Rattle.nested_arrays_columns.proofs.FreshLengths.{Layer}
 use Rattle.nested_arrays_columns.proofs.TypeLayers.{is_extension, layer_layout, layout_is}

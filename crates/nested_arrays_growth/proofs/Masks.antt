@@ -8,7 +8,7 @@ use Rattle.std.proofs.lemmas.List.{map-append, take-map}
 use Rattle.std.proofs.lemmas.List.Folds.{list_any-append}
 use Rattle.std.proofs.lemmas.List.Sums.{sum_by-cons}
 use mathlib.Core.Logic.{inl, inr}
-use Rattle.columnar_memory.specs.Bits.{unset_count}
+use Rattle.nested_arrays_columns.specs.columnar_memory.Bits.{unset_count}
 use Rattle.nested_arrays_columns.specs.Cells.{is_null}
 use Rattle.nested_arrays_columns.specs.FreshColumns.{is_valid, mask_of}
 use Rattle.nested_arrays_columns.specs.Slots.{Slot}

@@ -5,13 +5,13 @@ use Rattle.std.specs.List.{flat_map, list_all}
 use Rattle.std.proofs.lemmas.Bool.{and_parts, cases_Bool}
 use Rattle.std.proofs.lemmas.List.{append-nil, length_push}
 use mathlib.Core.Logic.{inl, inr}
-use Rattle.columnar_memory.specs.declared.DataType.{DataType}
-use Rattle.columnar_memory.specs.declared.DataType.TheOpen as layer
-use Rattle.columnar_memory.specs.declared.Field.{Field}
-use Rattle.columnar_memory.specs.declared.IntegerType.{IntegerType}
-use Rattle.columnar_memory.specs.declared.PhysicalType.TheVariants as physical
-use Rattle.columnar_memory.specs.declared.PrimitiveType.{PrimitiveType}
-use Rattle.columnar_memory.specs.Layouts.{physical_type}
+use Rattle.nested_arrays_columns.specs.columnar_memory.declared.DataType.{DataType}
+use Rattle.nested_arrays_columns.specs.columnar_memory.declared.DataType.TheOpen as layer
+use Rattle.nested_arrays_columns.specs.columnar_memory.declared.Field.{Field}
+use Rattle.nested_arrays_columns.specs.columnar_memory.declared.IntegerType.{IntegerType}
+use Rattle.nested_arrays_columns.specs.columnar_memory.declared.PhysicalType.TheVariants as physical
+use Rattle.nested_arrays_columns.specs.columnar_memory.declared.PrimitiveType.{PrimitiveType}
+use Rattle.nested_arrays_columns.specs.columnar_memory.Layouts.{physical_type}
 use Rattle.nested_arrays_columns.specs.Cells.{is_null, is_truth, is_text, is_bytes, is_bytes_of}
 use Rattle.nested_arrays_columns.specs.Children.{items_of, fixed_items_of, joined_items, joined_fixed_items, dictionary_values}
 use Rattle.nested_arrays_columns.specs.FreshColumns.{is_valid, content_of, key_among, item_offsets}

@@ -7,7 +7,7 @@ use Rattle.std.proofs.lemmas.Grind.{flat_map-append}
 use Rattle.std.proofs.lemmas.List.{append-nil, map-append, take_at, take-append-drop, length-take-le, take-map}
 use Rattle.std.proofs.lemmas.List.Concat.{length-flat_map}
 use Rattle.std.proofs.lemmas.List.Folds.{fold-map}
-use Rattle.columnar_memory.specs.Spans.{Spans, offsets_of, offset_at, last_of, extended, first_spans}
+use Rattle.nested_arrays_columns.specs.columnar_memory.Spans.{Spans, offsets_of, offset_at, last_of, extended, first_spans}
 use Rattle.nested_arrays_columns.specs.Children.{items_of, joined_items}
 use Rattle.nested_arrays_columns.specs.FreshColumns.{content_of, content_offsets, item_offsets, sums_from}
 use Rattle.nested_arrays_columns.specs.Slots.{Slot, slot_list, in_slots}

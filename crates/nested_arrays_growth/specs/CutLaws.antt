@@ -1,10 +1,10 @@
 -- What the column of the first ones of some slots stores, in terms of what the column of all stores.
 use Rattle.std.specs.Prelude.{◌≡◌, ℕ, ◌+◌, ◌*◌, ◌≤◌, pos, Bool, true, List, length, map, take, Some}
-use Rattle.columnar_memory.specs.declared.DataType.{DataType}
-use Rattle.columnar_memory.specs.declared.DataType.TheOpen as layer
-use Rattle.columnar_memory.specs.declared.Field.{Field}
-use Rattle.columnar_memory.specs.declared.IntegerType.{IntegerType}
-use Rattle.columnar_memory.specs.Spans.{offset_at}
+use Rattle.nested_arrays_columns.specs.columnar_memory.declared.DataType.{DataType}
+use Rattle.nested_arrays_columns.specs.columnar_memory.declared.DataType.TheOpen as layer
+use Rattle.nested_arrays_columns.specs.columnar_memory.declared.Field.{Field}
+use Rattle.nested_arrays_columns.specs.columnar_memory.declared.IntegerType.{IntegerType}
+use Rattle.nested_arrays_columns.specs.columnar_memory.Spans.{offset_at}
 use Rattle.nested_arrays_columns.specs.Children.{joined_items, joined_fixed_items, dictionary_values}
 use Rattle.nested_arrays_columns.specs.FreshColumns.{item_offsets, fresh}
 use Rattle.nested_arrays_columns.specs.OpenBatch.{fits}

@@ -5,4 +5,4 @@ pub mod OpenParts
 pub mod TypeLayouts
 pub mod ValueLaws
 pub use Rattle.nested_arrays_columns.specs as columns
-pub use Rattle.columnar_memory.specs as columnar_memory
+pub use Rattle.nested_arrays_columns.specs.columnar_memory

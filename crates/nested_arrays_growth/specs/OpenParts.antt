@@ -1,12 +1,12 @@
 -- What an open column stores, part by part: marks, offsets, the slots of its children, and how many of them its first slots use.
 use Rattle.std.specs.Prelude.{ℕ, suc, ◌==◌, Bool, true, false, not, ◌||◌, List, [], ◌∷◌, ◌++◌, length, map, max, Option, Some, None, if◌then◌else◌}
 use Rattle.std.specs.List.{list_any}
-use Rattle.columnar_memory.specs.declared.DataType.TheOpen as layer
-use Rattle.columnar_memory.specs.declared.PhysicalType.{PhysicalType}
-use Rattle.columnar_memory.specs.declared.PhysicalType.TheVariants as physical
-use Rattle.columnar_memory.specs.declared.PrimitiveType.{PrimitiveType}
-use Rattle.columnar_memory.specs.declared.PrimitiveType.TheVariants as kinds
-use Rattle.columnar_memory.specs.Spans.{Spans}
+use Rattle.nested_arrays_columns.specs.columnar_memory.declared.DataType.TheOpen as layer
+use Rattle.nested_arrays_columns.specs.columnar_memory.declared.PhysicalType.{PhysicalType}
+use Rattle.nested_arrays_columns.specs.columnar_memory.declared.PhysicalType.TheVariants as physical
+use Rattle.nested_arrays_columns.specs.columnar_memory.declared.PrimitiveType.{PrimitiveType}
+use Rattle.nested_arrays_columns.specs.columnar_memory.declared.PrimitiveType.TheVariants as kinds
+use Rattle.nested_arrays_columns.specs.columnar_memory.Spans.{Spans}
 use Rattle.nested_arrays_columns.specs.Cells.{is_null, is_number_of, is_days_and_ms, is_months_days_and_ns}
 use Rattle.nested_arrays_columns.specs.Children.{items_of, field_of, field_slots}
 use Rattle.nested_arrays_columns.specs.FreshColumns.{is_valid, content_of, key_among}

@@ -1,11 +1,11 @@
 -- What the layer of a type is, by how its arrays lie in memory (Arrow columnar format, "Physical Memory Layout").
 use Rattle.std.specs.Prelude.{◌≡◌, ℕ, Bool, List, Some}
-use Rattle.columnar_memory.specs.declared.DataType.{DataType}
-use Rattle.columnar_memory.specs.declared.DataType.TheOpen as layer
-use Rattle.columnar_memory.specs.declared.Field.{Field}
-use Rattle.columnar_memory.specs.declared.PhysicalType.{PhysicalType}
-use Rattle.columnar_memory.specs.declared.PhysicalType.TheVariants as physical
-use Rattle.columnar_memory.specs.Layouts.{physical_type}
+use Rattle.nested_arrays_columns.specs.columnar_memory.declared.DataType.{DataType}
+use Rattle.nested_arrays_columns.specs.columnar_memory.declared.DataType.TheOpen as layer
+use Rattle.nested_arrays_columns.specs.columnar_memory.declared.Field.{Field}
+use Rattle.nested_arrays_columns.specs.columnar_memory.declared.PhysicalType.{PhysicalType}
+use Rattle.nested_arrays_columns.specs.columnar_memory.declared.PhysicalType.TheVariants as physical
+use Rattle.nested_arrays_columns.specs.columnar_memory.Layouts.{physical_type}
 use Rattle.nested_arrays_columns.specs.Kinds.{kind_of}
 use Rattle.nested_arrays_columns.specs.StoredColumns.{type_layer}
 

@@ -33,3 +33,4 @@ pub mod WithinLimits
 pub mod WrittenIds
 pub use Rattle.tables_file_reading.proofs.ipc_format_lemmas.Appending
 pub use Rattle.tables_file_reading.proofs.ipc_format_lemmas.Windows
+pub use Rattle.tables_file_reading.proofs.ipc_format_lemmas

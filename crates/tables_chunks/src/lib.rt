@@ -30,4 +30,6 @@ pub use laws::{
 };
 pub use read::Form;
 pub use table::Table;
-pub use tables_file_reading::ipc_format::{Chunk, Faults, columnar_memory, nested_arrays, put};
+pub use tables_file_reading::ipc_format::{
+    Chunk, Faults, can_write, columnar_memory, nested_arrays, put,
+};

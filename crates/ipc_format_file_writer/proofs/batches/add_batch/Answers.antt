@@ -6,7 +6,7 @@ use Rattle.ipc_format_stream_writer.specs.reader.chunk_writing.EncodedChunks.{me
 use Rattle.ipc_format_stream_writer.specs.reader.chunk_writing.Tracking.{tracked}
 use Rattle.ipc_format_stream_writer.specs.reader.chunk_writing.grammar.WrittenMessages.{fits_limit}
 use Rattle.ipc_format_stream_writer.specs.reader.chunk_writing.metadata.Views.{ids_views}
-use Rattle.ipc_format_stream_writer.specs.reader.steps.streams.declared.EncodedData.{EncodedData}
+use Rattle.ipc_format_stream_writer.specs.reader.streams.declared.EncodedData.{EncodedData}
 use Rattle.ipc_format_stream_writer.proofs.Batches.{kind_stays, limits_hold}
 use Rattle.ipc_format_file_writer.specs.Phases.{progress_of}
 use Rattle.ipc_format_file_writer.specs.Placing.{PlacesBatch}

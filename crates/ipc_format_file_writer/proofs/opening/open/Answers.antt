@@ -3,7 +3,7 @@ use Rattle.std.proofs.Common.{rules, ◌≡◌, true, [], length}
 use Rattle.ipc_format_stream_writer.specs.reader.chunk_writing.grammar.Ids.{all_are_ids}
 use Rattle.ipc_format_stream_writer.specs.reader.chunk_writing.grammar.WrittenMessages.{fits_limit, schema_written}
 use Rattle.ipc_format_stream_writer.specs.reader.chunk_writing.metadata.Views.{ids_views}
-use Rattle.ipc_format_stream_writer.specs.reader.steps.streams.owned.writing.Writing.{may_write}
+use Rattle.ipc_format_stream_writer.specs.reader.streams.owned.writing.Writing.{may_write}
 use Rattle.ipc_format_stream_writer.proofs.Opened.{schema_message, written_with}
 use Rattle.ipc_format_file_writer.proofs.Firsts.{first_is}
 use Rattle.ipc_format_file_writer.proofs.opening.open.Goals as goal

@@ -4,7 +4,7 @@ use Rattle.std.proofs.lemmas.List.{map-append}
 use Rattle.ipc_format_stream_writer.specs.reader.chunk_writing.EncodedChunks.{message_in}
 use Rattle.ipc_format_stream_writer.specs.reader.chunk_writing.grammar.Limits.{file_limit}
 use Rattle.ipc_format_stream_writer.specs.reader.chunk_writing.grammar.WrittenFiles.{place_after}
-use Rattle.ipc_format_stream_writer.specs.reader.steps.streams.owned.writing.FooterWriting.{block_view}
+use Rattle.ipc_format_stream_writer.specs.reader.streams.owned.writing.FooterWriting.{block_view}
 use Rattle.ipc_format_stream_writer.proofs.PutMessages.{message_fits, prefix_fits}
 use Rattle.ipc_format_file_writer.proofs.Placed.{block_more, past_all}
 use Rattle.ipc_format_file_writer.proofs.placing.blocks_at.Goals as goal

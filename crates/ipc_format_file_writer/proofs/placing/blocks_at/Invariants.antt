@@ -1,7 +1,7 @@
 -- The messages before the place have their blocks.
 use Rattle.std.proofs.Common.{◌≡◌, map}
 use Rattle.ipc_format_stream_writer.specs.reader.chunk_writing.EncodedChunks.{message_in}
-use Rattle.ipc_format_stream_writer.specs.reader.steps.streams.owned.writing.FooterWriting.{block_view}
+use Rattle.ipc_format_stream_writer.specs.reader.streams.owned.writing.FooterWriting.{block_view}
 use Rattle.ipc_format_stream_writer.proofs.PutMessages.{FirstMessages}
 use Rattle.ipc_format_file_writer.specs.Placing.{blocks_of, place_behind}
 use Rattle.ipc_format_file_writer.proofs.placing.blocks_at.Given as goal

@@ -3,7 +3,7 @@ use Rattle.std.proofs.Common.{rules, ℕ, List, ap₂, subst}
 use Rattle.ipc_format_stream_writer.specs.reader.chunk_writing.EncodedChunks.{message_in}
 use Rattle.ipc_format_stream_writer.specs.reader.chunk_writing.grammar.WrittenFiles.{file_start}
 use Rattle.ipc_format_stream_writer.specs.reader.chunk_writing.grammar.WrittenMessages.{framed, message_bytes}
-use Rattle.ipc_format_stream_writer.specs.reader.steps.streams.Devices.{Puts}
+use Rattle.ipc_format_stream_writer.specs.reader.streams.Devices.{Puts}
 use Rattle.ipc_format_stream_writer.proofs.reader_lemmas.chunk_lemmas.Appending.{puts_behind, puts_first}
 use Rattle.ipc_format_file_writer.proofs.sending.put_start.Goals as goal
 

@@ -6,9 +6,9 @@ use Rattle.ipc_format_chunk_writing.specs.ReadArrays.{standing_in}
 use Rattle.ipc_format_chunk_writing.specs.columns.StoredColumns.{Column}
 use Rattle.ipc_format_chunk_writing.specs.messages.MessageViews.{version_view}
 use Rattle.ipc_format_chunk_writing.specs.metadata.Views.{ids_views}
-use Rattle.ipc_format_stream_steps.specs.streams.Incoming.{Holds, TakesNext}
-use Rattle.ipc_format_stream_steps.specs.streams.declared.incoming.Incoming.{Incoming}
-use Rattle.ipc_format_stream_steps.specs.streams.declared.incoming.Incoming.TheVariants as incoming
+use Rattle.ipc_format_chunk_writing.specs.streams.Incoming.{Holds, TakesNext}
+use Rattle.ipc_format_chunk_writing.specs.streams.declared.incoming.Incoming.{Incoming}
+use Rattle.ipc_format_chunk_writing.specs.streams.declared.incoming.Incoming.TheVariants as incoming
 use Rattle.ipc_format_stream_reader.specs.Hearing.{Hears, TakesTurn}
 use Rattle.ipc_format_stream_reader.proofs.Turning.{layout_with, spot_of, hears_same, stays_there, leads_on, gives_batch}
 use Rattle.ipc_format_stream_reader.proofs.Turning.{waits_there, ends_there, refused_there, unheard}

@@ -2,7 +2,7 @@
 use Rattle.std.proofs.Common.{rules, ℕ, List, ◌++◌, length}
 use Rattle.ipc_format_stream_reader.proofs.chunk_lemmas.Appending.{appends_both, puts_behind}
 use Rattle.ipc_format_stream_reader.proofs.chunk_lemmas.Appending.{puts_between, puts_first}
-use Rattle.ipc_format_stream_reader.specs.steps.streams.EncodedMessages.{prefix_bytes}
+use Rattle.ipc_format_stream_reader.specs.streams.EncodedMessages.{prefix_bytes}
 use Rattle.ipc_format_stream_writer.proofs.sending.put_message.Goals as goal
 
 pub returns-in_err-put_prefix : goal.returns-in_err-put_prefix

@@ -2,8 +2,8 @@
 use Rattle.std.proofs.Common.{rules, ◌≡◌, true}
 use Rattle.std.specs.Prelude.{Err}
 use Rattle.ipc_format_stream_writer.specs.reader.chunk_writing.metadata.Views.{ids_views}
-use Rattle.ipc_format_stream_writer.specs.reader.steps.streams.owned.writing.FooterWriting.{WritesFooter}
-use Rattle.ipc_format_stream_writer.specs.reader.steps.streams.owned.writing.Writing.{may_write}
+use Rattle.ipc_format_stream_writer.specs.reader.streams.owned.writing.FooterWriting.{WritesFooter}
+use Rattle.ipc_format_stream_writer.specs.reader.streams.owned.writing.Writing.{may_write}
 use Rattle.ipc_format_file_writer.specs.Phases.{progress_of, started}
 use Rattle.ipc_format_file_writer.proofs.Footed.{gives_none}
 use Rattle.ipc_format_file_writer.proofs.writer.FileWriter.footer.Goals as goal

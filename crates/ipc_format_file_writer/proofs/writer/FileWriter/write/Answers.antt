@@ -11,7 +11,7 @@ use Rattle.ipc_format_stream_writer.specs.reader.chunk_writing.grammar.WrittenMe
 use Rattle.ipc_format_stream_writer.specs.reader.chunk_writing.grammar.WrittenStreams.{bytes_of_messages}
 use Rattle.ipc_format_stream_writer.specs.reader.chunk_writing.metadata.Views.{ids_views}
 use Rattle.ipc_format_stream_writer.specs.reader.chunk_writing.metadata.declared.ipc_schema.IpcField.{IpcField}
-use Rattle.ipc_format_stream_writer.specs.reader.steps.streams.declared.EncodedData.{EncodedData}
+use Rattle.ipc_format_stream_writer.specs.reader.streams.declared.EncodedData.{EncodedData}
 use Rattle.ipc_format_file_writer.specs.Adding.{AddsBatch}
 use Rattle.ipc_format_file_writer.specs.Phases.{progress_of, started}
 use Rattle.ipc_format_file_writer.proofs.Added.{limits_of}

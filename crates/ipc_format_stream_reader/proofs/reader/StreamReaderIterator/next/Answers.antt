@@ -2,7 +2,7 @@
 use Rattle.std.proofs.Common.{◌≡◌, ℕ, true, false, rules, refl, subst}
 use Rattle.std.specs.Prelude.{Some, Err}
 use Rattle.ipc_format_chunk_writing.specs.ReadArrays.{standing_in}
-use Rattle.ipc_format_stream_steps.specs.streams.Starts.{IsReadRefusal}
+use Rattle.ipc_format_chunk_writing.specs.streams.Starts.{IsReadRefusal}
 use Rattle.ipc_format_stream_reader.specs.Readings.{NextGives, Reading, Takes}
 use Rattle.ipc_format_stream_reader.proofs.Nexts.{goes_on, named}
 use Rattle.ipc_format_stream_reader.proofs.Turning.{spot_of}

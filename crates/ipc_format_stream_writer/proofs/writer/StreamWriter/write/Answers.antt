@@ -10,7 +10,7 @@ use Rattle.ipc_format_stream_reader.specs.chunk_writing.grammar.WrittenMessages.
 use Rattle.ipc_format_stream_reader.specs.chunk_writing.grammar.WrittenStreams.{bytes_of_messages}
 use Rattle.ipc_format_stream_reader.specs.chunk_writing.metadata.Views.{ids_views}
 use Rattle.ipc_format_stream_reader.specs.chunk_writing.metadata.declared.ipc_schema.IpcField.{IpcField}
-use Rattle.ipc_format_stream_reader.specs.steps.streams.declared.EncodedData.{EncodedData}
+use Rattle.ipc_format_stream_reader.specs.streams.declared.EncodedData.{EncodedData}
 use Rattle.ipc_format_stream_writer.specs.Opening.{fields_or}
 use Rattle.ipc_format_stream_writer.specs.Phases.{started}
 use Rattle.ipc_format_stream_writer.specs.Streams.{EncodesBatch}

@@ -1,15 +1,15 @@
 -- The step of the message that stands at a place.
 use Rattle.std.proofs.Common.{◌≡◌, ◌∙◌, ℕ, List, refl, ap}
 use Rattle.std.specs.Prelude.{Option, Some, None}
-use Rattle.ipc_format_streams.specs.columns.Slots.{Slot}
-use Rattle.ipc_format_streams.specs.flatbuffers.FlatBuffers.{Table}
-use Rattle.ipc_format_streams.specs.flatbuffers.Reading.{◌>>=◌}
-use Rattle.ipc_format_streams.specs.grammar.Columns.{Dictionary}
-use Rattle.ipc_format_streams.specs.grammar.Dictionaries.{Layout, dictionary_in}
-use Rattle.ipc_format_streams.specs.grammar.Framing.{Framed, message_then, at_end, next_at}
-use Rattle.ipc_format_streams.specs.grammar.Messages.{Header, Version, schema, dictionary_batch, record_batch}
-use Rattle.ipc_format_streams.specs.grammar.Tables.{batch_in, stream_entry}
-use Rattle.ipc_format_stream_steps.specs.Steps.{ended, dictionary_then, batch_then, step_by, step_at}
+use Rattle.ipc_format_chunk_writing.specs.columns.Slots.{Slot}
+use Rattle.ipc_format_chunk_writing.specs.flatbuffers.FlatBuffers.{Table}
+use Rattle.ipc_format_chunk_writing.specs.flatbuffers.Reading.{◌>>=◌}
+use Rattle.ipc_format_chunk_writing.specs.grammar.Columns.{Dictionary}
+use Rattle.ipc_format_chunk_writing.specs.grammar.Dictionaries.{Layout, dictionary_in}
+use Rattle.ipc_format_chunk_writing.specs.grammar.Framing.{Framed, message_then, at_end, next_at}
+use Rattle.ipc_format_chunk_writing.specs.grammar.Messages.{Header, Version, schema, dictionary_batch, record_batch}
+use Rattle.ipc_format_chunk_writing.specs.grammar.Tables.{batch_in, stream_entry}
+use Rattle.ipc_format_stream_reader.specs.Steps.{ended, dictionary_then, batch_then, step_by, step_at}
 
 pub no_step : (layout : Layout) (version : Version) (standing : List Dictionary) (bytes : List ℕ) (place : ℕ) → next_at bytes place ≡ None
     → step_at layout version standing bytes place ≡ None

@@ -1,12 +1,12 @@
 -- What stands behind a stream's schema, and what isn't read of it (Arrow IPC, "IPC Streaming Format", "Dictionary Messages").
 use Rattle.std.specs.Prelude.{◌≡◌, ◌⊎◌, ℕ, ◌≤◌, ◌^◌, true, List, [], length, Option, Some, None, IsSome, IsSomeAnd}
-use Rattle.ipc_format_streams.specs.columns.Tables.{rows_of_batches}
-use Rattle.ipc_format_streams.specs.grammar.Dictionaries.{Layout}
-use Rattle.ipc_format_streams.specs.grammar.Framing as framing
-use Rattle.ipc_format_streams.specs.grammar.Framing.{Framed, nothing_whole, next_at, dictionaries_after}
-use Rattle.ipc_format_streams.specs.grammar.Messages.{Version}
-use Rattle.ipc_format_streams.specs.grammar.Refusals.{message_there, next_after, compression_in, is_delta}
-use Rattle.ipc_format_stream_steps.specs.Steps.{first_from}
+use Rattle.ipc_format_chunk_writing.specs.columns.Tables.{rows_of_batches}
+use Rattle.ipc_format_chunk_writing.specs.grammar.Dictionaries.{Layout}
+use Rattle.ipc_format_chunk_writing.specs.grammar.Framing as framing
+use Rattle.ipc_format_chunk_writing.specs.grammar.Framing.{Framed, nothing_whole, next_at, dictionaries_after}
+use Rattle.ipc_format_chunk_writing.specs.grammar.Messages.{Version}
+use Rattle.ipc_format_chunk_writing.specs.grammar.Refusals.{message_there, next_after, compression_in, is_delta}
+use Rattle.ipc_format_stream_reader.specs.Steps.{first_from}
 
 -- the message that stands there, if one does, is compressed, or adds to an earlier dictionary
 abbrev pub IsUnreadThere : Option framing.Next → Type 0

@@ -4,22 +4,22 @@ use Rattle.std.proofs.Common.{ap, subst, arith, append_assoc, inl, inr}
 use Rattle.std.proofs.lemmas.Bool.{cases_lt, lt-ltb}
 use Rattle.std.proofs.lemmas.List.{append-nil}
 use Rattle.std.specs.Prelude.{Option, Some, None, IsSome, IfSome, IsSomeAnd, ◌⊎◌, nat_lt}
-use Rattle.ipc_format_streams.specs.columns.Slots.{Slot}
-use Rattle.ipc_format_streams.specs.columns.Tables.{rows_of_columns, rows_of_batches}
-use Rattle.ipc_format_streams.specs.flatbuffers.Reading.{◌>>=◌, guard}
-use Rattle.ipc_format_streams.specs.grammar.Columns.{Dictionary}
-use Rattle.ipc_format_streams.specs.grammar.Dictionaries.{Entry, Layout}
-use Rattle.ipc_format_streams.specs.grammar.Framing.{Framed, nothing_whole, message_then, next_at, later_messages, truncated_from}
-use Rattle.ipc_format_streams.specs.grammar.Limits.{most_dictionaries}
-use Rattle.ipc_format_streams.specs.grammar.Messages.{Version}
-use Rattle.ipc_format_streams.specs.grammar.Refusals.{first_messages, next_after}
-use Rattle.ipc_format_streams.specs.grammar.Tables.{batches_of, batches_behind, stream_entry}
-use Rattle.ipc_format_stream_steps.specs.Steps.{Batches, Step, cut_off, ended, dictionary_then, batch_then, step_at, behind, first_from}
-use Rattle.ipc_format_stream_steps.specs.Behind.{IsOutOfTurn, IsUnreadThere, HasUnreadFrom, HasTooManyFrom, IsUnfinishedFrom}
-use Rattle.ipc_format_stream_steps.proofs.Binding.{bind_same}
-use Rattle.ipc_format_stream_steps.proofs.Rows.{rows_more, rows_behind}
-use Rattle.ipc_format_stream_steps.proofs.Steps.{by_step, under_dictionary, batches_step, first_step, batch_at, dictionary_at, cut_at}
-use Rattle.ipc_format_stream_steps.proofs.Steps.{cut_step, after_one, cut_after_batch, cut_after_dictionary, cut_here}
+use Rattle.ipc_format_chunk_writing.specs.columns.Slots.{Slot}
+use Rattle.ipc_format_chunk_writing.specs.columns.Tables.{rows_of_columns, rows_of_batches}
+use Rattle.ipc_format_chunk_writing.specs.flatbuffers.Reading.{◌>>=◌, guard}
+use Rattle.ipc_format_chunk_writing.specs.grammar.Columns.{Dictionary}
+use Rattle.ipc_format_chunk_writing.specs.grammar.Dictionaries.{Entry, Layout}
+use Rattle.ipc_format_chunk_writing.specs.grammar.Framing.{Framed, nothing_whole, message_then, next_at, later_messages, truncated_from}
+use Rattle.ipc_format_chunk_writing.specs.grammar.Limits.{most_dictionaries}
+use Rattle.ipc_format_chunk_writing.specs.grammar.Messages.{Version}
+use Rattle.ipc_format_chunk_writing.specs.grammar.Refusals.{first_messages, next_after}
+use Rattle.ipc_format_chunk_writing.specs.grammar.Tables.{batches_of, batches_behind, stream_entry}
+use Rattle.ipc_format_stream_reader.specs.Steps.{Batches, Step, cut_off, ended, dictionary_then, batch_then, step_at, behind, first_from}
+use Rattle.ipc_format_stream_reader.specs.Behind.{IsOutOfTurn, IsUnreadThere, HasUnreadFrom, HasTooManyFrom, IsUnfinishedFrom}
+use Rattle.ipc_format_stream_reader.proofs.Binding.{bind_same}
+use Rattle.ipc_format_stream_reader.proofs.Rows.{rows_more, rows_behind}
+use Rattle.ipc_format_stream_reader.proofs.Steps.{by_step, under_dictionary, batches_step, first_step, batch_at, dictionary_at, cut_at}
+use Rattle.ipc_format_stream_reader.proofs.Steps.{cut_step, after_one, cut_after_batch, cut_after_dictionary, cut_here}
 
 -- ---- what was read so far
 

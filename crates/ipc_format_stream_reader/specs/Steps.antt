@@ -2,16 +2,16 @@
 -- "Dictionary Messages").
 use Rattle.std.specs.Prelude.{ℕ, List, [], ◌∷◌, ◌++◌, map, Option, Some, None}
 use Rattle.std.specs.Option.{option_map}
-use Rattle.ipc_format_streams.specs.columns.Slots.{Slot}
-use Rattle.ipc_format_streams.specs.flatbuffers.Reading.{◌>>=◌}
-use Rattle.ipc_format_streams.specs.grammar.Columns.{Dictionary}
-use Rattle.ipc_format_streams.specs.grammar.Dictionaries.{Layout, dictionary_in}
-use Rattle.ipc_format_streams.specs.grammar.Framing as framing
-use Rattle.ipc_format_streams.specs.grammar.Framing.{Framed, Next, next_at}
-use Rattle.ipc_format_streams.specs.grammar.Messages as message
-use Rattle.ipc_format_streams.specs.grammar.Messages.{Version}
-use Rattle.ipc_format_streams.specs.grammar.Refusals.{first_messages}
-use Rattle.ipc_format_streams.specs.grammar.Tables.{batch_in, batches_of, stream_entry}
+use Rattle.ipc_format_chunk_writing.specs.columns.Slots.{Slot}
+use Rattle.ipc_format_chunk_writing.specs.flatbuffers.Reading.{◌>>=◌}
+use Rattle.ipc_format_chunk_writing.specs.grammar.Columns.{Dictionary}
+use Rattle.ipc_format_chunk_writing.specs.grammar.Dictionaries.{Layout, dictionary_in}
+use Rattle.ipc_format_chunk_writing.specs.grammar.Framing as framing
+use Rattle.ipc_format_chunk_writing.specs.grammar.Framing.{Framed, Next, next_at}
+use Rattle.ipc_format_chunk_writing.specs.grammar.Messages as message
+use Rattle.ipc_format_chunk_writing.specs.grammar.Messages.{Version}
+use Rattle.ipc_format_chunk_writing.specs.grammar.Refusals.{first_messages}
+use Rattle.ipc_format_chunk_writing.specs.grammar.Tables.{batch_in, batches_of, stream_entry}
 
 -- the slots of batches, column by column
 abbrev pub Batches : Type 0

@@ -3,9 +3,9 @@ use Rattle.std.proofs.Common.{◌≡◌, ◌∙◌, ℕ, zero, suc, ◌+◌, ◌
 use Rattle.std.specs.Prelude.{Option, Some, None, IfSome}
 use Rattle.std.proofs.lemmas.Grind.{flat_map-append}
 use Rattle.std.proofs.lemmas.List.{length-append, append-nil}
-use Rattle.ipc_format_streams.specs.columns.Slots.{Slot, window}
-use Rattle.ipc_format_streams.specs.columns.Tables.{row_at, batch_rows, rows_of_columns, rows_of_batches}
-use Rattle.ipc_format_stream_steps.specs.Steps.{Batches, behind}
+use Rattle.ipc_format_chunk_writing.specs.columns.Slots.{Slot, window}
+use Rattle.ipc_format_chunk_writing.specs.columns.Tables.{row_at, batch_rows, rows_of_columns, rows_of_batches}
+use Rattle.ipc_format_stream_reader.specs.Steps.{Batches, behind}
 
 -- as many values as were asked for
 pub length-window : {A : Type 0} (f : ℕ → A) (a n : ℕ) → length (window f a n) ≡ n

@@ -2,19 +2,19 @@
 use Rattle.std.proofs.Common.{◌≡◌, ◌∙◌, ℕ, suc, ◌+◌, ◌<◌, ◌≤◌, Bool, true, false, List, [], ◌∷◌, ◌++◌, map, refl, ap}
 use Rattle.std.proofs.lemmas.Bool.{lt-ltb}
 use Rattle.std.specs.Prelude.{Option, Some, None, nat_lt}
-use Rattle.ipc_format_streams.specs.columns.Slots.{Slot}
-use Rattle.ipc_format_streams.specs.flatbuffers.FlatBuffers as flat
-use Rattle.ipc_format_streams.specs.flatbuffers.Reading.{◌>>=◌, guard}
-use Rattle.ipc_format_streams.specs.grammar.Columns.{Dictionary}
-use Rattle.ipc_format_streams.specs.grammar.Dictionaries.{Layout, dictionary_in}
-use Rattle.ipc_format_streams.specs.grammar.Framing.{Framed, Next, nothing_whole, at_end, message_then, next_at, by_next, dictionaries_after}
-use Rattle.ipc_format_streams.specs.grammar.Framing.{later_messages, truncated_from}
-use Rattle.ipc_format_streams.specs.grammar.Limits.{most_dictionaries}
-use Rattle.ipc_format_streams.specs.grammar.Messages.{Version, Header, schema, dictionary_batch, record_batch}
-use Rattle.ipc_format_streams.specs.grammar.Refusals.{first_messages, next_after}
-use Rattle.ipc_format_streams.specs.grammar.Tables.{batch_in, batches_of, batches_behind, stream_entry}
-use Rattle.ipc_format_stream_steps.specs.Steps.{Batches, Step, cut_off, ended, dictionary_then, batch_then, step_by, step_of, step_at, behind, first_from}
-use Rattle.ipc_format_stream_steps.proofs.Binding.{came_of}
+use Rattle.ipc_format_chunk_writing.specs.columns.Slots.{Slot}
+use Rattle.ipc_format_chunk_writing.specs.flatbuffers.FlatBuffers as flat
+use Rattle.ipc_format_chunk_writing.specs.flatbuffers.Reading.{◌>>=◌, guard}
+use Rattle.ipc_format_chunk_writing.specs.grammar.Columns.{Dictionary}
+use Rattle.ipc_format_chunk_writing.specs.grammar.Dictionaries.{Layout, dictionary_in}
+use Rattle.ipc_format_chunk_writing.specs.grammar.Framing.{Framed, Next, nothing_whole, at_end, message_then, next_at, by_next, dictionaries_after}
+use Rattle.ipc_format_chunk_writing.specs.grammar.Framing.{later_messages, truncated_from}
+use Rattle.ipc_format_chunk_writing.specs.grammar.Limits.{most_dictionaries}
+use Rattle.ipc_format_chunk_writing.specs.grammar.Messages.{Version, Header, schema, dictionary_batch, record_batch}
+use Rattle.ipc_format_chunk_writing.specs.grammar.Refusals.{first_messages, next_after}
+use Rattle.ipc_format_chunk_writing.specs.grammar.Tables.{batch_in, batches_of, batches_behind, stream_entry}
+use Rattle.ipc_format_stream_reader.specs.Steps.{Batches, Step, cut_off, ended, dictionary_then, batch_then, step_by, step_of, step_at, behind, first_from}
+use Rattle.ipc_format_stream_reader.proofs.Binding.{came_of}
 
 -- ---- what comes of a step
 

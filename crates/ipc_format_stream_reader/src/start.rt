@@ -1,14 +1,14 @@
 //! What a stream says before its batches.
 ghost use Rattle.std.specs.Prelude.{◌<◌, ◌≤◌, length, IfOk};
-ghost use Rattle.ipc_format_streams.specs.grammar.Refusals.{HasFloat};
-ghost use Rattle.ipc_format_streams.specs.grammar.Tables.{stream};
-ghost use Rattle.ipc_format_streams.specs.metadata.Reading.{Reads};
-ghost use Rattle.ipc_format_streams.specs.Starts.{start_in, start_view};
+ghost use Rattle.ipc_format_chunk_writing.specs.grammar.Refusals.{HasFloat};
+ghost use Rattle.ipc_format_chunk_writing.specs.grammar.Tables.{stream};
+ghost use Rattle.ipc_format_chunk_writing.specs.metadata.Reading.{Reads};
+ghost use Rattle.ipc_format_chunk_writing.specs.streams.Starts.{start_in, start_view};
 
-use ipc_format_streams::columnar_memory::{Error, Result};
-use ipc_format_streams::messages::{MessageHeaderRef, version_in};
-use ipc_format_streams::metadata::schema_in;
-use ipc_format_streams::{NextMessage, StreamMetadata, next_at};
+use ipc_format_chunk_writing::streams::columnar_memory::{Error, Result};
+use ipc_format_chunk_writing::streams::messages::{MessageHeaderRef, version_in};
+use ipc_format_chunk_writing::streams::metadata::schema_in;
+use ipc_format_chunk_writing::streams::{NextMessage, StreamMetadata, next_at};
 use std::alloc::Global;
 
 /// What the first message of a stream says, and where the next one stands.

@@ -2,21 +2,21 @@
 use Rattle.std.proofs.Common.{◌≡◌, ◌∙◌, ℕ, ◌<◌, ◌≤◌, ◌^◌, true, List, [], length, map, refl, sym, ap, subst, inl, inr}
 use Rattle.std.proofs.lemmas.Bool.{lt-ltb, le-ltb}
 use Rattle.std.specs.Prelude.{Option, Some, None, IsSome, IfSome, IsSomeAnd, nat_lt, ◌⊎◌}
-use Rattle.ipc_format_streams.specs.Starts.{Start, start_in}
-use Rattle.ipc_format_streams.specs.columnar_memory.declared.Schema.{Schema}
-use Rattle.ipc_format_streams.specs.columns.Tables.{Table, rows_of_batches}
-use Rattle.ipc_format_streams.specs.flatbuffers.Reading.{◌>>=◌, guard}
-use Rattle.ipc_format_streams.specs.grammar.Framing.{Framed, Stream, Next, first_of, messages_of, later_messages, truncated_from, is_truncated}
-use Rattle.ipc_format_streams.specs.grammar.Messages.{Header, Version, version_in}
-use Rattle.ipc_format_streams.specs.grammar.Refusals.{first_messages, first_batches, behind_messages, next_after, message_there, compression_in}
-use Rattle.ipc_format_streams.specs.grammar.Refusals.{is_delta, HasFloat, HasCompression, HasDelta, HasTooManyRows, IsUnfinished}
-use Rattle.ipc_format_streams.specs.grammar.Schemas.{SchemaIn}
-use Rattle.ipc_format_streams.specs.grammar.Tables.{stream, Contents, batches_of, batches_behind, batches_in, schema_of, stream_entry, layout_of}
-use Rattle.ipc_format_streams.specs.grammar.Tables.{contents_of, table_of}
-use Rattle.ipc_format_streams.specs.grammar.Writable.{normalised}
-use Rattle.ipc_format_stream_steps.specs.Behind.{IsUnreadThere, HasUnreadFrom, HasTooManyFrom, IsUnfinishedFrom}
-use Rattle.ipc_format_stream_steps.specs.Steps.{Batches, first_from}
-use Rattle.ipc_format_stream_steps.proofs.Binding.{bind_same, bind_assoc, came_of, same_some}
+use Rattle.ipc_format_chunk_writing.specs.streams.Starts.{Start, start_in}
+use Rattle.ipc_format_chunk_writing.specs.columnar_memory.declared.Schema.{Schema}
+use Rattle.ipc_format_chunk_writing.specs.columns.Tables.{Table, rows_of_batches}
+use Rattle.ipc_format_chunk_writing.specs.flatbuffers.Reading.{◌>>=◌, guard}
+use Rattle.ipc_format_chunk_writing.specs.grammar.Framing.{Framed, Stream, Next, first_of, messages_of, later_messages, truncated_from, is_truncated}
+use Rattle.ipc_format_chunk_writing.specs.grammar.Messages.{Header, Version, version_in}
+use Rattle.ipc_format_chunk_writing.specs.grammar.Refusals.{first_messages, first_batches, behind_messages, next_after, message_there, compression_in}
+use Rattle.ipc_format_chunk_writing.specs.grammar.Refusals.{is_delta, HasFloat, HasCompression, HasDelta, HasTooManyRows, IsUnfinished}
+use Rattle.ipc_format_chunk_writing.specs.grammar.Schemas.{SchemaIn}
+use Rattle.ipc_format_chunk_writing.specs.grammar.Tables.{stream, Contents, batches_of, batches_behind, batches_in, schema_of, stream_entry, layout_of}
+use Rattle.ipc_format_chunk_writing.specs.grammar.Tables.{contents_of, table_of}
+use Rattle.ipc_format_chunk_writing.specs.grammar.Writable.{normalised}
+use Rattle.ipc_format_stream_reader.specs.Behind.{IsUnreadThere, HasUnreadFrom, HasTooManyFrom, IsUnfinishedFrom}
+use Rattle.ipc_format_stream_reader.specs.Steps.{Batches, first_from}
+use Rattle.ipc_format_stream_reader.proofs.Binding.{bind_same, bind_assoc, came_of, same_some}
 
 -- ---- the parts of a stream
 

@@ -1,7 +1,7 @@
 -- One thing after another.
 use Rattle.std.proofs.Common.{◌≡◌, refl, ap}
 use Rattle.std.specs.Prelude.{Option, Some, None}
-use Rattle.ipc_format_streams.specs.flatbuffers.Reading.{◌>>=◌}
+use Rattle.ipc_format_chunk_writing.specs.flatbuffers.Reading.{◌>>=◌}
 
 -- what follows may be replaced by what gives the same
 pub bind_same : {A B : Type 0} (r : Option A) (f g : A → Option B) → ((x : A) → f x ≡ g x) → (r >>= f) ≡ (r >>= g)

@@ -1,0 +1,1 @@
+pub use Rattle.nested_arrays_builder_cells.proofs.nulls_lemmas
