@@ -82,7 +82,8 @@ pub mod column_writing {
                     pub mod writing {
                         pub use ipc_format_column_writing::column_reading::column_bytes::streams::owned::writing::{
                             default_ipc_fields, dictionary_batch_to_bytes, first_beside,
-                            footer_to_bytes, normalised, record_batch_to_bytes, schema_to_bytes,
+                            footer_to_bytes, ids_fit, none_fit, normalised, record_batch_to_bytes,
+                            schema_to_bytes, type_fits,
                         };
                     }
                 }

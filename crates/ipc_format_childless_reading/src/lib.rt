@@ -74,8 +74,8 @@ pub mod streams {
         /// Of `writing`.
         pub mod writing {
             pub use ipc_format_array_reading::column_writing::column_reading::column_bytes::streams::owned::writing::{
-                default_ipc_fields, dictionary_batch_to_bytes, footer_to_bytes, normalised,
-                record_batch_to_bytes, schema_to_bytes,
+                default_ipc_fields, dictionary_batch_to_bytes, footer_to_bytes, ids_fit, none_fit,
+                normalised, record_batch_to_bytes, schema_to_bytes, type_fits,
             };
         }
     }

@@ -13,7 +13,7 @@ mod tracker;
 mod types;
 
 pub use chunk::{encode_batch, encode_chunk, encode_chunk_amortized};
-pub use fitting::ids_fit;
+pub use ipc_format_batch_reading::streams::owned::writing::ids_fit;
 pub use ipc_format_batch_reading::{
     BodyCompressionRef, Buffer, Chunk, Compression, Dictionaries, DictionaryBatchRef, EncodedData,
     FieldNode, InMemory, IpcField, IpcSchema, MessageHeaderRef, MetadataVersion, Placed,

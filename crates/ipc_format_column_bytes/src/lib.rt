@@ -76,7 +76,7 @@ pub mod streams {
         pub mod writing {
             pub use ipc_format_streams::owned::writing::{
                 default_ipc_fields, dictionary_batch_to_bytes, first_beside, footer_to_bytes,
-                normalised, record_batch_to_bytes, schema_to_bytes,
+                ids_fit, none_fit, normalised, record_batch_to_bytes, schema_to_bytes, type_fits,
             };
         }
     }

@@ -58,7 +58,7 @@ pub mod metadata {
 /// What `ipc_format_writing` has, as far as packages above use it.
 pub mod writing {
     pub use ipc_format_writing::{
-        default_ipc_fields, dictionary_batch_to_bytes, first_beside, footer_to_bytes, normalised,
-        record_batch_to_bytes, schema_to_bytes,
+        default_ipc_fields, dictionary_batch_to_bytes, first_beside, footer_to_bytes, ids_fit,
+        none_fit, normalised, record_batch_to_bytes, schema_to_bytes, type_fits,
     };
 }

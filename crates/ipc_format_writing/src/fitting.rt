@@ -21,14 +21,15 @@ pub fn ids_fit(fields: &[Field], ids: &[IpcField]) -> bool
 
 /// Whether ids fit no field at all.
 #[tactic(auto, using(crate::proofs::BesideLists::none_left))]
-fn none_fit(beside: &[IpcField]) -> bool
+pub fn none_fit(beside: &[IpcField]) -> bool
     ensures { result ≡ format.fit_each [] (ids_views beside.now) }
 {
     beside.is_empty()
 }
 
+/// Whether an id, or none, and ids below it fit a data type: there is one exactly where it is a dictionary, and those below fit its fields.
 #[cycle(fits)]
-fn type_fits(data_type: &DataType, own: Option<i64>, below: &[IpcField]) -> bool
+pub fn type_fits(data_type: &DataType, own: Option<i64>, below: &[IpcField]) -> bool
     ensures { result ≡ format.ids_fit data_type.now (ids own (ids_views below.now)) }
 {
     match data_type {

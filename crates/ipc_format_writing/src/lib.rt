@@ -1,6 +1,6 @@
 //! Schemas written as metadata, and the ids of their dictionaries.
 //!
-//! What each function gives is a definition of the format (`ipc_format_grammar/specs`, `ipc_format_grammar/specs`).
+//! What each function gives is a definition of the format (`ipc_format_grammar/specs`).
 //!
 //! Record batches, dictionary batches and footers as metadata (Message.fbs, File.fbs), in version V5.
 //!
@@ -22,6 +22,7 @@ mod written_pairs;
 
 pub use batches::{dictionary_batch_to_bytes, record_batch_to_bytes};
 pub use beside::{Beside, first_beside};
+pub use fitting::{ids_fit, none_fit, type_fits};
 pub use footers::footer_to_bytes;
 pub use ipc_format_messages::{columnar_memory, flatbuffers};
 pub use normal::normalised;
