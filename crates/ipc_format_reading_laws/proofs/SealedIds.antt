@@ -32,11 +32,11 @@ use Rattle.ipc_format_laws.proofs.DefaultIds.{defaults_fit, defaults_count}
 
 -- ---- how often an id stands in a list
 
-abbrev one_if : Bool → ℕ
+abbrev pub one_if : Bool → ℕ
 one_if true = 1
 one_if false = 0
 
-abbrev times : ℤ → List ℤ → ℕ
+abbrev pub times : ℤ → List ℤ → ℕ
 times z [] = 0
 times z (x ∷ xs) = one_if (int_eq z x) + times z xs
 
@@ -44,28 +44,28 @@ abbrev own_ids : List Given → List ℤ
 own_ids given = map (λ (g : Given). g.id) given
 
 -- how many dictionaries have an id
-abbrev brought : ℤ → List Given → ℕ
+abbrev pub brought : ℤ → List Given → ℕ
 brought z given = times z (own_ids given)
 
-times-append : (z : ℤ) (xs ys : List ℤ) → times z (xs ++ ys) ≡ times z xs + times z ys
+pub times-append : (z : ℤ) (xs ys : List ℤ) → times z (xs ++ ys) ≡ times z xs + times z ys
 times-append z [] ys = omega arith
 times-append z (x ∷ xs) ys = omega (arith, times-append z xs ys)
 
-brought-append : (z : ℤ) (xs ys : List Given) → brought z (xs ++ ys) ≡ brought z xs + brought z ys
+pub brought-append : (z : ℤ) (xs ys : List Given) → brought z (xs ++ ys) ≡ brought z xs + brought z ys
 brought-append z [] ys = omega arith
 brought-append z (x ∷ xs) ys = omega (arith, brought-append z xs ys)
 
 -- ---- the ids of parts
 
-below_within : (z : ℤ) (here : Ids) → times z (all_in_order (ids_below here)) ≤ times z (ids_in_order here)
+pub below_within : (z : ℤ) (here : Ids) → times z (all_in_order (ids_below here)) ≤ times z (ids_in_order here)
 below_within z (ids own below) = omega (arith, times-append z (own_list own) (all_in_order below))
 
-first_within : (z : ℤ) (below : IdsList) → times z (ids_in_order (first_ids below)) ≤ times z (all_in_order below)
+pub first_within : (z : ℤ) (below : IdsList) → times z (ids_in_order (first_ids below)) ≤ times z (all_in_order below)
 first_within z no_ids = omega arith
 first_within z (ids_then first others) = omega (arith, times-append z (ids_in_order first) (all_in_order others))
 
 -- the first child's ids
-child_within : (z : ℤ) (here : Ids) → times z (ids_in_order (first_ids (ids_below here))) ≤ times z (ids_in_order here)
+pub child_within : (z : ℤ) (here : Ids) → times z (ids_in_order (first_ids (ids_below here))) ≤ times z (ids_in_order here)
 child_within z here = omega (arith, first_within z (ids_below here), below_within z here)
 
 -- ---- a column brings each id no more often than it stands beside its field
@@ -203,7 +203,7 @@ once_more : (test : Bool) (m : ℕ) → (test ≡ true → m ≡ 0) → m ≤ 1 
 once_more true m none few = omega (arith, none refl)
 once_more false m none few = omega (arith, few)
 
-once : (z : ℤ) (n count : ℕ) → times z (ids_from n count) ≤ 1
+pub once : (z : ℤ) (n count : ℕ) → times z (ids_from n count) ≤ 1
 once z n zero = omega arith
 once z n (suc count) = once_more (int_eq z (pos n)) (times z (ids_from (suc n) count))
     (λ same. subst (λ (w : ℤ). times w (ids_from (suc n) count) ≡ 0) (sym ((signed_Decides z (pos n)).0 same))
@@ -221,7 +221,7 @@ all_differ g (other ∷ given) h =
     let parts = differs (int_eq g.id other.id) (says_same g other) (brought g.id given) h in
     and_from (agrees g other) (list_all (agrees g) given) parts.0 (all_differ g given parts.1)
 
-agree_apart : (given : List Given) → ((z : ℤ) → brought z given ≤ 1) → agree given ≡ true
+pub agree_apart : (given : List Given) → ((z : ℤ) → brought z given ≤ 1) → agree given ≡ true
 agree_apart [] few = refl
 agree_apart (g ∷ given) few =
     let itself : one_if (int_eq g.id g.id) ≡ 1 = ap one_if ((signed_Decides g.id g.id).1 refl) in

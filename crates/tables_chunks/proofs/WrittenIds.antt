@@ -1,11 +1,8 @@
 -- No two dictionaries of a table's batch have one id, so that they agree.
-use Rattle.std.proofs.Common.{◌≡◌, ℕ, zero, suc, ◌+◌, ◌≤◌, ◌<◌, ℤ, pos, negsuc, Bool, true, false, not, List, [], ◌∷◌, ◌++◌, map}
-use Rattle.std.proofs.Common.{refl, sym, ap, subst, arith}
-use Rattle.std.specs.Prelude.{◌||◌, Some, None}
-use Rattle.std.specs.List.{list_all}
+use Rattle.std.proofs.Common.{◌≡◌, ℕ, ◌+◌, ◌≤◌, ℤ, true, List, [], ◌∷◌, ap, arith}
+use Rattle.std.specs.Prelude.{Some, None}
 use Rattle.std.specs.Ordering.{int_eq}
-use Rattle.std.specs.Cmp.{signed_Decides}
-use Rattle.std.proofs.lemmas.Bool.{and_parts, and_from}
+use Rattle.std.proofs.lemmas.Bool.{and_parts}
 use Rattle.tables_file_reading.specs.ipc_format.columnar_memory.declared.Field.{Field}
 use Rattle.tables_file_reading.specs.ipc_format.columnar_memory.declared.Schema.{Schema}
 use Rattle.tables_file_reading.specs.ipc_format.columns.SoundColumns.{is_sound, are_sound}
@@ -13,13 +10,15 @@ use Rattle.tables_file_reading.specs.ipc_format.columns.StoredColumns.{Column, C
 use Rattle.tables_file_reading.specs.ipc_format.columns.StoredColumns.{dictionary}
 use Rattle.tables_file_reading.specs.ipc_format.columns.StoredColumns.{no_column, column_then, column_type, slots}
 use Rattle.tables_file_reading.specs.ipc_format.Columns.{first_ids, other_ids, ids_below, own_id}
-use Rattle.tables_file_reading.specs.ipc_format.GivenDictionaries.{Given, agree, agrees, given_each, given_stored, id_or_0, says_same}
+use Rattle.tables_file_reading.specs.ipc_format.GivenDictionaries.{Given, agree, given_each, given_stored, id_or_0}
 use Rattle.tables_file_reading.specs.ipc_format.Schemas.{Ids, IdsList, ids, no_ids, ids_then}
 use Rattle.tables_file_reading.specs.ipc_format.StoredEncoding.{encode_stored}
 use Rattle.tables_file_reading.specs.ipc_format.Writable.{is_writable}
 use Rattle.tables_file_reading.specs.ipc_format.WrittenStreams.{given_of_stored}
-use Rattle.tables_file_reading.specs.ipc_format.reading_laws.laws.DefaultIds.{own_list, ids_in_order, all_in_order, ids_from, dictionary_count}
+use Rattle.tables_file_reading.specs.ipc_format.reading_laws.laws.DefaultIds.{ids_in_order, all_in_order, ids_from, dictionary_count}
 use Rattle.tables_file_reading.proofs.ipc_format_lemmas.DefaultIds.{defaults_count}
+use Rattle.tables_file_reading.proofs.ipc_format_lemmas.SealedIds.{agree_apart, below_within, brought, brought-append, child_within, once, one_if}
+use Rattle.tables_file_reading.proofs.ipc_format_lemmas.SealedIds.{times, times-append}
 use Rattle.tables_file_reading.proofs.ipc_format_lemmas.StoredGivenBrought.{sound_children, sound_fields, sound_fixed_item, sound_item}
 use Rattle.tables_file_reading.proofs.ipc_format_lemmas.StoredGivenBrought.{sound_values}
 use Rattle.tables_file_reading.proofs.ipc_format_lemmas.StoredGivenFits.{FitsColumn, FitColumns, fits_children, fits_fields, fits_fixed_item}
@@ -27,44 +26,11 @@ use Rattle.tables_file_reading.proofs.ipc_format_lemmas.StoredGivenFits.{fits_it
 use Rattle.tables_file_reading.proofs.ipc_format_lemmas.StoredGivenReady.{AreColumns}
 use Rattle.tables_chunks.specs.WrittenTables.{table_ids}
 
--- ---- how often an id stands in a list
-
-abbrev one_if : Bool → ℕ
-one_if true = 1
-one_if false = 0
-
-abbrev times : ℤ → List ℤ → ℕ
-times z [] = 0
-times z (x ∷ xs) = one_if (int_eq z x) + times z xs
-
--- how many dictionaries have an id
-abbrev brought : ℤ → List Given → ℕ
-brought z given = times z (map (λ (g : Given). g.id) given)
-
-times-append : (z : ℤ) (xs ys : List ℤ) → times z (xs ++ ys) ≡ times z xs + times z ys
-times-append z [] ys = omega arith
-times-append z (x ∷ xs) ys = omega (arith, times-append z xs ys)
-
-brought-append : (z : ℤ) (xs ys : List Given) → brought z (xs ++ ys) ≡ brought z xs + brought z ys
-brought-append z [] ys = omega arith
-brought-append z (x ∷ xs) ys = omega (arith, brought-append z xs ys)
-
-below_within : (z : ℤ) (here : Ids) → times z (all_in_order (ids_below here)) ≤ times z (ids_in_order here)
-below_within z (ids own below) = omega (arith, times-append z (own_list own) (all_in_order below))
-
-first_within : (z : ℤ) (below : IdsList) → times z (ids_in_order (first_ids below)) ≤ times z (all_in_order below)
-first_within z no_ids = omega arith
-first_within z (ids_then first others) = omega (arith, times-append z (ids_in_order first) (all_in_order others))
-
 -- the ids of the first field and of the others
 both_within : (z : ℤ) (below : IdsList)
     → times z (ids_in_order (first_ids below)) + times z (all_in_order (other_ids below)) ≤ times z (all_in_order below)
 both_within z no_ids = omega arith
 both_within z (ids_then first others) = omega (arith, times-append z (ids_in_order first) (all_in_order others))
-
--- the first child's ids
-child_within : (z : ℤ) (here : Ids) → times z (ids_in_order (first_ids (ids_below here))) ≤ times z (ids_in_order here)
-child_within z here = omega (arith, first_within z (ids_below here), below_within z here)
 
 -- ---- a column brings each id no more often than it stands beside its field
 
@@ -136,54 +102,6 @@ batch_few z (u ∷ us) below (c ∷ cs) are = omega (
   brought-append z (given_stored (first_ids below) c) (given_of_stored (other_ids below) cs),
   both_within z below,
 )
-
--- ---- of numbers that ascend each stands once
-
-none_after : (test : Bool) (k n m : ℕ) → (test ≡ true → pos k ≡ pos n) → k < n → m ≡ 0 → one_if test + m ≡ 0
-none_after true k n m same less e = absurd (apart k n less (ap natural (same refl)))
-  where
-    natural : ℤ → ℕ
-    natural (pos n) = n
-    natural (negsuc n) = 0
-
-    apart : (k n : ℕ) → k < n → k ≡ n → ⊥
-    apart k n h e = omega arith
-none_after false k n m same less e = omega (arith, e)
-
-none_from : (k n count : ℕ) → k < n → times (pos k) (ids_from n count) ≡ 0
-none_from k n zero h = refl
-none_from k n (suc count) h =
-    none_after (int_eq (pos k) (pos n)) k n (times (pos k) (ids_from (suc n) count)) (signed_Decides (pos k) (pos n)).0 h
-    (none_from k (suc n) count (omega (arith, h)))
-
-once_more : (test : Bool) (m : ℕ) → (test ≡ true → m ≡ 0) → m ≤ 1 → one_if test + m ≤ 1
-once_more true m none few = omega (arith, none refl)
-once_more false m none few = omega (arith, few)
-
-once : (z : ℤ) (n count : ℕ) → times z (ids_from n count) ≤ 1
-once z n zero = omega arith
-once z n (suc count) = once_more (int_eq z (pos n)) (times z (ids_from (suc n) count))
-    (λ same. subst (λ (w : ℤ). times w (ids_from (suc n) count) ≡ 0) (sym ((signed_Decides z (pos n)).0 same))
-    (none_from n (suc n) count (omega arith))) (once z (suc n) count)
-
--- ---- dictionaries of different ids agree
-
-differs : (test same : Bool) (m : ℕ) → one_if test + m ≤ 0 → ((not test || same) ≡ true) × (m ≤ 0)
-differs true same m h = absurd (omega arith)
-differs false same m h = (refl, omega (arith, h))
-
-all_differ : (g : Given) (given : List Given) → brought g.id given ≤ 0 → list_all (agrees g) given ≡ true
-all_differ g [] h = refl
-all_differ g (other ∷ given) h =
-    let parts = differs (int_eq g.id other.id) (says_same g other) (brought g.id given) h in
-    and_from (agrees g other) (list_all (agrees g) given) parts.0 (all_differ g given parts.1)
-
-agree_apart : (given : List Given) → ((z : ℤ) → brought z given ≤ 1) → agree given ≡ true
-agree_apart [] few = refl
-agree_apart (g ∷ given) few =
-    let itself : one_if (int_eq g.id g.id) ≡ 1 = ap one_if ((signed_Decides g.id g.id).1 refl) in
-    and_from (list_all (agrees g) given) (agree given) (all_differ g given (omega (arith, few g.id, itself)))
-    (agree_apart given (λ z. omega (arith, few z)))
 
 -- no two dictionaries of a batch have one of the default ids
 pub columns_agree : (schema : Schema) (cs : List Column) → is_writable schema ≡ true → AreColumns schema.fields (table_ids schema) cs
