@@ -42,6 +42,9 @@ class Cases:
     def same(self, a, b):
         self.commands.append("same %s %s" % (a, b))
 
+    def seal(self, size, name):
+        self.commands.append("seal %d %s %s" % (size, name, OUTPUT))
+
 
 # ---- streams of each type
 
@@ -82,6 +85,9 @@ def sound_cases(cases, name, number, case):
     cases.cut(*random.choice(((rows, 0), (rows, 1), (0, rows + 1), (0, 0))), own)
     cases.same(own, twin)
     if number % 4 == 0:
+        size = random.randint(1, rows + 1)
+        cases.seal(size, own)
+        cases.seal(size, twin)
         cases.join(own, twin)
         cases.same(own, cases.put("%s_%d_other" % (name.lower(), number), other_rows(case, random)))
     else:
@@ -128,6 +134,9 @@ def integer_cases(cases):
     whole = cases.put("x_in_one_batch", stream_with(("Int32",), int32(1, 2, 3)))
     cases.same(apart, whole)
     cases.join(apart, whole)
+    cases.seal(2, apart)
+    cases.seal(2, whole)
+    cases.seal(65536, three)
     cases.join(whole, apart, three)
     cases.cut(2, 2, apart)
     cases.cut(1, 2, apart)
@@ -247,6 +256,13 @@ def usage_cases(cases):
         join output.stream one_null_three.stream
         pick 0 - one_null_three.stream output.stream
         seal 1 missing.stream output.stream
+        seal 0 one_null_three.stream output.stream
+        seal 65537 one_null_three.stream output.stream
+        seal 1 one_null_three.stream
+        seal one_null_three.stream output.stream
+        seal 1 no_fields.stream output.stream
+        seal 1 key_of_no_value.stream output.stream
+        seal 1 one_null_three.stream no_folder/output.stream
         same one_null_three.stream missing.stream
         same missing.stream key_of_no_value.stream
         same key_of_no_value.stream missing.stream

@@ -1,5 +1,5 @@
 #!/usr/bin/env python3
-"""The program `tables` in plain Python: `cut`, `join` and `same` over streams of every type that is no float.
+"""The program `tables` in plain Python: `seal`, `cut`, `join` and `same` over streams of every type that is no float.
 
     arrow_commands.py write DATA STDOUT     inputs and commands for `tables_files`, and what it must print
     arrow_commands.py check DATA STDOUT     that the first command would make what stands there
@@ -16,14 +16,17 @@ sys.path.append(os.path.join(os.path.dirname(os.path.dirname(os.path.abspath(__f
 from arrow_columns import cut_batches, rows_of
 from arrow_command_cases import OUTPUT, command_cases
 from arrow_metadata import NOT_IMPLEMENTED, OUT_OF_SPEC, Refused, UNFINISHED
-from arrow_sealed import NotWritten
+from arrow_sealed import MOST_BATCH_ROWS, NotWritten, sealed
 from arrow_stored_reading import MOST_ROWS, StoredTable, TOO_MANY_ROWS, read_stored, row_count
 from arrow_stored_writing import written
+from arrow_types import child_fields, storage_of
 
 DONE, DIFFERENT, FAILED, MISUSED = 0, 1, 2, 3
 USAGE = "usage: tables seal|same|pick|cut|join"
 BEFORE = b"before"
 BYTES_A_LINE = 32
+# What keeps a schema from being sealed, in the order in which it is told.
+BARS = "map", "union", "ordered dictionary", "struct without fields"
 TEXTS = {
     OUT_OF_SPEC: "ipc: out of specification", NOT_IMPLEMENTED: "ipc: not implemented", UNFINISHED: "unfinished stream",
     TOO_MANY_ROWS: TOO_MANY_ROWS,
@@ -70,6 +73,35 @@ def put_table(table, name):
     return DONE, content
 
 
+def bars_in(fields):
+    """What keeps fields from being sealed, at any depth."""
+    bars = set()
+    for field in fields:
+        data_type = storage_of(field.data_type)
+        if data_type[0] == "Dictionary":
+            bars |= {"ordered dictionary"} if data_type[3] else set()
+            data_type = storage_of(data_type[2])
+        bars |= {"map"} if data_type[0] == "Map" else {"union"} if data_type[0] == "Union" else set()
+        bars |= {"struct without fields"} if data_type[0] == "Struct" and not data_type[1] else set()
+        bars |= bars_in(child_fields(data_type))
+    return bars
+
+
+def seal(words, places):
+    size, table = int(words[0]), read_table(words[1], places)
+    bars = bars_in(table.schema.fields)
+    for bar in BARS:
+        if bar in bars:
+            raise Failed("not sealable: " + bar)
+    try:
+        content = sealed(table.schema, rows_of(table.batches), size)
+    except NotWritten:
+        raise Failed("lower: overflow") from None
+    if not is_place(words[2]):
+        raise Failed("cannot write the output")
+    return DONE, content
+
+
 def cut(words, places):
     offset, length, table = int(words[0]), int(words[1]), read_table(words[2], places)
     if offset + length > row_count(table):
@@ -96,6 +128,8 @@ def same(words, places):
 def command_of(words):
     """The command that words state, and what it is run with, or None."""
     name, rest = words[0] if words else None, words[1:]
+    if name == "seal" and len(rest) == 3 and is_number(rest[0]) and 1 <= int(rest[0]) <= MOST_BATCH_ROWS:
+        return seal
     if name == "cut" and len(rest) == 4 and all(map(is_number, rest[:2])):
         return cut
     if name == "join" and len(rest) >= 3:

@@ -7,6 +7,8 @@ pub use Rattle.ipc_format_reading_laws.proofs.laws_lemmas.Places
 pub use Rattle.ipc_format_reading_laws.proofs.laws_lemmas.Room as LimitsOfRoom
 pub use Rattle.ipc_format_reading_laws.proofs.laws_lemmas.SentMessages
 pub use Rattle.ipc_format_reading_laws.proofs.laws_lemmas.StreamContents
+pub use Rattle.ipc_format_reading_laws.proofs.columns_lemmas.FreshSlots
+pub use Rattle.ipc_format_reading_laws.proofs.columns_lemmas.FreshTypes
 pub use Rattle.ipc_format_reading_laws.proofs.NormalColumnsKept
 pub use Rattle.ipc_format_reading_laws.proofs.NormalColumnsLayers
 pub use Rattle.ipc_format_reading_laws.proofs.SealedIds

@@ -3,14 +3,14 @@ use Rattle.std.proofs.Common.{◌≡◌, ◌⊎◌, inl, inr, ℕ, List, [], ◌
 use Rattle.std.specs.Prelude.{◌↔◌, IsTrue, Bool, true, false, Option, Some, None, Result, Ok, Err}
 use Rattle.std.proofs.lemmas.Bool.{false≢true}
 use Rattle.std.proofs.lemmas.List.{take_more, take-append-drop, at_drop_more}
-use Rattle.tables_chunks.specs.ipc_format.columnar_memory.declared.Error.TheVariants as errors
-use Rattle.tables_chunks.specs.declared.fault.Fault.TheVariants as faults
-use Rattle.tables_chunks.specs.StoredTables.{Stored}
-use Rattle.tables.specs.Command.{Asked, Cut, Join, Same, inputs_of}
+use Rattle.tables_builder.specs.chunks.ipc_format.columnar_memory.declared.Error.TheVariants as errors
+use Rattle.tables_builder.specs.chunks.declared.fault.Fault.TheVariants as faults
+use Rattle.tables_builder.specs.chunks.StoredTables.{Stored}
+use Rattle.tables.specs.Command.{Asked, Cut, Join, Same, Seal, inputs_of}
 use Rattle.tables.specs.Contents.{Contents, Holds, Keeps, Sets}
 use Rattle.tables.specs.Inputs.{HoldsTable, HoldTables, IsInputFailure, IsReadFailure}
-use Rattle.tables.specs.Made.{IsNotMade, MakesCut, MakesJoin}
-use Rattle.tables.specs.Outcome.{CarriesOut, IsFailure, IsMade, IsTooLong, IsUnmade, PutsTable}
+use Rattle.tables.specs.Made.{IsNotMade, MakesCut, MakesJoin, MakesSeal, seal_of, stream_of}
+use Rattle.tables.specs.Outcome.{CarriesOut, IsFailure, IsMade, IsTooLong, IsUnmade, PutsBytes, PutsTable}
 use Rattle.tables.specs.declared.program.Failure.{Failure}
 use Rattle.tables.specs.declared.program.Failure.TheVariants as failures
 use Rattle.tables.specs.declared.program.Outcome.{Outcome}
@@ -182,6 +182,13 @@ input_failure_before failure old new names kept why = record {
 
 -- ---- what is made
 
+-- a table that is read has no seal
+pub seal_fails : (failure : Failure) (size : ℕ) (input output : List ℕ) (contents : Option Contents) (table : Stored)
+    → HoldsTable contents input table → MakesSeal (Err failure) size table → IsFailure failure (Seal size input output) contents
+seal_fails (failures.Fault fault) size input output contents table holds why =
+    unmade_fails (failures.Fault fault) (Seal size input output) contents (table ∷ []) (holds, tt) why
+seal_fails _ size input output contents table holds why = absurd why
+
 pub cut_fails : (failure : Failure) (offset length : ℕ) (input output : List ℕ) (contents : Option Contents) (table : Stored)
     → HoldsTable contents input table → MakesCut (Err failure) offset length table → IsFailure failure (Cut offset length input output) contents
 cut_fails failures.RangeOutsideRows offset length input output contents table holds why =
@@ -204,6 +211,28 @@ pub not_same : (answer : Bool) (P : Type 0) → IsTrue answer ↔ P → answer �
 not_same answer P tells fails holds = false≢true (sym fails ∙ tells.1 holds)
 
 -- ---- outputs
+
+-- the seal of a table that is read is put, or isn't
+pub seal_put : (result : Result Outcome Failure) (size : ℕ) (input output : List ℕ) (old middle new : Option Contents) (table : Stored)
+    (bytes : List ℕ) → Keeps old middle → HoldsTable old input table → seal_of size table ≡ Some bytes
+    → PutsBytes result middle new output bytes → CarriesOut result (Seal size input output) old new
+seal_put (Ok outcomes.Done) size input output old middle new table bytes kept holds is put =
+    (table, bytes, holds, is, sets_behind old middle new output bytes kept put)
+seal_put (Ok outcomes.Different) size input output old middle new table bytes kept holds is put = absurd put
+seal_put (Err failures.UnwritableOutput) size input output old middle new table bytes kept holds is put =
+    ((table, record { tables = table ∷ []; read = (holds, tt); makes = (refl, (bytes, is)) }), keeps_both old middle new kept put)
+seal_put (Err (failures.Fault faults.Memory)) size input output old middle new table bytes kept holds is put =
+    (tt, keeps_both old middle new kept put)
+seal_put (Err _) size input output old middle new table bytes kept holds is put = absurd put
+
+-- bytes that are put are those of a table's stream
+pub stream_put : (result : Result Outcome Failure) (old new : Option Contents) (output bytes : List ℕ) (table : Stored)
+    → bytes ≡ stream_of table → PutsBytes result old new output bytes → PutsTable result old new output table
+stream_put (Ok outcomes.Done) old new output bytes table is put = subst (λ (its : List ℕ). Sets old new output its) is put
+stream_put (Ok outcomes.Different) old new output bytes table is put = put
+stream_put (Err failures.UnwritableOutput) old new output bytes table is put = put
+stream_put (Err (failures.Fault faults.Memory)) old new output bytes table is put = put
+stream_put (Err _) old new output bytes table is put = absurd put
 
 -- what is made isn't put
 put_fails : (failure : Failure) (asked : Asked) (old middle new : Option Contents) (output : List ℕ) (made : Stored) → Keeps old middle

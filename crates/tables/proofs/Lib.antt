@@ -1,3 +1,4 @@
+mod BatchSizes
 mod Carrying
 mod ContentsLemmas
 mod JoinedRows

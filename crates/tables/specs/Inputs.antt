@@ -2,9 +2,9 @@
 use Rattle.std.specs.Prelude.{◌≡◌, ℕ, List, [], ◌∷◌, ◌++◌, Option, Some, None, Result, Ok, Err}
 use Rattle.std.specs.declared.vec.Vec.{Vec}
 use Rattle.std.specs.declared.alloc.Global.{Global}
-use Rattle.tables_chunks.specs.declared.fault.Fault.TheVariants as faults
-use Rattle.tables_chunks.specs.ReadTables.{ReadsTable}
-use Rattle.tables_chunks.specs.StoredTables.{Stored}
+use Rattle.tables_builder.specs.chunks.declared.fault.Fault.TheVariants as faults
+use Rattle.tables_builder.specs.chunks.ReadTables.{ReadsTable}
+use Rattle.tables_builder.specs.chunks.StoredTables.{Stored}
 use Rattle.tables.specs.Contents.{Contents, Holds}
 use Rattle.tables.specs.Forms.{form_in}
 use Rattle.tables.specs.declared.program.Failure.{Failure}

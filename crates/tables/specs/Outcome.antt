@@ -3,15 +3,15 @@ use Rattle.std.specs.Prelude.{◌≡◌, ◌⊎◌, ℕ, List, [], ◌∷◌, Op
 use Rattle.std.specs.Io.KnownBytes as known
 use Rattle.std.specs.declared.vec.Vec.{Vec}
 use Rattle.std.specs.declared.alloc.Global.{Global}
-use Rattle.tables_chunks.specs.ipc_format.columnar_memory.declared.Error.TheVariants as errors
-use Rattle.tables_chunks.specs.declared.fault.Fault.TheVariants as faults
-use Rattle.tables_chunks.specs.ipc_format.streams.Devices.{AppendsBeginning}
-use Rattle.tables_chunks.specs.StoredTables.{Stored, as_table}
-use Rattle.tables.specs.Command.{Asked, Cut, Join, Same, inputs_of}
+use Rattle.tables_builder.specs.chunks.ipc_format.columnar_memory.declared.Error.TheVariants as errors
+use Rattle.tables_builder.specs.chunks.declared.fault.Fault.TheVariants as faults
+use Rattle.tables_builder.specs.chunks.ipc_format.streams.Devices.{AppendsBeginning}
+use Rattle.tables_builder.specs.chunks.StoredTables.{Stored, as_table}
+use Rattle.tables.specs.Command.{Asked, Cut, Join, Same, Seal, inputs_of}
 use Rattle.tables.specs.Contents.{Contents, Keeps, Sets}
 use Rattle.tables.specs.Failure.{failure_line, usage_line}
-use Rattle.tables.specs.Inputs.{HoldTables, IsInputFailure}
-use Rattle.tables.specs.Made.{IsLong, IsNotMade, Makes, stream_of}
+use Rattle.tables.specs.Inputs.{HoldsTable, HoldTables, IsInputFailure}
+use Rattle.tables.specs.Made.{IsLong, IsNotMade, Makes, seal_of, stream_of}
 use Rattle.tables.specs.declared.program.Failure.{Failure}
 use Rattle.tables.specs.declared.program.Failure.TheVariants as failures
 use Rattle.tables.specs.declared.program.Outcome.{Outcome}
@@ -35,6 +35,14 @@ PutsTable (Err (failures.Fault faults.Memory)) old new output table = Keeps old 
 PutsTable (Err (failures.Fault (faults.Ipc errors.Overflow))) old new output table = IsLong table × Keeps old new
 PutsTable (Err _) old new output table = ⊥
 
+-- some bytes stand under a name, where all else is as it was; or why not, and known contents stay as they were
+abbrev pub PutsBytes : Result Outcome Failure → Option Contents → Option Contents → List ℕ → List ℕ → Type 0
+PutsBytes (Ok outcomes.Done) old new output bytes = Sets old new output bytes
+PutsBytes (Ok outcomes.Different) old new output bytes = ⊥
+PutsBytes (Err failures.UnwritableOutput) old new output bytes = Keeps old new
+PutsBytes (Err (failures.Fault faults.Memory)) old new output bytes = Keeps old new
+PutsBytes (Err _) old new output bytes = ⊥
+
 -- ---- commands
 
 -- the tables that a command reads, and what it makes of them
@@ -46,6 +54,11 @@ pub record IsMade (asked : Asked) (contents : Option Contents) (made : Stored) :
 -- a table is made, and its stream stands under a name, where all else is as it was
 abbrev pub IsWritten : Asked → List ℕ → Option Contents → Option Contents → Type 0
 IsWritten asked output old new = (made : Stored) × IsMade asked old made × Sets old new output (stream_of made)
+
+-- a table is read, and its seal in batches of a size stands under a name, where all else is as it was
+abbrev pub IsSealed : ℕ → List ℕ → List ℕ → Option Contents → Option Contents → Type 0
+IsSealed size input output old new =
+    (table : Stored) × (bytes : List ℕ) × HoldsTable old input table × (seal_of size table ≡ Some bytes) × Sets old new output bytes
 
 -- two tables are read, of which something holds
 abbrev pub AreCompared : List ℕ → List ℕ → Option Contents → (Stored → Stored → Type 0) → Type 0
@@ -74,6 +87,7 @@ IsFailure failure asked contents =
 
 -- a command is done, or two tables differ; or it fails, and known contents stay as they were
 abbrev pub CarriesOut : Result Outcome Failure → Asked → Option Contents → Option Contents → Type 0
+CarriesOut (Ok outcomes.Done) (Seal size input output) old new = IsSealed size input output old new
 CarriesOut (Ok outcomes.Done) (Cut offset length input output) old new = IsWritten (Cut offset length input output) output old new
 CarriesOut (Ok outcomes.Done) (Join output first others) old new = IsWritten (Join output first others) output old new
 CarriesOut (Ok outcomes.Done) (Same left right) old new = AreCompared left right old AreSame × Keeps old new

@@ -1,17 +1,19 @@
 //! Commands carried out: all of each, or nothing where it fails.
-ghost use Rattle.std.specs.Prelude.{◌≡◌, map};
+ghost use Rattle.std.specs.Prelude.{◌≡◌, map, true};
 ghost use Rattle.std.specs.String.{string_bytes};
-ghost use Rattle.tables.specs.Command.{Cut, Join, Same, asked_by};
-ghost use Rattle.tables.specs.Made.{AddsBatches, MakesCut, MakesJoin};
-ghost use Rattle.tables.specs.Outcome.{CarriesOut, PutsTable, Streams};
+ghost use Rattle.tables_builder.specs.chunks.ipc_format.Seals.{is_batch_size};
+ghost use Rattle.tables.specs.Command.{Cut, Join, Same, Seal, asked_by, has_batch_size};
+ghost use Rattle.tables.specs.Made.{AddsBatches, MakesCut, MakesJoin, MakesSeal};
+ghost use Rattle.tables.specs.Outcome.{CarriesOut, PutsBytes, PutsTable, Streams};
 
 use crate::commands::Command;
 use crate::inputs::{read_input, read_inputs};
 use crate::places::Places;
 use crate::program::{Failure, Outcome};
 use std::alloc::Global;
-use tables_chunks::columnar_memory::Error;
-use tables_chunks::{Fault, GrowingTable, Table};
+use tables_builder::tables_chunks::columnar_memory::Error;
+use tables_builder::tables_chunks::{Fault, GrowingTable, Table};
+use tables_builder::tables_seals::Seal;
 
 /// Carries a command out.
 pub(crate) fn execute<P: Places>(
@@ -19,9 +21,15 @@ pub(crate) fn execute<P: Places>(
     places: &mut P,
     command: &Command<'_>,
 ) -> Result<Outcome, Failure>
+    requires { has_batch_size (asked_by command.now) ≡ true }
     ensures { CarriesOut result (asked_by command.now) (P.contents places.old) (P.contents places.new) }
 {
     match *command {
+        Command::Seal {
+            size,
+            input,
+            output,
+        } => seal(alloc, places, size, input, output),
         Command::Cut {
             offset,
             length,
@@ -35,6 +43,30 @@ pub(crate) fn execute<P: Places>(
         } => join(alloc, places, output, first, others),
         Command::Same { left, right } => same(alloc, places, left, right),
     }
+}
+
+/// Puts the seal of `input`, in batches of `size` rows, under the name `output`.
+fn seal<P: Places>(
+    alloc: Global,
+    places: &mut P,
+    size: usize,
+    input: &str,
+    output: &str,
+) -> Result<Outcome, Failure>
+    requires { is_batch_size size ≡ true }
+    ensures { CarriesOut result (Seal size input.now output.now) (P.contents places.old) (P.contents places.new) }
+{
+    let rows = read_input(alloc, places, input)?;
+    let bytes = seal_of(alloc, &rows, size)?;
+    put_bytes(places, output, bytes)
+}
+
+/// The seal of a table, in batches of `size` rows.
+fn seal_of(alloc: Global, table: &Table, size: usize) -> Result<Vec<u8>, Failure>
+    requires { is_batch_size size ≡ true }
+    ensures { MakesSeal result size table.now }
+{
+    table.seal(alloc, size).map_err(Failure::Fault)
 }
 
 /// Puts the stream of `length` rows of `input` from row `offset` on under the name `output`.
@@ -141,7 +173,14 @@ fn put_table<P: Places>(
     ensures { PutsTable result (P.contents places.old) (P.contents places.new) output.now table.now }
 {
     let stream = stream_of(alloc, table)?;
-    match places.put(output, stream) {
+    put_bytes(places, output, stream)
+}
+
+/// Puts bytes under a name.
+fn put_bytes<P: Places>(places: &mut P, output: &str, bytes: Vec<u8>) -> Result<Outcome, Failure>
+    ensures { PutsBytes result (P.contents places.old) (P.contents places.new) output.now bytes.items }
+{
+    match places.put(output, bytes) {
         Ok(true) => Ok(Outcome::Done),
         Ok(false) => Err(Failure::UnwritableOutput),
         Err(_) => Err(Failure::Fault(Fault::Memory)),

@@ -3,11 +3,19 @@ ghost use Rattle.std.specs.Prelude.{◌≡◌, map};
 ghost use Rattle.std.specs.Option.{option_map};
 ghost use Rattle.std.specs.String.{string_bytes};
 ghost use Rattle.tables.specs.Number.{number_of};
-ghost use Rattle.tables.specs.Command.{asked_by, command_of, cut_of, join_of, same_of};
+ghost use Rattle.tables.specs.Command.{asked_by, command_of, cut_of, join_of, same_of, seal_of};
+
+use tables_builder::tables_seals::is_batch_size;
 
 /// What the program is asked to do.
 #[derive(Clone, Copy, Debug)]
 pub enum Command<'a> {
+    /// Write the seal of `input`, in batches of `size` rows, under the name `output`.
+    Seal {
+        size: usize,
+        input: &'a str,
+        output: &'a str,
+    },
     /// Tell whether two inputs hold the same rows under the same schema.
     Same {
         left: &'a str,
@@ -35,12 +43,30 @@ impl<'a> Command<'a> {
     {
         let (name, rest) = words.split_first()?;
         match name.as_str() {
+            "seal" => parse_seal(rest),
             "same" => parse_same(rest),
             "cut" => parse_cut(rest),
             "join" => parse_join(rest),
             _ => None,
         }
     }
+}
+
+fn parse_seal(words: &[String]) -> Option<Command<'_>>
+    ensures { option_map asked_by result ≡ seal_of (map string_bytes words.now) }
+{
+    let [size, input, output] = words else {
+        return None;
+    };
+    let size = number(size.as_str())?;
+    if !is_batch_size(size) {
+        return None;
+    }
+    Some(Command::Seal {
+        size,
+        input: input.as_str(),
+        output: output.as_str(),
+    })
 }
 
 fn parse_same(words: &[String]) -> Option<Command<'_>>

@@ -8,7 +8,7 @@ ghost use Rattle.tables.specs.Inputs.{ReadsBytes, ReadsInput, ReadsInputs};
 use crate::places::Places;
 use crate::program::Failure;
 use std::alloc::Global;
-use tables_chunks::{Fault, Form, Table};
+use tables_builder::tables_chunks::{Fault, Form, Table};
 
 /// The bytes that stand under a name.
 fn read_bytes<P: Places>(places: &mut P, name: &str) -> Result<Vec<u8>, Failure>

@@ -4,7 +4,7 @@ ghost use Rattle.std.specs.String.{string_bytes};
 ghost use Rattle.tables.specs.Command.{command_of};
 ghost use Rattle.tables.specs.Failure.{failure_text, failure_line};
 ghost use Rattle.tables.specs.Outcome.{Answers};
-ghost use Rattle.tables_chunks.specs.ipc_format.streams.Devices.{Puts};
+ghost use Rattle.tables_builder.specs.chunks.ipc_format.streams.Devices.{Puts};
 
 use crate::carried::execute;
 use crate::commands::Command;
@@ -12,8 +12,8 @@ use crate::places::Places;
 use std::alloc::Global;
 use std::fmt;
 use std::io::Write;
-use tables_chunks::columnar_memory::Error;
-use tables_chunks::{Fault, put};
+use tables_builder::tables_chunks::columnar_memory::Error;
+use tables_builder::tables_chunks::{Fault, put};
 
 const DONE: u8 = 0;
 

@@ -30,6 +30,7 @@ pub use laws::{
 };
 pub use read::Form;
 pub use table::Table;
+pub use tables_file_reading::ipc_format::reading_laws::{seals_read_back, seals_tell_tables_apart};
 pub use tables_file_reading::ipc_format::{
-    Chunk, Faults, can_write, columnar_memory, nested_arrays, put,
+    Chunk, Faults, can_write, columnar_memory, nested_arrays, normalised, put,
 };

@@ -135,13 +135,15 @@ fn names_each_failure(rt: HostRuntime) -> Result<()> {
 
 #[test]
 fn refuses_words_that_state_no_command(rt: HostRuntime) -> Result<()> {
-    let lines: [&[&str]; 8] = [
+    let lines: [&[&str]; 10] = [
         &[],
         &["cut"],
         &["cut", "0", "1", "in"],
         &["cut", "0", "1", "in", "out", "more"],
         &["cat", "0", "1", "in", "out"],
-        &["seal", "1", "in", "out"],
+        &["seal", "0", "in", "out"],
+        &["seal", "65537", "in", "out"],
+        &["seal", "1", "in"],
         &["cut", "", "1", "in", "out"],
         &["cut", "0", "18446744073709551616", "no", "out"],
     ];
