@@ -1,11 +1,11 @@
 #!/usr/bin/env python3
-"""Compares what `arrow_commands.py` reads, cuts, joins, compares and writes with the definitions of `specs/`.
+"""Compares what `arrow_commands.py` reads, seals, cuts, joins, compares and writes with the definitions of `specs/`.
 
     compare_commands.py [--count N]       over the first N inputs and all commands over these, or over all of them
-    compare_commands.py --random N        over random streams of any schema, sound and damaged, each of them cut and joined
+    compare_commands.py --random N        over random streams of any schema, sound and damaged, each of them sealed, cut and joined
 
 Of each input the rows or the refusal are compared with `table_of`, and its columns have to be sound. Of each command that writes, the
-batches are compared with `cut_batches`, and the bytes with `written_stream` of the stored columns under the default ids.
+batches are compared with `cut_batches`, and the bytes with `written_stream` of the stored columns under the default ids, or with `sealed`.
 """
 
 import argparse
@@ -20,7 +20,7 @@ sys.path += [os.path.join(os.path.dirname(os.path.dirname(os.path.abspath(__file
 from antt_library import called, same
 from arrow_columns import FixedLists, Flat, Keys, Lists, Nulls, Records, Strings, Unions, rows_of
 from arrow_command_cases import MOST_NULLS, command_cases
-from arrow_commands import DONE, command_of, cut, run
+from arrow_commands import DONE, command_of, cut, run, seal
 from arrow_metadata import NOT_IMPLEMENTED, Refused, UNFINISHED
 from arrow_stored_reading import MOST_ROWS, TOO_MANY_ROWS, has_one_fault, read_stored, row_count
 from arrow_trees import numbered
@@ -143,11 +143,14 @@ class Comparison:
         words = line.split()
         command, status = command_of(words), run(words, self.inputs)[0]
         names = [] if command is None else words[3:4] if command is cut else words[2:] if words[0] == "join" else words[1:]
+        names = words[2:3] if command is seal else names
         tables = list(map(self.table, names))
         if None in tables or not tables:
             return
         if words[0] == "same":
             return self.compare_same(line, status, names)
+        if command is seal:
+            return self.compare_seal(line, run(words, self.inputs)[2], tables[0], int(words[1]))
         if status != DONE:
             return
         batches = [batch for table in tables for batch in self.terms.batches(table.batches)]
@@ -165,6 +168,14 @@ class Comparison:
         a, b = (self.defined.defined_table("stream", self.inputs[name]) for name in names)
         self.agree((a == b) == (status == DONE), line, "the definitions compare otherwise", a, b)
         self.counts["tables compared alike"] += 1
+
+    def compare_seal(self, line, content, table, size):
+        """The seal of a table, or that it has none."""
+        if row_count(table) > MOST_COMPARED:
+            return
+        defined = self.defined.defined_seal(table.schema, rows_of(table.batches), size)
+        self.agree(defined == content, line, "the definitions seal otherwise", defined and defined.hex(), content and content.hex())
+        self.counts["tables %s alike" % ("not sealed" if content is None else "sealed")] += 1
 
     def compare_written(self, line, content, schema, batches):
         """The bytes of stored batches, and that they read as the rows."""
@@ -219,6 +230,7 @@ def compare_one(comparison, name, random):
         start = random.randint(0, row_count(table))
         comparison.compare_command("cut %d %d %s output" % (start, random.randint(0, row_count(table) - start), name))
         comparison.compare_command("join output %s %s" % (name, name))
+        comparison.compare_command("seal %d %s output" % (random.randint(1, 1 + row_count(table)), name))
 
 
 def compare(options):

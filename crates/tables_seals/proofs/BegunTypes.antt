@@ -2,11 +2,11 @@
 use Rattle.std.proofs.Common.{◌≡◌, ◌∙◌, ℕ, zero, suc, Bool, true, false, List, [], ◌∷◌, length, map, refl, sym, ap, subst, arith}
 use Rattle.std.specs.Prelude.{◌&&◌, ◌||◌, ◌==◌, not, is_none, nat_le, Option}
 use Rattle.std.specs.List.{list_all, list_any}
-use Rattle.std.proofs.lemmas.Bool.{and_parts, and_from, or_parts, ne_eqb, false≢true}
+use Rattle.std.proofs.lemmas.Bool.{and_parts, and_from, ne_eqb, false≢true}
 use Rattle.std.proofs.lemmas.List.{length-map}
 use Rattle.tables_chunks.specs.ipc_format.columnar_memory.declared.DataType.{DataType, map-DataType}
 use Rattle.tables_chunks.specs.ipc_format.columnar_memory.declared.DataType.TheOpen as layer
-use Rattle.tables_chunks.specs.ipc_format.columnar_memory.declared.DataType.TheFolds.{fold-DataType, fold-Field, para-Field, fold-roll-DataType}
+use Rattle.tables_chunks.specs.ipc_format.columnar_memory.declared.DataType.TheFolds.{fold-Field, para-Field, fold-roll-DataType}
 use Rattle.tables_chunks.specs.ipc_format.columnar_memory.declared.DataType.TheFolds.{fold-roll-Field, para-roll-DataType, para-roll-Field, ind-DataType}
 use Rattle.tables_chunks.specs.ipc_format.columnar_memory.declared.DataType.TheViews.{roll-DataType, roll-Field}
 use Rattle.tables_chunks.specs.ipc_format.columnar_memory.declared.Field.{Field, map-Field}
@@ -19,7 +19,7 @@ use Rattle.tables_chunks.specs.ipc_format.columns.Sealing.{Bars, bars_step, bars
 use Rattle.tables_chunks.specs.ipc_format.nested_arrays.builders.cells.builders.BuiltTypes.{floats_step, has_floats, is_keyed, invalid_step, is_invalid}
 use Rattle.tables_chunks.specs.ipc_format.nested_arrays.builders.cells.builders.BuiltTypes.{has_builder, have_builders}
 use Rattle.tables_chunks.specs.ipc_format.Seals.{is_sealable}
-use Rattle.tables_chunks.specs.ipc_format.Writable.{Report, is_dictionary, is_plain, is_size, fits_i32, shape_of_struct, Shape}
+use Rattle.tables_chunks.specs.ipc_format.Writable.{Report, is_dictionary, is_plain, is_size, shape_of_struct, Shape}
 use Rattle.tables_chunks.specs.ipc_format.Writable.{plain, dictionary, extension, struct_of_two}
 use Rattle.tables_chunks.specs.ipc_format.Writable.{report_step, field_step, report_of, reports_of, over_all, is_writable}
 use Rattle.tables_chunks.proofs.ipc_format_lemmas.Claims.{TypeWith, FieldWith, LayerWith, bare_layer}

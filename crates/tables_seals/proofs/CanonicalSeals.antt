@@ -1,9 +1,9 @@
 -- Seals are canonical.
-use Rattle.std.proofs.Common.{◌≡◌, ◌∙◌, ℕ, List, sym, ap, subst}
+use Rattle.std.proofs.Common.{◌≡◌, ◌∙◌, ℕ, List, sym, ap}
 use Rattle.std.specs.Prelude.{Option, Some, None}
 use Rattle.tables_chunks.specs.ipc_format.columns.Tables.{Table}
 use Rattle.tables_chunks.specs.ipc_format.Seals.{sealed}
-use Rattle.tables_chunks.specs.ipc_format.reading_laws.SealLaws.{IsTableOfTexts, SealsTellTablesApart}
+use Rattle.tables_chunks.specs.ipc_format.reading_laws.SealLaws.{SealsTellTablesApart}
 use Rattle.tables_seals.specs.SealLaws.{SealsAreCanonical}
 
 abbrev some_of : List ℕ → Option (List ℕ) → List ℕ

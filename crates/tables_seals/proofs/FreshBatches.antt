@@ -1,10 +1,7 @@
 -- The batch that some rows become: its columns have the types of their fields, and are as long as the rows.
-use Rattle.std.proofs.Common.{◌≡◌, ◌∙◌, ℕ, ◌+◌, ◌<◌, Bool, true, false, List, [], ◌∷◌, ◌++◌, length, map, refl, sym, ap, subst, arith}
-use Rattle.std.proofs.Common.{length-append}
-use Rattle.std.specs.Prelude.{◌&&◌}
+use Rattle.std.proofs.Common.{◌≡◌, ◌∙◌, ℕ, ◌+◌, true, false, List, [], ◌∷◌, length, map, refl, sym, ap, subst}
 use Rattle.std.specs.List.{list_all}
-use Rattle.std.proofs.lemmas.Bool.{and_parts, and_from}
-use Rattle.std.proofs.lemmas.List.{length-map}
+use Rattle.std.proofs.lemmas.Bool.{and_from}
 use Rattle.columnar_memory_types.specs.Equality.{same_type, same_type-Decides}
 use Rattle.tables_chunks.specs.ipc_format.columnar_memory.declared.DataType.{DataType, map-DataType}
 use Rattle.tables_chunks.specs.ipc_format.columnar_memory.declared.DataType.TheOpen as layer
@@ -13,13 +10,12 @@ use Rattle.tables_chunks.specs.ipc_format.columnar_memory.declared.DataType.TheV
 use Rattle.tables_chunks.specs.ipc_format.columnar_memory.declared.Field.{Field}
 use Rattle.tables_chunks.specs.ipc_format.columnar_memory.declared.IntervalUnit.TheVariants as intervals
 use Rattle.tables_chunks.specs.ipc_format.columns.FreshColumns.{Maker, MakerUnder, fresh_step, fresh_field_step, fresh_under, fresh}
-use Rattle.tables_chunks.specs.ipc_format.columns.FreshLaws.{is_buildable, are_buildable}
+use Rattle.tables_chunks.specs.ipc_format.columns.FreshLaws.{is_buildable}
 use Rattle.tables_chunks.specs.ipc_format.columns.OpenBatch.{fits}
-use Rattle.tables_chunks.specs.ipc_format.columns.Rows.{column_of_rows, columns_of_rows, columns_fit, fresh_columns, batch_of_rows}
-use Rattle.tables_chunks.specs.ipc_format.columns.Slots.{Slot, null, window}
-use Rattle.tables_chunks.specs.ipc_format.columns.SoundColumns.{have_types}
-use Rattle.tables_chunks.specs.ipc_format.columns.StoredColumns.{Column, column_len, column_type, in_columns}
-use Rattle.tables_chunks.specs.ipc_format.Schemas.{IdsList, no_ids}
+use Rattle.tables_chunks.specs.ipc_format.columns.Rows.{column_of_rows, fresh_columns, batch_of_rows}
+use Rattle.tables_chunks.specs.ipc_format.columns.Slots.{Slot, window}
+use Rattle.tables_chunks.specs.ipc_format.columns.StoredColumns.{column_len, column_type}
+use Rattle.tables_chunks.specs.ipc_format.Schemas.{no_ids}
 use Rattle.tables_chunks.specs.ipc_format.WrittenStreams.{Batch, batch_of_slots, batch_of_stored}
 use Rattle.tables_chunks.specs.StoredTables.{is_of_fields}
 use Rattle.tables_chunks.proofs.ipc_format_lemmas.Claims.{LayerWith, NoClaim, bare_layer}

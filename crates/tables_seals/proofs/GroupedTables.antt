@@ -1,12 +1,11 @@
 -- A table's rows in groups, as a table.
-use Rattle.std.proofs.Common.{◌≡◌, ◌∙◌, ℕ, ◌+◌, ◌≤◌, ◌<◌, ◌^◌, true, false, List, length, map, refl, sym, ap, subst, arith}
-use Rattle.std.specs.Prelude.{◌&&◌, ◌==◌, nat_le, is_none, Option, Some, None, Result, Ok, Err}
+use Rattle.std.proofs.Common.{◌≡◌, ◌∙◌, ℕ, ◌≤◌, ◌<◌, ◌^◌, true, false, List, length, map, refl, sym, subst, arith}
+use Rattle.std.specs.Prelude.{◌==◌, nat_le, is_none, Option, Some, None, Result, Ok, Err}
 use Rattle.std.specs.Option.{option_map}
 use Rattle.std.specs.List.{list_all}
 use Rattle.std.proofs.lemmas.Bool.{and_parts, leb-true}
 use Rattle.tables_chunks.specs.declared.fault.Fault.{Fault}
 use Rattle.tables_chunks.specs.declared.fault.Fault.TheVariants as faults
-use Rattle.tables_chunks.specs.ipc_format.columnar_memory.declared.Error.TheVariants as errors
 use Rattle.tables_chunks.specs.ipc_format.columnar_memory.declared.Schema.{Schema}
 use Rattle.tables_chunks.specs.ipc_format.columns.Rows.{batch_of_rows}
 use Rattle.tables_chunks.specs.ipc_format.columns.Sealing.{Bar}
@@ -15,10 +14,9 @@ use Rattle.tables_chunks.specs.ipc_format.columns.Slots.{Slot}
 use Rattle.tables_chunks.specs.ipc_format.columns.StoredColumns.{Column}
 use Rattle.tables_chunks.specs.ipc_format.Seals.{groups_of, groups_fit, is_batch_size, is_sealable}
 use Rattle.tables_chunks.specs.Batches.{stored_rows}
-use Rattle.tables_chunks.specs.StoredTables.{Stored, IsTable, MakesTable, is_of_fields, row_count}
-use Rattle.tables_chunks.specs.TableSchemas.{IsTableSchema}
+use Rattle.tables_chunks.specs.StoredTables.{Stored, IsTable, MakesTable, is_of_fields}
 use Rattle.tables_seals.specs.Bars.{bar_of, name_of}
-use Rattle.tables_seals.specs.Grouping.{after_rows, all_batches, no_rows, rows_fit, GroupsRows, IsNotTaken}
+use Rattle.tables_seals.specs.Grouping.{after_rows, all_batches, no_rows, rows_fit, IsNotTaken}
 use Rattle.tables_seals.specs.Seals.{GroupsTable}
 use Rattle.tables_seals.proofs.FreshBatches.{groups_typed}
 use Rattle.tables_seals.proofs.GroupedRows.{batches_are_groups, rows_fit_as_groups}

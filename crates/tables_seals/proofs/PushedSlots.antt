@@ -1,10 +1,10 @@
 -- Slots and rows that are pushed into open columns, or don't fit.
-use Rattle.std.proofs.Common.{◌≡◌, ◌∙◌, ℕ, zero, suc, ◌+◌, ◌≤◌, ◌<◌, Bool, true, false, ◌&&◌, ◌==◌, List, [], ◌∷◌, ◌++◌, length, map, take}
+use Rattle.std.proofs.Common.{◌≡◌, ◌∙◌, ℕ, zero, suc, ◌+◌, ◌≤◌, ◌<◌, Bool, true, false, ◌&&◌, List, [], ◌∷◌, ◌++◌, length, map, take}
 use Rattle.std.proofs.Common.{get_or, refl, sym, ap, subst, arith, inl, inr, add-one}
-use Rattle.std.specs.Prelude.{◌⊎◌, nat_lt, slice_set, Result, Err}
+use Rattle.std.specs.Prelude.{◌⊎◌, nat_lt, slice_set, Err}
 use Rattle.std.specs.List.{list_all}
-use Rattle.std.proofs.lemmas.Bool.{and_parts, and_from, false≢true, ltb-true, eq-eqb, eqb-true}
-use Rattle.std.proofs.lemmas.List.{take_all, length-map}
+use Rattle.std.proofs.lemmas.Bool.{and_parts, and_from, false≢true, ltb-true}
+use Rattle.std.proofs.lemmas.List.{length-map}
 use Rattle.std.proofs.lemmas.List.Folds.{list_all-append}
 use Rattle.tables_chunks.specs.declared.fault.Fault.{Fault}
 use Rattle.tables_chunks.specs.declared.fault.Fault.TheVariants as faults
@@ -19,7 +19,7 @@ use Rattle.tables_chunks.specs.ipc_format.nested_arrays.builders.Pushes.{IsPushe
 use Rattle.tables_chunks.specs.ipc_format.nested_arrays.builders.cells.ArrayCells.{has_cell, has_cell_at}
 use Rattle.tables_chunks.specs.ipc_format.nested_arrays.builders.cells.parts.Open.{Open, column_of, opened, with_slot}
 use Rattle.tables_chunks.specs.SameRows.{stored_row}
-use Rattle.tables_seals.specs.Grouping.{all_fit, emptied, open_fits, open_types, refusal_of, with_row, IsNotTaken, PushesRow, PushesSlot, TakesRow}
+use Rattle.tables_seals.specs.Grouping.{all_fit, emptied, open_fits, open_types, refusal_of, with_row, IsNotTaken, PushesSlot, TakesRow}
 use Rattle.tables_seals.proofs.CellsFit.{fits_has_cell}
 
 -- ---- what isn't taken

@@ -1,10 +1,10 @@
 -- Groups stay ready for rows of their types, and rows are pushed one behind another.
 use Rattle.std.proofs.Common.{◌≡◌, ◌∙◌, ℕ, zero, suc, ◌+◌, ◌-◌, ◌≤◌, ◌<◌, Bool, true, false, ◌&&◌, ◌==◌, List, [], ◌∷◌, ◌++◌, length, map, take, drop}
 use Rattle.std.proofs.Common.{get_or, refl, sym, ap, subst, arith, if◌then◌else◌}
-use Rattle.std.specs.Prelude.{nat_lt, slice_get, Option, Some, None}
+use Rattle.std.specs.Prelude.{nat_lt, slice_get, Some}
 use Rattle.std.specs.List.{list_all}
-use Rattle.std.proofs.lemmas.Bool.{and_parts, and_from, eq-eqb, ne_eqb, eqb-true, eqb-false, lt-ltb}
-use Rattle.std.proofs.lemmas.List.{length-map, map-append, take_more, take_all, append-nil}
+use Rattle.std.proofs.lemmas.Bool.{and_parts, and_from, eq-eqb, eqb-true, eqb-false, lt-ltb}
+use Rattle.std.proofs.lemmas.List.{length-map, map-append, take_more, append-nil}
 use Rattle.std.proofs.lemmas.List.Concat.{flat_map-append}
 use Rattle.columnar_memory_types.specs.Equality.{same_type, same_type-Decides}
 use Rattle.tables_chunks.specs.ipc_format.columnar_memory.declared.DataType.{DataType}
@@ -17,7 +17,7 @@ use Rattle.tables_chunks.specs.ipc_format.Chunks.{rows_of, AreAsLong}
 use Rattle.tables_chunks.specs.ipc_format.nested_arrays.builders.cells.builders.Begun.{opened_none}
 use Rattle.tables_chunks.specs.ipc_format.nested_arrays.builders.cells.parts.Open.{Open, column_of, opened}
 use Rattle.tables_chunks.specs.declared.fault.Fault.{Fault}
-use Rattle.tables_chunks.specs.Batches.{batch_len, is_batch, stored_rows, AreBatches}
+use Rattle.tables_chunks.specs.Batches.{batch_len, stored_rows}
 use Rattle.tables_chunks.specs.SameRows.{rows_from, stored_row}
 use Rattle.tables_chunks.specs.StoredTables.{is_of_fields, IsTable}
 use Rattle.tables_chunks.specs.ipc_format.columnar_memory.declared.Schema.{Schema}

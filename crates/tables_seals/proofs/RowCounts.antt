@@ -1,5 +1,5 @@
 -- The rows of a table have a value a field, and the batches of their groups have as many.
-use Rattle.std.proofs.Common.{◌≡◌, ◌∙◌, ℕ, zero, suc, ◌+◌, ◌≤◌, ◌<◌, Bool, true, false, ◌&&◌, ◌==◌, List, [], ◌∷◌, ◌++◌, length, map}
+use Rattle.std.proofs.Common.{◌≡◌, ◌∙◌, ℕ, suc, ◌+◌, ◌<◌, Bool, true, ◌&&◌, ◌==◌, List, [], ◌∷◌, length, map}
 use Rattle.std.proofs.Common.{refl, sym, ap, arith, length-append}
 use Rattle.std.specs.Prelude.{nat_lt}
 use Rattle.std.specs.List.{list_all}
@@ -8,18 +8,16 @@ use Rattle.std.proofs.lemmas.List.{length-map}
 use Rattle.std.proofs.lemmas.List.Folds.{list_all-append}
 use Rattle.tables_chunks.specs.ipc_format.columnar_memory.declared.Field.{Field}
 use Rattle.tables_chunks.specs.ipc_format.columnar_memory.declared.Schema.{Schema}
-use Rattle.tables_chunks.specs.ipc_format.columns.FreshColumns.{fresh}
 use Rattle.tables_chunks.specs.ipc_format.columns.FreshLaws.{is_buildable, are_buildable}
 use Rattle.tables_chunks.specs.ipc_format.columns.OpenBatch.{fits}
 use Rattle.tables_chunks.specs.ipc_format.columns.Rows.{column_of_rows, columns_of_rows, columns_fit, batch_of_rows, is_row_of}
-use Rattle.tables_chunks.specs.ipc_format.columns.Slots.{Slot, null, window}
-use Rattle.tables_chunks.specs.ipc_format.columns.StoredColumns.{Column, column_len, slots}
+use Rattle.tables_chunks.specs.ipc_format.columns.Slots.{Slot, window}
+use Rattle.tables_chunks.specs.ipc_format.columns.StoredColumns.{Column, slots}
 use Rattle.tables_chunks.specs.ipc_format.columns.Tables.{row_at, rows_of_columns, batch_rows, rows_of_batches}
 use Rattle.tables_chunks.specs.ipc_format.Seals.{groups_of, groups_fit, are_rows_of, is_batch_size, is_sealable}
 use Rattle.tables_chunks.specs.Batches.{batch_len, is_batch, stored_rows, AreBatches}
 use Rattle.tables_chunks.proofs.Lists.{list_all-window}
-use Rattle.tables_chunks.proofs.LongColumns.{rows_are, rows_count}
-use Rattle.tables_chunks.proofs.ipc_format_lemmas.ColumnSizes.{slots_lengths}
+use Rattle.tables_chunks.proofs.LongColumns.{rows_count}
 use Rattle.tables_chunks.proofs.ipc_format_lemmas.SealedRows.{rows_of_groups}
 use Rattle.tables_chunks.proofs.ipc_format_lemmas.SealedTypes.{storable}
 use Rattle.tables_chunks.proofs.ipc_format_lemmas.Windows.{length-window}

@@ -1,8 +1,8 @@
 -- Groups of a list: the first one, and those behind groups that are full.
 use Rattle.std.proofs.Common.{◌≡◌, ◌∙◌, ℕ, zero, suc, ◌+◌, ◌-◌, ◌≤◌, ◌<◌, List, [], ◌∷◌, ◌++◌, length, take, drop, refl, sym, ap, arith}
-use Rattle.std.proofs.Common.{length-drop, length-append, append_assoc}
+use Rattle.std.proofs.Common.{length-drop}
 use Rattle.std.proofs.Math.Seq.{take-append_seam, take-append-add}
-use Rattle.std.proofs.lemmas.List.{take_all, take-append-le}
+use Rattle.std.proofs.lemmas.List.{take_all}
 use Rattle.tables_chunks.specs.ipc_format.Seals.{groups_within, groups_of}
 
 fewer : {A : Type 0} (n most : ℕ) (x : A) (xs : List A) → 1 ≤ n → length (x ∷ xs) ≤ suc most → length (drop n (x ∷ xs)) ≤ most

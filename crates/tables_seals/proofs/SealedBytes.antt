@@ -1,28 +1,26 @@
 -- The stream of the batches of groups is the seal, and its messages are within their limits exactly where those of the seal are.
-use Rattle.std.proofs.Common.{◌≡◌, ◌∙◌, ℕ, zero, suc, ◌+◌, ◌≤◌, ◌<◌, ◌^◌, Bool, true, false, ◌&&◌, ◌==◌, List, [], ◌∷◌, ◌++◌, length, map}
-use Rattle.std.proofs.Common.{refl, sym, ap, subst, arith, inl, inr, length-append, if◌then◌else◌}
-use Rattle.std.specs.Prelude.{◌⊎◌, nat_lt, Option, Some}
+use Rattle.std.proofs.Common.{◌≡◌, ◌∙◌, ℕ, ◌+◌, ◌^◌, Bool, true, false, ◌&&◌, List, [], ◌∷◌, ◌++◌, length, map}
+use Rattle.std.proofs.Common.{refl, sym, ap, inl, inr, if◌then◌else◌}
+use Rattle.std.specs.Prelude.{nat_lt, Option, Some}
 use Rattle.std.specs.List.{list_all}
-use Rattle.std.proofs.lemmas.Bool.{and_parts, and_from, lt-ltb, eq-eqb, eqb-true, false≢true}
-use Rattle.std.proofs.lemmas.List.{map-append, length-map}
+use Rattle.std.proofs.lemmas.Bool.{and_parts, and_from, false≢true}
+use Rattle.std.proofs.lemmas.List.{map-append}
 use Rattle.std.proofs.lemmas.List.Folds.{list_all-append}
-use Rattle.tables_chunks.specs.ipc_format.columnar_memory.declared.Field.{Field}
 use Rattle.tables_chunks.specs.ipc_format.columnar_memory.declared.Schema.{Schema}
-use Rattle.tables_chunks.specs.ipc_format.columns.FreshLaws.{is_buildable, are_buildable}
+use Rattle.tables_chunks.specs.ipc_format.columns.FreshLaws.{are_buildable}
 use Rattle.tables_chunks.specs.ipc_format.columns.OpenBatch.{fits}
-use Rattle.tables_chunks.specs.ipc_format.columns.Rows.{column_of_rows, columns_of_rows, columns_fit, batch_of_rows}
+use Rattle.tables_chunks.specs.ipc_format.columns.Rows.{columns_of_rows, columns_fit, batch_of_rows}
 use Rattle.tables_chunks.specs.ipc_format.columns.Slots.{Slot}
 use Rattle.tables_chunks.specs.ipc_format.columns.StoredColumns.{Column}
 use Rattle.tables_chunks.specs.ipc_format.EncodedChunks.{is_batch_within, is_given_within}
 use Rattle.tables_chunks.specs.ipc_format.Encoding.{joined}
 use Rattle.tables_chunks.specs.ipc_format.GivenDictionaries.{Given, last_under, stands_for, to_write, written_after}
-use Rattle.tables_chunks.specs.ipc_format.Schemas.{IdsList}
 use Rattle.tables_chunks.specs.ipc_format.Seals.{groups_of, seal_batches, seal_bytes, are_rows_of, is_batch_size, is_sealable}
 use Rattle.tables_chunks.specs.ipc_format.Seals.{groups_fit, messages_fit, sealed}
-use Rattle.tables_chunks.specs.ipc_format.WrittenMessages.{Written, dictionary_message, fits_limit, record_message, schema_written}
+use Rattle.tables_chunks.specs.ipc_format.WrittenMessages.{dictionary_message, fits_limit, record_message, schema_written}
 use Rattle.tables_chunks.specs.ipc_format.WrittenStreams.{Batch, batch_messages, batch_of_slots, batch_of_stored, given_of_slots, has_nodes_in_room}
 use Rattle.tables_chunks.specs.ipc_format.WrittenStreams.{messages_after, stream_bytes, stream_messages}
-use Rattle.tables_chunks.specs.Refusals.{StopsAtBatch, StopsAtSchema, StopsAtTooLong}
+use Rattle.tables_chunks.specs.Refusals.{StopsAtTooLong}
 use Rattle.tables_chunks.specs.WrittenTables.{table_ids, written_batches, table_bytes, told_after, are_within, is_table_within}
 use Rattle.tables_chunks.proofs.WithinLimits.{all_fit}
 use Rattle.tables_chunks.proofs.ipc_format_lemmas.FreshBatches.{rows_encode}

@@ -1,5 +1,5 @@
 -- What keeps a schema from being sealed, as a call answers it.
-use Rattle.std.specs.Prelude.{Bool, ◌||◌, Option}
+use Rattle.std.specs.Prelude.{◌||◌, Option}
 use Rattle.std.specs.Option.{option_map}
 use Rattle.tables_chunks.specs.declared.fault.SealBar.{SealBar}
 use Rattle.tables_chunks.specs.declared.fault.SealBar.TheVariants as named

@@ -1,4 +1,4 @@
--- What a call that seals answers (docs/FORMAT.md, "Seals").
+-- What a call that seals answers (docs/FORMAT.md, "What is written").
 use Rattle.std.specs.Prelude.{◌≡◌, ℕ, true, false, List, map, Option, Some, Result, Ok, Err}
 use Rattle.std.specs.declared.alloc.Global.{Global}
 use Rattle.std.specs.declared.vec.Vec.{Vec}

@@ -1,5 +1,5 @@
 //! What keeps a schema from being sealed.
-ghost use Rattle.std.specs.Prelude.{◌≡◌, ◌↔◌, IsTrue, map, true};
+ghost use Rattle.std.specs.Prelude.{◌≡◌, map, true};
 ghost use Rattle.tables_chunks.specs.ipc_format.columns.Sealing.{any_bars, first_bar, no_bars};
 ghost use Rattle.tables_chunks.specs.ipc_format.columns.Sealing as sealing;
 ghost use Rattle.tables_chunks.specs.ipc_format.columnar_memory.declared.DataType.TheOpen as layer;

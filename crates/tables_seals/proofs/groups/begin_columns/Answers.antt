@@ -1,6 +1,4 @@
 -- One field more begins a column more.
-use Rattle.std.proofs.Common.{◌≡◌, ◌∙◌, ◌+◌, List, ◌++◌, ◌∷◌, [], take, sym, ap}
-use Rattle.std.proofs.lemmas.List.{take_more}
 use Rattle.tables_seals.proofs.ReadyGroups.{begun_more}
 use Rattle.tables_seals.proofs.groups.begin_columns.Goals as goal
 

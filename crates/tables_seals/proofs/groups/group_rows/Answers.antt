@@ -1,5 +1,5 @@
 -- The rows of one batch more are pushed.
-use Rattle.std.proofs.Common.{rules, ◌≡◌, ◌∙◌, ◌<◌, length, get_or, List, sym, ap, subst}
+use Rattle.std.proofs.Common.{rules, ◌∙◌, ◌<◌, length, get_or, List, ap, subst}
 use Rattle.tables_chunks.specs.ipc_format.columnar_memory.declared.Schema.{Schema}
 use Rattle.tables_chunks.specs.ipc_format.columns.StoredColumns.{Column}
 use Rattle.tables_seals.specs.Grouping.{IsReady}

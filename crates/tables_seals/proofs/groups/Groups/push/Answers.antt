@@ -1,5 +1,5 @@
 -- A row makes each column one slot longer.
-use Rattle.std.proofs.Common.{◌≡◌, ◌∙◌, ◌+◌, true, length, sym, ap}
+use Rattle.std.proofs.Common.{◌≡◌, ◌∙◌, ◌+◌, length, sym, ap}
 use Rattle.std.proofs.lemmas.List.{length-map}
 use Rattle.tables_chunks.specs.SameRows.{stored_row}
 use Rattle.tables_seals.proofs.PushedSlots.{as_many}

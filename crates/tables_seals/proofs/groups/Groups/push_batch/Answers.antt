@@ -1,9 +1,9 @@
 -- One row more of the batch is pushed.
-use Rattle.std.proofs.Common.{rules, ◌≡◌, ◌∙◌, ◌<◌, map, sym, ap, subst, arith}
+use Rattle.std.proofs.Common.{rules, ◌<◌, sym, subst, arith}
 use Rattle.tables_chunks.specs.Batches.{batch_len}
 use Rattle.tables_chunks.proofs.BatchLists.{itself}
 use Rattle.tables_chunks.specs.ipc_format.Chunks.{rows_of}
-use Rattle.tables_seals.specs.Grouping.{open_types, TakesRow}
+use Rattle.tables_seals.specs.Grouping.{TakesRow}
 use Rattle.tables_seals.specs.GroupViews.{grouped}
 use Rattle.tables_seals.proofs.ReadyGroups.{row_taken, rows_are_long, row_joins, row_refuses}
 use Rattle.tables_seals.proofs.groups.Groups.push_batch.Goals as goal
