@@ -7,7 +7,8 @@ use Rattle.std.proofs.lemmas.List.{length-map}
 use Rattle.tables_chunks.specs.ipc_format.columnar_memory.declared.DataType.{DataType, map-DataType}
 use Rattle.tables_chunks.specs.ipc_format.columnar_memory.declared.DataType.TheOpen as layer
 use Rattle.tables_chunks.specs.ipc_format.columnar_memory.declared.DataType.TheFolds.{fold-Field, para-Field, fold-roll-DataType}
-use Rattle.tables_chunks.specs.ipc_format.columnar_memory.declared.DataType.TheFolds.{fold-roll-Field, para-roll-DataType, para-roll-Field, ind-DataType}
+use Rattle.tables_chunks.specs.ipc_format.columnar_memory.declared.DataType.TheFolds.{fold-roll-Field, para-roll-DataType, para-roll-Field}
+use Rattle.tables_chunks.specs.ipc_format.columnar_memory.declared.DataType.TheFolds.{ind-DataType}
 use Rattle.tables_chunks.specs.ipc_format.columnar_memory.declared.DataType.TheViews.{roll-DataType, roll-Field}
 use Rattle.tables_chunks.specs.ipc_format.columnar_memory.declared.Field.{Field, map-Field}
 use Rattle.tables_chunks.specs.ipc_format.columnar_memory.declared.IntegerType.{IntegerType}
@@ -16,7 +17,8 @@ use Rattle.tables_chunks.specs.ipc_format.columnar_memory.declared.PhysicalType.
 use Rattle.tables_chunks.specs.ipc_format.columnar_memory.declared.Schema.{Schema}
 use Rattle.tables_chunks.specs.ipc_format.columnar_memory.Layouts.{physical_step, physical_type}
 use Rattle.tables_chunks.specs.ipc_format.columns.Sealing.{Bars, bars_step, bars_of, schema_bars, first_bar}
-use Rattle.tables_chunks.specs.ipc_format.nested_arrays.builders.cells.builders.BuiltTypes.{floats_step, has_floats, is_keyed, invalid_step, is_invalid}
+use Rattle.tables_chunks.specs.ipc_format.nested_arrays.builders.cells.builders.BuiltTypes.{floats_step, has_floats, is_keyed}
+use Rattle.tables_chunks.specs.ipc_format.nested_arrays.builders.cells.builders.BuiltTypes.{invalid_step, is_invalid}
 use Rattle.tables_chunks.specs.ipc_format.nested_arrays.builders.cells.builders.BuiltTypes.{has_builder, have_builders}
 use Rattle.tables_chunks.specs.ipc_format.Seals.{is_sealable}
 use Rattle.tables_chunks.specs.ipc_format.Writable.{Report, is_dictionary, is_plain, is_size, shape_of_struct, Shape}
@@ -164,7 +166,8 @@ struct_begins : (y : FieldWith FieldBegins) (ys : Children) → TypeBegins (roll
 struct_begins y ys =
     let all = y ∷ ys in
     let reports = map report_field (fields_of all) in
-    let parts = λ (allowed : (nat_le 1 (length reports) && allowed_each all) ≡ true). and_parts (nat_le 1 (length reports)) (allowed_each all) allowed in
+    let parts = λ (allowed : (nat_le 1 (length reports) && allowed_each all) ≡ true).
+    and_parts (nat_le 1 (length reports)) (allowed_each all) allowed in
     at_roll (layer.Struct (fields_of all)) (record {
       plain_of = λ allowed. children_plain all (parts allowed).1;
       valid = λ allowed free.

@@ -152,7 +152,9 @@ typed_at [] [] k d e typed lt = absurd (omega arith)
 typed_at [] (a ∷ arrays) k d e typed lt = absurd cc
 typed_at (o ∷ os) [] k d e typed lt = absurd (omega arith)
 typed_at (o ∷ os) (a ∷ arrays) zero d e typed lt = (cc)
-typed_at (o ∷ os) (a ∷ arrays) (suc k) d e typed lt = let rest : open_types os ≡ map column_type arrays = cc in typed_at os arrays k d e rest (omega (arith, lt))
+typed_at (o ∷ os) (a ∷ arrays) (suc k) d e typed lt =
+    let rest : open_types os ≡ map column_type arrays = cc in
+    typed_at os arrays k d e rest (omega (arith, lt))
 
 pub as_many : (os : List Open) (arrays : List Column) → open_types os ≡ map column_type arrays → length os ≡ length arrays
 as_many os arrays typed =
@@ -256,7 +258,8 @@ map_next : (xs : List Open) (x : Open) → map column_of (xs ++ x ∷ []) ≡ ma
 map_next [] x = refl
 map_next (y ∷ xs) x = ap (λ rest. column_of y ∷ rest) (map_next xs x)
 
-module _ (os now : List Open) (k : ℕ) (child : Open) (left : now ≡ emptied_first k os) (inside : k < length os) (own : child ≡ get_or now k child) where
+module _ (os now : List Open) (k : ℕ) (child : Open) (left : now ≡ emptied_first k os) (inside : k < length os)
+    (own : child ≡ get_or now k child) where
   full : child ≡ get_or os k child
   full = own ∙ ap (λ zs. get_or zs k child) left ∙ next_full k os child
 

@@ -1,6 +1,6 @@
 -- Groups stay ready for rows of their types, and rows are pushed one behind another.
-use Rattle.std.proofs.Common.{◌≡◌, ◌∙◌, ℕ, zero, suc, ◌+◌, ◌-◌, ◌≤◌, ◌<◌, Bool, true, false, ◌&&◌, ◌==◌, List, [], ◌∷◌, ◌++◌, length, map, take, drop}
-use Rattle.std.proofs.Common.{get_or, refl, sym, ap, subst, arith, if◌then◌else◌}
+use Rattle.std.proofs.Common.{◌≡◌, ◌∙◌, ℕ, zero, suc, ◌+◌, ◌-◌, ◌≤◌, ◌<◌, Bool, true, false, ◌&&◌, ◌==◌, List, [], ◌∷◌, ◌++◌, length, map}
+use Rattle.std.proofs.Common.{take, drop, get_or, refl, sym, ap, subst, arith, if◌then◌else◌}
 use Rattle.std.specs.Prelude.{nat_lt, slice_get, Some}
 use Rattle.std.specs.List.{list_all}
 use Rattle.std.proofs.lemmas.Bool.{and_parts, and_from, eq-eqb, eqb-true, eqb-false, lt-ltb}
@@ -239,7 +239,8 @@ of_fields_at fields [] i batch types lt is = absurd (omega arith)
 of_fields_at fields (first ∷ batches) zero batch types lt is =
     ap (is_of_fields fields) is ∙ (and_parts (is_of_fields fields first) (list_all (is_of_fields fields) batches) types).0
 of_fields_at fields (first ∷ batches) (suc i) batch types lt is =
-    of_fields_at fields batches i batch (and_parts (is_of_fields fields first) (list_all (is_of_fields fields) batches) types).1 (omega (arith, lt)) is
+    of_fields_at fields batches i batch (and_parts (is_of_fields fields first) (list_all (is_of_fields fields) batches) types).1
+    (omega (arith, lt)) is
 
 module _ (schema : Schema) (batches : List (List Column)) (i : ℕ) (batch : List Column) (table : IsTable schema batches) (lt : i < length batches)
     (is : batch ≡ get_or batches i batch) where
@@ -253,7 +254,8 @@ module _ (schema : Schema) (batches : List (List Column)) (i : ℕ) (batch : Lis
   pub batch_more : stored_rows (take (i + 1) batches) ≡ stored_rows (take i batches) ++ rows_from batch 0 (batch_len batch)
   batch_more =
       ap stored_rows (take_more batches i batch lt ∙ ap (λ (b : List Column). take i batches ++ b ∷ []) (sym is))
-      ∙ stored_append (take i batches) (batch ∷ []) ∙ ap (λ rows. stored_rows (take i batches) ++ rows) (append-nil (batch_rows (map slots batch)) ∙ own_rows)
+      ∙ stored_append (take i batches) (batch ∷ [])
+      ∙ ap (λ rows. stored_rows (take i batches) ++ rows) (append-nil (batch_rows (map slots batch)) ∙ own_rows)
     where
       stored_append : (a b : List (List Column)) → stored_rows (a ++ b) ≡ stored_rows a ++ stored_rows b
       stored_append a b =
@@ -349,7 +351,8 @@ module _ (n : ℕ) (schema : Schema) (batches : List (List Column)) (now : Group
         record {
           pushed = after_both n start now before own pushed fit after put ∙ ap (after_rows n start) (sym more);
           fit = ap (rows_fit n start) more ∙ fit_both n start now before own pushed fit here;
-          ready = subst (IsReady n (field_types schema.fields)) (sym put) (all_ready n (field_types schema.fields) now own ready (widths 0 (batch_len batch)));
+          ready = subst (IsReady n (field_types schema.fields)) (sym put)
+              (all_ready n (field_types schema.fields) now own ready (widths 0 (batch_len batch)));
         }
       where
         wide : length batch ≡ length (field_types schema.fields)
@@ -365,7 +368,8 @@ module _ (n : ℕ) (schema : Schema) (batches : List (List Column)) (now : Group
         → IsNotTaken (rows_fit n (no_rows schema.fields) (stored_rows batches) ≡ false) fault
     batch_refuses fault refused =
         let start = no_rows schema.fields in
-        let split = all_behind batches (i + 1) ∙ ap (λ rows. rows ++ stored_rows (drop (i + 1) batches)) (batch_more schema batches i batch table lt is) in
+        let split = all_behind batches (i + 1)
+        ∙ ap (λ rows. rows ++ stored_rows (drop (i + 1) batches)) (batch_more schema batches i batch table lt is) in
         weaker (rows_fit n now own ≡ false) (rows_fit n start (stored_rows batches) ≡ false) (λ no_fit.
         ap (rows_fit n start) split
         ∙ no_fit_both n start now (stored_rows (take i batches)) own pushed fit (stored_rows (drop (i + 1) batches)) no_fit) fault refused

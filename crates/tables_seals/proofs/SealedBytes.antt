@@ -97,7 +97,8 @@ group_room : (schema : Schema) (group : List (List Slot)) → columns_fit schema
 unfolding batch_of_slots
 group_room schema group fit =
     let room = columns_room schema.fields (table_ids schema) (columns_of_rows schema.fields group) fit in
-    record { nodes = room.nodes; brings = first_tests (given_of_slots schema.fields (table_ids schema) (columns_of_rows schema.fields group)) room.brings }
+    let given = given_of_slots schema.fields (table_ids schema) (columns_of_rows schema.fields group) in
+    record { nodes = room.nodes; brings = first_tests given room.brings }
   where
     first_tests : (given : List Given) → list_all (λ (g : Given). has_nodes_in_room g.column && nat_lt (length g.slots) (2 ^ 63)) given ≡ true
         → have_nodes given ≡ true
@@ -193,5 +194,6 @@ module _ (schema : Schema) (rows : List (List Slot)) (n : ℕ) (can : is_sealabl
   unfolding sealed
   stream_is_seal bytes size wide within is =
       let messages = within_fits within in
-      let both : (is_batch_size n && are_rows_of schema.fields rows) ≡ true = and_from (is_batch_size n) (are_rows_of schema.fields rows) size wide in
+      let both : (is_batch_size n && are_rows_of schema.fields rows) ≡ true =
+      and_from (is_batch_size n) (are_rows_of schema.fields rows) size wide in
       rw (can, both, fit, messages) (ap Some (sym bytes_are ∙ sym is))

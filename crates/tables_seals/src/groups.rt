@@ -9,7 +9,8 @@ ghost use Rattle.tables_chunks.specs.ipc_format.columns.StoredColumns.{column_le
 ghost use Rattle.tables_chunks.specs.ipc_format.nested_arrays.builders.cells.builders.Begun.{opened_none};
 ghost use Rattle.tables_chunks.specs.ipc_format.nested_arrays.builders.cells.builders.BuiltTypes.{has_builder, have_builders};
 ghost use Rattle.tables_chunks.specs.ipc_format.nested_arrays.builders.cells.parts.Open.{Open, opened};
-ghost use Rattle.tables_seals.specs.Grouping.{GroupsRows, IsReady, PushesRow, PushesRows, PushesSlot, TakesColumns, TakesRow, all_fit, closed, refusal_of};
+ghost use Rattle.tables_seals.specs.Grouping.{GroupsRows, IsReady, PushesRow, PushesRows, PushesSlot, TakesColumns, TakesRow};
+ghost use Rattle.tables_seals.specs.Grouping.{all_fit, closed, refusal_of};
 ghost use Rattle.tables_seals.specs.GroupViews.{grouped};
 
 use columnar_memory_types::{DataType, Error, Field};

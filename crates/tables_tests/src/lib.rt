@@ -15,6 +15,8 @@ mod rows;
 #[cfg(test)]
 mod samples;
 #[cfg(test)]
+mod seals;
+#[cfg(test)]
 mod streams;
 
 pub use calling::head;
