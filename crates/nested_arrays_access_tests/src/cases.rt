@@ -1,7 +1,7 @@
 use columnar_memory::{
     Bitmap, Boxed, Buffer, DataType, Error, Field, Items, OffsetsBuffer, Text, UnionMode,
 };
-use flat_arrays::{PrimitiveArray, Utf8Array};
+use nested_arrays::flat_arrays::{PrimitiveArray, Utf8Array};
 use nested_arrays::{AnyArray, AnyPrimitive, DictionaryArray, FlatArray, ListArray, UnionArray};
 use std::alloc::Global;
 

@@ -1,5 +1,5 @@
 use columnar_memory::{Bitmap, Buffer, DataType, Error};
-use flat_arrays::PrimitiveArray;
+use nested_arrays::flat_arrays::PrimitiveArray;
 use nested_arrays::{AnyArray, AnyPrimitive, FlatArray, equal};
 use std::alloc::Global;
 use std::test::Fail;

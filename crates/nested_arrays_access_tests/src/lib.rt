@@ -1,4 +1,4 @@
-//! Tests of what arrays of any type answer, of their copies and of their equality.
+//! Tests of what arrays of any type answer, of their copies and of their equality, and of lists.
 #![tactic(auto)]
 
 #[cfg(test)]
@@ -10,6 +10,8 @@ mod counts;
 mod flat;
 #[cfg(test)]
 mod generic;
+#[cfg(test)]
+mod lists;
 #[cfg(test)]
 mod masks;
 #[cfg(test)]

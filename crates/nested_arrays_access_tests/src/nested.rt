@@ -1,5 +1,5 @@
 use columnar_memory::{Boxed, DataType, Error, Field, IntegerType, OffsetsBuffer, Text};
-use flat_arrays::{PrimitiveArray, Utf8Array};
+use nested_arrays::flat_arrays::{PrimitiveArray, Utf8Array};
 use nested_arrays::{AnyArray, AnyPrimitive, DictionaryArray, FlatArray, ListArray, equal};
 use std::alloc::Global;
 use std::test::Fail;

@@ -2,7 +2,7 @@
 use columnar_memory::{
     Bitmap, Boxed, Buffer, DataType, Error, Field, Items, OffsetsBuffer, Text, UnionMode,
 };
-use flat_arrays::PrimitiveArray;
+use nested_arrays::flat_arrays::PrimitiveArray;
 use nested_arrays::{
     AnyArray, AnyPrimitive, DictionaryArray, FixedSizeListArray, FlatArray, ListArray, MapArray,
     StructArray, UnionArray, equal,

@@ -1,12 +1,12 @@
 ghost use Rattle.std.specs.Prelude.{◌≡◌, MatchResult};
-ghost use Rattle.flat_arrays.specs.ByteStrings.{len_of};
+ghost use Rattle.flat_arrays_bytes.specs.ByteStrings.{len_of};
 ghost use Rattle.nested_arrays.specs.StoredColumns.{column_len};
 ghost use Rattle.nested_arrays.specs.Dictionaries.{values_of};
 ghost use Rattle.nested_arrays.specs.ValuesByKeys.{AreNamed};
 
 use crate::cases::numbers;
 use columnar_memory::{Bitmap, Buffer, DataType, Error};
-use flat_arrays::{ArrayAccessor, PrimitiveArray, Utf8Array};
+use nested_arrays::flat_arrays::{ArrayAccessor, PrimitiveArray, Utf8Array};
 use nested_arrays::{
     AnyArray, DictValue, DictionaryArray, FlatArray, TypedDictionaryValues, keys_name_values,
 };

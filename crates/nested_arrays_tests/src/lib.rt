@@ -1,4 +1,4 @@
-//! Tests of arrays without children, of lists and dictionaries, and of arrays of nulls, apart from their packages since a package with tests
+//! Tests of arrays without children, of dictionaries, and of arrays of nulls, apart from their packages since a package with tests
 //! is proved twice.
 #![tactic(auto)]
 
@@ -10,8 +10,6 @@ mod fixed_sizes;
 mod gathered;
 #[cfg(test)]
 mod kinds;
-#[cfg(test)]
-mod lists;
 #[cfg(test)]
 mod nulls;
 #[cfg(test)]
