@@ -19,4 +19,4 @@ mod seals;
 #[cfg(test)]
 mod streams;
 
-pub use calling::head;
+pub use calling::{head, push};

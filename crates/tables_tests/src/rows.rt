@@ -1,11 +1,9 @@
 //! Tables that are built of rows.
 use crate::samples::EXAMPLE;
-use columnar_memory_types::{
-    Boxed, DataType, Error, Field, IntegerType, Items, Schema, Text, UnionMode,
-};
+use columnar_memory_types::{Boxed, DataType, Field, IntegerType, Items, Schema, Text, UnionMode};
 use std::alloc::{AllocError, Global};
 use tables::nested_arrays::AnyScalar;
-use tables::{Fault, Form, SealBar, Table, TableBuilder};
+use tables::{Fault, Form, Table, TableBuilder};
 
 fn column(alloc: Global, name: &str, data_type: DataType) -> Result<Field, AllocError> {
     let name = Text::from_str(alloc, name)?;
@@ -44,15 +42,23 @@ fn text(alloc: Global, text: &str) -> Result<AnyScalar, AllocError> {
     Ok(AnyScalar::Text(Text::from_str(alloc, text)?))
 }
 
-/// Pushes a row of one number, or of a null.
-fn push_number(builder: &mut TableBuilder, cell: AnyScalar) -> Result<(), Fault> {
+/// Pushes a row of one cell.
+fn push_one(builder: &mut TableBuilder, cell: AnyScalar) -> Result<(), Fault> {
     builder.push_row(&[cell])
 }
 
-/// Pushes a row of a number and a text.
-fn push_both(builder: &mut TableBuilder, alloc: Global, number: i32) -> Result<(), Fault> {
-    let text = text(alloc, "a")?;
-    builder.push_row(&[AnyScalar::Int32(number), text])
+/// Pushes a row of a number and another cell.
+fn push_two(
+    builder: &mut TableBuilder,
+    alloc: Global,
+    number: i32,
+    cell: AnyScalar,
+) -> Result<(), Fault> {
+    // the given cell goes in first, so that no `?` lets it go
+    let mut row = Vec::new(alloc);
+    row.push(cell)?;
+    row.insert(0, AnyScalar::Int32(number))?;
+    builder.push_row(&row)
 }
 
 /// Pushes a row of the text of a number.
@@ -72,36 +78,45 @@ fn finished(builder: TableBuilder, alloc: Global) -> Result<Table, Fault> {
     }
 }
 
-fn is_no_columns(answer: &Result<(), Fault>) -> bool {
-    matches!(answer, Err(Fault::NoColumns))
+/// A column x with the rows 7 and null, in one batch.
+fn example(alloc: Global) -> Result<Table, Fault> {
+    Table::read(alloc, Form::Stream, &EXAMPLE)
 }
 
-fn is_row_width(answer: &Result<(), Fault>) -> bool {
-    matches!(answer, Err(Fault::RowWidth))
+/// What is said of a row that was pushed.
+fn told(answer: &Result<(), Fault>) -> &'static str {
+    match answer {
+        Ok(()) => "taken",
+        Err(fault) => fault.text(),
+    }
 }
 
-fn is_of_another_type(answer: &Result<(), Fault>) -> bool {
-    matches!(answer, Err(Fault::Lower(Error::InvalidArgumentError(_))))
-}
-
-fn is_overflow(answer: &Result<(), Fault>) -> bool {
-    matches!(answer, Err(Fault::Lower(Error::Overflow)))
-}
-
-/// Whether a builder was refused for a union.
-fn is_for_union(answer: &Result<TableBuilder, Fault>) -> bool {
-    matches!(answer, Err(Fault::NotSealable(SealBar::Union)))
+/// What is said of a builder of a schema.
+fn told_of(alloc: Global, schema: Schema) -> &'static str {
+    match TableBuilder::new(alloc, schema) {
+        Ok(builder) => {
+            drop(builder);
+            "begun"
+        }
+        Err(fault) => fault.text(),
+    }
 }
 
 #[test]
 fn a_row_has_a_cell_a_column(rt: HostRuntime) -> Result<(), Fault> {
     let alloc = rt.alloc();
     let mut none = TableBuilder::new(alloc, Schema::from(Vec::new(alloc)))?;
-    assert!(rt; is_no_columns(&none.push_row(&[])));
-    assert!(rt; is_no_columns(&push_number(&mut none, AnyScalar::Int32(1))));
+    assert_eq!(rt; told(&none.push_row(&[])), "no columns");
+    assert_eq!(rt;
+        told(&push_one(&mut none, AnyScalar::Int32(1))),
+        "no columns"
+    );
     let mut two = TableBuilder::new(alloc, numbers_and_texts(alloc)?)?;
-    assert!(rt; is_row_width(&push_number(&mut two, AnyScalar::Int32(1))));
-    assert!(rt; is_row_width(&two.push_row(&[])));
+    assert_eq!(rt;
+        told(&push_one(&mut two, AnyScalar::Int32(1))),
+        "row of another width"
+    );
+    assert_eq!(rt; told(&two.push_row(&[])), "row of another width");
     assert_eq!(rt; two.open_rows(), 0);
     Ok(())
 }
@@ -110,13 +125,15 @@ fn a_row_has_a_cell_a_column(rt: HostRuntime) -> Result<(), Fault> {
 fn a_row_that_is_refused_leaves_nothing(rt: HostRuntime) -> Result<(), Fault> {
     let alloc = rt.alloc();
     let mut builder = TableBuilder::new(alloc, numbers_and_texts(alloc)?)?;
-    let refused = builder.push_row(&[AnyScalar::Int32(1), AnyScalar::Int32(2)]);
-    assert!(rt; is_of_another_type(&refused));
+    assert_eq!(rt;
+        told(&push_two(&mut builder, alloc, 1, AnyScalar::Int32(2))),
+        "lower: invalid argument"
+    );
     assert_eq!(rt; builder.open_rows(), 0);
-    push_both(&mut builder, alloc, 3)?;
+    push_two(&mut builder, alloc, 3, text(alloc, "a")?)?;
     assert_eq!(rt; builder.open_rows(), 1);
     let mut other = TableBuilder::new(alloc, numbers_and_texts(alloc)?)?;
-    push_both(&mut other, alloc, 3)?;
+    push_two(&mut other, alloc, 3, text(alloc, "a")?)?;
     let table = finished(builder, alloc)?;
     assert_eq!(rt; table.rows(), 1);
     assert!(rt; Table::same(&table, &finished(other, alloc)?)?);
@@ -130,7 +147,10 @@ fn a_batch_has_as_many_values_as_its_keys_tell_apart(rt: HostRuntime) -> Result<
     for k in 0..128 {
         push_name(&mut builder, alloc, k)?;
     }
-    assert!(rt; is_overflow(&push_name(&mut builder, alloc, 128)));
+    assert_eq!(rt;
+        told(&push_name(&mut builder, alloc, 128)),
+        "lower: overflow"
+    );
     push_name(&mut builder, alloc, 127)?;
     assert_eq!(rt; builder.open_rows(), 129);
     builder.end_batch(alloc)?;
@@ -145,21 +165,25 @@ fn a_batch_has_as_many_values_as_its_keys_tell_apart(rt: HostRuntime) -> Result<
 #[test]
 fn a_union_has_no_builder(rt: HostRuntime) -> Result<(), Fault> {
     let alloc = rt.alloc();
-    assert!(rt; is_for_union(&TableBuilder::new(alloc, unions(alloc)?)));
+    assert_eq!(rt; told_of(alloc, unions(alloc)?), "not sealable: union");
     Ok(())
+}
+
+/// A column x with the rows 7 and null, in two batches.
+fn two_batches(alloc: Global) -> Result<Table, Fault> {
+    let mut builder = TableBuilder::new(alloc, schema_of(alloc, DataType::Int32)?)?;
+    push_one(&mut builder, AnyScalar::Int32(7))?;
+    builder.end_batch(alloc)?;
+    builder.end_batch(alloc)?;
+    push_one(&mut builder, AnyScalar::Null)?;
+    finished(builder, alloc)
 }
 
 #[test]
 fn rows_become_the_table_that_is_read(rt: HostRuntime) -> Result<(), Fault> {
     let alloc = rt.alloc();
-    let mut builder = TableBuilder::new(alloc, schema_of(alloc, DataType::Int32)?)?;
-    push_number(&mut builder, AnyScalar::Int32(7))?;
-    builder.end_batch(alloc)?;
-    builder.end_batch(alloc)?;
-    push_number(&mut builder, AnyScalar::Null)?;
-    let table = finished(builder, alloc)?;
+    let table = two_batches(alloc)?;
     assert_eq!(rt; table.batches().len(), 2);
-    let read = Table::read(alloc, Form::Stream, &EXAMPLE)?;
-    assert!(rt; Table::same(&table, &read)?);
+    assert!(rt; Table::same(&table, &example(alloc)?)?);
     Ok(())
 }
