@@ -55,6 +55,7 @@ pub use Rattle.ipc_format_file_writer.specs.stream_writer.reader.chunk_writing.E
 pub use Rattle.ipc_format_file_writer.specs.stream_writer.reader.chunk_writing.Tracking
 pub use Rattle.ipc_format_file_writer.specs.stream_writer.reader.chunk_writing.Types as OneForms
 pub use Rattle.ipc_format_file_writer.specs.stream_writer.reader.chunk_writing.BatchReads
+pub use Rattle.ipc_format_file_writer.specs.stream_writer.reader.chunk_writing.Projections
 pub use Rattle.ipc_format_file_writer.specs.stream_writer.reader.chunk_writing.DictionaryReads
 pub use Rattle.ipc_format_file_writer.specs.stream_writer.reader.chunk_writing.Readable
 pub use Rattle.ipc_format_file_writer.specs.stream_writer.reader.chunk_writing.Standing

@@ -4,10 +4,12 @@
 
 pub use ipc_format_file_writer::FileWriter;
 pub use ipc_format_file_writer::stream_writer::reader::chunk_writing::{
-    Chunk, Compression, Dictionaries, DictionaryTracker, InMemory, Room, WriteOptions,
-    encode_batch, encode_chunk, encode_chunk_amortized, have_one_form, look_ups_are_enough,
-    nested_arrays, read, read_children, read_dictionary, read_fixed_size_list, read_large_list,
-    read_list, read_map, read_record_batch, read_struct, read_union, schemas_have_arrays, write,
+    Chunk, Compression, Dictionaries, DictionaryTracker, InMemory, ProjectionIter,
+    ProjectionResult, Room, WriteOptions, apply_projection, choices_are_put_back, encode_batch,
+    encode_chunk, encode_chunk_amortized, have_one_form, is_choice, is_projection,
+    look_ups_are_enough, nested_arrays, prepare_projection, read, read_children, read_dictionary,
+    read_fixed_size_list, read_large_list, read_list, read_map, read_record_batch, read_struct,
+    read_union, schemas_have_arrays, write,
 };
 pub use ipc_format_file_writer::stream_writer::reader::streams::metadata::{
     IpcField, IpcSchema, OutOfSpecKind, can_write, deserialize_schema, deserialize_schema_counted,
@@ -52,9 +54,10 @@ pub mod metadata {
 /// What `ipc_format_reading_laws` has.
 pub mod reading_laws {
     pub use ipc_format_reading_laws::{
-        appended_files_read_back, choices_are_isolated, columns_have_parts, columns_read_at_fronts,
-        grown_files_read_back, normal_columns_stay_whole, normalised_types_read_the_same_slots,
-        seals_read_back, seals_tell_tables_apart, stated_ends_are_enough, stored_columns_read_back,
+        appended_files_read_back, choices_are_isolated, choices_are_of_the_whole,
+        columns_have_parts, columns_read_at_fronts, grown_files_read_back,
+        normal_columns_stay_whole, normalised_types_read_the_same_slots, seals_read_back,
+        seals_tell_tables_apart, stated_ends_are_enough, stored_columns_read_back,
         stored_files_read_back, stored_streams_read_back,
     };
 }

@@ -12,6 +12,7 @@ pub use Rattle.ipc_format_column_writing.proofs.reading_lemmas.ColumnReads
 pub use Rattle.ipc_format_column_writing.proofs.reading_lemmas.Marks
 pub use Rattle.ipc_format_column_writing.proofs.reading_lemmas.NextBuffers
 pub use Rattle.ipc_format_column_writing.proofs.reading_lemmas.Readings
+pub use Rattle.ipc_format_column_writing.proofs.reading_lemmas.NestedCounts
 pub use Rattle.ipc_format_column_writing.proofs.reading_lemmas.Skipping
 pub use Rattle.ipc_format_column_writing.proofs.grammar_lemmas.NormalReports
 pub use Rattle.ipc_format_column_writing.proofs.reading_lemmas.bytes_lemmas.streams_lemmas.Appending

@@ -11,12 +11,12 @@ use Rattle.ipc_format_reading.specs.columnar_memory.declared.Field.{Field}
 use Rattle.ipc_format_reading.specs.columns.Slots.{Slot}
 use Rattle.ipc_format_reading.specs.columns.StoredColumns.{Column, column_len, slots}
 use Rattle.ipc_format_reading.specs.flatbuffers.Reading.{◌>>=◌, guard}
-use Rattle.ipc_format_reading.specs.grammar.Columns.{Place, have_length}
+use Rattle.ipc_format_reading.specs.grammar.Columns.{Dictionary, Place, Source, have_length}
 use Rattle.ipc_format_reading.specs.grammar.Schemas.{IdsList}
 use Rattle.ipc_format_reading.specs.grammar.Tables.{agree_in_length}
 use Rattle.ipc_format_reading.proofs.Readings.{made_none, out_of_spec, reads_made, reads_refused}
 use Rattle.ipc_format_reading.proofs.ColumnSizes.{slots_lengths}
-use Rattle.ipc_format_batch_reading.specs.BatchReads.{MakesBatch, placed_arrays}
+use Rattle.ipc_format_batch_reading.specs.BatchReads.{MakesBatch, chosen_arrays, placed_arrays}
 use Rattle.ipc_format_batch_reading.proofs.CoveredSchemas.{same_value}
 
 -- ---- lengths
@@ -100,3 +100,31 @@ pub columns_refused : {A : Type 0} (fields : List Field) (below stated : IdsList
 columns_refused fields below stated at old new view error same read =
     subst (λ below. ReadsAs {A = List Column} false old new (map slots) (λ room. placed_arrays fields below (at room)) (Err error)) same
     (chunk_refused old new view (λ room. arrays_below fields (at room) stated) error read)
+
+-- ---- chosen columns
+
+pub choice_read : {A : Type 0} (fields : List Field) (below stated : IdsList) (little : Bool) (standing : List Dictionary) (limit : Option ℕ)
+    (columns : List ℕ) (source : List ℕ → Source) (old new : Told) (view : A → List (List Slot)) (a : A) (arrays : List Column)
+    (r : Result (List Column) Error) → stated ≡ below → view a ≡ map slots arrays
+    → ReadsAs false old new view (λ room. chosen_arrays (record { fields = fields; below = stated; is_little_endian = little }) standing
+    (source room) limit columns) (Ok a)
+    → MakesBatch arrays r
+    → ReadsAs false old new (map slots) (λ room. chosen_arrays (record { fields = fields; below = below; is_little_endian = little }) standing
+    (source room) limit columns >>= check) r
+choice_read fields below stated little standing limit columns source old new view a arrays r same seen read made =
+    subst (λ (below : IdsList). ReadsAs false old new (map slots) (λ room. chosen_arrays
+    (record { fields = fields; below = below; is_little_endian = little }) standing (source room) limit columns >>= check) r) same
+    (chunk_made old new view (λ room. chosen_arrays (record { fields = fields; below = stated; is_little_endian = little }) standing
+    (source room) limit columns) a arrays r seen read made)
+
+pub choice_refused : {A : Type 0} (fields : List Field) (below stated : IdsList) (little : Bool) (standing : List Dictionary) (limit : Option ℕ)
+    (columns : List ℕ) (source : List ℕ → Source) (old new : Told) (view : A → List (List Slot)) (error : Error) → stated ≡ below
+    → ReadsAs false old new view (λ room. chosen_arrays (record { fields = fields; below = stated; is_little_endian = little }) standing
+    (source room) limit columns) (Err error)
+    → ReadsAs {A = List Column} false old new (map slots) (λ room. chosen_arrays
+    (record { fields = fields; below = below; is_little_endian = little }) standing (source room) limit columns >>= check) (Err error)
+choice_refused fields below stated little standing limit columns source old new view error same read =
+    subst (λ (below : IdsList). ReadsAs {A = List Column} false old new (map slots) (λ room. chosen_arrays
+    (record { fields = fields; below = below; is_little_endian = little }) standing (source room) limit columns >>= check) (Err error)) same
+    (chunk_refused old new view (λ room. chosen_arrays (record { fields = fields; below = stated; is_little_endian = little }) standing
+    (source room) limit columns) error read)

@@ -1,9 +1,9 @@
 -- The columns of a batch, one after another at the fronts, are its columns by their numbers; and where there are arrays of each type, the arrays
 -- that are read are all that the format gives.
 use Rattle.std.proofs.Common.{◌≡◌, ◌∙◌, ℕ, zero, suc, ◌+◌, Bool, true, false, ◌&&◌, List, [], ◌∷◌, length, map, drop, take, refl, sym, ap, subst}
-use Rattle.std.proofs.Common.{arith}
-use Rattle.std.proofs.Common.{add-one}
+use Rattle.std.proofs.Common.{◌<◌, add-one, arith, get_or}
 use Rattle.std.specs.Prelude.{Option, Some, None, slice_get, sum_by}
+use Rattle.std.proofs.Math.Seq.{drop-cons}
 use Rattle.std.proofs.lemmas.Bool.{and_parts}
 use Rattle.std.proofs.lemmas.List.Sums.{sum_by-cons}
 use Rattle.ipc_format_reading.specs.Below.{arrays_below, no_own_ids}
@@ -69,6 +69,12 @@ sum_further count (x ∷ xs) (suc k) y ys is =
   where
     associates : (a b c : ℕ) → a + (b + c) ≡ a + b + c
     associates a b c = omega arith
+
+-- the same, by the one at the place
+pub sum_next : {A : Type 0} (count : A → ℕ) (xs : List A) (k : ℕ) (x : A) → k < length xs → x ≡ get_or xs k x
+    → sum_by count (take k xs) + count x ≡ sum_by count (take (suc k) xs)
+sum_next count xs k x lt is =
+    sym (sum_further count xs k x (drop (suc k) xs) (drop-cons xs k x lt ∙ ap (λ y. y ∷ drop (suc k) xs) (sym is)))
 
 drop_further : {A : Type 0} (xs : List A) (k : ℕ) (y : A) (ys : List A) → drop k xs ≡ y ∷ ys → drop (suc k) xs ≡ ys
 drop_further [] zero y ys is = absurd cc

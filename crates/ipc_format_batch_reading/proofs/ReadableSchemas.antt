@@ -1,9 +1,9 @@
 -- There are arrays of every type of a schema that metadata gives.
-use Rattle.std.proofs.Common.{◌≡◌, ◌∙◌, ℕ, ℤ, Bool, true, false, ◌&&◌, List, [], ◌∷◌, map, refl, sym, ap, subst}
-use Rattle.std.specs.Prelude.{Option, Some, None, not, nat_le}
+use Rattle.std.proofs.Common.{◌≡◌, ◌∙◌, ℕ, zero, suc, ℤ, Bool, true, false, ◌&&◌, List, [], ◌∷◌, map, refl, sym, ap, subst}
+use Rattle.std.specs.Prelude.{Option, Some, None, not, nat_le, slice_get}
 use Rattle.std.specs.List.{list_all}
 use Rattle.std.proofs.lemmas.Bool.{and_parts, and_from}
-use Rattle.ipc_format_reading.specs.childless_reading.array_reading.ArrayReads.{Test, is_readable}
+use Rattle.ipc_format_reading.specs.childless_reading.array_reading.ArrayReads.{Test, array_slots, is_readable}
 use Rattle.ipc_format_reading.specs.columnar_memory.declared.Field.{Field}
 use Rattle.ipc_format_reading.specs.columnar_memory.declared.Schema.{Schema}
 use Rattle.ipc_format_reading.specs.columns.Slots.{Slot}
@@ -14,16 +14,16 @@ use Rattle.ipc_format_reading.specs.grammar.Dictionaries.{Entry, Layout, Values,
 use Rattle.ipc_format_reading.specs.grammar.Dictionaries.{source_in, values_of}
 use Rattle.ipc_format_reading.specs.grammar.Messages.{DictionaryBatch, dictionary_batch_in}
 use Rattle.ipc_format_reading.specs.grammar.SchemaGrammar.{schema_in}
-use Rattle.ipc_format_reading.specs.grammar.Schemas.{IdsList, SchemaIn, any_schema_in, ids, ids_then}
+use Rattle.ipc_format_reading.specs.grammar.Schemas.{Ids, IdsList, SchemaIn, any_schema_in, ids, ids_then}
 use Rattle.ipc_format_reading.specs.grammar.Schemas.{no_ids}
-use Rattle.ipc_format_reading.specs.grammar.Tables.{batch_in, chosen_batch_in, layout_of}
+use Rattle.ipc_format_reading.specs.grammar.Tables.{batch_in, chosen_batch_in, chosen_columns, column_place, ids_at, layout_of}
 use Rattle.ipc_format_reading.specs.grammar.Writable.{is_writable, normalised, normalised_field}
 use Rattle.ipc_format_reading.specs.grammar.Writable.{over_all, plain}
 use Rattle.ipc_format_reading.specs.grammar.Writable.{report_of, reports_of}
 use Rattle.ipc_format_reading.proofs.AlikePlaces.{both_known, both_same}
 use Rattle.ipc_format_reading.proofs.FreshLengths.{unlike}
 use Rattle.ipc_format_reading.proofs.NormalReports.{writable_normal}
-use Rattle.ipc_format_batch_reading.specs.BatchReads.{record_arrays}
+use Rattle.ipc_format_batch_reading.specs.BatchReads.{chosen_arrays, chosen_record_arrays, ids_beside, record_arrays}
 use Rattle.ipc_format_batch_reading.specs.DictionaryReads.{dictionary_array}
 use Rattle.ipc_format_batch_reading.specs.Readable.{HasArrays, SchemasHaveArrays, all_of}
 use Rattle.ipc_format_batch_reading.proofs.CoveredSchemas.{came_of, same_value, schemas_covered}
@@ -50,6 +50,39 @@ limited_are layout all standing limit entry table =
     both_same (source_in layout.is_little_endian entry table) (source_in layout.is_little_endian entry table) _ _ refl (λ (source : Source).
     both_same _ _ _ _ (all_choices_are layout standing source limit all) (λ (columns : List (List Slot)). refl))
 
+-- there are ids beside each field, and arrays of its type
+beside_readable : (fields : List Field) (below : IdsList) (k : ℕ) (field : Field) → are_readable fields below ≡ true
+    → slice_get fields k ≡ Some field → (ids_beside below k ≡ Some (ids_at below k)) × (is_readable field.data_type (ids_at below k) ≡ true)
+beside_readable [] below zero field all found = absurd cc
+beside_readable [] below (suc k) field all found = absurd cc
+beside_readable (u ∷ fields) no_ids k field all found = absurd (unlike all)
+beside_readable (u ∷ fields) (ids_then first others) zero field all found =
+    let parts = and_parts (is_readable u.data_type first) (are_readable fields others) all in
+    (refl, subst (λ (field : Field). is_readable field.data_type first ≡ true) (same_value u field found) parts.0)
+beside_readable (u ∷ fields) (ids_then first others) (suc k) field all found =
+    beside_readable fields others k field (and_parts (is_readable u.data_type first) (are_readable fields others) all).1 found
+
+chosen_are : (layout : Layout) → are_readable layout.fields layout.below ≡ true → (standing : List Dictionary) (source : Source) (limit : Option ℕ)
+    (columns : List ℕ)
+    → chosen_arrays layout standing source limit columns ≡ chosen_columns layout standing source limit columns
+chosen_are layout all standing source limit [] = refl
+chosen_are layout all standing source limit (k ∷ columns) =
+    both_known (slice_get layout.fields k) (slice_get layout.fields k) _ _ refl (λ (field : Field) found.
+    let here = beside_readable layout.fields layout.below k field all found in
+    ap (λ (ids : Option Ids). ids >>= (λ here. array_slots field.data_type
+    (record (column_place layout standing source limit k) { ids = here }) >>= (λ column.
+    chosen_arrays layout standing source limit columns >>= (λ others. Some (column ∷ others))))) here.0
+    ∙ both_same _ _ _ _ (array_is_read field.data_type (column_place layout standing source limit k) here.1) (λ (column : List Slot).
+    both_same _ _ _ _ (chosen_are layout all standing source limit columns) (λ (others : List (List Slot)). refl)))
+
+choices_are : (layout : Layout) → are_readable layout.fields layout.below ≡ true → (standing : List Dictionary) (limit : Option ℕ)
+    (columns : List ℕ) (entry : Entry) (table : Table)
+    → chosen_record_arrays layout standing limit columns entry table ≡ chosen_batch_in layout standing entry limit columns table
+unfolding chosen_batch_in
+choices_are layout all standing limit columns entry table =
+    both_same (source_in layout.is_little_endian entry table) (source_in layout.is_little_endian entry table) _ _ refl (λ (source : Source).
+    both_same _ _ _ _ (chosen_are layout all standing source limit columns) (λ (columns : List (List Slot)). refl))
+
 dictionaries_are : (layout : Layout) → FindsReadable layout → (standing : List Dictionary) (entry : Entry) (table : Table)
     → dictionary_array layout standing entry table ≡ dictionary_in layout standing entry table
 unfolding dictionary_in
@@ -68,6 +101,7 @@ pub layout_reads : (layout : Layout) → are_readable layout.fields layout.below
 layout_reads layout all finds = record {
   batches = batches_are layout all;
   limited = limited_are layout all;
+  choices = choices_are layout all;
   dictionaries = dictionaries_are layout finds;
 }
 

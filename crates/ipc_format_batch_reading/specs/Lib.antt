@@ -2,6 +2,8 @@ pub mod Standing
 pub mod BatchReads
 pub mod DictionaryReads
 pub mod Readable
+pub mod PassedOver
+pub mod Projections
 pub use Rattle.ipc_format_reading.specs as reading
 pub use Rattle.ipc_format_reading.specs.columnar_memory
 pub use Rattle.ipc_format_reading.specs.flatbuffers

@@ -9,7 +9,7 @@ use Rattle.ipc_format_reading.specs.grammar.Dictionaries.{Entry, Layout, diction
 use Rattle.ipc_format_reading.specs.grammar.SchemaGrammar.{schema_in}
 use Rattle.ipc_format_reading.specs.grammar.Schemas.{SchemaIn}
 use Rattle.ipc_format_reading.specs.grammar.Tables.{batch_in, chosen_batch_in, layout_of}
-use Rattle.ipc_format_batch_reading.specs.BatchReads.{record_arrays}
+use Rattle.ipc_format_batch_reading.specs.BatchReads.{chosen_record_arrays, record_arrays}
 use Rattle.ipc_format_batch_reading.specs.DictionaryReads.{dictionary_array}
 
 -- the numbers of all columns
@@ -22,6 +22,8 @@ pub record HasArrays (layout : Layout) : Type 0 where
       → record_arrays layout standing None entry table ≡ batch_in layout standing entry table
   pub limited : (standing : List Dictionary) (limit : Option ℕ) (entry : Entry) (table : Table)
       → record_arrays layout standing limit entry table ≡ chosen_batch_in layout standing entry limit (all_of layout.fields) table
+  pub choices : (standing : List Dictionary) (limit : Option ℕ) (columns : List ℕ) (entry : Entry) (table : Table)
+      → chosen_record_arrays layout standing limit columns entry table ≡ chosen_batch_in layout standing entry limit columns table
   pub dictionaries : (standing : List Dictionary) (entry : Entry) (table : Table)
       → dictionary_array layout standing entry table ≡ dictionary_in layout standing entry table
 

@@ -4,6 +4,8 @@
 
 mod dictionary_batch;
 mod laws;
+mod passing;
+mod projection;
 mod record_batch;
 
 pub use dictionary_batch::read_dictionary;
@@ -16,7 +18,11 @@ pub use ipc_format_reading::{
     record_metadata, write,
 };
 pub use laws::{look_ups_are_enough, schemas_have_arrays};
-pub use record_batch::read_record_batch;
+pub use projection::{
+    ProjectionIter, ProjectionResult, apply_projection, choices_are_put_back, is_choice,
+    prepare_projection,
+};
+pub use record_batch::{is_projection, read_record_batch};
 
 /// What `ipc_format_reading::streams` has, as far as packages above use it.
 pub mod streams {

@@ -1,21 +1,25 @@
 //! Record batches.
-ghost use Rattle.std.specs.Prelude.{◌≡◌, IfOk, false, is_some, map};
+ghost use Rattle.std.specs.Prelude.{◌≡◌, IfOk, false, length, map, true};
+ghost use Rattle.std.specs.Option.{option_copied};
 ghost use Rattle.ipc_format_reading.specs.Below.{no_own_ids, type_of};
 ghost use Rattle.ipc_format_reading.specs.childless_reading.ReadArrays.{at_front, standing_in};
 ghost use Rattle.ipc_format_reading.specs.Rooms.{ReadsAs};
 ghost use Rattle.ipc_format_reading.specs.columns.StoredColumns.{column_type, slots};
+ghost use Rattle.ipc_format_reading.specs.columns.Tables.{chosen};
 ghost use Rattle.ipc_format_reading.specs.flatbuffers.Views.{table_of};
 ghost use Rattle.ipc_format_reading.specs.grammar.Messages.{record_batch};
 ghost use Rattle.ipc_format_reading.specs.messages.MessageViews.{version_view};
 ghost use Rattle.ipc_format_reading.specs.metadata.Views.{ids_views};
 ghost use Rattle.ipc_format_reading.specs.childless_reading.array_reading.column_writing.column_reading.column_bytes.streams.Queues.{is_compressed};
-ghost use Rattle.ipc_format_batch_reading.specs.BatchReads.{MakesBatch, ReadsBatch, entry_in, placed_arrays, record_arrays, sized};
+ghost use Rattle.ipc_format_batch_reading.specs.BatchReads.{IsProjection, asked_arrays, asked_fields, chosen_arrays, chosen_record_arrays, rise_below};
+ghost use Rattle.ipc_format_batch_reading.specs.BatchReads.{MakesBatch, entry_in, placed_arrays, record_arrays, sized};
 
+use crate::passing::pass_fields;
 use ipc_format_reading::columnar_memory::{Error, Field, Result};
 use ipc_format_reading::nested_arrays::AnyArray;
 use ipc_format_reading::{
-    Buffer, Chunk, Dictionaries, FieldNode, IpcSchema, MetadataVersion, RecordBatchRef, Room,
-    batch_queues, read_children,
+    Buffer, Chunk, Dictionaries, FieldNode, IpcField, IpcSchema, MetadataVersion, RecordBatchRef,
+    Room, batch_queues, read, read_children,
 };
 use std::alloc::Global;
 use std::collections::VecDeque;
@@ -116,14 +120,123 @@ fn read_columns<R: Room>(
     )
 }
 
-/// Reads the columns of a record batch (Arrow IPC, "RecordBatch message"), at most `limit` rows of them. Buffers' offsets count from
-/// `block_offset` in a room of `file_size` bytes: the body of the message in a stream, the whole file in a file. `version` tells how unions
-/// lie, and keys name values of `dictionaries`.
+/// Reads chosen columns of a record batch, as `read_record_batch` does.
 ///
 /// # Errors
-/// - `NotYetImplemented`: columns are chosen, or the buffers are compressed.
-/// - `OutOfSpec`: the batch's metadata is not whole, its buffers state more bytes than the room has, a column is refused (as `read` does), or
-///   the columns are of unequal length.
+/// As `read_record_batch`.
+fn read_choice<R: Room>(
+    alloc: Global,
+    batch: &RecordBatchRef<'_>,
+    fields: &[Field],
+    ipc_schema: &IpcSchema,
+    columns: &[usize],
+    limit: Option<usize>,
+    dictionaries: &Dictionaries,
+    version: MetadataVersion,
+    reader: &mut R,
+    block_offset: u64,
+    file_size: u64,
+    scratch: &mut Vec<u8>,
+) -> Result<Chunk<AnyArray>>
+    requires { rise_below (length fields.now) columns.now ≡ true }
+    ensures read { ReadsAs (is_compressed batch.now.table.bytes.now (table_of batch.now.table.place))
+        (sized file_size (R.told reader.old)) (sized file_size (R.told reader.new)) (map slots)
+        (λ room. chosen_record_arrays (record {
+          fields = fields.now;
+          below = ids_views ipc_schema.now.fields;
+          is_little_endian = ipc_schema.now.is_little_endian;
+        }) (standing_in dictionaries.now) limit columns.now
+        (entry_in batch.now.table.bytes.now (record_batch (table_of batch.now.table.place)) (version_view version) block_offset room)
+        (table_of batch.now.table.place)) result }
+    ensures types { IfOk result (λ chunk. map column_type chunk ≡ map type_of (chosen columns.now fields.now)) }
+{
+    let mut queues = batch_queues(alloc, batch, file_size)?;
+    let arrays = read_chosen(
+        alloc,
+        &mut queues.field_nodes,
+        fields,
+        ipc_schema.fields.as_slice(),
+        columns,
+        &mut queues.buffers,
+        reader,
+        dictionaries,
+        block_offset,
+        ipc_schema.is_little_endian,
+        limit,
+        version,
+        scratch,
+    )?;
+    chunk_of(arrays)
+}
+
+/// Reads chosen columns of a batch from the fronts of the queues of its nodes and buffers, whose columns rise. Those before each of them are
+/// passed over, and what stands behind the last is not looked at.
+///
+/// # Errors
+/// As of `read`; `OutOfSpec` also where no ids stand beside a field.
+fn read_chosen<R: Room>(
+    alloc: Global,
+    field_nodes: &mut VecDeque<FieldNode>,
+    fields: &[Field],
+    ipc_fields: &[IpcField],
+    columns: &[usize],
+    buffers: &mut VecDeque<Buffer>,
+    reader: &mut R,
+    dictionaries: &Dictionaries,
+    block_offset: u64,
+    is_little_endian: bool,
+    limit: Option<usize>,
+    version: MetadataVersion,
+    scratch: &mut Vec<u8>,
+) -> Result<Vec<AnyArray>>
+    requires { rise_below (length fields.now) columns.now ≡ true }
+    ensures read { ReadsAs false (R.told reader.old) (R.told reader.new) (λ arrays. map slots arrays.items)
+        (λ room. chosen_arrays (record {
+          fields = fields.now;
+          below = ids_views ipc_fields.now;
+          is_little_endian = is_little_endian;
+        }) (standing_in dictionaries.now) (at_front field_nodes.old.items buffers.old.items (version_view version) is_little_endian
+        (standing_in dictionaries.now) limit block_offset no_own_ids room).source limit columns.now) result }
+    ensures types { IfOk result (λ arrays. map column_type arrays.items ≡ map type_of (chosen columns.now fields.now)) }
+{
+    let mut arrays = Vec::new(alloc);
+    let mut behind = 0;
+    for k in 0..columns.len() {
+        let column = columns[k];
+        pass_fields(field_nodes, &fields[behind..column], buffers, version);
+        if column >= ipc_fields.len() {
+            return Err(Error::OutOfSpec("a field without dictionary ids beside it"));
+        }
+        let array = read(
+            alloc,
+            field_nodes,
+            &fields[column],
+            &ipc_fields[column],
+            buffers,
+            reader,
+            dictionaries,
+            block_offset,
+            is_little_endian,
+            None,
+            limit,
+            version,
+            scratch,
+        )?;
+        arrays.push(array)?;
+        behind = column + 1;
+    }
+    Ok(arrays)
+}
+
+/// Reads the columns of a record batch (Arrow IPC, "RecordBatch message"), at most `limit` rows of them: all, or those that `projection` names by
+/// the places of their fields, which rise (`is_projection` tests it). A column that is not chosen is passed over by how many nodes and buffers it
+/// has, and is not decoded. Buffers' offsets count from `block_offset` in a room of `file_size` bytes: the body of the message in a stream, the
+/// whole file in a file. `version` tells how unions lie, and keys name values of `dictionaries`.
+///
+/// # Errors
+/// - `NotYetImplemented`: the buffers are compressed.
+/// - `OutOfSpec`: the batch's metadata is not whole, its buffers state more bytes than the room has, a column that is read is refused (as `read`
+///   does), or these are of unequal length.
 /// - `Io`: the device failed.
 /// - `OutOfMemory`: there was no memory for what is read.
 pub fn read_record_batch<R: Room>(
@@ -140,31 +253,60 @@ pub fn read_record_batch<R: Room>(
     file_size: u64,
     scratch: &mut Vec<u8>,
 ) -> Result<Chunk<AnyArray>>
-    ensures read { ReadsBatch (is_some projection.entry) (is_compressed batch.now.table.bytes.now (table_of batch.now.table.place))
-        (sized file_size (R.told reader.old)) (sized file_size (R.told reader.new))
-        (λ room. record_arrays (record {
+    requires { IsProjection (length fields.now) (option_copied projection) }
+    ensures read { ReadsAs (is_compressed batch.now.table.bytes.now (table_of batch.now.table.place))
+        (sized file_size (R.told reader.old)) (sized file_size (R.told reader.new)) (map slots)
+        (λ room. asked_arrays (option_copied projection.entry) (record {
           fields = fields.now;
           below = ids_views ipc_schema.now.fields;
           is_little_endian = ipc_schema.now.is_little_endian;
         }) (standing_in dictionaries.now) limit
         (entry_in batch.now.table.bytes.now (record_batch (table_of batch.now.table.place)) (version_view version) block_offset room)
         (table_of batch.now.table.place)) result }
-    ensures types { IfOk result (λ chunk. map column_type chunk ≡ map type_of fields.now) }
+    ensures types { IfOk result (λ chunk. map column_type chunk ≡ map type_of (asked_fields (option_copied projection.entry) fields.now)) }
 {
-    if projection.is_some() {
-        return Err(Error::NotYetImplemented("a choice of columns"));
+    match projection {
+        None => read_columns(
+            alloc,
+            batch,
+            fields,
+            ipc_schema,
+            limit,
+            dictionaries,
+            version,
+            reader,
+            block_offset,
+            file_size,
+            scratch,
+        ),
+        Some(columns) => read_choice(
+            alloc,
+            batch,
+            fields,
+            ipc_schema,
+            columns,
+            limit,
+            dictionaries,
+            version,
+            reader,
+            block_offset,
+            file_size,
+            scratch,
+        ),
     }
-    read_columns(
-        alloc,
-        batch,
-        fields,
-        ipc_schema,
-        limit,
-        dictionaries,
-        version,
-        reader,
-        block_offset,
-        file_size,
-        scratch,
-    )
+}
+
+/// Whether columns rise and are each below a width: the condition of a projection.
+pub fn is_projection(columns: &[usize], width: usize) -> bool
+    ensures { result ≡ rise_below width columns.now }
+{
+    let mut least = 0;
+    for k in 0..columns.len() {
+        let column = columns[k];
+        if column < least || column >= width {
+            return false;
+        }
+        least = column + 1;
+    }
+    true
 }

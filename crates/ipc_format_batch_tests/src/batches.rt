@@ -3,8 +3,8 @@ use ipc_format::columnar_memory::{Boxed, DataType, Error, Field, IntegerType, It
 use ipc_format::messages::{Buffer, FieldNode, MessageHeaderRef, MetadataVersion, message_in};
 use ipc_format::nested_arrays::AnyArray;
 use ipc_format::{
-    Chunk, Dictionaries, InMemory, IpcField, IpcSchema, dictionary_batch_to_bytes, read_dictionary,
-    read_record_batch, record_batch_to_bytes,
+    Chunk, Dictionaries, InMemory, IpcField, IpcSchema, dictionary_batch_to_bytes, is_projection,
+    read_dictionary, read_record_batch, record_batch_to_bytes,
 };
 use std::alloc::Global;
 
@@ -127,6 +127,42 @@ pub(crate) fn batch(
         None,
         dictionaries,
         MetadataVersion::V5,
+        &mut room,
+        0,
+        body.len() as u64,
+        &mut Vec::new(alloc),
+    )
+}
+
+/// What is read of chosen columns of a record batch with these nodes, buffers and bytes, where these may be chosen.
+pub(crate) fn picked(
+    alloc: Global,
+    fields: &[Field],
+    schema: &IpcSchema,
+    version: MetadataVersion,
+    columns: &[usize],
+    lengths: &[(i64, i64)],
+    places: &[(i64, i64)],
+    body: &[u8],
+) -> Result<Chunk<AnyArray>, Error> {
+    let metadata = record_of(alloc, lengths, places, body)?;
+    let parts = message_in(metadata.as_slice()).ok_or(Error::OutOfSpec("no message"))?;
+    let MessageHeaderRef::RecordBatch(header) = parts.header else {
+        return Err(Error::OutOfSpec("no record batch"));
+    };
+    if !is_projection(columns, fields.len()) {
+        return Err(Error::InvalidArgumentError("no projection"));
+    }
+    let mut room = InMemory { bytes: body };
+    read_record_batch(
+        alloc,
+        &header,
+        fields,
+        schema,
+        Some(columns),
+        None,
+        &Dictionaries::new(alloc),
+        version,
         &mut room,
         0,
         body.len() as u64,

@@ -17,6 +17,8 @@ mod encoded;
 #[cfg(test)]
 mod file_writer;
 #[cfg(test)]
+mod projections;
+#[cfg(test)]
 mod records;
 #[cfg(test)]
 mod samples;

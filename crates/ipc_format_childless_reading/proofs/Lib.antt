@@ -14,6 +14,7 @@ pub use Rattle.ipc_format_array_reading.proofs.ColumnReads
 pub use Rattle.ipc_format_array_reading.proofs.Marks
 pub use Rattle.ipc_format_array_reading.proofs.NextBuffers
 pub use Rattle.ipc_format_array_reading.proofs.Readings
+pub use Rattle.ipc_format_array_reading.proofs.NestedCounts
 pub use Rattle.ipc_format_array_reading.proofs.Skipping
 pub use Rattle.ipc_format_array_reading.proofs.NormalReports
 pub use Rattle.ipc_format_array_reading.proofs.Appending

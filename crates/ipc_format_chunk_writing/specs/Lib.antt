@@ -14,6 +14,7 @@ pub use Rattle.ipc_format_batch_reading.specs.nested_arrays
 pub use Rattle.ipc_format_batch_reading.specs.chunks
 pub use Rattle.ipc_format_batch_reading.specs.Placing
 pub use Rattle.ipc_format_batch_reading.specs.BatchReads
+pub use Rattle.ipc_format_batch_reading.specs.Projections
 pub use Rattle.ipc_format_batch_reading.specs.DictionaryReads
 pub use Rattle.ipc_format_batch_reading.specs.Readable
 pub use Rattle.ipc_format_batch_reading.specs.Standing

@@ -17,11 +17,12 @@ pub use ipc_format_batch_reading::streams::owned::writing::ids_fit;
 pub use ipc_format_batch_reading::{
     BodyCompressionRef, Buffer, Chunk, Compression, Dictionaries, DictionaryBatchRef, EncodedData,
     FieldNode, InMemory, IpcField, IpcSchema, MessageHeaderRef, MetadataVersion, Placed,
-    RecordBatchRef, Room, batch_queues, columnar_memory, dictionary_batch_in, dictionary_metadata,
-    dictionary_values, first_beside, look_ups_are_enough, message_in, nested_arrays, normalised,
-    read, read_children, read_dictionary, read_fixed_size_list, read_large_list, read_list,
-    read_map, read_record_batch, read_struct, read_union, record_metadata, schemas_have_arrays,
-    write,
+    ProjectionIter, ProjectionResult, RecordBatchRef, Room, apply_projection, batch_queues,
+    choices_are_put_back, columnar_memory, dictionary_batch_in, dictionary_metadata,
+    dictionary_values, first_beside, is_choice, is_projection, look_ups_are_enough, message_in,
+    nested_arrays, normalised, prepare_projection, read, read_children, read_dictionary,
+    read_fixed_size_list, read_large_list, read_list, read_map, read_record_batch, read_struct,
+    read_union, record_metadata, schemas_have_arrays, write,
 };
 pub use options::WriteOptions;
 pub use tracker::DictionaryTracker;

@@ -22,6 +22,8 @@ pub mod PartsUnions
 pub mod PartsReads
 pub mod NestedColumns
 pub mod KindReads
+pub use Rattle.ipc_format_childless_reading.proofs.Layers
+pub use Rattle.ipc_format_childless_reading.proofs.NestedCounts
 pub use Rattle.ipc_format_childless_reading.proofs.Joined
 pub use Rattle.ipc_format_childless_reading.proofs.MessageLimits
 pub use Rattle.ipc_format_childless_reading.proofs.Stated

@@ -16,6 +16,7 @@ mod table_laws;
 pub use append_laws::{appended_files_read_back, grown_files_read_back, stated_ends_are_enough};
 pub use column_laws::stored_columns_read_back;
 pub use front_laws::{columns_have_parts, columns_read_at_fronts};
+pub use ipc_format_laws::choices_are_of_the_whole;
 pub use isolation_laws::choices_are_isolated;
 pub use normal_laws::normalised_types_read_the_same_slots;
 pub use seal_laws::{seals_read_back, seals_tell_tables_apart};

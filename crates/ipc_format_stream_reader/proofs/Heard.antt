@@ -4,12 +4,12 @@ use Rattle.std.proofs.Common.{suc, nat_lt, ◌==◌, Bor, IfOk}
 use Rattle.std.specs.Prelude.{not, ◌||◌, Option, Some, None, Result, Ok, Err}
 use Rattle.std.proofs.lemmas.Bool.{le-leb, lt-leb, eq-eqb}
 use Rattle.std.specs.BTreeMap.{BTreeMap}
-use Rattle.ipc_format_chunk_writing.specs.BatchReads.{ReadsBatch, entry_in, record_arrays, sized}
+use Rattle.ipc_format_chunk_writing.specs.BatchReads.{entry_in, record_arrays, sized}
 use Rattle.ipc_format_chunk_writing.specs.DictionaryReads.{ReadsDictionary, dictionary_array, is_unread, is_unread_by}
 use Rattle.ipc_format_chunk_writing.specs.Standing.{StandAlike}
 use Rattle.ipc_format_chunk_writing.specs.ArrayReads.{array_slots}
 use Rattle.ipc_format_chunk_writing.specs.ReadArrays.{dictionary_of, standing_in}
-use Rattle.ipc_format_chunk_writing.specs.Rooms.{Told}
+use Rattle.ipc_format_chunk_writing.specs.Rooms.{ReadsAs, Told}
 use Rattle.ipc_format_chunk_writing.specs.columnar_memory.declared.Error.{Error}
 use Rattle.ipc_format_chunk_writing.specs.columnar_memory.declared.Error.TheVariants as errors
 use Rattle.ipc_format_chunk_writing.specs.columns.Slots.{Slot}
@@ -95,7 +95,7 @@ in_body body = sized (length body) (record { bytes = Some body; failures = 0 })
 
 pub columns_heard : (layout : Layout) (version : Version) (standing : List Dictionary) (metadata : List ℕ) (table : Table) (body : List ℕ)
     (after : Told) (result : Result (List Column) Error) → after.failures ≡ 0 → IfOk result (HasTypes layout)
-    → ReadsBatch false (is_compressed metadata table) (in_body body) after
+    → ReadsAs (is_compressed metadata table) (in_body body) after (map slots)
     (λ room. record_arrays layout standing None (entry_in metadata (message.record_batch table) version 0 room) table) result
     → HearsColumns layout version standing metadata table body result
 columns_heard layout version standing metadata table body after (Ok chunk) quiet types read = (types, read.2 body (known body))

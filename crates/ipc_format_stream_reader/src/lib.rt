@@ -17,11 +17,12 @@ pub use state::StreamState;
 /// What `ipc_format_chunk_writing` has, as far as packages above use it.
 pub mod chunk_writing {
     pub use ipc_format_chunk_writing::{
-        Chunk, Compression, Dictionaries, DictionaryTracker, InMemory, Room, WriteOptions,
+        Chunk, Compression, Dictionaries, DictionaryTracker, InMemory, ProjectionIter,
+        ProjectionResult, Room, WriteOptions, apply_projection, choices_are_put_back,
         columnar_memory, encode_batch, encode_chunk, encode_chunk_amortized, have_one_form,
-        ids_fit, look_ups_are_enough, nested_arrays, read, read_children, read_dictionary,
-        read_fixed_size_list, read_large_list, read_list, read_map, read_record_batch, read_struct,
-        read_union, schemas_have_arrays, write,
+        ids_fit, is_choice, is_projection, look_ups_are_enough, nested_arrays, prepare_projection,
+        read, read_children, read_dictionary, read_fixed_size_list, read_large_list, read_list,
+        read_map, read_record_batch, read_struct, read_union, schemas_have_arrays, write,
     };
 }
 
