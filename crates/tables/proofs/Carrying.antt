@@ -3,9 +3,9 @@ use Rattle.std.proofs.Common.{◌≡◌, ◌⊎◌, inl, inr, ℕ, List, [], ◌
 use Rattle.std.specs.Prelude.{◌↔◌, IsTrue, Bool, true, false, Option, Some, None, Result, Ok, Err}
 use Rattle.std.proofs.lemmas.Bool.{false≢true}
 use Rattle.std.proofs.lemmas.List.{take_more, take-append-drop, at_drop_more}
-use Rattle.tables_builder.specs.chunks.ipc_format.columnar_memory.declared.Error.TheVariants as errors
-use Rattle.tables_builder.specs.chunks.declared.fault.Fault.TheVariants as faults
-use Rattle.tables_builder.specs.chunks.StoredTables.{Stored}
+use Rattle.tables_choices.specs.chunks.ipc_format.columnar_memory.declared.Error.TheVariants as errors
+use Rattle.tables_choices.specs.chunks.declared.fault.Fault.TheVariants as faults
+use Rattle.tables_choices.specs.chunks.StoredTables.{Stored}
 use Rattle.tables.specs.Command.{Asked, Cut, Join, Same, Seal, inputs_of}
 use Rattle.tables.specs.Contents.{Contents, Holds, Keeps, Sets}
 use Rattle.tables.specs.Inputs.{HoldsTable, HoldTables, IsInputFailure, IsReadFailure}
@@ -50,6 +50,7 @@ read_failure_before failures.UnreadableInput old new name kept why = holds_befor
 read_failure_before failures.UnwritableOutput old new name kept why = absurd why
 read_failure_before failures.RangeOutsideRows old new name kept why = absurd why
 read_failure_before failures.SchemasDiffer old new name kept why = absurd why
+read_failure_before failures.RepeatedColumn old new name kept why = absurd why
 read_failure_before (failures.Fault faults.Memory) old new name kept why = tt
 read_failure_before (failures.Fault (faults.Ipc error)) old new name kept (bytes, holds, why) =
     (bytes, holds_before old new name (Some bytes) kept holds, why)
@@ -76,6 +77,7 @@ by_parts failures.UnreadableInput asked contents other why = why
 by_parts failures.UnwritableOutput asked contents other why = absurd (other refl)
 by_parts failures.RangeOutsideRows asked contents other why = why
 by_parts failures.SchemasDiffer asked contents other why = why
+by_parts failures.RepeatedColumn asked contents other why = why
 by_parts (failures.Fault faults.Memory) asked contents other why = tt
 by_parts (failures.Fault (faults.Ipc error)) asked contents other why = why
 by_parts (failures.Fault (faults.Lower error)) asked contents other why = why

@@ -5,3 +5,5 @@ mod JoinedRows
 mod Lines
 mod LongTables
 mod NumberLemmas
+mod Picking
+mod Pieces

@@ -1,8 +1,8 @@
 -- The lines of the program's failures.
 use Rattle.std.specs.Prelude.{ℕ, List, ◌++◌, codes}
-use Rattle.tables_builder.specs.chunks.Texts.{text_of}
+use Rattle.tables_choices.specs.chunks.Texts.{text_of}
 use Rattle.tables.specs.declared.program.Failure.{Failure}
-use Rattle.tables.specs.declared.program.Failure.TheVariants.{Fault, UnreadableInput, UnwritableOutput, RangeOutsideRows, SchemasDiffer}
+use Rattle.tables.specs.declared.program.Failure.TheVariants.{Fault, UnreadableInput, UnwritableOutput, RangeOutsideRows, SchemasDiffer, RepeatedColumn}
 
 -- a failure in words
 abbrev pub failure_text : Failure → List ℕ
@@ -11,6 +11,7 @@ failure_text UnreadableInput = codes "cannot read the input"
 failure_text UnwritableOutput = codes "cannot write the output"
 failure_text RangeOutsideRows = codes "range outside the rows"
 failure_text SchemasDiffer = codes "schemas differ"
+failure_text RepeatedColumn = codes "column named twice"
 
 -- the line that tells a failure
 abbrev pub failure_line : Failure → List ℕ
@@ -19,3 +20,8 @@ failure_line failure = codes "tables: " ++ failure_text failure ++ codes "\n"
 -- the line that tells how the program is called
 abbrev pub usage_line : List ℕ
 usage_line = codes "usage: tables seal|same|pick|cut|join\n"
+
+-- the line that the program writes of a failure; a column named twice is a misuse of it
+abbrev pub line_of : Failure → List ℕ
+line_of RepeatedColumn = usage_line
+line_of failure = failure_line failure

@@ -2,13 +2,19 @@
 use Rattle.std.specs.Prelude.{◌≡◌, ℕ, List, [], ◌∷◌, ◌++◌, Option, Some, None, Result, Ok, Err}
 use Rattle.std.specs.declared.vec.Vec.{Vec}
 use Rattle.std.specs.declared.alloc.Global.{Global}
-use Rattle.tables_builder.specs.chunks.declared.fault.Fault.TheVariants as faults
-use Rattle.tables_builder.specs.chunks.ReadTables.{ReadsTable}
-use Rattle.tables_builder.specs.chunks.StoredTables.{Stored}
+use Rattle.tables_choices.specs.ReadChoices.{ReadsChoice, form_of}
+use Rattle.tables_choices.specs.chunks.declared.fault.Fault.{Fault}
+use Rattle.tables_choices.specs.chunks.declared.fault.Fault.TheVariants as faults
+use Rattle.tables_choices.specs.chunks.ReadTables.{ReadsTable}
+use Rattle.tables_choices.specs.chunks.StoredTables.{Stored}
 use Rattle.tables.specs.Contents.{Contents, Holds}
 use Rattle.tables.specs.Forms.{form_in}
 use Rattle.tables.specs.declared.program.Failure.{Failure}
 use Rattle.tables.specs.declared.program.Failure.TheVariants as failures
+
+-- what is read of some bytes as a choice of columns under a limit of rows
+abbrev pub PicksOf : List ℕ → List ℕ → Option ℕ → Result Stored Fault → Type 0
+PicksOf bytes columns limit result = ReadsChoice (λ table. table) (form_of (form_in bytes)) bytes columns limit result
 
 -- the bytes that stand under a name are those of a table
 abbrev pub HoldsTable : Option Contents → List ℕ → Stored → Type 0
@@ -49,6 +55,16 @@ pub record IsInputFailure (failure : Failure) (contents : Option Contents) (name
   pub tables : List Stored
   pub read : HoldTables contents before tables
   pub why : IsReadFailure failure contents name
+
+-- the bytes that stand under a name are read as a choice of columns, and a limit of rows
+abbrev pub ReadsPicked : List ℕ → Option ℕ → Result Stored Failure → Option Contents → List ℕ → Type 0
+ReadsPicked columns limit (Ok table) contents name =
+    (bytes : List ℕ) × Holds contents name (Some bytes) × PicksOf bytes columns limit (Ok table)
+ReadsPicked columns limit (Err failures.UnreadableInput) contents name = Holds contents name None
+ReadsPicked columns limit (Err (failures.Fault faults.Memory)) contents name = Unit {0}
+ReadsPicked columns limit (Err (failures.Fault fault)) contents name =
+    (bytes : List ℕ) × Holds contents name (Some bytes) × PicksOf bytes columns limit (Err fault)
+ReadsPicked columns limit (Err _) contents name = ⊥
 
 abbrev pub ReadsInputs : Result (Vec Stored Global) Failure → Option Contents → List (List ℕ) → Type 0
 ReadsInputs (Ok tables) contents names = HoldTables contents names tables.items

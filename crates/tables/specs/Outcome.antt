@@ -1,16 +1,17 @@
 -- What comes of a command: it is done, or it fails and says why.
-use Rattle.std.specs.Prelude.{◌≡◌, ◌⊎◌, ℕ, List, [], ◌∷◌, Option, Some, None, Result, Ok, Err}
+use Rattle.std.specs.Prelude.{◌≡◌, ◌⊎◌, ℕ, true, false, List, [], ◌∷◌, Option, Some, None, Result, Ok, Err}
 use Rattle.std.specs.Io.KnownBytes as known
 use Rattle.std.specs.declared.vec.Vec.{Vec}
 use Rattle.std.specs.declared.alloc.Global.{Global}
-use Rattle.tables_builder.specs.chunks.ipc_format.columnar_memory.declared.Error.TheVariants as errors
-use Rattle.tables_builder.specs.chunks.declared.fault.Fault.TheVariants as faults
-use Rattle.tables_builder.specs.chunks.ipc_format.streams.Devices.{AppendsBeginning}
-use Rattle.tables_builder.specs.chunks.StoredTables.{Stored, as_table}
-use Rattle.tables.specs.Command.{Asked, Cut, Join, Same, Seal, inputs_of}
+use Rattle.tables_choices.specs.chunks.ipc_format.columnar_memory.declared.Error.TheVariants as errors
+use Rattle.tables_choices.specs.chunks.declared.fault.Fault.TheVariants as faults
+use Rattle.tables_choices.specs.chunks.ipc_format.streams.Devices.{AppendsBeginning}
+use Rattle.tables_choices.specs.chunks.Choices.{are_distinct}
+use Rattle.tables_choices.specs.chunks.StoredTables.{Stored, as_table}
+use Rattle.tables.specs.Command.{Asked, Cut, Join, Pick, Same, Seal, inputs_of}
 use Rattle.tables.specs.Contents.{Contents, Keeps, Sets}
-use Rattle.tables.specs.Failure.{failure_line, usage_line}
-use Rattle.tables.specs.Inputs.{HoldsTable, HoldTables, IsInputFailure}
+use Rattle.tables.specs.Failure.{line_of, usage_line}
+use Rattle.tables.specs.Inputs.{HoldsTable, HoldTables, IsInputFailure, ReadsPicked}
 use Rattle.tables.specs.Made.{IsLong, IsNotMade, Makes, seal_of, stream_of}
 use Rattle.tables.specs.declared.program.Failure.{Failure}
 use Rattle.tables.specs.declared.program.Failure.TheVariants as failures
@@ -85,15 +86,33 @@ IsFailure (failures.Fault faults.Memory) asked contents = Unit {0}
 IsFailure failure asked contents =
     IsInputFailure failure contents (inputs_of asked) ⊎ (IsUnmade failure asked contents ⊎ IsTooLong failure asked contents)
 
+-- chosen columns of the first rows are read, and their stream stands under a name, where all else is as it was
+abbrev pub IsPicked : List ℕ → Option ℕ → List ℕ → List ℕ → Option Contents → Option Contents → Type 0
+IsPicked columns limit input output old new = (made : Stored) × ReadsPicked columns limit (Ok made) old input × Sets old new output (stream_of made)
+
+-- Why a choice isn't written: a column is named twice; or none is, and the input is refused so, the stream of what is read has a message that is
+-- too long, the output can't be put, or memory ran out.
+abbrev pub IsUnpicked : Failure → List ℕ → Option ℕ → List ℕ → Option Contents → Type 0
+IsUnpicked failures.RepeatedColumn columns limit input old = are_distinct columns ≡ false
+IsUnpicked failures.UnwritableOutput columns limit input old =
+    (are_distinct columns ≡ true) × ((made : Stored) × ReadsPicked columns limit (Ok made) old input)
+IsUnpicked (failures.Fault faults.Memory) columns limit input old = Unit {0}
+IsUnpicked (failures.Fault (faults.Ipc errors.Overflow)) columns limit input old =
+    (are_distinct columns ≡ true) × ((made : Stored) × ReadsPicked columns limit (Ok made) old input × IsLong made)
+IsUnpicked failure columns limit input old = (are_distinct columns ≡ true) × ReadsPicked columns limit (Err failure) old input
+
 -- a command is done, or two tables differ; or it fails, and known contents stay as they were
 abbrev pub CarriesOut : Result Outcome Failure → Asked → Option Contents → Option Contents → Type 0
 CarriesOut (Ok outcomes.Done) (Seal size input output) old new = IsSealed size input output old new
+CarriesOut (Ok outcomes.Done) (Pick columns limit input output) old new =
+    (are_distinct columns ≡ true) × IsPicked columns limit input output old new
 CarriesOut (Ok outcomes.Done) (Cut offset length input output) old new = IsWritten (Cut offset length input output) output old new
 CarriesOut (Ok outcomes.Done) (Join output first others) old new = IsWritten (Join output first others) output old new
 CarriesOut (Ok outcomes.Done) (Same left right) old new = AreCompared left right old AreSame × Keeps old new
 CarriesOut (Ok outcomes.Different) (Same left right) old new =
     AreCompared left right old (λ first second. AreSame first second → ⊥) × Keeps old new
 CarriesOut (Ok outcomes.Different) _ old new = ⊥
+CarriesOut (Err failure) (Pick columns limit input output) old new = IsUnpicked failure columns limit input old × Keeps old new
 CarriesOut (Err failure) asked old new = IsFailure failure asked old × Keeps old new
 
 -- ---- the program
@@ -102,12 +121,13 @@ CarriesOut (Err failure) asked old new = IsFailure failure asked old × Keeps ol
 abbrev pub status_of : Result Outcome Failure → ℕ
 status_of (Ok outcomes.Done) = 0
 status_of (Ok outcomes.Different) = 1
+status_of (Err failures.RepeatedColumn) = 3
 status_of (Err failure) = 2
 
 -- a failure's line is written where the writer takes it, and else a beginning of it
 abbrev pub Tells : Result Outcome Failure → Option (List ℕ) → Option (List ℕ) → Type 0
 Tells (Ok outcome) before after = known.Keeps before after
-Tells (Err failure) before after = AppendsBeginning before after (failure_line failure)
+Tells (Err failure) before after = AppendsBeginning before after (line_of failure)
 
 -- What the program answers for the command that its words state, if they state one: what stood under each name before and after, and what
 -- the writer of its line held.

@@ -1,19 +1,20 @@
 //! Commands carried out: all of each, or nothing where it fails.
 ghost use Rattle.std.specs.Prelude.{◌≡◌, map, true};
 ghost use Rattle.std.specs.String.{string_bytes};
-ghost use Rattle.tables_builder.specs.chunks.ipc_format.Seals.{is_batch_size};
-ghost use Rattle.tables.specs.Command.{Cut, Join, Same, Seal, asked_by, has_batch_size};
+ghost use Rattle.tables_choices.specs.chunks.ipc_format.Seals.{is_batch_size};
+ghost use Rattle.tables.specs.Command.{Cut, Join, Pick, Same, Seal, asked_by, has_batch_size};
+ghost use Rattle.tables.specs.Columns.{columns_in};
 ghost use Rattle.tables.specs.Made.{AddsBatches, MakesCut, MakesJoin, MakesSeal};
 ghost use Rattle.tables.specs.Outcome.{CarriesOut, PutsBytes, PutsTable, Streams};
 
-use crate::commands::Command;
-use crate::inputs::{read_input, read_inputs};
+use crate::commands::{Command, columns_of};
+use crate::inputs::{read_input, read_inputs, read_picked};
 use crate::places::Places;
 use crate::program::{Failure, Outcome};
 use std::alloc::Global;
-use tables_builder::tables_chunks::columnar_memory::Error;
-use tables_builder::tables_chunks::{Fault, GrowingTable, Table};
-use tables_builder::tables_seals::Seal;
+use tables_choices::Seal;
+use tables_choices::tables_chunks::columnar_memory::Error;
+use tables_choices::tables_chunks::{Fault, GrowingTable, Table, distinct};
 
 /// Carries a command out.
 pub(crate) fn execute<P: Places>(
@@ -30,6 +31,12 @@ pub(crate) fn execute<P: Places>(
             input,
             output,
         } => seal(alloc, places, size, input, output),
+        Command::Pick {
+            columns,
+            limit,
+            input,
+            output,
+        } => pick(alloc, places, columns, limit, input, output),
         Command::Cut {
             offset,
             length,
@@ -67,6 +74,43 @@ fn seal_of(alloc: Global, table: &Table, size: usize) -> Result<Vec<u8>, Failure
     ensures { MakesSeal result size table.now }
 {
     table.seal(alloc, size).map_err(Failure::Fault)
+}
+
+/// Puts the stream of the columns of the first rows of `input` that words name under the name `output`.
+#[tactic(auto, using(crate::proofs::Picking::no_memory))]
+fn pick<P: Places>(
+    alloc: Global,
+    places: &mut P,
+    columns: &str,
+    limit: Option<usize>,
+    input: &str,
+    output: &str,
+) -> Result<Outcome, Failure>
+    ensures { CarriesOut result (Pick (columns_in columns.now) limit input.now output.now) (P.contents places.old) (P.contents places.new) }
+{
+    let Ok(columns) = columns_of(alloc, columns) else {
+        return Err(Failure::Fault(Fault::Memory));
+    };
+    pick_columns(alloc, places, &columns, limit, input, output)
+}
+
+/// Puts the stream of some columns of the first rows of `input` under the name `output`.
+#[tactic(auto, using(crate::proofs::Picking::named_twice))]
+fn pick_columns<P: Places>(
+    alloc: Global,
+    places: &mut P,
+    columns: &[usize],
+    limit: Option<usize>,
+    input: &str,
+    output: &str,
+) -> Result<Outcome, Failure>
+    ensures { CarriesOut result (Pick columns.now limit input.now output.now) (P.contents places.old) (P.contents places.new) }
+{
+    if !distinct(columns) {
+        return Err(Failure::RepeatedColumn);
+    }
+    let table = read_picked(alloc, places, input, columns, limit)?;
+    put_table(alloc, places, output, &table)
 }
 
 /// Puts the stream of `length` rows of `input` from row `offset` on under the name `output`.

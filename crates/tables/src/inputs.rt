@@ -1,14 +1,16 @@
 //! The inputs of a command, each read whole and taken for a table before the next is opened.
-ghost use Rattle.std.specs.Prelude.{◌≡◌, map};
+ghost use Rattle.std.specs.Prelude.{◌≡◌, map, true};
 ghost use Rattle.std.specs.String.{string_bytes};
 ghost use Rattle.tables.specs.Contents.{Keeps};
 ghost use Rattle.tables.specs.Forms.{form_in};
-ghost use Rattle.tables.specs.Inputs.{ReadsBytes, ReadsInput, ReadsInputs};
+ghost use Rattle.tables.specs.Inputs.{ReadsBytes, ReadsInput, ReadsInputs, ReadsPicked};
+ghost use Rattle.tables_choices.specs.chunks.Choices.{are_distinct};
 
 use crate::places::Places;
 use crate::program::Failure;
 use std::alloc::Global;
-use tables_builder::tables_chunks::{Fault, Form, Table};
+use tables_choices::ReadChoice;
+use tables_choices::tables_chunks::{Fault, Form, Table};
 
 /// The bytes that stand under a name.
 fn read_bytes<P: Places>(places: &mut P, name: &str) -> Result<Vec<u8>, Failure>
@@ -44,6 +46,22 @@ pub(crate) fn read_input<P: Places>(
 {
     let bytes = read_bytes(places, name)?;
     Table::read(alloc, form_of(&bytes), &bytes).map_err(Failure::Fault)
+}
+
+/// The table of chosen columns of the first rows under a name.
+pub(crate) fn read_picked<P: Places>(
+    alloc: Global,
+    places: &mut P,
+    name: &str,
+    columns: &[usize],
+    limit: Option<usize>,
+) -> Result<Table, Failure>
+    requires { are_distinct columns.now ≡ true }
+    ensures kept { Keeps (P.contents places.old) (P.contents places.new) }
+    ensures read { ReadsPicked columns.now limit result (P.contents places.old) name.now }
+{
+    let bytes = read_bytes(places, name)?;
+    Table::read_choice(alloc, form_of(&bytes), &bytes, columns, limit).map_err(Failure::Fault)
 }
 
 /// The tables under some names, in order.

@@ -12,12 +12,12 @@ pub use commands::{Command, number};
 pub use memory_places::MemoryPlaces;
 pub use places::{FilePlaces, Places};
 pub use program::{Failure, Outcome, run};
-pub use tables_builder::TableBuilder;
-pub use tables_builder::tables_chunks::{
+pub use tables_choices::tables_chunks::{
     Chunk, Fault, Faults, Form, GrowingTable, SealBar, Table, choices_have_columns,
     columnar_memory, cuts_and_choices_commute, cuts_have_parts, distinct, fits_schema,
     is_table_schema, joins_have_both, nested_arrays, rows_are_columns,
 };
-pub use tables_builder::tables_seals::{
-    Seal, can_seal, is_batch_size, seal_bar, seals_are_canonical,
+pub use tables_choices::{
+    ReadChoice, Seal, TableBuilder, can_seal, choices_are_isolated, choices_are_of_the_whole,
+    is_batch_size, seal_bar, seals_are_canonical,
 };

@@ -1,10 +1,10 @@
 //! The program: what its words ask for is carried out over named places, and what went wrong is told in one line.
-ghost use Rattle.std.specs.Prelude.{◌≡◌, map};
+ghost use Rattle.std.specs.Prelude.{◌≡◌, ◌<◌, map, Err};
 ghost use Rattle.std.specs.String.{string_bytes};
 ghost use Rattle.tables.specs.Command.{command_of};
-ghost use Rattle.tables.specs.Failure.{failure_text, failure_line};
-ghost use Rattle.tables.specs.Outcome.{Answers};
-ghost use Rattle.tables_builder.specs.chunks.ipc_format.streams.Devices.{Puts};
+ghost use Rattle.tables.specs.Failure.{failure_line, failure_text, line_of};
+ghost use Rattle.tables.specs.Outcome.{Answers, status_of};
+ghost use Rattle.tables_choices.specs.chunks.ipc_format.streams.Devices.{AppendsBeginning, Puts};
 
 use crate::carried::execute;
 use crate::commands::Command;
@@ -12,8 +12,8 @@ use crate::places::Places;
 use std::alloc::Global;
 use std::fmt;
 use std::io::Write;
-use tables_builder::tables_chunks::columnar_memory::Error;
-use tables_builder::tables_chunks::{Fault, put};
+use tables_choices::tables_chunks::columnar_memory::Error;
+use tables_choices::tables_chunks::{Fault, put};
 
 const DONE: u8 = 0;
 
@@ -47,6 +47,8 @@ pub enum Failure {
     RangeOutsideRows,
     /// The inputs have not all one schema.
     SchemasDiffer,
+    /// A column is named twice, which is told as words that state no command are.
+    RepeatedColumn,
 }
 
 impl Failure {
@@ -60,6 +62,7 @@ impl Failure {
             Failure::UnwritableOutput => "cannot write the output",
             Failure::RangeOutsideRows => "range outside the rows",
             Failure::SchemasDiffer => "schemas differ",
+            Failure::RepeatedColumn => "column named twice",
         }
     }
 }
@@ -80,9 +83,9 @@ impl std::error::Error for Failure {}
 
 /// Runs the command that `words`, those after the program's name, state, over the named `places`.
 ///
-/// The answer is the exit status: 0 for done or the same, 1 for different, 2 for a failure and 3 for words that state no command. A failure
-/// writes one line to `err`, and so do words that state no command; where `err` refuses, a beginning of the line stands there, and the status
-/// is the same. A command is carried out whole or not at all.
+/// The answer is the exit status: 0 for done or the same, 1 for different, 2 for a failure and 3 for words that state no command or name a
+/// column twice. A failure writes one line to `err`, and so do such words; where `err` refuses, a beginning of the line stands there, and the
+/// status is the same. A command is carried out whole or not at all.
 pub fn run<P: Places, E: Write>(alloc: Global, places: &mut P, words: &[String], err: &mut E) -> u8
     ensures answer { Answers result (command_of (map string_bytes words.now)) (P.contents places.old) (P.contents places.new)
         (E.contents err.old) (E.contents err.new) }
@@ -95,8 +98,23 @@ pub fn run<P: Places, E: Write>(alloc: Global, places: &mut P, words: &[String],
     match execute(alloc, places, &command) {
         Ok(Outcome::Done) => DONE,
         Ok(Outcome::Different) => DIFFERENT,
-        Err(failure) => {
-            let _ = report(err, &failure);
+        Err(failure) => tell(err, &failure),
+    }
+}
+
+/// Writes the line that tells a failure, or a beginning of it, and answers the exit status.
+fn tell<E: Write>(err: &mut E, failure: &Failure) -> u8
+    ensures status { result ≡ status_of (Err failure.now) }
+    ensures failed { 0 < result }
+    ensures line { AppendsBeginning (E.contents err.old) (E.contents err.new) (line_of failure.now) }
+{
+    match failure {
+        Failure::RepeatedColumn => {
+            let _ = put(err, USAGE.as_bytes());
+            MISUSED
+        }
+        _ => {
+            let _ = report(err, failure);
             FAILED
         }
     }

@@ -34,3 +34,4 @@ pub mod WrittenIds
 pub use Rattle.tables_file_reading.proofs.ipc_format_lemmas.Appending
 pub use Rattle.tables_file_reading.proofs.ipc_format_lemmas.Windows
 pub use Rattle.tables_file_reading.proofs.ipc_format_lemmas
+pub use Rattle.tables_file_reading.proofs as file_reading_lemmas

@@ -12,4 +12,5 @@ pub mod TableParts
 pub mod TableSchemas
 pub mod Texts
 pub mod WrittenTables
+pub use Rattle.tables_file_reading.specs as file_reading
 pub use Rattle.tables_file_reading.specs.ipc_format as ipc_format

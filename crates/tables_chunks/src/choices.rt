@@ -29,7 +29,7 @@ pub fn distinct(columns: &[usize]) -> bool
 }
 
 /// Whether each number is below a width.
-fn are_all_below(width: usize, columns: &[usize]) -> bool
+pub fn are_all_below(width: usize, columns: &[usize]) -> bool
     ensures { result ≡ are_below width columns.now }
 {
     columns.iter().all(|column| *column < width)
@@ -64,7 +64,11 @@ impl Table {
 }
 
 /// The fields of these places, with what else is said of the table.
-fn choose_fields(alloc: Global, schema: &Schema, columns: &[usize]) -> Result<Schema, AllocError>
+pub fn choose_fields(
+    alloc: Global,
+    schema: &Schema,
+    columns: &[usize],
+) -> Result<Schema, AllocError>
     requires { are_below (length schema.now.fields) columns.now ≡ true }
     ensures { IfOk result (λ picked. picked ≡ record schema.now { fields = chosen columns.now schema.now.fields }) }
 {
@@ -93,7 +97,7 @@ fn choose_all(
 }
 
 /// The columns of these places of a batch.
-fn choose_of(
+pub fn choose_of(
     alloc: Global,
     batch: &Chunk<AnyArray>,
     columns: &[usize],

@@ -21,7 +21,7 @@ mod write;
 mod writing;
 
 pub use batches::{fits_schema, is_table_schema};
-pub use choices::distinct;
+pub use choices::{are_all_below, choose_fields, choose_of, distinct};
 pub use fault::{Fault, SealBar};
 pub use growing::GrowingTable;
 pub use laws::{
@@ -30,7 +30,17 @@ pub use laws::{
 };
 pub use read::Form;
 pub use table::Table;
-pub use tables_file_reading::ipc_format::reading_laws::{seals_read_back, seals_tell_tables_apart};
-pub use tables_file_reading::ipc_format::{
-    Chunk, Faults, can_write, columnar_memory, nested_arrays, normalised, put,
+pub use tables_file_reading::ipc_format::messages::{
+    DictionaryBatchRef, MessageHeaderRef, MetadataVersion, RecordBatchRef,
 };
+pub use tables_file_reading::ipc_format::metadata::IpcSchema;
+pub use tables_file_reading::ipc_format::reading_laws::{
+    choices_are_isolated, choices_are_of_the_whole, seals_read_back, seals_tell_tables_apart,
+};
+pub use tables_file_reading::ipc_format::streams::{NextMessage, next_at};
+pub use tables_file_reading::ipc_format::{
+    Chunk, Dictionaries, Faults, InMemory, can_write, columnar_memory, look_ups_are_enough,
+    nested_arrays, normalised, put, read_dictionary, read_record_batch, schemas_have_arrays,
+    stream_start,
+};
+pub use tables_file_reading::{Entry, file_entries, file_start};

@@ -33,7 +33,7 @@ use Rattle.tables_file_reading.specs.Messages.{standing_after}
 use Rattle.tables_file_reading.specs.Reading.{ReadsFile, ReadsMessages}
 use Rattle.tables_file_reading.specs.Starts.{Start, start_in}
 use Rattle.tables_file_reading.specs.declared.reading.FileBatches.{FileBatches}
-use Rattle.tables_file_reading.proofs.Entries.{entries_there}
+use Rattle.tables_file_reading.proofs.EntryLists.{entries_there}
 use Rattle.tables_file_reading.proofs.MessageReads.{batches_alike, refused_too}
 use Rattle.tables_file_reading.proofs.Starts.{batches_of_start, batches_with, footer_of, no_batches, schema_held, unread_in_file}
 

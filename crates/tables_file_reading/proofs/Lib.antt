@@ -1,9 +1,10 @@
 pub mod BlockLists
-pub mod Entries
+pub mod EntryLists
 pub mod Files
 pub mod Lists
 pub mod MessageReads
 pub mod Passed
+pub mod PushedEntries
 pub mod RoomReads
 pub mod Starts
 pub mod Unread

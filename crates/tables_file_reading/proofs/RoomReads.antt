@@ -3,11 +3,11 @@ use Rattle.std.proofs.Common.{◌≡◌, ◌∙◌, ℕ, ℤ, Bool, true, false,
 use Rattle.std.proofs.lemmas.Bool.{eq-eqb}
 use Rattle.std.specs.Prelude.{Option, Some, None, Result, Ok, Err}
 use Rattle.std.specs.BTreeMap.{BTreeMap}
-use Rattle.ipc_format.specs.BatchReads.{ReadsBatch, entry_in, record_arrays, sized}
+use Rattle.ipc_format.specs.BatchReads.{entry_in, record_arrays, sized}
 use Rattle.ipc_format.specs.DictionaryReads.{ReadsDictionary, dictionary_array, is_unread, is_unread_by}
 use Rattle.ipc_format.specs.Readable.{HasArrays}
 use Rattle.ipc_format.specs.ReadArrays.{dictionary_of, standing_in}
-use Rattle.ipc_format.specs.Rooms.{Told}
+use Rattle.ipc_format.specs.Rooms.{ReadsAs, Told}
 use Rattle.ipc_format.specs.columnar_memory.declared.Error.{Error}
 use Rattle.ipc_format.specs.columnar_memory.declared.Error.TheVariants as errors
 use Rattle.ipc_format.specs.columns.StoredColumns.{Column, slots}
@@ -21,10 +21,10 @@ use Rattle.ipc_format.specs.streams.Queues.{is_compressed, is_compressed_by}
 use Rattle.tables_file_reading.specs.Messages.{TakesDictionary}
 
 -- a file in memory, whose size is stated
-abbrev in_memory : List ℕ → Told
+abbrev pub in_memory : List ℕ → Told
 in_memory file = record { bytes = Some file; failures = 0 }
 
-sized_whole : (size : ℕ) (file : List ℕ) → size ≡ length file → (sized size (in_memory file)).bytes ≡ Some file
+pub sized_whole : (size : ℕ) (file : List ℕ) → size ≡ length file → (sized size (in_memory file)).bytes ≡ Some file
 sized_whole size file same = rw (eq-eqb (length file) size (sym same)) refl
 
 -- ---- what is not read
@@ -35,7 +35,7 @@ unfolding source_in
 source_of is_little_endian entry table None e is = absurd cc
 source_of is_little_endian entry table (Some batch) e is = rw (e, is) refl
 
-compressed_source : (is_little_endian : Bool) (entry : Entry) (table : Table) → is_compressed entry.metadata table ≡ true
+pub compressed_source : (is_little_endian : Bool) (entry : Entry) (table : Table) → is_compressed entry.metadata table ≡ true
     → source_in is_little_endian entry table ≡ None
 compressed_source is_little_endian entry table is =
     source_of is_little_endian entry table (record_batch_in entry.metadata table) refl is
@@ -67,7 +67,7 @@ unread_dictionary layout standing entry table unread =
 
 pub batch_read : (layout : Layout) (standing : List Dictionary) (metadata : List ℕ) (header : Header) (version : Version) (table : Table)
     (origin size : ℕ) (file after : List ℕ) (result : Result (List Column) Error) → HasArrays layout → size ≡ length file
-    → ReadsBatch false (is_compressed metadata table) (sized size (in_memory file)) (sized size (in_memory after))
+    → ReadsAs (is_compressed metadata table) (sized size (in_memory file)) (sized size (in_memory after)) (map slots)
     (λ room. record_arrays layout standing None (entry_in metadata header version origin room) table) result
     → Reads (map slots) (is_compressed metadata table ≡ true) result
     (batch_in layout standing (entry_in metadata header version origin file) table)

@@ -124,7 +124,7 @@ start_found bytes footer table lists found e f g =
 abbrev Batches : Type 0
 Batches = List (List (List Slot))
 
-abbrev contents_with : List ℕ → Start → Option Contents
+abbrev pub contents_with : List ℕ → Start → Option Contents
 contents_with bytes start = do
   entries ← file_entries bytes start.dictionaries start.record_batches
   Some (record { schema = start.schema; entries = entries })
@@ -142,7 +142,7 @@ contents_by bytes (Some footer) =
     sym (bind_assoc {A = SchemaIn} (schema_in footer.bytes footer.schema)
     (λ s. Some (record { schema = s; dictionaries = footer.dictionaries; record_batches = footer.record_batches })) (contents_with bytes))
 
-contents_are : (bytes : List ℕ) → contents_of file bytes ≡ (start_in bytes >>= contents_with bytes)
+pub contents_are : (bytes : List ℕ) → contents_of file bytes ≡ (start_in bytes >>= contents_with bytes)
 unfolding contents_of
 contents_are bytes = contents_by bytes (footer_in bytes)
 

@@ -70,7 +70,7 @@ either_by metadata table (Some batch) e unread = either metadata table batch bat
 abbrev parts_of : Entry → Option (List ℕ × Header)
 parts_of entry = Some (entry.metadata, entry.header)
 
-message_found : (is_of_kind : Header → Bool) (bytes : List ℕ) (block : Block) (entry : Entry) → entry_at is_of_kind bytes block ≡ Some entry
+pub message_found : (is_of_kind : Header → Bool) (bytes : List ℕ) (block : Block) (entry : Entry) → entry_at is_of_kind bytes block ≡ Some entry
     → message_of_block bytes block ≡ Some (entry.metadata, entry.header)
 unfolding entry_at
 message_found is_of_kind bytes block entry e =

@@ -1,3 +1,4 @@
+pub mod FileEntries
 pub mod Messages
 pub mod Reading
 pub mod Starts

@@ -3,7 +3,7 @@ ghost use Rattle.std.specs.Prelude.{◌+◌, ◌<◌, ◌^◌};
 
 /// Where a message stands.
 #[derive(Clone, Copy, Debug)]
-pub(crate) struct MessageBlock {
+pub struct MessageBlock {
     /// The place of the message in the file.
     pub offset: usize,
     /// How many bytes stand before the message's body, as they are stated.

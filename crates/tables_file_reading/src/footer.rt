@@ -26,7 +26,7 @@ const TAIL_SIZE: usize = 10;
 
 /// What a file's footer says.
 #[derive(Drop)]
-pub(crate) struct FileStart {
+pub struct FileStart {
     /// The schema, as it is read.
     pub schema: Schema,
     /// The ids of dictionaries beside the fields, and the byte order of the batches.
@@ -137,7 +137,7 @@ fn blocks_in(alloc: Global, footer: &[u8]) -> Result<(Vec<MessageBlock>, Vec<Mes
 /// - `OutOfSpec`: the file lacks a mark or a footer, or the footer breaks a rule of the format.
 /// - `NotYetImplemented`: a float field stands in the schema.
 /// - `OutOfMemory`: there was no memory for what it says.
-pub(crate) fn file_start(alloc: Global, bytes: &[u8]) -> Result<FileStart>
+pub fn file_start(alloc: Global, bytes: &[u8]) -> Result<FileStart>
     ensures { Reads start_view (HasFloat file bytes.now) result (start_in bytes.now) }
 {
     let Some((footer, table)) = footer_schema(bytes) else {

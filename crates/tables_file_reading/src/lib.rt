@@ -6,9 +6,13 @@
 
 mod batches;
 mod blocks;
+mod entries;
 mod footer;
 mod messages;
 mod reading;
 
+pub use blocks::MessageBlock;
+pub use entries::{Entry, file_entries};
+pub use footer::{FileStart, file_start};
 pub use ipc_format;
 pub use reading::{FileBatches, read_file};

@@ -1,4 +1,4 @@
-//! Callers of `tables` and of `tables_builder`, as the pages CALLING.md of these crates have them.
+//! Callers of `tables` and of `tables_rows`, as the pages CALLING.md of these crates have them.
 ghost use Rattle.std.specs.Prelude.{◌≡◌, IfOk, min};
 ghost use Rattle.tables.specs.Made.{stream_of};
 ghost use Rattle.tables.specs.StoredTables.{row_count};

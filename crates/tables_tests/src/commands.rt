@@ -117,6 +117,17 @@ fn cuts_rows_of_a_file(rt: HostRuntime) -> Result<()> {
 }
 
 #[test]
+fn picks_columns(rt: HostRuntime) -> Result<()> {
+    for input in [EXAMPLE.as_slice(), EXAMPLE_FILE.as_slice()] {
+        let outcome = run_over(rt.alloc(), input, &["pick", "0", "2", "in", "out"])?;
+        assert!(rt; outcome.is(0, "", &EXAMPLE));
+        let outcome = run_over(rt.alloc(), input, &["pick", "1", "-", "in", "out"])?;
+        assert!(rt; outcome.is(2, "tables: no such column\n", BEFORE));
+    }
+    Ok(())
+}
+
+#[test]
 fn names_each_failure(rt: HostRuntime) -> Result<()> {
     let cases: [(&[u8], [&str; 2], &str); 6] = [
         (&EXAMPLE, ["1", "in"], "tables: range outside the rows\n"),
@@ -135,12 +146,16 @@ fn names_each_failure(rt: HostRuntime) -> Result<()> {
 
 #[test]
 fn refuses_words_that_state_no_command(rt: HostRuntime) -> Result<()> {
-    let lines: [&[&str]; 10] = [
+    let lines: [&[&str]; 14] = [
         &[],
         &["cut"],
         &["cut", "0", "1", "in"],
         &["cut", "0", "1", "in", "out", "more"],
         &["cat", "0", "1", "in", "out"],
+        &["pick", "0", "in", "out"],
+        &["pick", "0,0", "-", "in", "out"],
+        &["pick", "0,", "-", "in", "out"],
+        &["pick", "-", "x", "in", "out"],
         &["seal", "0", "in", "out"],
         &["seal", "65537", "in", "out"],
         &["seal", "1", "in"],

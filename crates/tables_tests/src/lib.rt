@@ -3,6 +3,8 @@
 
 mod calling;
 #[cfg(test)]
+mod choices;
+#[cfg(test)]
 mod commands;
 #[cfg(test)]
 mod parts;

@@ -1,9 +1,0 @@
-pub mod BegunColumns
-pub mod CutBack
-pub mod EndedRows
-pub mod NormalBars
-pub mod OpenRows
-pub mod PushedCells
-pub mod PushedRows
-pub mod TakenColumns
-pub use Rattle.tables_seals.proofs.chunk_lemmas

@@ -1,0 +1,14 @@
+pub mod Choices
+pub mod ChoicesRead
+pub mod ChosenOrders
+pub mod EarlyEnds
+pub mod EntryReads
+pub mod FileMessages
+pub mod FoundEntries
+pub mod GatheredSteps
+pub mod GatheredTables
+pub mod KeptRows
+pub mod NextEntries
+pub mod RisingColumns
+pub mod StreamMessages
+pub use Rattle.tables_rows.proofs.chunk_lemmas

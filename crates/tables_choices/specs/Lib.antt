@@ -1,0 +1,13 @@
+pub mod Orders
+pub mod SortedColumns
+pub mod Gathered
+pub mod EntryChoices
+pub mod StreamEntries
+pub mod ReadChoices
+pub use Rattle.tables_rows.specs.chunks
+pub use Rattle.tables_rows.specs.Bars
+pub use Rattle.tables_rows.specs.SealLaws
+pub use Rattle.tables_rows.specs.Seals
+pub use Rattle.tables_rows.specs.Building
+pub use Rattle.tables_rows.specs.Pushing
+pub use Rattle.tables_rows.specs.Ending

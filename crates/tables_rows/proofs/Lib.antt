@@ -1,0 +1,22 @@
+pub mod BegunColumns
+pub mod BegunTypes
+pub mod CanonicalSeals
+pub mod CellsFit
+pub mod CutBack
+pub mod EndedRows
+pub mod FreshBatches
+pub mod GroupedRows
+pub mod GroupedTables
+pub mod NormalBars
+pub mod OpenRows
+pub mod PushedCells
+pub mod PushedRows
+pub mod PushedSlots
+pub mod ReadyGroups
+pub mod RowCounts
+pub mod RowGroups
+pub mod SchemaBars
+pub mod SealAnswers
+pub mod SealedBytes
+pub mod TakenColumns
+pub use Rattle.tables_chunks.proofs as chunk_lemmas
