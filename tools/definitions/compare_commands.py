@@ -1,11 +1,12 @@
 #!/usr/bin/env python3
-"""Compares what `arrow_commands.py` reads, seals, cuts, joins, compares and writes with the definitions of `specs/`.
+"""Compares what `arrow_commands.py` reads, seals, picks, cuts, joins, compares and writes with the definitions of `specs/`.
 
     compare_commands.py [--count N]       over the first N inputs and all commands over these, or over all of them
-    compare_commands.py --random N        over random streams of any schema, sound and damaged, each of them sealed, cut and joined
+    compare_commands.py --random N        over random streams of any schema, sound and damaged, each of them sealed, picked, cut and joined
 
 Of each input the rows or the refusal are compared with `table_of`, and its columns have to be sound. Of each command that writes, the
-batches are compared with `cut_batches`, and the bytes with `written_stream` of the stored columns under the default ids, or with `sealed`.
+batches are compared with `cut_batches`, and the bytes with `written_stream` of the stored columns under the default ids, or with `sealed`; what is
+picked is compared with `choice_of`.
 """
 
 import argparse
@@ -20,9 +21,9 @@ sys.path += [os.path.join(os.path.dirname(os.path.dirname(os.path.abspath(__file
 from antt_library import called, same
 from arrow_columns import FixedLists, Flat, Keys, Lists, Nulls, Records, Strings, Unions, rows_of
 from arrow_command_cases import MOST_NULLS, command_cases
-from arrow_commands import DONE, command_of, cut, run, seal
+from arrow_commands import DONE, columns_of, command_of, cut, pick, run, seal
 from arrow_metadata import NOT_IMPLEMENTED, Refused, UNFINISHED
-from arrow_stored_reading import MOST_ROWS, TOO_MANY_ROWS, has_one_fault, read_stored, row_count
+from arrow_stored_reading import MOST_ROWS, TOO_MANY_ROWS, has_one_fault, read_stored, read_stored_file, row_count
 from arrow_trees import numbered
 from arrow_types import KINDS, Table, TEXTS, kind_of, storage_of
 from compare import made_case
@@ -86,6 +87,14 @@ class StoredTerms:
         return [[self.column(column) for column in batch] for batch in batches]
 
 
+def form_of(content):
+    return "file" if content.startswith(b"ARROW1") else "stream"
+
+
+def read_input(content):
+    return (read_stored_file if form_of(content) == "file" else read_stored)(content)
+
+
 class Comparison:
     """Counts what agrees, and tells what does not."""
 
@@ -104,20 +113,24 @@ class Comparison:
         """The rows or the refusal of an input, and its stored columns."""
         if "batches_of_nulls" in name:
             return self.compare_long(name, content)
+        form = form_of(content)
         try:
-            found = read_stored(content)
+            found = read_input(content)
         except Refused as refused:
             return self.compare_refusal(name, content, refused)
-        defined = self.defined.defined_table("stream", content)
+        defined = self.defined.defined_table(form, content)
         table = Table(found.schema, rows_of(found.batches))
         self.agree(defined == table, name, "the definitions give other rows", defined, table)
         terms = self.terms.batches(found.batches)
         self.agree(all(called(self.is_batch, batch) for batch in terms), name, "its columns are not sound")
-        self.counts["inputs read alike"] += 1
+        self.counts["%ss read alike" % form] += 1
 
     def compare_refusal(self, name, content, refused):
         """The definitions refuse an input too, and find why where they tell a reason apart."""
-        self.agree(self.defined.defined_table("stream", content) is None, name, "the definitions read it", refused)
+        self.agree(self.defined.defined_table(form_of(content), content) is None, name, "the definitions read it", refused)
+        if form_of(content) == "file":
+            self.counts["files refused alike"] += 1
+            return
         if not has_one_fault(content, refused.kind == NOT_IMPLEMENTED):
             self.counts["inputs refused alike for one of several faults"] += 1
             return
@@ -141,9 +154,13 @@ class Comparison:
     def compare_command(self, line):
         """What a command writes, or whether tables are the same."""
         words = line.split()
-        command, status = command_of(words), run(words, self.inputs)[0]
+        command, (status, text, _) = command_of(words), run(words, self.inputs)
+        if text == "tables: cannot write the output":
+            return
         names = [] if command is None else words[3:4] if command is cut else words[2:] if words[0] == "join" else words[1:]
         names = words[2:3] if command is seal else names
+        if command is pick:
+            return self.compare_pick(line, run(words, self.inputs), words)
         tables = list(map(self.table, names))
         if None in tables or not tables:
             return
@@ -160,14 +177,31 @@ class Comparison:
 
     def table(self, name):
         try:
-            return read_stored(self.inputs[name]) if name in self.inputs else None
+            return read_input(self.inputs[name]) if name in self.inputs else None
         except Refused:
             return None
 
     def compare_same(self, line, status, names):
-        a, b = (self.defined.defined_table("stream", self.inputs[name]) for name in names)
+        a, b = (self.defined.defined_table(form_of(self.inputs[name]), self.inputs[name]) for name in names)
         self.agree((a == b) == (status == DONE), line, "the definitions compare otherwise", a, b)
         self.counts["tables compared alike"] += 1
+
+    def compare_pick(self, line, answer, words):
+        """The choice of columns of the first rows, or that there is none; also of what is not read as a whole."""
+        content = self.inputs.get(words[3])
+        if content is None or "batches_of_nulls" in words[3]:
+            return
+        limit = None if words[2] == "-" else int(words[2])
+        defined = self.defined.defined_choice(form_of(content), content, columns_of(words[1]), limit)
+        if answer[2] is None:
+            self.agree(defined is None, line, "the definitions pick something", defined)
+            self.counts["picks refused alike"] += 1
+            return
+        found = read_stored(answer[2])
+        table = Table(found.schema, rows_of(found.batches))
+        self.agree(defined == table, line, "the definitions pick other rows", defined, table)
+        self.agree(all(row_count(found._replace(batches=[batch])) for batch in found.batches), line, "a batch without rows is kept")
+        self.counts["picks alike"] += 1
 
     def compare_seal(self, line, content, table, size):
         """The seal of a table, or that it has none."""
@@ -231,6 +265,9 @@ def compare_one(comparison, name, random):
         comparison.compare_command("cut %d %d %s output" % (start, random.randint(0, row_count(table) - start), name))
         comparison.compare_command("join output %s %s" % (name, name))
         comparison.compare_command("seal %d %s output" % (random.randint(1, 1 + row_count(table)), name))
+    width = 3 if table is None else len(table.schema.fields)
+    columns = ",".join(map(str, random.sample(range(width), random.randint(0, width)))) or "-"
+    comparison.compare_command("pick %s %s %s output" % (columns, random.choice(("-", "0", "1", "2", "5")), name))
 
 
 def compare(options):

@@ -536,11 +536,53 @@ def files(defined):
     yield "the file of one batch, its block: offset 208, metadata 160, body 128", found[-34:-10], BLOCK_208_160_128
 
 
+def blocks(defined):
+    """The file of 7 and a null, whose one block is changed: no place and no length of metadata is negative, and a body's length isn't looked at."""
+    place = len(FILE_OF_ONE_BATCH) - 34
+    for name, at, stated, answer in (
+        ("a negative offset", 0, raw("ffffffff ffffffff"), None),
+        ("an offset that is not its message's", 0, raw("d8000000 00000000"), None),
+        ("a negative length of metadata", 8, raw("ffffffff"), None),
+        ("a negative length of the body", 16, raw("ffffffff ffffffff"), SEVEN_AND_NULL),
+    ):
+        content = FILE_OF_ONE_BATCH[: place + at] + stated + FILE_OF_ONE_BATCH[place + at + len(stated) :]
+        yield "a file whose block has %s" % name, defined.defined_table("file", content), answer
+
+
+def feather_marks(defined):
+    """The mark of an older kind of file says something of what is taken for a file alone."""
+    for name, form, content, answer in (
+        ("a file with the mark of Feather", "file", b"FEA1" + bytes(12), True),
+        ("a file of Arrow", "file", EMPTY_FILE, False),
+        ("a stream with the mark of Feather", "stream", b"FEA1" + bytes(12), False),
+    ):
+        yield "the mark of Feather in %s" % name, defined.has_feather_mark(form, content), answer
+
+
+# ---- which bytes a choice takes
+
+def windows(defined):
+    """The windows of chosen columns in the body of a message: no more bytes than are taken, and a mask only where a node states a null."""
+    numbers, texts = field(b"x", INT32), field(b"y", TEXT)
+    nodes = [(3, 0), (3, 1)]
+    buffers = [NO_BYTES, NUMBERS_1_2_3 + bytes(4), VALID_NOT_VALID + bytes(3), OFFSETS_0_1_2_3 + bytes(8), b"abcde"]
+    content = stream(schema_of(numbers, texts), record(nodes, buffers))
+    for name, columns, answer in (
+        ("no column", [], [[]]),
+        ("the numbers", [0], [[(0, 12)]]),
+        ("the texts", [1], [[(16, 1), (24, 16), (48, 3)]]),
+    ):
+        yield "the windows of %s" % name, [sorted(taken) for taken in defined.defined_windows("stream", content, columns)], answer
+    content = FIELD_X_MESSAGE + SEVEN_AND_NULL_MESSAGE + END
+    yield "the windows of 7 and a null", [sorted(taken) for taken in defined.defined_windows("stream", content, [0])], [[(0, 1), (64, 8)]]
+
+
 # ---- the list
 
 WORKED = (
     lists, null_lists, structs, texts_under_nulls, columns_in_order, missing_parts, dictionaries, nested_dictionaries, sealed_nested_dictionaries,
     sparse_unions, dense_unions, big_endian, short_offsets, early_ends, whole_seals, seal_in_batches, files,
+    blocks, feather_marks, windows,
 )
 
 

@@ -148,7 +148,10 @@ def lengths(defined):
 
 
 def unions(defined):
-    """A union is written from what an array stores, and not from its slots."""
+    """A union is written from what an array stores, and not from its slots: these have no node, at no depth."""
+    yield "a union's slots, encoded", defined.defined_encoding(SPARSE, [number_pick(ONE), text_pick(Q)]), ([], [])
+    yield "the slots of a list of unions, encoded", defined.defined_encoding(
+        ("List", field(b"item", SPARSE)), [items(number_pick(ONE))]), ([(1, 0)], [NO_BYTES, raw("00000000 01000000")])
     for name, data_type, stored, slots in (
         ("sparse", SPARSE, stored_sparse(defined.terms), [number_pick(ONE), text_pick(Q), number_pick(THREE)]),
         ("dense", DENSE, stored_dense(defined.terms), None),

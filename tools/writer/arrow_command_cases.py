@@ -7,10 +7,10 @@ from arrow_rule_cases import int32, rule_cases, same_picks, schema_cases, stream
 from arrow_sealed import NotWritten, groups_of, stream_of
 from arrow_special import deep, field_of, missing, shared, unwritable
 from arrow_stored_reading import StoredTable, has_one_fault, read_stored, refusal_of, row_count
-from arrow_stored_writing import written
+from arrow_stored_writing import written, written_file
 from arrow_trees import numbered
 from arrow_typed import TYPES, TypedStreams, TypedWriter
-from arrow_types import holds_union
+from arrow_types import Schema, holds_union
 from cases import file_cases
 from laying import usual
 
@@ -32,6 +32,17 @@ class Cases:
         assert name not in self.inputs, name
         self.inputs[name] = content
         return name
+
+    def put_file(self, name, content):
+        """An input in the other form."""
+        name += ".file"
+        assert name not in self.inputs, name
+        self.inputs[name] = content
+        return name
+
+    def pick(self, columns, limit, name):
+        words = ",".join(map(str, columns)) or "-", "-" if limit is None else limit
+        self.commands.append("pick %s %s %s %s" % (*words, name, OUTPUT))
 
     def cut(self, offset, length, name):
         self.commands.append("cut %d %d %s %s" % (offset, length, name, OUTPUT))
@@ -82,6 +93,9 @@ def sound_cases(cases, name, number, case):
     twin = cases.put("%s_%d_twin" % (name.lower(), number), twin_of(case, random))
     start = random.randint(0, rows - 1)
     cases.cut(start, random.randint(1, rows - start), own)
+    width = len(case.table.schema.fields)
+    columns, limit = random.sample(range(width), random.randint(1, width)), random.choice((None, random.randint(0, rows)))
+    cases.pick(columns, limit, own)
     cases.cut(*random.choice(((rows, 0), (rows, 1), (0, rows + 1), (0, 0))), own)
     cases.same(own, twin)
     if number % 4 == 0:
@@ -94,7 +108,22 @@ def sound_cases(cases, name, number, case):
         cases.cut(0, rows, own)
     if number == 2:
         cases.join(twin, own, own)
+    if number % 4 == 0:
+        filed_cases(cases, "%s_%d" % (name.lower(), number), own, (columns, limit), random)
     return own
+
+
+def filed_cases(cases, name, own, choice, random):
+    """A stream's rows as a file, sound and without its end, where no dictionary is replaced."""
+    try:
+        content = written_file(read_stored(cases.inputs[own]))
+    except NotWritten:
+        return
+    filed = cases.put_file(name, content)
+    cases.same(own, filed)
+    cases.pick(*choice, filed)
+    cases.join(filed, own)
+    cases.cut(0, 0, cases.put_file(name + "_damaged", content[: -random.randint(1, 9)]))
 
 
 def damaged_cases(cases, name, number, content, before):
@@ -104,6 +133,7 @@ def damaged_cases(cases, name, number, content, before):
         cases.cut(0, row_count(read_stored(content)), own)
         cases.same(own, before)
         return
+    cases.pick([number // 2 % 3], None, own)
     cases.cut(0, 0, own)
     if number % 4 == 1:
         cases.join(before, own)
@@ -198,6 +228,38 @@ def list_cases(cases):
         cases.join(named, named)
 
 
+def spoiled(content):
+    """Bytes in which the one text is no UTF-8 any more."""
+    assert content.count("é".encode()) == 1
+    return content.replace("é".encode(), b"\xff\xff")
+
+
+def pick_cases(cases):
+    """Chosen columns in any order, and what is not chosen: a union before the column, and a text that is no text."""
+    fields = field_of(("Int32",)), field_of(("Int32",), b"y")
+    five = StoredTable(Schema(fields, ()), [[int32(*x), int32(*y)] for x, y in (((-1, 1), (1, -1)),) * 5])
+    for named in (cases.put("x_and_y", written(five)), cases.put_file("x_and_y", written_file(five))):
+        for columns, limit in (((1, 0), 3), ((0,), None), ((1,), 0), ((0, 1), 10), ((0, 1), 11), ((), None), ((), 2), ((2,), None), ((0, 2), 1)):
+            cases.pick(columns, limit, named)
+    for mode, places in (("Sparse", None), ("Dense", [0, 1])):
+        union = ("Union", (field_of(("Int32",)),), None, mode)
+        table = StoredTable(Schema((field_of(union), fields[0]), ()), [[Unions(union, [0, 0], places, (int32(5, 6),)), int32(7, None)]])
+        for named in (cases.put("union_and_x_%s" % mode.lower(), written(table)), cases.put_file("union_and_x_%s" % mode.lower(), written_file(table))):
+            cases.pick((1,), None, named)
+            cases.pick((1, 0), 1, named)
+    table = StoredTable(Schema((field_of(("Utf8",)), fields[1]), ()), [[texts("é".encode()), int32(1)], [texts(b"b"), int32(2)]])
+    for named in (cases.put("no_text_and_y", spoiled(written(table))), cases.put_file("no_text_and_y", spoiled(written_file(table)))):
+        cases.cut(0, 2, named)
+        cases.pick((1,), None, named)
+        cases.pick((0,), None, named)
+        cases.pick((0,), 0, named)
+    empty = StoredTable(Schema(fields[:1], ()), [[int32()], [int32(1, 2)], [int32()], [int32(3)]])
+    named = cases.put_file("empty_between", written_file(empty))
+    cases.cut(0, 3, named)
+    cases.pick((0,), None, named)
+    cases.pick((0,), 2, named)
+
+
 def null_cases(cases):
     """Columns of nulls alone, as long as they may be: two fit 64 bits, three do not."""
     most = Nulls(("Null",), MOST_NULLS)
@@ -254,7 +316,34 @@ def usage_cases(cases):
         join
         join output.stream
         join output.stream one_null_three.stream
+        pick
+        pick 0 - one_null_three.stream
+        pick 0 - one_null_three.stream output.stream output.stream
         pick 0 - one_null_three.stream output.stream
+        pick - - one_null_three.stream output.stream
+        pick - 2 one_null_three.stream output.stream
+        pick 1 - one_null_three.stream output.stream
+        pick 1,1 - one_null_three.stream output.stream
+        pick 0,00 - one_null_three.stream output.stream
+        pick 00 002 one_null_three.stream output.stream
+        pick 0, - one_null_three.stream output.stream
+        pick ,0 - one_null_three.stream output.stream
+        pick , - one_null_three.stream output.stream
+        pick -1 - one_null_three.stream output.stream
+        pick +0 - one_null_three.stream output.stream
+        pick 0 +1 one_null_three.stream output.stream
+        pick 0 -- one_null_three.stream output.stream
+        pick 18446744073709551615 - one_null_three.stream output.stream
+        pick 18446744073709551616 - one_null_three.stream output.stream
+        pick 0 18446744073709551615 one_null_three.stream output.stream
+        pick 0 18446744073709551616 one_null_three.stream output.stream
+        pick 1,1 - missing.stream output.stream
+        pick 0 - missing.stream output.stream
+        pick 0 - key_of_no_value.stream output.stream
+        pick 0 1 key_of_no_value.stream output.stream
+        pick 0 - one_null_three.stream no_folder/output.stream
+        pick 0 - no_fields.stream output.stream
+        pick - - no_fields_but_batches.stream output.stream
         seal 1 missing.stream output.stream
         seal 0 one_null_three.stream output.stream
         seal 65537 one_null_three.stream output.stream
@@ -295,7 +384,7 @@ def command_cases():
     """The inputs by file name, and the commands to run over them."""
     cases = Cases()
     cases.inputs, cases.commands = file_cases()
-    by_hand = integer_cases, text_cases, dictionary_cases, list_cases, null_cases, usual_cases, rule_cases, schema_cases, same_picks
+    by_hand = integer_cases, text_cases, dictionary_cases, list_cases, null_cases, pick_cases, usual_cases, rule_cases, schema_cases, same_picks
     for put in by_hand + (limit_cases, usage_cases, typed_cases):
         put(cases)
     return cases.inputs, cases.commands

@@ -1,5 +1,5 @@
 #!/usr/bin/env python3
-"""The program `tables` in plain Python: `seal`, `cut`, `join` and `same` over streams of every type that is no float.
+"""The program `tables` in plain Python, over streams and files of every type that is no float.
 
     arrow_commands.py write DATA STDOUT     inputs and commands for `tables_files`, and what it must print
     arrow_commands.py check DATA STDOUT     that the first command would make what stands there
@@ -17,7 +17,8 @@ from arrow_columns import cut_batches, rows_of
 from arrow_command_cases import OUTPUT, command_cases
 from arrow_metadata import NOT_IMPLEMENTED, OUT_OF_SPEC, Refused, UNFINISHED
 from arrow_sealed import MOST_BATCH_ROWS, NotWritten, sealed
-from arrow_stored_reading import MOST_ROWS, StoredTable, TOO_MANY_ROWS, read_stored, row_count
+from arrow_reader import NO_COLUMN
+from arrow_stored_reading import MOST_ROWS, StoredTable, TOO_MANY_ROWS, read_stored, read_stored_file, row_count
 from arrow_stored_writing import written
 from arrow_types import child_fields, storage_of
 
@@ -29,7 +30,7 @@ BYTES_A_LINE = 32
 BARS = "map", "union", "ordered dictionary", "struct without fields"
 TEXTS = {
     OUT_OF_SPEC: "ipc: out of specification", NOT_IMPLEMENTED: "ipc: not implemented", UNFINISHED: "unfinished stream",
-    TOO_MANY_ROWS: TOO_MANY_ROWS,
+    TOO_MANY_ROWS: TOO_MANY_ROWS, NO_COLUMN: NO_COLUMN,
 }
 
 
@@ -47,17 +48,14 @@ def is_place(name):
     return name != "." and "/" not in name
 
 
-def read_table(name, places):
-    """The table of what stands under a name."""
+def read_table(name, places, columns=None, limit=None):
+    """The table of what stands under a name, or of chosen columns of its first rows."""
     content = places.get(name)
     if content is None:
         raise Failed("cannot read the input")
-    # No input is a whole file: what begins as one ends as none.
-    if content.startswith(b"ARROW1"):
-        assert not content.endswith(b"ARROW1")
-        raise Failed(TEXTS[OUT_OF_SPEC])
+    read = read_stored_file if content.startswith(b"ARROW1") else read_stored
     try:
-        return read_stored(content)
+        return read(content, columns=columns, limit=limit)
     except Refused as refused:
         raise Failed(TEXTS[refused.kind]) from None
 
@@ -102,6 +100,18 @@ def seal(words, places):
     return DONE, content
 
 
+def columns_of(word):
+    """The columns that a word names, or None: numbers with commas between them, each once, or a dash for none."""
+    pieces = [] if word == "-" else word.split(",")
+    columns = [int(piece) for piece in pieces if is_number(piece)]
+    return columns if len(columns) == len(pieces) == len(set(columns)) else None
+
+
+def pick(words, places):
+    limit = None if words[1] == "-" else int(words[1])
+    return put_table(read_table(words[2], places, columns_of(words[0]), limit), words[3])
+
+
 def cut(words, places):
     offset, length, table = int(words[0]), int(words[1]), read_table(words[2], places)
     if offset + length > row_count(table):
@@ -130,6 +140,8 @@ def command_of(words):
     name, rest = words[0] if words else None, words[1:]
     if name == "seal" and len(rest) == 3 and is_number(rest[0]) and 1 <= int(rest[0]) <= MOST_BATCH_ROWS:
         return seal
+    if name == "pick" and len(rest) == 4 and columns_of(rest[0]) is not None and (rest[1] == "-" or is_number(rest[1])):
+        return pick
     if name == "cut" and len(rest) == 4 and all(map(is_number, rest[:2])):
         return cut
     if name == "join" and len(rest) >= 3:

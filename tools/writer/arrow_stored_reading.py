@@ -1,4 +1,4 @@
-"""Reads streams of every type but floats into the columns that arrays store, batch by batch, or refuses them.
+"""Reads streams and files of every type but floats into the columns that arrays store, batch by batch, or refuses them.
 
 Written from the public formats and the profile of this project, apart from the definitions of `specs/`. It asks for nothing that
 `arrow_reader` does not; that one answers slots, and this one what a writer has of an array.
@@ -9,9 +9,9 @@ from collections import namedtuple
 
 from arrow_columns import FixedLists, Flat, Keys, Lists, Nulls, Records, Strings, Unions, rows_in
 from arrow_metadata import (
-    Batch, DICTIONARY_BATCH, NOT_IMPLEMENTED, ReadSchema, Refused, SCHEMA, UNFINISHED, V5, ask, is_text,
+    Batch, DICTIONARY_BATCH, Footer, NOT_IMPLEMENTED, RECORD_BATCH, ReadSchema, Refused, SCHEMA, UNFINISHED, V5, ask, is_text,
 )
-from arrow_reader import Frames, Source, bits_of
+from arrow_reader import Frames, MARK, NO_COLUMN, Source, bits_of, buffers_of, message_at, nodes_of
 from arrow_types import BYTES, INTEGERS, KINDS, LISTS, MOST_DICTIONARIES, TEXTS, kind_of, storage_of
 
 TOO_MANY_ROWS = "too many rows"
@@ -131,36 +131,45 @@ class ColumnReader:
 
 
 class StoredReading:
-    """One stream that is read: its schema, the dictionaries that stand, and the batches."""
+    """One input that is read: its schema, the dictionaries that stand, and the batches, of all columns or of chosen ones under a limit."""
 
-    def __init__(self, first):
-        ask(first is not None and first.tag == SCHEMA, "no schema first")
-        self.version, self.schema = first.known_version(), ReadSchema(first.header)
+    def __init__(self, schema, columns=None, limit=None):
+        self.schema, self.limit, self.is_choice = schema, limit, columns is not None
+        self.chosen = list(range(len(schema.columns))) if columns is None else columns
+        ask(all(k < len(schema.columns) for k in self.chosen), "no such column", NO_COLUMN)
         self.dictionaries, self.batches, self.rows = {}, [], 0
 
-    def source(self, table, body):
-        return Source(Batch(table, len(body)), body, 0, self.schema.order, self.version)
+    def message(self, message, room, origin, version):
+        read_one = self.dictionary if message.tag == DICTIONARY_BATCH else self.record
+        read_one(message.header, lambda table: Source(Batch(table, len(room)), room, origin, self.schema.order, version), version)
 
-    def message(self, message, body):
-        if message.tag == DICTIONARY_BATCH:
-            self.dictionary(message.header, body)
-        else:
-            self.record(message.header, body)
-
-    def dictionary(self, table, body):
+    def dictionary(self, table, source_of, version):
         number, data = table.number(0, "<q"), table.needed_table(1, "a dictionary without values")
         ask(not table.truth(2), "a dictionary's delta", NOT_IMPLEMENTED)
-        source, column = self.source(data, body), self.schema.with_number(number)
+        source, column = source_of(data), self.schema.with_number(number)
         ask(column is not None, "a dictionary of an unknown id")
         self.dictionaries[number] = ColumnReader(source, self.dictionaries).values(column, column.normal.data_type[2], None)
 
-    def record(self, table, body):
-        reader = ColumnReader(self.source(table, body), self.dictionaries)
-        batch = [reader.column(column, None) for column in self.schema.columns]
+    def record(self, table, source_of, version):
+        source = source_of(table)
+        reader, found = ColumnReader(source, self.dictionaries), {}
+        left = None if self.limit is None else self.limit - self.rows
+        for k, column in enumerate(self.schema.columns[: max(self.chosen, default=-1) + 1]):
+            if k in self.chosen:
+                found[k] = reader.column(column, left)
+            else:
+                source.node += nodes_of(column)
+                source.buffer += buffers_of(column, version)
+        batch = [found[k] for k in self.chosen]
         ask(all(column.length() == batch[0].length() for column in batch), "columns of other lengths")
         self.rows += rows_in(batch)
         ask(self.rows <= MOST_ROWS, "more rows than 64 bits count", TOO_MANY_ROWS)
-        self.batches.append(batch)
+        if not self.is_choice or rows_in(batch) > 0:
+            self.batches.append(batch)
+
+    def table(self):
+        normal = self.schema.normal
+        return StoredTable(normal._replace(fields=tuple(normal.fields[k] for k in self.chosen)), self.batches)
 
 
 def later_messages(frames):
@@ -178,13 +187,32 @@ def later_messages(frames):
         yield message, frames.take(message.body_length())
 
 
-def read_stored(content, is_framed_first=False):
+def read_stored(content, is_framed_first=False, columns=None, limit=None):
     """The stored table of a stream; where messages are framed first, each of them is found before one is read."""
     frames = Frames(content)
-    reading, messages = StoredReading(frames.next()), later_messages(frames)
+    first = frames.next()
+    ask(first is not None and first.tag == SCHEMA, "no schema first")
+    version = first.known_version()
+    reading, messages = StoredReading(ReadSchema(first.header), columns, limit), later_messages(frames)
     for message, body in list(messages) if is_framed_first else messages:
-        reading.message(message, body)
-    return StoredTable(reading.schema.normal, reading.batches)
+        reading.message(message, body, 0, version)
+    return reading.table()
+
+
+def read_stored_file(content, columns=None, limit=None):
+    """The stored table of a file."""
+    ask(content.endswith(MARK) and len(content) >= 10, "no file's marks")
+    length = struct.unpack_from("<i", content, len(content) - 10)[0]
+    start = len(content) - 10 - length
+    ask(length >= 0 and start >= 0, "a footer outside the file")
+    footer = Footer(content[start : start + length])
+    reading = StoredReading(footer.schema, columns, limit)
+    ask(not footer.records or len(footer.dictionaries) <= MOST_DICTIONARIES, "too many dictionary blocks")
+    blocks = [(block, DICTIONARY_BATCH) for block in footer.dictionaries if footer.records]
+    for block, tag in blocks + [(block, RECORD_BATCH) for block in footer.records]:
+        message, origin = message_at(content, block, tag)
+        reading.message(message, content, origin, message.known_version())
+    return reading.table()
 
 
 # ---- which fault is named

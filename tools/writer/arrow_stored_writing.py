@@ -1,11 +1,13 @@
-"""Streams of stored columns: the bytes that a writer lays of arrays.
+"""Streams and files of stored columns: the bytes that a writer lays of arrays.
 
 Written from the public formats and the profile of this project, apart from the definitions of `specs/`: values as they stand, offsets less
 the first one, of a list's child what stands between its offsets, a dictionary before its batch where it differs from the last one.
 """
 
 from arrow_columns import FixedLists, Flat, Keys, Lists, Nulls, Records, Strings, Unions, nulls_in, rows_in
-from arrow_sealed import END, Batch, NotWritten, dictionary_message, packed, record_message, schema_message
+from arrow_sealed import (
+    DICTIONARY_BATCH, END, RECORD_BATCH, Batch, NotWritten, dictionary_message, file_behind, packed, record_message, schema_message,
+)
 from arrow_trees import numbered
 from arrow_types import INTEGERS, KINDS, LISTS, kind_of, storage_of
 
@@ -82,30 +84,44 @@ def dictionaries_of(spec, column):
 
 
 class Told:
-    """The dictionaries that a stream has, the last of each id, as their type and their values."""
+    """The dictionaries that are written, the last of each id, as their type and their values."""
 
-    def __init__(self):
-        self.last = {}
+    def __init__(self, may_replace=True):
+        self.last, self.may_replace = {}, may_replace
 
     def tell(self, given):
         """Messages of those dictionaries of a batch that differ from the last one of their id."""
-        own, out = {}, b""
+        own = {}
         for number, values in given:
             content = values.data_type, values.slots()
             if own.setdefault(number, content) != content:
                 raise NotWritten("two dictionaries of one id in a batch")
             if self.last.get(number) != content:
+                if number in self.last and not self.may_replace:
+                    raise NotWritten("another dictionary of an id in a file")
                 self.last[number] = content
-                out += b"".join(dictionary_message(number, content[1], batch_over([values])))
-        return out
+                yield (DICTIONARY_BATCH, *dictionary_message(number, content[1], batch_over([values])))
+
+
+def messages_behind(specs, table, may_replace):
+    """The messages of a stored table behind its schema: of each its kind, what stands before its body, and its body."""
+    told = Told(may_replace)
+    for batch in table.batches:
+        given = [pair for spec, column in zip(specs, batch) for pair in dictionaries_of(spec, column)]
+        yield from told.tell(given)
+        yield (RECORD_BATCH, *record_message(batch_over(batch), rows_in(batch)))
 
 
 def written(table):
     """The stream of a stored table, its dictionaries numbered in pre-order."""
-    specs, told = numbered(table.schema.fields), Told()
+    specs = numbered(table.schema.fields)
     out = schema_message(specs, table.schema.metadata)[0]
-    for batch in table.batches:
-        given = [pair for spec, column in zip(specs, batch) for pair in dictionaries_of(spec, column)]
-        out += told.tell(given)
-        out += b"".join(record_message(batch_over(batch), rows_in(batch)))
-    return out + END
+    return out + b"".join(head + body for _, head, body in messages_behind(specs, table, True)) + END
+
+
+def written_file(table):
+    """The file of a stored table, none of whose dictionaries changes."""
+    specs = numbered(table.schema.fields)
+    start = b"ARROW1\0\0" + schema_message(specs, table.schema.metadata)[0]
+    blocks = {DICTIONARY_BATCH: [], RECORD_BATCH: []}
+    return file_behind(start, specs, table.schema.metadata, blocks, list(messages_behind(specs, table, False)))
