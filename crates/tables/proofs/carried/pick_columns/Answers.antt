@@ -16,7 +16,8 @@ returns-in_err-table g c =
     let new = g.P.Places.contents c.read_picked.new.places in
     let distinct : are_distinct columns ≡ true = search (rules, tests) in
     let whole : CarriesOut (Err failure) asked old new =
-    pick_fails failure columns c.args.limit c.args.input.now c.args.output.now old new distinct c.in_err-table.ensures.read c.in_err-table.ensures.kept in
+    pick_fails failure columns c.args.limit c.args.input.now c.args.output.now old new distinct c.in_err-table.ensures.read
+    c.in_err-table.ensures.kept in
     search (rules, whole)
 
 pub returns : goal.returns
