@@ -40,3 +40,12 @@ pub use Rattle.ipc_format_file_writer.proofs.stream_writer_lemmas.reader_lemmas.
 pub use Rattle.ipc_format_file_writer.proofs.stream_writer_lemmas.reader_lemmas.chunk_lemmas.Cuts
 pub use Rattle.ipc_format_file_writer.proofs.stream_writer_lemmas.reader_lemmas.chunk_lemmas.Windows
 pub use Rattle.ipc_format_file_writer.proofs.stream_writer_lemmas.PutMessages
+pub use Rattle.ipc_format_reading_laws.proofs.StoredTablesBlocks
+pub use Rattle.ipc_format_reading_laws.proofs.StoredTablesFiles
+pub use Rattle.ipc_format_reading_laws.proofs.StoredTablesOnce
+pub use Rattle.ipc_format_reading_laws.proofs.laws_lemmas.Footers
+pub use Rattle.ipc_format_file_writer.proofs.Added as FileAdded
+pub use Rattle.ipc_format_file_writer.proofs.EndBytes as FileEndBytes
+pub use Rattle.ipc_format_file_writer.proofs.Placed as FilePlaced
+pub use Rattle.ipc_format_file_writer.proofs.RunBytes as FileRunBytes
+pub use Rattle.ipc_format_file_writer.proofs.Firsts as FileFirsts

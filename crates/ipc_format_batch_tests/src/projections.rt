@@ -107,16 +107,19 @@ fn in_asked_order(alloc: Global, asked: Vec<usize>) -> Result<Option<Chunk<AnyAr
 fn columns_are_put_where_they_were_asked_for(rt: HostRuntime) -> Result<(), Fail> {
     let alloc = rt.alloc();
     let found = in_asked_order(alloc, Vec::from_slice(alloc, &[1, 0])?)?;
-    let widths = match &found {
-        Some(chunk) => (
-            chunk.arrays()[0].data_type() == &DataType::Int8,
-            chunk.arrays()[1].data_type() == &DataType::Int32,
-        ),
+    let types = match &found {
+        Some(chunk) => match chunk.arrays() {
+            [first, second] => (
+                first.data_type() == &DataType::Int8,
+                second.data_type() == &DataType::Int32,
+            ),
+            _ => (false, false),
+        },
         None => (false, false),
     };
     drop(found);
     let twice = in_asked_order(alloc, Vec::from_slice(alloc, &[1, 1])?)?.is_none();
-    assert_eq!(rt; widths, (true, true));
+    assert_eq!(rt; types, (true, true));
     assert!(rt; twice);
     Ok(())
 }

@@ -14,6 +14,7 @@ pub use Rattle.tables_choices.specs.chunks.SameRows
 pub use Rattle.tables_choices.specs.chunks.StoredTables
 pub use Rattle.tables_choices.specs.chunks.TableParts
 pub use Rattle.tables_choices.specs.chunks.WrittenTables
+pub use Rattle.tables_choices.specs.chunks.WrittenFiles
 pub use Rattle.tables_choices.specs.Bars
 pub use Rattle.tables_choices.specs.SealLaws
 pub use Rattle.tables_choices.specs.Seals

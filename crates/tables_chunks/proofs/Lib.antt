@@ -6,7 +6,9 @@ pub mod Chunks
 pub mod ColumnsOfRows
 pub mod CutBatches
 pub mod CutSteps
+pub mod FileRefused
 pub mod FileTables
+pub mod FilesRead
 pub mod JoinedBatches
 pub mod KeptColumns
 pub mod Lists
@@ -14,6 +16,8 @@ pub mod LongColumns
 pub mod MadeTables
 pub mod NextRefused
 pub mod PutBatches
+pub mod PutFileBatches
+pub mod PutFiles
 pub mod PutTables
 pub mod ReadTables
 pub mod Refused

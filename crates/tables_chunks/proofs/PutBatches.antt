@@ -39,7 +39,7 @@ use Rattle.tables_chunks.proofs.WithinLimits.{dictionaries_fit, has_limits}
 
 -- ---- a schema
 
-not_both : (b : Bool) → b ≡ true → b ≡ false → ⊥
+pub not_both : (b : Bool) → b ≡ true → b ≡ false → ⊥
 not_both true h k = absurd (false≢true (sym k))
 not_both false h k = absurd (false≢true h)
 

@@ -26,7 +26,7 @@ use Rattle.tables_chunks.proofs.RefusedWrites.{io_refused, memory_refused, refus
 
 -- ---- batches behind one another
 
-told_append : (told : List Given) (xs ys : List Batch) → told_after told (xs ++ ys) ≡ told_after (told_after told xs) ys
+pub told_append : (told : List Given) (xs ys : List Batch) → told_after told (xs ++ ys) ≡ told_after (told_after told xs) ys
 told_append told [] ys = refl
 told_append told (x ∷ xs) ys = told_append (written_after told x.given) xs ys
 
@@ -34,7 +34,7 @@ and_joined : (a b c : Bool) → (a && (b && c)) ≡ ((a && b) && c)
 and_joined true b c = refl
 and_joined false b c = refl
 
-within_append : (told : List Given) (xs ys : List Batch)
+pub within_append : (told : List Given) (xs ys : List Batch)
     → are_within told (xs ++ ys) ≡ (are_within told xs && are_within (told_after told xs) ys)
 within_append told [] ys = refl
 within_append told (x ∷ xs) ys =
@@ -42,7 +42,7 @@ within_append told (x ∷ xs) ys =
     ap (λ (b : Bool). is_batch_within told x && b) (within_append after xs ys)
     ∙ and_joined (is_batch_within told x) (are_within after xs) (are_within (told_after after xs) ys)
 
-messages_append : (told : List Given) (xs ys : List Batch)
+pub messages_append : (told : List Given) (xs ys : List Batch)
     → messages_after told (xs ++ ys) ≡ messages_after told xs ++ messages_after (told_after told xs) ys
 messages_append told [] ys = refl
 messages_append told (x ∷ xs) ys =
@@ -50,11 +50,11 @@ messages_append told (x ∷ xs) ys =
     ap (λ (others : List Written). batch_messages told x ++ others) (messages_append after xs ys)
     ∙ sym (append_assoc (batch_messages told x) (messages_after after xs) (messages_after (told_after after xs) ys))
 
-bytes_append : (xs ys : List Written) → bytes_of_messages (xs ++ ys) ≡ bytes_of_messages xs ++ bytes_of_messages ys
+pub bytes_append : (xs ys : List Written) → bytes_of_messages (xs ++ ys) ≡ bytes_of_messages xs ++ bytes_of_messages ys
 bytes_append xs ys = flat_map-append message_bytes xs ys
 
 -- the bytes of one batch more
-bytes_more : (done : List Batch) (batch : Batch)
+pub bytes_more : (done : List Batch) (batch : Batch)
     → bytes_of_messages (messages_after [] (done ++ batch ∷ []))
     ≡ bytes_of_messages (messages_after [] done) ++ bytes_of_messages (batch_messages (told_after [] done) batch)
 bytes_more done batch =
@@ -90,11 +90,11 @@ one_put old between new before after done batch first next =
 
 -- ---- batches of a table
 
-batches_append : (schema : Schema) (xs ys : List (List Column))
+pub batches_append : (schema : Schema) (xs ys : List (List Column))
     → written_batches schema (xs ++ ys) ≡ written_batches schema xs ++ written_batches schema ys
 batches_append schema xs ys = map-append (batch_of_stored (table_ids schema)) xs ys
 
-more_taken : (batches : List (List Column)) (i : ℕ) (batch : List Column) → i < length batches → get_or batches i batch ≡ batch
+pub more_taken : (batches : List (List Column)) (i : ℕ) (batch : List Column) → i < length batches → get_or batches i batch ≡ batch
     → take (i + 1) batches ≡ take i batches ++ batch ∷ []
 more_taken batches i batch inside here =
     (take_at_read batches i batch inside).1 ∙ ap (λ (b : List Column). take i batches ++ b ∷ []) here
@@ -116,7 +116,7 @@ next_put old between new before after schema batches i batch written inside here
     subst (λ (them : List Batch). ArePut old new after them) all (one_put old between new before after done written first next)
 
 -- the bytes of a table's batches by one of them
-bytes_parts : (schema : Schema) (before after : List (List Column)) (batch : List Column)
+pub bytes_parts : (schema : Schema) (before after : List (List Column)) (batch : List Column)
     → bytes_of_messages (messages_after [] (written_batches schema before))
     ++ (bytes_of_messages (batch_messages (told_after [] (written_batches schema before)) (batch_of_stored (table_ids schema) batch))
     ++ bytes_of_messages (messages_after (told_after [] (written_batches schema (before ++ batch ∷ []))) (written_batches schema after)))

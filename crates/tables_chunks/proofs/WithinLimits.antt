@@ -79,7 +79,7 @@ all_fit told (batch ∷ batches) h =
 
 -- ---- what is written of what is written
 
-write_again : (told given : List Given) → to_write told (to_write told given) ≡ to_write told given
+pub write_again : (told given : List Given) → to_write told (to_write told given) ≡ to_write told given
 write_again told [] = refl
 write_again told (g ∷ given) =
     let more = to_write (g ∷ told) given in
@@ -89,7 +89,7 @@ write_again told (g ∷ given) =
     (λ is stands. ap (λ (answer : Bool). if answer then to_write told more else g ∷ to_write (g ∷ told) more) stands
     ∙ ap (λ (others : List Given). g ∷ others) (write_again (g ∷ told) given)) refl
 
-after_again : (told given : List Given) → written_after told (to_write told given) ≡ written_after told given
+pub after_again : (told given : List Given) → written_after told (to_write told given) ≡ written_after told given
 after_again told [] = refl
 after_again told (g ∷ given) =
     let more = to_write (g ∷ told) given in
@@ -108,7 +108,7 @@ abbrev pub thinned : List Given → List Batch → List Batch
 thinned told [] = []
 thinned told (batch ∷ batches) = thin told batch ∷ thinned (written_after told batch.given) batches
 
-messages_thinned : (told : List Given) (batches : List Batch) → messages_after told (thinned told batches) ≡ messages_after told batches
+pub messages_thinned : (told : List Given) (batches : List Batch) → messages_after told (thinned told batches) ≡ messages_after told batches
 messages_thinned told [] = refl
 messages_thinned told (batch ∷ batches) =
     let after = written_after told batch.given in
@@ -250,7 +250,7 @@ thin_room schema told below cs writable ids are h =
     (all_written HasId told (given_of_stored below cs) (batch_ids schema.fields below (stored_columns cs) ids))
     (omega (arith, few_written told (given_of_stored below cs), given_few schema below cs writable are))
 
-rooms : (schema : Schema) (told : List Given) (below : IdsList) (batches : List (List Column)) → is_writable schema ≡ true
+pub rooms : (schema : Schema) (told : List Given) (below : IdsList) (batches : List (List Column)) → is_writable schema ≡ true
     → all_are_ids below ≡ true → Each (IsBatch schema.fields below) batches → are_within told (map (batch_of_stored below) batches) ≡ true
     → All HasRoomForColumns (thinned told (map (batch_of_stored below) batches))
 rooms schema told below [] writable ids its h = All-nil HasRoomForColumns

@@ -11,6 +11,7 @@ pub mod StoredTables
 pub mod TableParts
 pub mod TableSchemas
 pub mod Texts
+pub mod WrittenFiles
 pub mod WrittenTables
 pub use Rattle.tables_file_reading.specs as file_reading
 pub use Rattle.tables_file_reading.specs.ipc_format as ipc_format

@@ -1,5 +1,6 @@
-//! Tables over chunks of arrays: a schema and its rows, batch by batch, read from bytes and written as a stream, with their parts, choices and
-//! joins, none of which copies a cell, and whether two of them are the same. The laws of these batches, and what can go wrong with a table.
+//! Tables over chunks of arrays: a schema and its rows, batch by batch, read from bytes and written as a stream or a file, with their parts,
+//! choices and joins, none of which copies a cell, and whether two of them are the same. The laws of these batches, and what can go wrong with a
+//! table.
 //!
 //! This is a part of `tables`, which passes it on.
 #![tactic(auto)]
@@ -18,6 +19,7 @@ mod reading;
 mod same;
 mod table;
 mod write;
+mod write_file;
 mod writing;
 
 pub use batches::{fits_schema, is_table_schema};

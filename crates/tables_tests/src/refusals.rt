@@ -1,5 +1,6 @@
 use crate::calling::head;
-use crate::samples::EXAMPLE;
+use crate::samples::{EXAMPLE, EXAMPLE_FILE};
+use crate::streams::REPLACED;
 use std::alloc::Global;
 use std::io;
 use std::io::{ErrorKind, Write};
@@ -89,6 +90,24 @@ fn writes_a_stream_where_there_is_room(rt: HostRuntime) -> Result<(), Fault> {
     let mut device = Device::new(rt.alloc(), 496, true);
     table.write_stream(rt.alloc(), &mut device)?;
     assert!(rt; device.bytes.as_slice() == EXAMPLE.as_slice());
+    Ok(())
+}
+
+#[test]
+fn writes_a_file_where_there_is_room(rt: HostRuntime) -> Result<(), Fault> {
+    let table = table_of(rt.alloc())?;
+    let mut device = Device::new(rt.alloc(), 746, true);
+    table.write_file(rt.alloc(), &mut device)?;
+    assert!(rt; device.bytes.as_slice() == EXAMPLE_FILE.as_slice());
+    Ok(())
+}
+
+#[test]
+fn writes_no_file_of_a_replaced_dictionary(rt: HostRuntime) -> Result<(), Fault> {
+    let table = Table::read(rt.alloc(), Form::Stream, &REPLACED)?;
+    let mut bytes = Vec::new(rt.alloc());
+    let refused = table.write_file(rt.alloc(), &mut bytes);
+    assert!(rt; matches!(&refused, Err(Fault::Ipc(Error::InvalidArgumentError(_)))));
     Ok(())
 }
 

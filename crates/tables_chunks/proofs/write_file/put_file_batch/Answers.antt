@@ -1,0 +1,82 @@
+-- The dictionaries, and the batch behind them.
+use Rattle.std.proofs.Common.{rules, ◌∙◌, ℕ, List, [], ◌∷◌, ◌++◌, ap, ap₂, subst}
+use Rattle.std.specs.Prelude.{Ok, Err}
+use Rattle.std.specs.List.{list_all}
+use Rattle.std.specs.Io.KnownBytes.{Appends}
+use Rattle.columnar_memory_types.specs.Error.{IsIo}
+use Rattle.tables_file_reading.specs.ipc_format.WrittenMessages.{fits_limit, framed}
+use Rattle.tables_file_reading.specs.ipc_format.WrittenStreams.{batch_of_stored, bytes_of_messages}
+use Rattle.tables_file_reading.specs.ipc_format.EncodedChunks.{message_in, messages_in}
+use Rattle.tables_file_reading.specs.ipc_format.Tracking.{tracked}
+use Rattle.tables_file_reading.specs.ipc_format.metadata.Views.{ids_views}
+use Rattle.tables_file_reading.specs.ipc_format.streams.Devices.{AppendsBeginning, Puts}
+use Rattle.tables_file_reading.specs.ipc_format.streams.declared.EncodedData.{EncodedData}
+use Rattle.tables_file_reading.proofs.ipc_format_lemmas.PutMessages.{prefix_fits}
+use Rattle.tables_chunks.specs.WrittenFiles.{PlacesMessages, places_of}
+use Rattle.tables_chunks.proofs.PutBatches.{own_fits, sent_fit}
+use Rattle.tables_chunks.proofs.PutFileBatches.{both_fit, file_batch_put, file_sent_refused, file_unencoded, file_unplaced}
+use Rattle.tables_chunks.proofs.write_file.put_file_batch.Goals as goal
+
+pub returns-in_err-dictionaries : goal.returns-in_err-dictionaries
+returns-in_err-dictionaries g c =
+    let after = tracked c.encode_batch.new.tracker in
+    let places = places_of c.args.places.now in
+    let whole = file_unencoded c.in_err-dictionaries.field-0.0 (g.W.Write.contents c.args.writer.now) (tracked c.args.tracker.now) after after
+    places places (batch_of_stored (ids_views c.args.ids.now) c.args.batch.now) (message_in c.encode_batch.new.encoded)
+    c.in_err-dictionaries.ensures in
+    search (rules, whole)
+
+pub place_messages-requires : goal.place_messages-requires
+place_messages-requires g c =
+    ap (λ (messages : List EncodedData). list_all fits_limit (messages_in messages ++ message_in c.encode_batch.new.encoded ∷ []))
+    c.deref.ensures.value
+    ∙ both_fit _ _ _ _ _ c.in_ok-dictionaries.ensures
+
+pub returns-in_err-place_messages : goal.returns-in_err-place_messages
+returns-in_err-place_messages g c =
+    let error = c.in_err-place_messages.field-0.0 in
+    let before = places_of c.args.places.now in
+    let after = places_of c.place_messages.new.places in
+    let own = message_in c.encode_batch.new.encoded in
+    let placed = subst (λ (messages : List EncodedData). PlacesMessages before after (messages_in messages) own (Err error))
+    c.deref.ensures.value c.in_err-place_messages.ensures in
+    let whole = file_unplaced error (g.W.Write.contents c.args.writer.now) _ _ before after _ _ own c.in_ok-dictionaries.ensures placed in
+    search (rules, whole)
+
+pub put_messages-requires : goal.put_messages-requires
+put_messages-requires g c =
+    ap (λ (messages : List EncodedData). list_all fits_limit (messages_in messages)) c.deref-2.ensures.value
+    ∙ sent_fit _ _ _ _ _ c.in_ok-dictionaries.ensures
+
+pub returns-in_err-put_messages : goal.returns-in_err-put_messages
+returns-in_err-put_messages g c =
+    let error = c.in_err-put_messages.field-0.0 in
+    let old = g.W.Write.contents c.args.writer.now in
+    let new = g.W.Write.contents c.put_messages.new.writer in
+    let refused = subst (λ (messages : List EncodedData). IsIo error × AppendsBeginning old new (bytes_of_messages (messages_in messages)))
+    c.deref-2.ensures.value c.in_err-put_messages.ensures in
+    let whole = file_sent_refused error old new _ _ (places_of c.args.places.now) (places_of c.place_messages.new.places) _ _ _
+    c.in_ok-dictionaries.ensures refused in
+    search (rules, whole)
+
+pub put_message-requires : goal.put_message-requires
+put_message-requires g c =
+    prefix_fits (message_in c.encode_batch.new.encoded) c.as_slice.result.now c.as_slice.ensures.value
+    (own_fits _ _ _ _ _ c.in_ok-dictionaries.ensures)
+
+pub returns : goal.returns
+returns g c =
+    let old = g.W.Write.contents c.args.writer.now in
+    let between = g.W.Write.contents c.put_messages.new.writer in
+    let new = g.W.Write.contents c.put_message.new.writer in
+    let before = places_of c.args.places.now in
+    let after = places_of c.place_messages.new.places in
+    let own = message_in c.encode_batch.new.encoded in
+    let placed = subst (λ (messages : List EncodedData). PlacesMessages before after (messages_in messages) own (Ok tt))
+    c.deref.ensures.value c.in_ok-place_messages.ensures in
+    let first = subst (λ (messages : List EncodedData). Appends old between (bytes_of_messages (messages_in messages)))
+    c.deref-2.ensures.value c.in_ok-put_messages.ensures in
+    let put = subst (λ (bytes : List ℕ). Puts c.put_message.result between new bytes)
+    (ap₂ framed c.as_slice.ensures.value c.as_slice-2.ensures.value)
+    c.put_message.ensures in
+    file_batch_put c.put_message.result old between new _ _ before after _ _ own c.in_ok-dictionaries.ensures placed first put
