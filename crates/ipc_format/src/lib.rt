@@ -2,36 +2,39 @@
 //! dictionaries read and written, streams of messages, and the definitions of the format with their laws.
 #![tactic(auto)]
 
-pub use ipc_format_file_writer::FileWriter;
-pub use ipc_format_file_writer::stream_writer::reader::chunk_writing::{
+pub use ipc_format_files::stream_writer::reader::chunk_writing::{
     Chunk, Compression, Dictionaries, DictionaryTracker, InMemory, ProjectionIter,
     ProjectionResult, Room, WriteOptions, apply_projection, choices_are_put_back, encode_batch,
     encode_chunk, encode_chunk_amortized, have_one_form, is_choice, is_projection,
     look_ups_are_enough, nested_arrays, prepare_projection, read, read_children, read_dictionary,
     read_fixed_size_list, read_large_list, read_list, read_map, read_record_batch, read_struct,
-    read_union, schemas_have_arrays, write,
+    read_union, rises, schemas_have_arrays, write,
 };
-pub use ipc_format_file_writer::stream_writer::reader::streams::metadata::{
+pub use ipc_format_files::stream_writer::reader::streams::metadata::{
     IpcField, IpcSchema, OutOfSpecKind, can_write, deserialize_schema, deserialize_schema_counted,
     schema_in,
 };
-pub use ipc_format_file_writer::stream_writer::reader::streams::owned::serialize_schema;
-pub use ipc_format_file_writer::stream_writer::reader::streams::owned::writing::{
+pub use ipc_format_files::stream_writer::reader::streams::owned::serialize_schema;
+pub use ipc_format_files::stream_writer::reader::streams::owned::writing::{
     default_ipc_fields, dictionary_batch_to_bytes, footer_to_bytes, normalised,
     record_batch_to_bytes, schema_to_bytes,
 };
-pub use ipc_format_file_writer::stream_writer::reader::streams::{
+pub use ipc_format_files::stream_writer::reader::streams::{
     Counting, EncodedData, Faults, Frame, Framed, NextMessage, StreamMetadata, columnar_memory,
     flatbuffers, next_at, put, read_stream_metadata, refusal, write_continuation, write_message,
 };
-pub use ipc_format_file_writer::stream_writer::reader::{
+pub use ipc_format_files::stream_writer::reader::{
     StreamReader, StreamState, stream_start, streams_are_read_by_turns,
 };
-pub use ipc_format_file_writer::stream_writer::{StreamWriter, put_message, put_messages};
+pub use ipc_format_files::stream_writer::{StreamWriter, put_message, put_messages};
+pub use ipc_format_files::{
+    Entry, FileMetadata, FileReader, FileWriter, MessageBlock, file_entries,
+    files_are_read_by_blocks, read_batch, read_file_dictionaries, read_file_metadata,
+};
 
-/// What `ipc_format_file_writer::stream_writer::reader::streams::messages` has.
+/// What `ipc_format_files::stream_writer::reader::streams::messages` has.
 pub mod messages {
-    pub use ipc_format_file_writer::stream_writer::reader::streams::messages::{
+    pub use ipc_format_files::stream_writer::reader::streams::messages::{
         Block, BlocksRef, BodyCompressionRef, Buffer, BuffersRef, DateRef, DateUnit, DecimalRef,
         DictionaryBatchParts, DictionaryBatchRef, DictionaryEncodingRef, DurationRef, Endianness,
         Error, FieldNode, FieldNodesRef, FieldRef, FieldsRef, FixedSizeBinaryRef, FixedSizeListRef,
@@ -42,18 +45,18 @@ pub mod messages {
     };
 }
 
-/// What `ipc_format_file_writer::stream_writer::reader::streams::metadata` has.
+/// What `ipc_format_files::stream_writer::reader::streams::metadata` has.
 pub mod metadata {
-    pub use ipc_format_file_writer::stream_writer::reader::streams::metadata::{
+    pub use ipc_format_files::stream_writer::reader::streams::metadata::{
         IpcField, IpcSchema, MOST_LEVELS, OutOfSpecKind, Tag, any_schema_in, can_write,
         deserialize_schema, deserialize_schema_counted, mode_of, schema_in, schema_in_counted,
         sizes, slots, tag_numbers, tag_of, unit_in,
     };
 }
 
-/// What `ipc_format_reading_laws` has.
+/// What `ipc_format_files::reading_laws` has.
 pub mod reading_laws {
-    pub use ipc_format_reading_laws::{
+    pub use ipc_format_files::reading_laws::{
         appended_files_read_back, choices_are_isolated, choices_are_of_the_whole,
         columns_have_parts, columns_read_at_fronts, grown_files_read_back,
         normal_columns_stay_whole, normalised_types_read_the_same_slots, seals_read_back,
@@ -62,9 +65,9 @@ pub mod reading_laws {
     };
 }
 
-/// What `ipc_format_file_writer::stream_writer::reader::streams` has.
+/// What `ipc_format_files::stream_writer::reader::streams` has.
 pub mod streams {
-    pub use ipc_format_file_writer::stream_writer::reader::streams::{
+    pub use ipc_format_files::stream_writer::reader::streams::{
         BatchQueues, Counting, DictionaryValues, EncodedData, Faults, Frame, Framed, Incoming,
         NextMessage, StreamMetadata, batch_queues, deserialize_stream_metadata, dictionary_values,
         fill, next_at, next_message, put, read_refusal, read_stream_metadata, refusal,
@@ -73,7 +76,7 @@ pub mod streams {
 
     /// Of `owned`.
     pub mod owned {
-        pub use ipc_format_file_writer::stream_writer::reader::streams::owned::{
+        pub use ipc_format_files::stream_writer::reader::streams::owned::{
             DictionaryEncoding, Field, Footer, Int, Message, MessageHeader, Type_,
             dictionary_batch_of, field_of, footer_of, key_value_of, message_header_of, message_of,
             record_batch_of, schema_of, type_of,

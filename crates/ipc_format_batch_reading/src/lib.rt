@@ -20,7 +20,7 @@ pub use ipc_format_reading::{
 pub use laws::{look_ups_are_enough, schemas_have_arrays};
 pub use projection::{
     ProjectionIter, ProjectionResult, apply_projection, choices_are_put_back, is_choice,
-    prepare_projection,
+    prepare_projection, rises,
 };
 pub use record_batch::{is_projection, read_record_batch};
 

@@ -198,7 +198,8 @@ impl<'a, A, I: Iterator<Item = A>> Model for ProjectionIter<'a, A, I> {
 }
 
 impl<'a, A, I: Iterator<Item = A>> ProjectionIter<'a, A, I> {
-    /// The items of an iterator, of which those at the places of a projection are selected. The places rise, and there may be none.
+    /// The items of an iterator, of which those at the places of a projection are selected. The places rise (`rises` tests it), and there may be
+    /// none.
     pub fn new(projection: &'a [usize], iter: I) -> Self
         requires { rise_from 0 projection.now ≡ true }
         ensures { result ≡ (projection.now, iter) }
@@ -209,6 +210,21 @@ impl<'a, A, I: Iterator<Item = A>> ProjectionIter<'a, A, I> {
             place: 0,
         }
     }
+}
+
+/// Whether places rise, each above the one before it: the condition of `ProjectionIter::new`.
+pub fn rises(places: &[usize]) -> bool
+    ensures { result ≡ rise_from 0 places.now }
+{
+    let mut least: u128 = 0;
+    for k in 0..places.len() {
+        let place = places[k] as u128;
+        if place < least {
+            return false;
+        }
+        least = place + 1;
+    }
+    true
 }
 
 /// Whether a place is the first of some that rise, which of them stand behind it, and the next place.

@@ -88,6 +88,14 @@ pub(crate) fn letters_schema(alloc: Global) -> Result<Schema, Error> {
     Ok(Schema::from_fields(fields))
 }
 
+/// The schema of x, 32-bit numbers, and y, texts by key, and nulls of both.
+pub(crate) fn mixed_schema(alloc: Global) -> Result<Schema, Error> {
+    let mut fields = Items::new(alloc);
+    fields.push(field(alloc, "x", DataType::Int32)?)?;
+    fields.push(field(alloc, "y", keyed_texts(alloc)?)?)?;
+    Ok(Schema::from_fields(fields))
+}
+
 /// The schema of x and y, texts by key.
 pub(crate) fn pairs_schema(alloc: Global) -> Result<Schema, Error> {
     let mut fields = Items::new(alloc);

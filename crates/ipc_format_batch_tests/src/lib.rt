@@ -15,6 +15,8 @@ mod dictionaries;
 #[cfg(test)]
 mod encoded;
 #[cfg(test)]
+mod file_reader;
+#[cfg(test)]
 mod file_writer;
 #[cfg(test)]
 mod projections;

@@ -6,7 +6,7 @@ use ipc_format::messages::MetadataVersion;
 use ipc_format::nested_arrays::AnyArray;
 use ipc_format::{
     Chunk, IpcSchema, ProjectionIter, ProjectionResult, apply_projection, is_choice,
-    prepare_projection,
+    prepare_projection, rises,
 };
 use std::alloc::Global;
 use std::test::*;
@@ -137,6 +137,18 @@ fn items_are_selected_by_their_places(rt: HostRuntime) {
         assert!(rt; found.next() == wanted);
     }
     assert!(rt; found.next() == None);
+}
+
+#[test]
+fn places_rise(rt: HostRuntime) {
+    assert_eq!(rt;
+        (rises(&[]), rises(&[0, 2, 4]), rises(&[usize::MAX])),
+        (true, true, true)
+    );
+    assert_eq!(rt;
+        (rises(&[1, 1]), rises(&[2, 0]), rises(&[usize::MAX, 0])),
+        (false, false, false)
+    );
 }
 
 #[test]

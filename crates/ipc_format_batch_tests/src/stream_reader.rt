@@ -1,11 +1,12 @@
-//! Batches of a stream whose dictionary is replaced between them.
-use crate::answers::{Short, next_of, read_back, reader_of, told};
-use crate::cases::texts_by_key;
+//! Batches of a stream whose dictionary is replaced between them, and chosen columns of a stream.
+use crate::answers::{Short, next_of, read_back, reader_of};
+use crate::cases::{letters, mixed_schema, of_two, other_numbers, texts_by_key};
 use crate::devices::{Failing, Pausing};
 use crate::samples::STREAM;
+use crate::writers::started;
 use ipc_format::columnar_memory::Error;
 use ipc_format::nested_arrays::AnyArray;
-use ipc_format::{Counting, Faults, StreamReader, read_stream_metadata};
+use ipc_format::{Counting, Faults, StreamReader, StreamState, is_choice, read_stream_metadata};
 use std::alloc::Global;
 use std::io::Read;
 use std::test::*;
@@ -125,11 +126,78 @@ fn a_device_that_fails(rt: HostRuntime) -> Result<(), Fail> {
     Ok(())
 }
 
+/// The stream of a batch of numbers and letters.
+fn mixed_stream(alloc: Global) -> Result<Vec<u8>, Error> {
+    let mut writer = started(alloc, &mixed_schema(alloc)?, None)?;
+    let batch = of_two(alloc, other_numbers(alloc)?, letters(alloc, &["a", "b"])?)?;
+    writer.write(alloc, &batch, None)?;
+    writer.finish()?;
+    Ok(writer.into_inner())
+}
+
+/// A reader of some columns of what stands behind the schema.
+fn reader_of_columns<R: Read + Faults + Drop>(
+    alloc: Global,
+    mut device: R,
+    columns: &[usize],
+) -> Result<StreamReader<R>, Error> {
+    let metadata = read_stream_metadata(alloc, &mut device)?;
+    let asked = Vec::from_slice(alloc, columns)?;
+    if !is_choice(asked.as_slice(), metadata.schema.fields.len()) {
+        return Err(Error::InvalidArgumentError("no choice of columns"));
+    }
+    StreamReader::new(alloc, device, metadata, Some(asked))
+}
+
+fn short_of_two(state: StreamState, first: &AnyArray, second: &AnyArray) -> Short {
+    match state {
+        StreamState::Waiting => Short::Waiting,
+        StreamState::Some(chunk) => match chunk.arrays() {
+            [one, other] if one == first && other == second => Short::Expected,
+            _ => Short::Other,
+        },
+    }
+}
+
+/// What a reader answers next, beside two columns.
+fn next_of_two<R: Read + Faults + Drop>(
+    reader: &mut StreamReader<R>,
+    first: &AnyArray,
+    second: &AnyArray,
+) -> Short {
+    match reader.next() {
+        None => Short::Nothing,
+        Some(Ok(state)) => short_of_two(state, first, second),
+        Some(Err(_)) => Short::OutOfSpec,
+    }
+}
+
+/// What a reader of some columns of a whole stream answers to two calls, beside two columns.
+fn read_two(
+    alloc: Global,
+    bytes: &[u8],
+    columns: &[usize],
+    first: &AnyArray,
+    second: &AnyArray,
+) -> Result<[Short; 2], Error> {
+    let mut reader = reader_of_columns(alloc, bytes, columns)?;
+    Ok([
+        next_of_two(&mut reader, first, second),
+        next_of_two(&mut reader, first, second),
+    ])
+}
+
 #[test]
-fn columns_are_not_chosen(rt: HostRuntime) -> Result<(), Fail> {
-    let mut device = &STREAM[..];
-    let metadata = read_stream_metadata(rt.alloc(), &mut device)?;
-    let refused = StreamReader::new(rt.alloc(), device, metadata, Some(Vec::new(rt.alloc())));
-    assert_eq!(rt; told(refused), Short::NotYetImplemented);
+fn columns_in_the_asked_order(rt: HostRuntime) -> Result<(), Fail> {
+    let alloc = rt.alloc();
+    let bytes = mixed_stream(alloc)?;
+    let (numbers, letters) = (other_numbers(alloc)?, letters(alloc, &["a", "b"])?);
+    let swapped = read_two(alloc, &bytes[..], &[1, 0], &letters, &numbers)?;
+    let as_they_stand = read_two(alloc, &bytes[..], &[0, 1], &letters, &numbers)?;
+    drop(bytes);
+    drop(letters);
+    drop(numbers);
+    assert_eq!(rt; swapped, [Short::Expected, Short::Nothing]);
+    assert_eq!(rt; as_they_stand, [Short::Other, Short::Nothing]);
     Ok(())
 }

@@ -16,3 +16,4 @@ pub use Rattle.ipc_format_batch_reading.proofs.Columns
 pub use Rattle.ipc_format_batch_reading.proofs.Cuts
 pub use Rattle.ipc_format_batch_reading.proofs.Windows
 pub use Rattle.ipc_format_batch_reading.proofs.Conditions
+pub use Rattle.ipc_format_batch_reading.proofs.PutBack

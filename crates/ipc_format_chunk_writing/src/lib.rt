@@ -22,7 +22,7 @@ pub use ipc_format_batch_reading::{
     dictionary_values, first_beside, is_choice, is_projection, look_ups_are_enough, message_in,
     nested_arrays, normalised, prepare_projection, read, read_children, read_dictionary,
     read_fixed_size_list, read_large_list, read_list, read_map, read_record_batch, read_struct,
-    read_union, record_metadata, schemas_have_arrays, write,
+    read_union, record_metadata, rises, schemas_have_arrays, write,
 };
 pub use options::WriteOptions;
 pub use tracker::DictionaryTracker;

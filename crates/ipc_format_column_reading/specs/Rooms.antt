@@ -32,6 +32,11 @@ FillsFrom old new place count filled (Ok done) =
     Stays old new × (length filled ≡ count) × ForBytes old (λ room. window_at room place count ≡ Some filled)
 FillsFrom old new place count filled (Err error) = IsRefusal false old new (ForBytes old (λ room. window_at room place count ≡ None)) error
 
+-- The places where a room begins and where it ends; where all its bytes stand in memory these are all places of them.
+abbrev pub TellsExtent : Told → Told → Result (ℕ × ℕ) Error → Type 0
+TellsExtent old new (Ok extent) = Stays old new × ForBytes old (λ room. (extent.0 ≡ 0) × (extent.1 ≡ length room))
+TellsExtent old new (Err error) = IsRefusal false old new (ForBytes old (λ room. ⊥)) error
+
 -- What is read is what the format gives; or the call is refused.
 abbrev pub ReadsAs : {A B : Type 0} → Bool → Told → Told → (A → B) → (List ℕ → Option B) → Result A Error → Type 0
 ReadsAs is_compressed old new view given (Ok found) =

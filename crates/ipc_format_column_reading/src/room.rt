@@ -2,7 +2,7 @@
 ghost use Rattle.std.specs.Prelude.{◌≡◌, ◌+◌, length, OnOk};
 ghost use Rattle.std.specs.Option.{option_copied};
 ghost use Rattle.ipc_format_column_bytes.specs.streams.flatbuffers.Reading.{window_at};
-ghost use Rattle.ipc_format_column_reading.specs.Rooms.{FillsFrom, IsFault};
+ghost use Rattle.ipc_format_column_reading.specs.Rooms.{FillsFrom, IsFault, TellsExtent};
 
 use ipc_format_column_bytes::streams::Faults;
 use ipc_format_column_bytes::streams::columnar_memory::{Error, Result};
@@ -38,6 +38,15 @@ pub trait Room {
         into: &mut Vec<u8>,
     ) -> Result<()>
         ensures { FillsFrom (told self.old) (told self.new) (origin + offset) count into.new.items result };
+
+    /// Where the room begins, and where it ends: a device begins where it stands.
+    ///
+    /// # Errors
+    /// - `Io`: the device failed.
+    /// - `OutOfSpec`: it refuses without a failure.
+    /// - `OutOfMemory`: it found no memory.
+    fn extent(&mut self) -> Result<(u64, u64)>
+        ensures { TellsExtent (told self.old) (told self.new) result };
 }
 
 /// Bytes in memory.
@@ -81,6 +90,10 @@ impl<'a> Room for InMemory<'a> {
         into.extend_from_slice(part)?;
         Ok(())
     }
+
+    fn extent(&mut self) -> Result<(u64, u64)> {
+        Ok((0, self.bytes.len() as u64))
+    }
 }
 
 impl<R: Read + Seek + Faults> Room for R {
@@ -111,6 +124,24 @@ impl<R: Read + Seek + Faults> Room for R {
             Err(error) => Err(fault(error, before, after)),
         }
     }
+
+    fn extent(&mut self) -> Result<(u64, u64)> {
+        let before = self.faults();
+        let found = ends_of(self);
+        let after = self.faults();
+        match found {
+            Ok(extent) if before <= after => Ok(extent),
+            Ok(_) => Err(Error::OutOfSpec("a count of failures that fell")),
+            Err(error) => Err(fault(error, before, after)),
+        }
+    }
+}
+
+/// The place where a device stands, and that of its end, where it stands then.
+fn ends_of<S: Seek>(device: &mut S) -> io::Result<(u64, u64)> {
+    let start = device.seek(SeekFrom::Current(0))?;
+    let end = device.seek(SeekFrom::End(0))?;
+    Ok((start, end))
 }
 
 /// The name of what a device answers that had failed `before` times before the call, and has failed `after` times since.

@@ -1,5 +1,5 @@
 -- Why bytes are refused: what stands in them, whatever else is broken.
-use Rattle.std.specs.Prelude.{◌≡◌, ◌≤◌, ℕ, zero, suc, ◌^◌, Bool, true, false, List, [], ◌∷◌, length, map, take}
+use Rattle.std.specs.Prelude.{◌≡◌, ◌⊎◌, ◌≤◌, ℕ, zero, suc, ◌^◌, Bool, true, false, List, [], ◌∷◌, length, map, take}
 use Rattle.std.specs.Prelude.{codes, Option, Some, None, IsSome, IsSomeAnd, nat_lt, slice_get}
 use Rattle.std.specs.Int.{w8}
 use Rattle.ipc_format_flatbuffers.specs.Reading.{◌>>=◌, guard}
@@ -184,3 +184,7 @@ has_feather_mark file bytes = stands_at feather_mark bytes 0
 
 abbrev pub HasFeatherMark : Form → List ℕ → Type 0
 HasFeatherMark form bytes = has_feather_mark form bytes ≡ true
+
+-- what isn't implemented stands in bytes: the mark of Feather, a float field, a compressed batch, or a dictionary that adds to an earlier one
+abbrev pub HasUnimplemented : Form → List ℕ → Type 0
+HasUnimplemented form bytes = HasFeatherMark form bytes ⊎ (HasFloat form bytes ⊎ (HasCompression form bytes ⊎ HasDelta form bytes))

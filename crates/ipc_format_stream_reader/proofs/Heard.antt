@@ -4,7 +4,7 @@ use Rattle.std.proofs.Common.{suc, nat_lt, ◌==◌, Bor, IfOk}
 use Rattle.std.specs.Prelude.{not, ◌||◌, Option, Some, None, Result, Ok, Err}
 use Rattle.std.proofs.lemmas.Bool.{le-leb, lt-leb, eq-eqb}
 use Rattle.std.specs.BTreeMap.{BTreeMap}
-use Rattle.ipc_format_chunk_writing.specs.BatchReads.{entry_in, record_arrays, sized}
+use Rattle.ipc_format_chunk_writing.specs.BatchReads.{asked_arrays, chosen_arrays, entry_in, sized}
 use Rattle.ipc_format_chunk_writing.specs.DictionaryReads.{ReadsDictionary, dictionary_array, is_unread, is_unread_by}
 use Rattle.ipc_format_chunk_writing.specs.Standing.{StandAlike}
 use Rattle.ipc_format_chunk_writing.specs.ArrayReads.{array_slots}
@@ -45,9 +45,13 @@ no_source little entry table is =
     refused_first (record_batch_in entry.metadata table) (λ (vectors : RecordBatch). not vectors.is_compressed) _
     (λ (vectors : RecordBatch) found. ap not (sym (ap is_compressed_by found) ∙ is))
 
-no_columns : (layout : Layout) (standing : List Dictionary) (entry : Entry) (table : Table) → is_compressed entry.metadata table ≡ true
-    → record_arrays layout standing None entry table ≡ None
-no_columns layout standing entry table is =
+no_columns : (asked : Option (List ℕ)) (layout : Layout) (standing : List Dictionary) (entry : Entry) (table : Table)
+    → is_compressed entry.metadata table ≡ true → asked_arrays asked layout standing None entry table ≡ None
+no_columns (Some columns) layout standing entry table is =
+    ap (λ (found : Option Source). found >>= (λ (source : Source). chosen_arrays layout standing source None columns
+    >>= (λ (arrays : List (List Slot)). guard (agree_in_length arrays) >>= (λ (ok : Bool). Some arrays))))
+    (no_source layout.is_little_endian entry table is)
+no_columns None layout standing entry table is =
     ap (λ (found : Option Source). found >>= (λ (source : Source).
     arrays_below layout.fields (record { source = source; standing = standing; limit = None; node = 0; buffer = 0; ids = no_own_ids }) layout.below
     >>= (λ (columns : List (List Slot)). guard (agree_in_length columns) >>= (λ (ok : Bool). Some columns))))
@@ -93,18 +97,18 @@ known body =
 abbrev pub in_body : List ℕ → Told
 in_body body = sized (length body) (record { bytes = Some body; failures = 0 })
 
-pub columns_heard : (layout : Layout) (version : Version) (standing : List Dictionary) (metadata : List ℕ) (table : Table) (body : List ℕ)
-    (after : Told) (result : Result (List Column) Error) → after.failures ≡ 0 → IfOk result (HasTypes layout)
+pub columns_heard : (asked : Option (List ℕ)) (layout : Layout) (version : Version) (standing : List Dictionary) (metadata : List ℕ)
+    (table : Table) (body : List ℕ) (after : Told) (result : Result (List Column) Error) → after.failures ≡ 0 → IfOk result (HasTypes asked layout)
     → ReadsAs (is_compressed metadata table) (in_body body) after (map slots)
-    (λ room. record_arrays layout standing None (entry_in metadata (message.record_batch table) version 0 room) table) result
-    → HearsColumns layout version standing metadata table body result
-columns_heard layout version standing metadata table body after (Ok chunk) quiet types read = (types, read.2 body (known body))
-columns_heard layout version standing metadata table body after (Err (errors.OutOfSpec text)) quiet types read = read.1 body (known body)
-columns_heard layout version standing metadata table body after (Err (errors.NotYetImplemented text)) quiet types read =
-    (no_columns layout standing (entry_in metadata (message.record_batch table) version 0 body) table read, read)
-columns_heard layout version standing metadata table body after (Err (errors.Io what)) quiet types read = absurd (omega (arith, quiet, read.1))
-columns_heard layout version standing metadata table body after (Err errors.OutOfMemory) quiet types read = tt
-columns_heard layout version standing metadata table body after (Err _) quiet types read = absurd read
+    (λ room. asked_arrays asked layout standing None (entry_in metadata (message.record_batch table) version 0 room) table) result
+    → HearsColumns asked layout version standing metadata table body result
+columns_heard asked layout version standing metadata table body after (Ok chunk) quiet types read = (types, read.2 body (known body))
+columns_heard asked layout version standing metadata table body after (Err (errors.OutOfSpec text)) quiet types read = read.1 body (known body)
+columns_heard asked layout version standing metadata table body after (Err (errors.NotYetImplemented text)) quiet types read =
+    (no_columns asked layout standing (entry_in metadata (message.record_batch table) version 0 body) table read, read)
+columns_heard asked layout version standing metadata table body after (Err (errors.Io what)) quiet types read = absurd (omega (arith, quiet, read.1))
+columns_heard asked layout version standing metadata table body after (Err errors.OutOfMemory) quiet types read = tt
+columns_heard asked layout version standing metadata table body after (Err _) quiet types read = absurd read
 
 pub dictionary_heard : {A : Type 0} (layout : Layout) (version : Version) (dictionaries after : BTreeMap ℤ Column) (metadata : List ℕ)
     (table : Table) (body : List ℕ) (told : Told) (result : Result A Error) → told.failures ≡ 0
@@ -123,9 +127,10 @@ dictionary_heard layout version dictionaries after metadata table body told (Err
 
 -- ---- a message by its header
 
-module _ (layout : Layout) (version : Version) (standing standing_after : List Dictionary) (row : ℕ) (metadata body : List ℕ) where
+module _ (asked : Option (List ℕ)) (layout : Layout) (version : Version) (standing standing_after : List Dictionary) (row : ℕ)
+    (metadata body : List ℕ) where
   abbrev Answers : Result (Option (List Column)) Error → Type 0
-  Answers result = Hears layout version standing standing_after row metadata body result
+  Answers result = Hears asked layout version standing standing_after row metadata body result
 
   -- what is said, beside how many dictionaries came in a row
   abbrev with_row : ℕ → Option Said → Option (ℕ × Said)
@@ -133,25 +138,25 @@ module _ (layout : Layout) (version : Version) (standing standing_after : List D
 
   -- what is heard of a message with some header
   abbrev heard_with : Header → Option (ℕ × Said)
-  heard_with header = heard layout version standing row (record { metadata = metadata; header = header; body = body })
+  heard_with header = heard asked layout version standing row (record { metadata = metadata; header = header; body = body })
 
   heard_is : (it : Message) (header : Header) → message_in metadata ≡ Some it → it.header ≡ header
-      → heard_in layout version standing row metadata body ≡ heard_with header
+      → heard_in asked layout version standing row metadata body ≡ heard_with header
   heard_is it header there is =
       bind_is (message_in metadata) (λ (found : Message). heard_with found.header) it there ∙ ap heard_with is
 
   in_a_row : (table : Table) (few : Bool) → nat_lt row most_dictionaries ≡ few
       → heard_with (message.dictionary_batch table) ≡ ((guard few >>= (λ (ok : Bool). Some (row + 1)))
-      >>= (λ (now : ℕ). said_by layout standing (entry_in metadata (message.dictionary_batch table) version 0 body) (message.dictionary_batch table)
-      >>= (λ (said : Said). Some (now, said))))
+      >>= (λ (now : ℕ). said_by asked layout standing (entry_in metadata (message.dictionary_batch table) version 0 body)
+      (message.dictionary_batch table) >>= (λ (said : Said). Some (now, said))))
   in_a_row table few is = ap (λ (test : Bool). (guard test >>= (λ (ok : Bool). Some (row + 1)))
-      >>= (λ (now : ℕ). said_by layout standing (entry_in metadata (message.dictionary_batch table) version 0 body) (message.dictionary_batch table)
-      >>= (λ (said : Said). Some (now, said)))) is
+      >>= (λ (now : ℕ). said_by asked layout standing (entry_in metadata (message.dictionary_batch table) version 0 body)
+      (message.dictionary_batch table) >>= (λ (said : Said). Some (now, said)))) is
 
   dictionary_is : (it : Message) (table : Table) (found : Option Dictionary) → message_in metadata ≡ Some it
       → it.header ≡ message.dictionary_batch table → row < most_dictionaries
       → dictionary_array layout standing (entry_in metadata (message.dictionary_batch table) version 0 body) table ≡ found
-      → heard_in layout version standing row metadata body
+      → heard_in asked layout version standing row metadata body
       ≡ with_row (row + 1) (found >>= (λ (dictionary : Dictionary). Some (dictionary_stands dictionary)))
   dictionary_is it table found there is few e =
       heard_is it (message.dictionary_batch table) there is ∙ in_a_row table true (le-leb (suc row) most_dictionaries few)

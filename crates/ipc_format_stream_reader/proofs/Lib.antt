@@ -11,5 +11,8 @@ pub mod Headers
 pub mod Alike
 pub mod Heard
 pub mod Turning
+pub mod AskedPlaces
+pub mod AskedTurns
+pub mod Asks
 pub mod Nexts
 pub use Rattle.ipc_format_chunk_writing.proofs as chunk_lemmas

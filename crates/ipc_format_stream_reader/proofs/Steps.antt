@@ -13,7 +13,8 @@ use Rattle.ipc_format_chunk_writing.specs.grammar.Limits.{most_dictionaries}
 use Rattle.ipc_format_chunk_writing.specs.grammar.Messages.{Version, Header, schema, dictionary_batch, record_batch}
 use Rattle.ipc_format_chunk_writing.specs.grammar.Refusals.{first_messages, next_after}
 use Rattle.ipc_format_chunk_writing.specs.grammar.Tables.{batch_in, batches_of, batches_behind, stream_entry}
-use Rattle.ipc_format_stream_reader.specs.Steps.{Batches, Step, cut_off, ended, dictionary_then, batch_then, step_by, step_of, step_at, behind, first_from}
+use Rattle.ipc_format_stream_reader.specs.Steps.{Batches, Step, cut_off, ended, dictionary_then, batch_then}
+use Rattle.ipc_format_stream_reader.specs.Steps.{step_by, step_of, step_at, behind, first_from}
 use Rattle.ipc_format_stream_reader.proofs.Binding.{came_of}
 
 -- ---- what comes of a step

@@ -11,7 +11,8 @@ use Rattle.ipc_format_chunk_writing.specs.grammar.Messages.{Header, Version, ver
 use Rattle.ipc_format_chunk_writing.specs.grammar.Refusals.{first_messages, first_batches, behind_messages, next_after, message_there, compression_in}
 use Rattle.ipc_format_chunk_writing.specs.grammar.Refusals.{is_delta, HasFloat, HasCompression, HasDelta, HasTooManyRows, IsUnfinished}
 use Rattle.ipc_format_chunk_writing.specs.grammar.Schemas.{SchemaIn}
-use Rattle.ipc_format_chunk_writing.specs.grammar.Tables.{stream, Contents, batches_of, batches_behind, batches_in, schema_of, stream_entry, layout_of}
+use Rattle.ipc_format_chunk_writing.specs.grammar.Tables.{stream, Contents, batches_of, batches_behind, batches_in}
+use Rattle.ipc_format_chunk_writing.specs.grammar.Tables.{schema_of, stream_entry, layout_of}
 use Rattle.ipc_format_chunk_writing.specs.grammar.Tables.{contents_of, table_of}
 use Rattle.ipc_format_chunk_writing.specs.grammar.Writable.{normalised}
 use Rattle.ipc_format_stream_reader.specs.Behind.{IsUnreadThere, HasUnreadFrom, HasTooManyFrom, IsUnfinishedFrom}

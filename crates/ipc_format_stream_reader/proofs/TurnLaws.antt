@@ -39,14 +39,14 @@ of_message layout version standing message header later =
 -- what comes of what a message says
 abbrev by_said : Layout → Version → List ℕ → List Dictionary → ℕ → ℕ → Option Said → Option Batches
 by_said layout version rest standing most row said =
-    said >>= (λ (it : Said). turn_with (λ now stand. turn_within layout version most rest stand now) rest standing (row, it)
+    said >>= (λ (it : Said). turn_with (λ now stand. turn_within None layout version most rest stand now) rest standing (row, it)
     >>= batches_by_turn layout version)
 
 module _ (layout : Layout) (version : Version) (has : HasArrays layout) where
   -- behind a message that is heard of
   dictionary_first : (message : Framed) (table : Table) (rest : List ℕ) (standing : List Dictionary) (most row : ℕ) (later : Option (List Framed))
       (found : Option Dictionary)
-      → ((stand : List Dictionary) → of_messages layout version stand later ≡ (turn_within layout version most rest stand row
+      → ((stand : List Dictionary) → of_messages layout version stand later ≡ (turn_within None layout version most rest stand row
       >>= batches_by_turn layout version))
       → (later >>= (λ (others : List Framed). found
       >>= (λ (dictionary : Dictionary). batches_of layout (dictionary ∷ standing) (map (stream_entry version) others))))
@@ -84,21 +84,21 @@ module _ (layout : Layout) (version : Version) (has : HasArrays layout) where
   abbrev heard_by : List Dictionary → ℕ → Framed → Header → Option (ℕ × Said)
   heard_by standing row message header =
       dictionaries_after row header
-      >>= (λ (in_a_row : ℕ). said_by layout standing (stream_entry version message) header >>= (λ (said : Said). Some (in_a_row, said)))
+      >>= (λ (in_a_row : ℕ). said_by None layout standing (stream_entry version message) header >>= (λ (said : Said). Some (in_a_row, said)))
 
   abbrev turned : List ℕ → List Dictionary → ℕ → Option (ℕ × Said) → Option Batches
   turned rest standing most found =
-      (found >>= turn_with (λ now stand. turn_within layout version most rest stand now) rest standing) >>= batches_by_turn layout version
+      (found >>= turn_with (λ now stand. turn_within None layout version most rest stand now) rest standing) >>= batches_by_turn layout version
 
   module _ (message : Framed) (rest : List ℕ) (standing : List Dictionary) (most row : ℕ) (later : ℕ → Option (List Framed))
       (behind_dictionary : row < most_dictionaries → (stand : List Dictionary) → of_messages layout version stand (later (row + 1))
-      ≡ (turn_within layout version most rest stand (row + 1) >>= batches_by_turn layout version))
+      ≡ (turn_within None layout version most rest stand (row + 1) >>= batches_by_turn layout version))
       (behind_batch : of_messages layout version standing (later 0) ≡ batches_from layout version rest standing 0) where
     at_dictionary : (table : Table) (few : Bool) → nat_lt row most_dictionaries ≡ few
         → ((guard few >>= (λ (ok : Bool). Some (row + 1)))
         >>= (λ (in_a_row : ℕ). of_message layout version standing message (grammar.dictionary_batch table) (later in_a_row)))
         ≡ turned rest standing most ((guard few >>= (λ (ok : Bool). Some (row + 1)))
-        >>= (λ (in_a_row : ℕ). said_by layout standing (stream_entry version message) (grammar.dictionary_batch table)
+        >>= (λ (in_a_row : ℕ). said_by None layout standing (stream_entry version message) (grammar.dictionary_batch table)
         >>= (λ (said : Said). Some (in_a_row, said))))
     at_dictionary table false is = refl
     at_dictionary table true is =
@@ -108,8 +108,8 @@ module _ (layout : Layout) (version : Version) (has : HasArrays layout) where
         (sym (has.dictionaries standing (stream_entry version message) table))
         ∙ dictionary_first message table rest standing most (row + 1) (later (row + 1))
         (dictionary_array layout standing (stream_entry version message) table) (behind_dictionary few)
-        ∙ sym (heard_then (said_by layout standing (stream_entry version message) (grammar.dictionary_batch table)) (row + 1)
-        (turn_with (λ now stand. turn_within layout version most rest stand now) rest standing) (batches_by_turn layout version))
+        ∙ sym (heard_then (said_by None layout standing (stream_entry version message) (grammar.dictionary_batch table)) (row + 1)
+        (turn_with (λ now stand. turn_within None layout version most rest stand now) rest standing) (batches_by_turn layout version))
 
     at_header : (header : Header) → (dictionaries_after row header
         >>= (λ (in_a_row : ℕ). of_message layout version standing message header (later in_a_row)))
@@ -121,18 +121,18 @@ module _ (layout : Layout) (version : Version) (has : HasArrays layout) where
         batches_of layout standing (map (stream_entry version) others) >>= (λ (batches : Batches). Some (columns ∷ batches)))))
         (sym (has.batches standing (stream_entry version message) table))
         ∙ columns_first rest standing most (later 0) (record_arrays layout standing None (stream_entry version message) table) behind_batch
-        ∙ sym (heard_then (said_by layout standing (stream_entry version message) (grammar.record_batch table)) 0
-        (turn_with (λ now stand. turn_within layout version most rest stand now) rest standing) (batches_by_turn layout version))
+        ∙ sym (heard_then (said_by None layout standing (stream_entry version message) (grammar.record_batch table)) 0
+        (turn_with (λ now stand. turn_within None layout version most rest stand now) rest standing) (batches_by_turn layout version))
 
     at_message : of_messages layout version standing (then_later later message (dictionaries_after row message.header))
-        ≡ turned rest standing most (heard layout version standing row message)
+        ≡ turned rest standing most (heard None layout version standing row message)
     at_message = flatten standing message later (dictionaries_after row message.header) ∙ at_header message.header
 
   -- ---- one turn
 
   abbrev TurnsRead : ℕ → Type 0
   TurnsRead k = (bytes : List ℕ) (standing : List Dictionary) (row : ℕ) → row ≤ most_dictionaries → most_dictionaries < row + k
-      → batches_from layout version bytes standing row ≡ (turn_within layout version k bytes standing row >>= batches_by_turn layout version)
+      → batches_from layout version bytes standing row ≡ (turn_within None layout version k bytes standing row >>= batches_by_turn layout version)
 
   -- the messages behind one are those of the bytes behind it
   later_is : (bytes : List ℕ) (message : Framed) (after row : ℕ) → next_at bytes 0 ≡ Some (message_then message after)
@@ -146,8 +146,8 @@ module _ (layout : Layout) (version : Version) (has : HasArrays layout) where
   at_next : (k : ℕ) → TurnsRead k → (bytes : List ℕ) (standing : List Dictionary) (row : ℕ) → row ≤ most_dictionaries
       → most_dictionaries < row + suc k → (next : Option Next) → next_at bytes 0 ≡ next
       → of_messages layout version standing (later_by (length bytes) bytes row next)
-      ≡ ((next >>= by_next (Some (waits bytes standing row)) (Some ends) (λ message after. heard layout version standing row message
-      >>= turn_with (λ now stand. turn_within layout version k (drop after bytes) stand now) (drop after bytes) standing))
+      ≡ ((next >>= by_next (Some (waits bytes standing row)) (Some ends) (λ message after. heard None layout version standing row message
+      >>= turn_with (λ now stand. turn_within None layout version k (drop after bytes) stand now) (drop after bytes) standing))
       >>= batches_by_turn layout version)
   at_next k turns bytes standing row few enough_left None e = refl
   at_next k turns bytes standing row few enough_left (Some nothing_whole) e = refl

@@ -26,4 +26,4 @@ batches_by_turn layout version (gives columns bytes standing) = do
 abbrev pub StreamsAreReadByTurns : Type 0
 StreamsAreReadByTurns = (layout : Layout) (version : Version) (bytes : List ℕ) (standing : List Dictionary) (row : ℕ) → HasArrays layout
     → row ≤ most_dictionaries
-    → batches_from layout version bytes standing row ≡ (next_turn layout version bytes standing row >>= batches_by_turn layout version)
+    → batches_from layout version bytes standing row ≡ (next_turn None layout version bytes standing row >>= batches_by_turn layout version)

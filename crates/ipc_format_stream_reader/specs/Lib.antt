@@ -1,3 +1,5 @@
+pub mod Asking
+pub mod AskedStates
 pub mod Steps
 pub mod Behind
 pub mod Turns

@@ -22,7 +22,7 @@ spot_code = code_by (Option (List ℕ) × (List Dictionary × ℕ))
     (λ s. (s.left, (s.standing, s.in_a_row))) (λ p. record { left = p.0; standing = p.1.0; in_a_row = p.1.1 }) (λ _. refl)
 
 abbrev pub reading_code : Coded Reading
-reading_code = code_by (Spot × (ℕ × (StreamMetadata × Bool)))
-    (coded× spot_code (coded× coded_ℕ (coded× stream_metadata.the_row.coded coded_bool)))
-    (λ r. (r.spot, (r.failures, (r.metadata, r.is_finished))))
-    (λ p. record { spot = p.0; failures = p.1.0; metadata = p.1.1.0; is_finished = p.1.1.1 }) (λ _. refl)
+reading_code = code_by (Spot × (ℕ × (StreamMetadata × (Option (List ℕ) × Bool))))
+    (coded× spot_code (coded× coded_ℕ (coded× stream_metadata.the_row.coded (coded× (coded_option (coded_list coded_ℕ)) coded_bool))))
+    (λ r. (r.spot, (r.failures, (r.metadata, (r.columns, r.is_finished)))))
+    (λ p. record { spot = p.0; failures = p.1.0; metadata = p.1.1.0; columns = p.1.1.1.0; is_finished = p.1.1.1.1 }) (λ _. refl)

@@ -2,6 +2,7 @@
 //! come, keeps the dictionaries that stand, and gives each batch as a chunk of arrays.
 #![tactic(auto)]
 
+mod asking;
 mod laws;
 mod message;
 mod reader;
@@ -9,6 +10,7 @@ mod start;
 mod state;
 mod turns;
 
+pub use asking::{Asked, ask, put_asked, rising};
 pub use laws::streams_are_read_by_turns;
 pub use reader::StreamReader;
 pub use start::stream_start;
@@ -22,7 +24,7 @@ pub mod chunk_writing {
         columnar_memory, encode_batch, encode_chunk, encode_chunk_amortized, have_one_form,
         ids_fit, is_choice, is_projection, look_ups_are_enough, nested_arrays, prepare_projection,
         read, read_children, read_dictionary, read_fixed_size_list, read_large_list, read_list,
-        read_map, read_record_batch, read_struct, read_union, schemas_have_arrays, write,
+        read_map, read_record_batch, read_struct, read_union, rises, schemas_have_arrays, write,
     };
 }
 

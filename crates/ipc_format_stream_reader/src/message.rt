@@ -1,5 +1,7 @@
 //! What a message of a stream says to its reader (Arrow IPC, "RecordBatch message", "Dictionary Messages").
-ghost use Rattle.std.specs.Prelude.{◌≡◌};
+ghost use Rattle.std.specs.Prelude.{◌≡◌, length};
+ghost use Rattle.std.specs.Option.{option_copied};
+ghost use Rattle.ipc_format_chunk_writing.specs.BatchReads.{IsProjection};
 ghost use Rattle.ipc_format_chunk_writing.specs.ReadArrays.{standing_in};
 ghost use Rattle.ipc_format_chunk_writing.specs.flatbuffers.Views.{table_of};
 ghost use Rattle.ipc_format_chunk_writing.specs.messages.MessageViews.{version_view};
@@ -18,8 +20,8 @@ use std::alloc::Global;
 /// How many dictionary messages stand in a row at most.
 const MOST_DICTIONARIES: usize = 65536;
 
-/// Reads a message: of a dictionary, which stands from then on, nothing, and of a record batch the columns. `in_a_row` is how many dictionary
-/// messages came directly before it.
+/// Reads a message: of a dictionary, which stands from then on, nothing, and of a record batch the columns, all or those that are asked for, which
+/// rise. `in_a_row` is how many dictionary messages came directly before it.
 ///
 /// # Errors
 /// - `OutOfSpec`: the metadata is of a schema, or of no message; too many dictionaries came in a row; or what the message says is refused (as
@@ -33,11 +35,13 @@ pub(crate) fn read_message(
     fields: &[Field],
     ipc_schema: &IpcSchema,
     version: MetadataVersion,
+    columns: Option<&[usize]>,
     dictionaries: &mut Dictionaries,
     in_a_row: usize,
     scratch: &mut Vec<u8>,
 ) -> Result<Option<Chunk<AnyArray>>>
-    ensures { Hears (record {
+    requires { IsProjection (length fields.now) (option_copied columns) }
+    ensures { Hears (option_copied columns.entry) (record {
       fields = fields.now;
       below = ids_views ipc_schema.now.fields;
       is_little_endian = ipc_schema.now.is_little_endian;
@@ -73,6 +77,7 @@ pub(crate) fn read_message(
                 fields,
                 ipc_schema,
                 version,
+                columns,
                 dictionaries,
                 scratch,
             )?;
@@ -117,7 +122,7 @@ fn take_dictionary(
     )
 }
 
-/// The columns of a message's record batch.
+/// The columns of a message's record batch: all, or those that are asked for, which rise.
 ///
 /// # Errors
 /// As of `read_record_batch`.
@@ -128,10 +133,12 @@ fn columns_of(
     fields: &[Field],
     ipc_schema: &IpcSchema,
     version: MetadataVersion,
+    columns: Option<&[usize]>,
     dictionaries: &Dictionaries,
     scratch: &mut Vec<u8>,
 ) -> Result<Chunk<AnyArray>>
-    ensures { HearsColumns (record {
+    requires { IsProjection (length fields.now) (option_copied columns) }
+    ensures { HearsColumns (option_copied columns.entry) (record {
       fields = fields.now;
       below = ids_views ipc_schema.now.fields;
       is_little_endian = ipc_schema.now.is_little_endian;
@@ -144,7 +151,7 @@ fn columns_of(
         batch,
         fields,
         ipc_schema,
-        None,
+        columns,
         None,
         dictionaries,
         version,

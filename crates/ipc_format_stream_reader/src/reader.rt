@@ -1,11 +1,13 @@
 //! Readers of streams, which give one record batch after another (Arrow IPC, "IPC Streaming Format").
-ghost use Rattle.std.specs.Prelude.{◌≡◌};
+ghost use Rattle.std.specs.Prelude.{◌≡◌, length};
 ghost use Rattle.ipc_format_chunk_writing.specs.grammar.Writable.{normalised};
+ghost use Rattle.ipc_format_stream_reader.specs.Asking.{IsAsked, asked_schema, given_columns};
 ghost use Rattle.ipc_format_stream_reader.specs.Readings.{NextGives, Opens};
 
+use crate::asking::{Asked, ask};
 use crate::state::StreamState;
-use crate::turns::{Standing, take_turn};
-use ipc_format_chunk_writing::columnar_memory::{Error, Result, Schema};
+use crate::turns::{Standing, take_asked};
+use ipc_format_chunk_writing::columnar_memory::{Result, Schema};
 use ipc_format_chunk_writing::streams::owned::writing::normalised;
 use ipc_format_chunk_writing::streams::{Faults, StreamMetadata, read_refusal};
 use std::alloc::Global;
@@ -21,6 +23,10 @@ pub struct StreamReader<R: Read + Faults> {
     metadata: StreamMetadata,
     /// The schema in its one form, by which columns are read.
     schema: Schema,
+    /// The columns that are asked for, or none where all are.
+    asked: Option<Asked>,
+    /// The schema of these columns, in the asked order.
+    chosen_schema: Schema,
     standing: Standing,
     is_finished: bool,
 }
@@ -31,6 +37,7 @@ impl<R: Read + Faults> Model for StreamReader<R> {
     ghost use Rattle.ipc_format_chunk_writing.specs.ReadArrays.{standing_in};
     ghost use Rattle.ipc_format_chunk_writing.specs.grammar.Writable.{normalised};
     ghost use Rattle.ipc_format_stream_reader.specs.ReadingCodes.{reading_code};
+    ghost use Rattle.ipc_format_stream_reader.specs.Asking.{AreReady, asked_of, asked_schema};
     ghost use Rattle.ipc_format_stream_reader.specs.Readings.{Reading};
 
     ghost Value = { Reading };
@@ -45,36 +52,40 @@ impl<R: Read + Faults> Model for StreamReader<R> {
       };
       failures = R.failures r.device;
       metadata = r.metadata;
+      columns = asked_of r.asked;
       is_finished = r.is_finished;
     } };
 
-    ghost invariant = { λ r. (r.schema ≡ normalised r.metadata.schema) × (length r.standing.held.items < 4) };
+    ghost invariant = { λ r. (r.schema ≡ normalised r.metadata.schema) × (length r.standing.held.items < 4)
+        × AreReady (length r.schema.fields) r.asked × (r.chosen_schema ≡ asked_schema (asked_of r.asked) r.metadata.schema) };
 }
 
 impl<R: Read + Faults + Drop> StreamReader<R> {
-    /// Reads the batches behind the first message of a stream, which said what is told of it. Columns are read by the schema in its one form.
+    /// Reads the batches behind the first message of a stream, which said what is told of it. Columns are read by the schema in its one form: all, or
+    /// those of a projection, in its order, each of them at most once and by its place among the fields (`is_choice` tests it). A column that is not
+    /// chosen is passed over and is not decoded.
     ///
     /// # Errors
-    /// - `NotYetImplemented`: columns are chosen.
-    /// - `OutOfMemory`: there was no memory for the schema.
+    /// `OutOfMemory`: there was no memory for the schema, or for the columns that are asked for.
     pub fn new(
         alloc: Global,
         reader: R,
         metadata: StreamMetadata,
         projection: Option<Vec<usize>>,
     ) -> Result<StreamReader<R>>
-        ensures { Opens (R.remaining reader) (R.failures reader) metadata projection result }
+        requires { IsAsked (length metadata.schema.fields) (given_columns projection) }
+        ensures { Opens (R.remaining reader) (R.failures reader) metadata (given_columns projection) result }
     {
-        if projection.is_some() {
-            return Err(Error::NotYetImplemented("a choice of columns"));
-        }
         let schema = normalised(alloc, &metadata.schema)?;
+        let (asked, chosen_schema) = ask(alloc, &schema, projection)?;
         let standing = Standing::new(alloc);
         Ok(StreamReader {
             alloc,
             device: reader,
             metadata,
             schema,
+            asked,
+            chosen_schema,
             standing,
             is_finished: false,
         })
@@ -87,11 +98,11 @@ impl<R: Read + Faults + Drop> StreamReader<R> {
         &self.metadata
     }
 
-    /// The schema of the arrays that are given: the stream's in its one form.
+    /// The schema of the arrays that are given: the stream's in its one form, of the columns that are asked for, in the asked order.
     pub fn schema(&self) -> &Schema
-        ensures { result.now ≡ normalised self.now.metadata.schema }
+        ensures { result.now ≡ asked_schema self.now.columns self.now.metadata.schema }
     {
-        &self.schema
+        &self.chosen_schema
     }
 
     /// Whether the reader has ended: behind the end mark, or after a refusal.
@@ -107,8 +118,8 @@ impl<R: Read + Faults + Drop> Iterator for StreamReader<R> {
 
     ghost next_gives = { NextGives };
 
-    /// The next record batch, under the dictionaries that came before it. Where the bytes end before it, it is `Waiting`, and a later call goes on
-    /// with those that it holds. Behind the end mark and after a refusal nothing comes.
+    /// The columns that are asked for of the next record batch, under the dictionaries that came before it. Where the bytes end before it, it is
+    /// `Waiting`, and a later call goes on with those that it holds. Behind the end mark and after a refusal nothing comes.
     ///
     /// # Errors
     /// - `OutOfSpec`: the bytes break a rule of the format, end within a message, or more than 65,536 dictionaries come in a row; or the device
@@ -121,12 +132,13 @@ impl<R: Read + Faults + Drop> Iterator for StreamReader<R> {
             return None;
         }
         let before = self.device.faults();
-        let found = take_turn(
+        let found = take_asked(
             self.alloc,
             &mut self.device,
             self.schema.fields.as_slice(),
             &self.metadata.ipc_schema,
             self.metadata.version,
+            &self.asked,
             &mut self.standing,
         );
         let after = self.device.faults();

@@ -15,7 +15,8 @@ pub use writer::{StreamWriter, fields_or};
 /// What `ipc_format_stream_reader` has, as far as packages above use it.
 pub mod reader {
     pub use ipc_format_stream_reader::{
-        StreamReader, StreamState, stream_start, streams_are_read_by_turns,
+        Asked, StreamReader, StreamState, ask, put_asked, rising, stream_start,
+        streams_are_read_by_turns,
     };
 
     /// Of `chunk_writing`.
@@ -26,7 +27,8 @@ pub mod reader {
             encode_batch, encode_chunk, encode_chunk_amortized, have_one_form, is_choice,
             is_projection, look_ups_are_enough, nested_arrays, prepare_projection, read,
             read_children, read_dictionary, read_fixed_size_list, read_large_list, read_list,
-            read_map, read_record_batch, read_struct, read_union, schemas_have_arrays, write,
+            read_map, read_record_batch, read_struct, read_union, rises, schemas_have_arrays,
+            write,
         };
     }
 

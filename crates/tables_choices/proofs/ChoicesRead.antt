@@ -12,14 +12,15 @@ use Rattle.tables_rows.specs.chunks.Faults.{fault_of}
 use Rattle.tables_rows.specs.chunks.StoredTables.{Stored, as_table}
 use Rattle.tables_rows.specs.chunks.declared.fault.Fault.{Fault}
 use Rattle.tables_rows.specs.chunks.declared.fault.Fault.TheVariants as faults
-use Rattle.tables_rows.specs.chunks.file_reading.FileEntries.{entries_view}
-use Rattle.tables_rows.specs.chunks.file_reading.Starts as files
-use Rattle.tables_rows.specs.chunks.file_reading.declared.entries.Entry as declared
+use Rattle.tables_rows.specs.chunks.ipc_format.FileEntries.{entries_view}
+use Rattle.tables_rows.specs.chunks.ipc_format.FileReads.{IsUnreadFile}
+use Rattle.tables_rows.specs.chunks.ipc_format.FileStarts as files
+use Rattle.tables_rows.specs.chunks.ipc_format.files.declared.entries.Entry as declared
 use Rattle.tables_rows.specs.chunks.ipc_format.Dictionaries.{Entry}
 use Rattle.tables_rows.specs.chunks.ipc_format.Framing.{Framed, later_messages}
 use Rattle.tables_rows.specs.chunks.ipc_format.Messages.{Version}
 use Rattle.tables_rows.specs.chunks.ipc_format.Reading.{◌>>=◌, guard}
-use Rattle.tables_rows.specs.chunks.ipc_format.Refusals.{HasFloat, HasCompression, HasDelta}
+use Rattle.tables_rows.specs.chunks.ipc_format.Refusals.{HasFloat, HasUnimplemented}
 use Rattle.tables_rows.specs.chunks.ipc_format.Schemas.{SchemaIn}
 use Rattle.tables_rows.specs.chunks.ipc_format.Writable.{normalised}
 use Rattle.tables_rows.specs.chunks.ipc_format.columnar_memory.declared.Error.{Error}
@@ -32,7 +33,8 @@ use Rattle.tables_rows.specs.chunks.ipc_format.grammar.Tables.{Contents, Form, s
 use Rattle.tables_rows.specs.chunks.ipc_format.grammar.Tables.{stream_entry}
 use Rattle.tables_rows.specs.chunks.ipc_format.metadata.Reading.{Refuses}
 use Rattle.tables_rows.specs.chunks.ipc_format.streams.Starts as streams
-use Rattle.tables_rows.proofs.chunk_lemmas.file_reading_lemmas.Starts.{unread_in_file}
+use Rattle.tables_rows.proofs.chunk_lemmas.FileBatches.{unread_start}
+use Rattle.tables_rows.proofs.chunk_lemmas.ipc_format_lemmas.FileStarts.{unread_in_file}
 use Rattle.tables_rows.proofs.chunk_lemmas.ipc_format_lemmas.Binding.{same_some}
 use Rattle.tables_rows.proofs.chunk_lemmas.ipc_format_lemmas.StreamParts.{fitting, fits, stream_from, too_many, unread_in_stream}
 use Rattle.tables_choices.specs.Gathered.{Batches, GathersTable, HasUnread}
@@ -117,7 +119,7 @@ pub record IsHeld (form : Form) (bytes : List ℕ) (found : SchemaIn) (entries :
   pub schema : schema_of_bytes form bytes ≡ Some found
   pub contents : contents_of form bytes ≡ Some (record { schema = found; entries = entries })
   pub whole : EndsEarly form bytes → ⊥
-  pub unread : HasUnread entries → HasFloat form bytes ⊎ (HasCompression form bytes ⊎ HasDelta form bytes)
+  pub unread : HasUnread entries → HasUnimplemented form bytes
 
 pub held_read : (form : Form) (bytes columns : List ℕ) (limit : Option ℕ) (found : SchemaIn) (entries : List Entry)
     (result : Result Stored Fault) → IsHeld form bytes found entries → HasColumns found columns
@@ -180,7 +182,7 @@ memory_refused (errors.External from what) form bytes columns limit is = absurd 
 -- What is refused before the messages are found: where the format gives nothing, nothing is held, no column lacks and no stream ends early.
 pub refused_read : {A : Type 0} (error : Error) (form : Form) (bytes columns : List ℕ) (limit : Option ℕ) (Unread : Type 0) (given : Option A)
     → (given ≡ None → contents_of form bytes ≡ None) → (given ≡ None → LacksColumn form bytes columns → ⊥)
-    → (given ≡ None → EndsEarly form bytes → ⊥) → (Unread → HasFloat form bytes ⊎ (HasCompression form bytes ⊎ HasDelta form bytes))
+    → (given ≡ None → EndsEarly form bytes → ⊥) → (Unread → HasUnimplemented form bytes)
     → Refuses Unread error given → ReadsStored form bytes columns limit (Err (fault_of error))
 refused_read errors.OutOfMemory form bytes columns limit Unread given nothing lacks early unread refused = tt
 refused_read (errors.OutOfSpec what) form bytes columns limit Unread given nothing lacks early unread refused =
@@ -202,7 +204,7 @@ pub stream_start_refused : (error : Error) (bytes columns : List ℕ) (limit : O
     → Refuses (HasFloat stream bytes) error (streams.start_in bytes) → ReadsStored stream bytes columns limit (Err (fault_of error))
 stream_start_refused error bytes columns limit refused =
     refused_read error stream bytes columns limit (HasFloat stream bytes) (streams.start_in bytes) (stream_without bytes)
-    (λ none. lacks_none (schema_of_bytes stream bytes) columns (ap (option_map stream_schema) none)) (never_early bytes) (λ float. inl float)
+    (λ none. lacks_none (schema_of_bytes stream bytes) columns (ap (option_map stream_schema) none)) (never_early bytes) (λ float. inr (inl float))
     refused
 
 pub stream_has_schema : (bytes : List ℕ) (start : streams.Start) (place : ℕ) → streams.start_in bytes ≡ Some (start, place)
@@ -253,7 +255,7 @@ stream_held bytes start place entries (Some framed) e later are =
       schema = stream_has_schema bytes start place e;
       contents = stream_holds bytes start place (Some framed) e later;
       whole = λ early. whole_to_end (length bytes) bytes place 0 framed later (sym whole.cut ∙ ends_in_later bytes early);
-      unread = λ unread. unread_in_stream bytes start place whole (unread_from start.version bytes place framed later unread);
+      unread = λ unread. inr (unread_in_stream bytes start place whole (unread_from start.version bytes place framed later unread));
     })
 
 -- the messages behind the schema are found
@@ -269,11 +271,11 @@ abbrev file_schema : files.Start → SchemaIn
 file_schema found = found.schema
 
 pub file_start_refused : (error : Error) (bytes columns : List ℕ) (limit : Option ℕ)
-    → Refuses (HasFloat file bytes) error (files.start_in bytes) → ReadsStored file bytes columns limit (Err (fault_of error))
+    → Refuses (IsUnreadFile bytes) error (files.start_in bytes) → ReadsStored file bytes columns limit (Err (fault_of error))
 file_start_refused error bytes columns limit refused =
-    refused_read error file bytes columns limit (HasFloat file bytes) (files.start_in bytes) (file_without bytes)
-    (λ none. lacks_none (schema_of_bytes file bytes) columns (ap (option_map file_schema) none)) (λ none early. early) (λ float. inl float)
-    refused
+    refused_read error file bytes columns limit (IsUnreadFile bytes) (files.start_in bytes) (file_without bytes)
+    (λ none. lacks_none (schema_of_bytes file bytes) columns (ap (option_map file_schema) none)) (λ none early. early)
+    (unread_start bytes) refused
 
 pub file_has_schema : (bytes : List ℕ) (start : files.Start) → files.start_in bytes ≡ Some start
     → schema_of_bytes file bytes ≡ Some start.schema
@@ -295,5 +297,5 @@ file_entries_found bytes start entries e found = record {
   schema = file_has_schema bytes start e;
   contents = file_holds bytes start (Some entries) e found;
   whole = λ early. early;
-  unread = λ unread. inr (unread_in_file bytes start e (unread_blocks bytes start.dictionaries start.record_batches entries found unread));
+  unread = λ unread. inr (inr (unread_in_file bytes start e (unread_blocks bytes start.dictionaries start.record_batches entries found unread)));
 }

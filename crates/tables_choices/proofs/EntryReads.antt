@@ -4,9 +4,9 @@ use Rattle.std.specs.Prelude.{Option, Some, Result, Ok, Err}
 use Rattle.std.proofs.lemmas.List.{length-map}
 use Rattle.tables_rows.specs.chunks.Choices.{are_below}
 use Rattle.tables_rows.specs.chunks.Messages.{AreOfFields, TakesDictionary, type_of}
-use Rattle.tables_rows.specs.chunks.file_reading.FileEntries.{entry_view}
-use Rattle.tables_rows.specs.chunks.file_reading.Messages.{dictionary_by}
-use Rattle.tables_rows.specs.chunks.file_reading.declared.entries.Entry as code
+use Rattle.tables_rows.specs.chunks.ipc_format.FileEntries.{entry_view}
+use Rattle.tables_rows.specs.chunks.ipc_format.BlockMessages.{dictionary_by}
+use Rattle.tables_rows.specs.chunks.ipc_format.files.declared.entries.Entry as code
 use Rattle.tables_rows.specs.chunks.ipc_format.BatchReads.{chosen_record_arrays, entry_in, sized}
 use Rattle.tables_rows.specs.chunks.ipc_format.Chunks.{AreAsLong}
 use Rattle.tables_rows.specs.chunks.ipc_format.Columns.{Dictionary}
@@ -31,9 +31,9 @@ use Rattle.tables_rows.specs.chunks.ipc_format.messages.declared.messages.Messag
 use Rattle.tables_rows.specs.chunks.ipc_format.metadata.Reading.{Refuses}
 use Rattle.tables_rows.specs.chunks.ipc_format.streams.Queues.{is_compressed}
 use Rattle.tables_rows.proofs.chunk_lemmas.Lists.{chosen-map}
-use Rattle.tables_rows.proofs.chunk_lemmas.file_reading_lemmas.MessageReads.{refused_too}
-use Rattle.tables_rows.proofs.chunk_lemmas.file_reading_lemmas.RoomReads.{in_memory, sized_whole, compressed_source}
-use Rattle.tables_rows.proofs.chunk_lemmas.file_reading_lemmas.Unread.{compressed, either_by}
+use Rattle.tables_rows.proofs.chunk_lemmas.ipc_format_lemmas.BlockReads.{refused_too}
+use Rattle.tables_rows.proofs.chunk_lemmas.ipc_format_lemmas.RoomReads.{in_memory, sized_whole, compressed_source}
+use Rattle.tables_rows.proofs.chunk_lemmas.ipc_format_lemmas.UnreadBlocks.{compressed, either_by}
 use Rattle.tables_choices.specs.EntryChoices.{IsUnread, chosen_by}
 use Rattle.tables_choices.specs.Orders.{IsOrder, asked}
 use Rattle.tables_choices.specs.declared.order.Order.{Order}

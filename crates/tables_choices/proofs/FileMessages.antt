@@ -2,9 +2,9 @@
 use Rattle.std.proofs.Common.{◌≡◌, ◌∙◌, ℕ, zero, suc, Bool, true, List, [], ◌∷◌, ◌++◌, length, refl, sym, ap, subst, inl, inr}
 use Rattle.std.specs.Option.{option_map}
 use Rattle.std.specs.Prelude.{Option, Some, None, IsSome, IsSomeAnd, nat_le, slice_get, ◌⊎◌}
-use Rattle.tables_rows.specs.chunks.file_reading.Messages.{HasCompressed, IsCompressedAt, IsUnreadAt}
-use Rattle.tables_rows.specs.chunks.file_reading.Messages as files
-use Rattle.tables_rows.specs.chunks.file_reading.Starts.{Start, start_in}
+use Rattle.tables_rows.specs.chunks.ipc_format.BlockMessages.{HasCompressed, IsCompressedAt, IsUnreadAt}
+use Rattle.tables_rows.specs.chunks.ipc_format.BlockMessages as files
+use Rattle.tables_rows.specs.chunks.ipc_format.FileStarts.{Start, start_in}
 use Rattle.tables_rows.specs.chunks.ipc_format.Dictionaries.{Entry}
 use Rattle.tables_rows.specs.chunks.ipc_format.Messages.{Header, schema, dictionary_batch, record_batch}
 use Rattle.tables_rows.specs.chunks.ipc_format.Reading.{◌>>=◌, guard}
@@ -12,9 +12,9 @@ use Rattle.tables_rows.specs.chunks.ipc_format.Refusals.{compression_in, is_delt
 use Rattle.tables_rows.specs.chunks.ipc_format.grammar.Files.{Block, entry_at, entries_at, file_entries, is_dictionary, is_record_batch}
 use Rattle.tables_rows.specs.chunks.ipc_format.grammar.Limits.{most_dictionaries}
 use Rattle.tables_rows.specs.chunks.ipc_format.grammar.Tables.{Contents, file, contents_of}
-use Rattle.tables_rows.proofs.chunk_lemmas.file_reading_lemmas.EntryLists.{of_its_kind}
-use Rattle.tables_rows.proofs.chunk_lemmas.file_reading_lemmas.Starts.{contents_are, contents_with}
-use Rattle.tables_rows.proofs.chunk_lemmas.file_reading_lemmas.Unread.{message_found}
+use Rattle.tables_rows.proofs.chunk_lemmas.ipc_format_lemmas.EntryLists.{of_its_kind}
+use Rattle.tables_rows.proofs.chunk_lemmas.ipc_format_lemmas.FileStarts.{contents_are, contents_with}
+use Rattle.tables_rows.proofs.chunk_lemmas.ipc_format_lemmas.UnreadBlocks.{message_found}
 use Rattle.tables_rows.proofs.chunk_lemmas.ipc_format_lemmas.Binding.{came_of, same_some}
 use Rattle.tables_choices.specs.Gathered.{HasUnread}
 

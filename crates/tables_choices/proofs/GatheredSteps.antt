@@ -10,7 +10,7 @@ use Rattle.std.proofs.lemmas.List.{drop_all, map-append}
 use Rattle.std.proofs.lemmas.List.Elements.{All-push, filter-append}
 use Rattle.tables_rows.specs.chunks.Messages.{AreOfFields}
 use Rattle.tables_rows.specs.chunks.Reading.{slots_of_batches}
-use Rattle.tables_rows.specs.chunks.file_reading.Messages.{dictionary_by}
+use Rattle.tables_rows.specs.chunks.ipc_format.BlockMessages.{dictionary_by}
 use Rattle.tables_rows.specs.chunks.ipc_format.Chunks.{rows_of}
 use Rattle.tables_rows.specs.chunks.ipc_format.Columns.{Dictionary}
 use Rattle.tables_rows.specs.chunks.ipc_format.Dictionaries.{Entry, Layout, dictionary_in}
@@ -24,7 +24,7 @@ use Rattle.tables_rows.specs.chunks.ipc_format.columns.StoredColumns.{Column, sl
 use Rattle.tables_rows.specs.chunks.ipc_format.columns.Tables.{chosen, rows_of_columns}
 use Rattle.tables_rows.specs.chunks.ipc_format.grammar.Tables.{chosen_batches, chosen_batches_with, left_of}
 use Rattle.tables_rows.proofs.chunk_lemmas.Chunks.{rows_of_chunk}
-use Rattle.tables_rows.proofs.chunk_lemmas.file_reading_lemmas.Lists.{behind, behind_none, behind_next, drop_next}
+use Rattle.tables_rows.proofs.chunk_lemmas.ipc_format_lemmas.FileLists.{behind, behind_none, behind_next, drop_next}
 use Rattle.tables_choices.specs.EntryChoices.{GathersEntry, chosen_by}
 use Rattle.tables_choices.specs.Gathered.{Batches, GathersBatches, kept}
 

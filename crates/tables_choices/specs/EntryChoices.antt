@@ -1,7 +1,7 @@
 -- What is gathered of one message: its chosen columns, or the dictionary that it brings (Arrow IPC, "RecordBatch message", "Dictionary Messages").
 use Rattle.std.specs.Prelude.{◌≡◌, ◌⊎◌, ℕ, true, List, ◌∷◌, map, Option, Some, None, IsSome, IsSomeAnd, Result, Ok, Err}
 use Rattle.tables_rows.specs.chunks.Messages.{AreOfFields}
-use Rattle.tables_rows.specs.chunks.file_reading.Messages.{dictionary_by}
+use Rattle.tables_rows.specs.chunks.ipc_format.BlockMessages.{dictionary_by}
 use Rattle.tables_rows.specs.chunks.ipc_format.columnar_memory.declared.Error.{Error}
 use Rattle.tables_rows.specs.chunks.ipc_format.columns.Slots.{Slot}
 use Rattle.tables_rows.specs.chunks.ipc_format.columns.StoredColumns.{Column, slots}

@@ -1,5 +1,5 @@
 -- What is read of some bytes as a table of chosen columns under a limit of rows (Arrow IPC, "IPC File Format", "IPC Streaming Format").
-use Rattle.std.specs.Prelude.{◌≡◌, ◌⊎◌, ℕ, ◌≤◌, ◌^◌, true, false, List, [], length, Option, Some, None, IsSome, IsSomeAnd, Result, Ok, Err}
+use Rattle.std.specs.Prelude.{◌≡◌, ℕ, ◌≤◌, ◌^◌, true, false, List, [], length, Option, Some, None, IsSome, IsSomeAnd, Result, Ok, Err}
 use Rattle.std.specs.Option.{option_map}
 use Rattle.tables_rows.specs.chunks.Choices.{are_below}
 use Rattle.tables_rows.specs.chunks.Reading.{slots_of_batches}
@@ -8,10 +8,10 @@ use Rattle.tables_rows.specs.chunks.declared.fault.Fault.{Fault}
 use Rattle.tables_rows.specs.chunks.declared.fault.Fault.TheVariants as faults
 use Rattle.tables_rows.specs.chunks.declared.read.Form.TheVariants as forms
 use Rattle.tables_rows.specs.chunks.declared.read.Form as declared
-use Rattle.tables_rows.specs.chunks.file_reading.Starts as files
+use Rattle.tables_rows.specs.chunks.ipc_format.FileStarts as files
 use Rattle.tables_rows.specs.chunks.ipc_format.Framing.{EndsInLaterMessage}
 use Rattle.tables_rows.specs.chunks.ipc_format.Reading.{◌>>=◌}
-use Rattle.tables_rows.specs.chunks.ipc_format.Refusals.{HasFloat, HasCompression, HasDelta}
+use Rattle.tables_rows.specs.chunks.ipc_format.Refusals.{HasUnimplemented}
 use Rattle.tables_rows.specs.chunks.ipc_format.Schemas.{SchemaIn}
 use Rattle.tables_rows.specs.chunks.ipc_format.Writable.{normalised}
 use Rattle.tables_rows.specs.chunks.ipc_format.columnar_memory.declared.Error.TheVariants as errors
@@ -47,8 +47,8 @@ choice_batches form bytes columns limit = do
 
 -- What is read is the choice that the format gives, in its batches that have a row. A column isn't there exactly where the schema that is found
 -- hasn't so many; what else is refused says that all are there. What is refused as out of specification the format doesn't give, and it is no
--- stream that ends early. In what isn't implemented stands a float field, a compressed batch, or a dictionary that adds to an earlier one. For too
--- many rows the chosen batches have them. Memory may run out anywhere.
+-- stream that ends early. In what isn't implemented stands the mark of Feather in a file, a float field, a compressed batch, or a dictionary that
+-- adds to an earlier one. For too many rows the chosen batches have them. Memory may run out anywhere.
 abbrev pub ReadsChoice : {A : Type 0} → (A → Stored) → Form → List ℕ → List ℕ → Option ℕ → Result A Fault → Type 0
 ReadsChoice content form bytes columns limit (Ok table) = (choice_of form bytes columns limit ≡ Some (as_table (content table)))
     × IsSomeAnd (choice_batches form bytes columns limit) (λ batches. kept batches ≡ slots_of_batches (content table).batches)
@@ -57,8 +57,7 @@ ReadsChoice content form bytes columns limit (Err faults.NoSuchColumn) = LacksCo
 ReadsChoice content form bytes columns limit (Err (faults.Ipc (errors.OutOfSpec what))) =
     (choice_of form bytes columns limit ≡ None) × ¬ LacksColumn form bytes columns × ¬ EndsEarly form bytes
 ReadsChoice content form bytes columns limit (Err (faults.Ipc (errors.NotYetImplemented what))) =
-    (choice_of form bytes columns limit ≡ None) × ¬ LacksColumn form bytes columns
-    × (HasFloat form bytes ⊎ (HasCompression form bytes ⊎ HasDelta form bytes))
+    (choice_of form bytes columns limit ≡ None) × ¬ LacksColumn form bytes columns × HasUnimplemented form bytes
 ReadsChoice content form bytes columns limit (Err faults.Unfinished) =
     (choice_of form bytes columns limit ≡ None) × ¬ LacksColumn form bytes columns × EndsEarly form bytes
 ReadsChoice content form bytes columns limit (Err faults.TooManyRows) =

@@ -3,7 +3,7 @@ ghost use Rattle.std.specs.Prelude.{◌≡◌, length, true};
 ghost use Rattle.tables_rows.specs.chunks.Choices.{are_below, are_distinct};
 ghost use Rattle.tables_rows.specs.chunks.Messages.{layout_by};
 ghost use Rattle.tables_rows.specs.chunks.TableSchemas.{IsTableSchema};
-ghost use Rattle.tables_rows.specs.chunks.file_reading.FileEntries.{entries_of};
+ghost use Rattle.tables_rows.specs.chunks.ipc_format.FileEntries.{entries_of};
 ghost use Rattle.tables_rows.specs.chunks.ipc_format.Readable.{HasArrays};
 ghost use Rattle.tables_rows.specs.chunks.ipc_format.grammar.Tables.{file, stream};
 ghost use Rattle.tables_choices.specs.Gathered.{GathersTable};
@@ -15,8 +15,8 @@ use crate::stream_entries::stream_entries;
 use columnar_memory_types::Schema;
 use std::alloc::Global;
 use tables_rows::tables_chunks::{
-    Entry, Fault, Form, IpcSchema, Table, are_all_below, choose_fields, file_entries, file_start,
-    normalised, schemas_have_arrays, stream_start,
+    Entry, Fault, Form, IpcSchema, Table, are_all_below, choose_fields, file_entries,
+    metadata_of_file, normalised, schemas_have_arrays, stream_start,
 };
 
 /// What is read of chosen columns alone.
@@ -110,14 +110,14 @@ fn choice_of_file(
     requires { are_distinct columns.now ≡ true }
     ensures { ReadsChoice (λ table. table) file bytes.now columns.now limit result }
 {
-    let start = file_start(alloc, bytes)?;
+    let start = metadata_of_file(alloc, bytes)?;
     start.schema.whole();
     let schema = normalised(alloc, &start.schema)?;
     schemas_have_arrays();
     if !are_all_below(schema.fields.len(), columns) {
         return Err(Fault::NoSuchColumn);
     }
-    let entries = file_entries(alloc, bytes, &start.dictionaries, &start.record_batches)?;
+    let entries = file_entries(alloc, bytes, &start.dictionaries, &start.blocks)?;
     gather_table(alloc, &entries, &schema, &start.ipc_schema, columns, limit)
 }
 

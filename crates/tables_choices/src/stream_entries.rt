@@ -1,7 +1,7 @@
 //! The messages of a stream behind its schema, whatever they hold (Arrow IPC, "IPC Streaming Format").
 ghost use Rattle.std.specs.Prelude.{◌<◌, ◌≤◌, length};
 ghost use Rattle.tables_rows.specs.chunks.ipc_format.MessageViews.{kind_view, version_view};
-ghost use Rattle.tables_rows.specs.chunks.file_reading.FileEntries.{entries_view};
+ghost use Rattle.tables_rows.specs.chunks.ipc_format.FileEntries.{entries_view};
 ghost use Rattle.tables_choices.specs.StreamEntries.{CountsInARow, FindsEntries, PushesNext};
 
 use std::alloc::Global;

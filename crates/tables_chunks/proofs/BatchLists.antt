@@ -10,10 +10,10 @@ use Rattle.std.proofs.lemmas.List.Concat.{flat_map-append}
 use Rattle.columnar_memory_types.specs.Equality.{same_type}
 use Rattle.columnar_memory_types.specs.declared.data_type.Field.{Field}
 use Rattle.columnar_memory_types.specs.declared.schema.Schema.{Schema}
-use Rattle.tables_file_reading.specs.ipc_format.Chunks.{rows_of, AreAsLong}
-use Rattle.tables_file_reading.specs.ipc_format.columns.SoundColumns.{is_sound}
-use Rattle.tables_file_reading.specs.ipc_format.columns.StoredColumns.{Column, column_len, column_type, slots}
-use Rattle.tables_file_reading.specs.ipc_format.columns.Tables.{batch_rows, rows_of_batches}
+use Rattle.ipc_format.specs.Chunks.{rows_of, AreAsLong}
+use Rattle.ipc_format.specs.columns.SoundColumns.{is_sound}
+use Rattle.ipc_format.specs.columns.StoredColumns.{Column, column_len, column_type, slots}
+use Rattle.ipc_format.specs.columns.Tables.{batch_rows, rows_of_batches}
 use Rattle.tables_chunks.specs.Batches.{batch_len, is_batch, stored_rows, AreBatches}
 use Rattle.tables_chunks.proofs.Lists.{list_all-append}
 use Rattle.tables_chunks.proofs.LongColumns.{are_long, long_parts, long_from, rows_count}

@@ -5,8 +5,8 @@ use Rattle.std.specs.Prelude.{Option, Some, None, slice_get}
 use Rattle.std.specs.List.{list_all, cons_option}
 use Rattle.std.proofs.lemmas.Bool.{and_parts, and_from, ltb-true, eq-eqb}
 use Rattle.std.proofs.lemmas.List.{take_all, take_more}
-use Rattle.tables_file_reading.specs.ipc_format.columns.StoredColumns.{Column}
-use Rattle.tables_file_reading.specs.ipc_format.columns.Tables.{chosen}
+use Rattle.ipc_format.specs.columns.StoredColumns.{Column}
+use Rattle.ipc_format.specs.columns.Tables.{chosen}
 use Rattle.tables_chunks.specs.Batches.{AreBatches, is_batch}
 use Rattle.tables_chunks.proofs.ChosenBatches.{choices_have_columns}
 use Rattle.tables_chunks.proofs.CutBatches.{are_parts}

@@ -5,11 +5,11 @@ use Rattle.std.specs.Prelude.{Option, Some, None, slice_get, slice_index_or}
 use Rattle.std.specs.List.{list_all, cons_option}
 use Rattle.std.proofs.lemmas.Bool.{and_parts, and_from, eq-eqb, eqb-true, ltb-true}
 use Rattle.std.proofs.lemmas.List.{map-append}
-use Rattle.tables_file_reading.specs.ipc_format.columns.Slots.{Slot, null, window}
-use Rattle.tables_file_reading.specs.ipc_format.columns.SoundColumns.{is_sound}
-use Rattle.tables_file_reading.specs.ipc_format.columns.StoredColumns.{Column, column_len, cut, slots}
-use Rattle.tables_file_reading.specs.ipc_format.columns.Tables.{row_at, rows_of_columns, batch_rows, chosen}
-use Rattle.tables_file_reading.proofs.ipc_format_lemmas.Windows.{window_same}
+use Rattle.ipc_format.specs.columns.Slots.{Slot, null, window}
+use Rattle.ipc_format.specs.columns.SoundColumns.{is_sound}
+use Rattle.ipc_format.specs.columns.StoredColumns.{Column, column_len, cut, slots}
+use Rattle.ipc_format.specs.columns.Tables.{row_at, rows_of_columns, batch_rows, chosen}
+use Rattle.ipc_format.proofs.Windows.{window_same}
 use Rattle.tables_chunks.specs.Batches.{batch_len, is_batch, stored_rows, cut_batch, cut_batches, choose_batches}
 use Rattle.tables_chunks.specs.Batches.{ChoicesHaveColumns, CutsAndChoicesCommute}
 use Rattle.tables_chunks.proofs.CutBatches.{are_parts}

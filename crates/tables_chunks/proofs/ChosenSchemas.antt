@@ -6,12 +6,12 @@ use Rattle.std.specs.Prelude.{Option, Some, None, slice_get, option_map, sum_by,
 use Rattle.std.specs.List.{list_all, list_any, cons_option}
 use Rattle.std.proofs.lemmas.Bool.{and_parts, and_from, or_parts, not-true, eqb-false, leb-true, le-leb}
 use Rattle.std.proofs.lemmas.List.Sums.{sum_by-cons, sum-map}
-use Rattle.tables_file_reading.specs.ipc_format.columnar_memory.declared.Field.{Field}
-use Rattle.tables_file_reading.specs.ipc_format.columnar_memory.declared.Schema.{Schema}
-use Rattle.tables_file_reading.specs.ipc_format.columns.Tables.{chosen}
-use Rattle.tables_file_reading.specs.ipc_format.grammar.Limits.{most_levels, most_dictionaries}
-use Rattle.tables_file_reading.specs.ipc_format.Writable.{Report, plain, deepest, over_all, report_of, reports_of, is_writable, normalised_field}
-use Rattle.tables_file_reading.specs.ipc_format.Writable.{normalised}
+use Rattle.ipc_format.specs.columnar_memory.declared.Field.{Field}
+use Rattle.ipc_format.specs.columnar_memory.declared.Schema.{Schema}
+use Rattle.ipc_format.specs.columns.Tables.{chosen}
+use Rattle.ipc_format.specs.grammar.Limits.{most_levels, most_dictionaries}
+use Rattle.ipc_format.specs.Writable.{Report, plain, deepest, over_all, report_of, reports_of, is_writable, normalised_field}
+use Rattle.ipc_format.specs.Writable.{normalised}
 use Rattle.tables_chunks.specs.Choices.{are_distinct, are_below}
 
 -- ---- what a function gives of the chosen

@@ -1,11 +1,11 @@
 -- Batches that are read, as stored columns.
 use Rattle.std.proofs.Common.{◌≡◌, ◌∙◌, ℕ, ◌+◌, List, [], ◌∷◌, ◌++◌, length, map, refl, ap, sym}
 use Rattle.std.proofs.lemmas.List.{map-append}
-use Rattle.tables_file_reading.specs.ipc_format.Chunks.{rows_of}
-use Rattle.tables_file_reading.specs.ipc_format.columns.StoredColumns.{Column, column_len, slot_at, slots}
-use Rattle.tables_file_reading.specs.ipc_format.columns.Tables.{rows_of_columns, rows_of_batches}
+use Rattle.ipc_format.specs.Chunks.{rows_of}
+use Rattle.ipc_format.specs.columns.StoredColumns.{Column, column_len, slot_at, slots}
+use Rattle.ipc_format.specs.columns.Tables.{rows_of_columns, rows_of_batches}
 use Rattle.tables_chunks.specs.Reading.{slots_of_batches}
-use Rattle.tables_file_reading.proofs.ipc_format_lemmas.Rows.{length-window, rows_more}
+use Rattle.ipc_format.proofs.Rows.{length-window, rows_more}
 
 -- a batch has as many rows as its columns say
 pub rows_of_chunk : (columns : List Column) → rows_of_columns (map slots columns) ≡ rows_of (λ column. column) columns

@@ -5,11 +5,11 @@ use Rattle.std.specs.Prelude.{slice_index_or}
 use Rattle.std.specs.List.{list_all}
 use Rattle.std.proofs.lemmas.Bool.{and_parts, eq-eqb, eqb-true}
 use Rattle.std.proofs.lemmas.List.{map-append, length-map}
-use Rattle.tables_file_reading.specs.ipc_format.columns.Slots.{Slot, null, window}
-use Rattle.tables_file_reading.specs.ipc_format.columns.StoredColumns.{Column, slots}
-use Rattle.tables_file_reading.specs.ipc_format.columns.Tables.{row_at, rows_of_columns, batch_rows}
-use Rattle.tables_file_reading.proofs.ipc_format_lemmas.ColumnSizes.{slots_lengths}
-use Rattle.tables_file_reading.proofs.ipc_format_lemmas.Windows.{window_same}
+use Rattle.ipc_format.specs.columns.Slots.{Slot, null, window}
+use Rattle.ipc_format.specs.columns.StoredColumns.{Column, slots}
+use Rattle.ipc_format.specs.columns.Tables.{row_at, rows_of_columns, batch_rows}
+use Rattle.ipc_format.proofs.ColumnSizes.{slots_lengths}
+use Rattle.ipc_format.proofs.Windows.{window_same}
 use Rattle.tables_chunks.specs.Batches.{batch_len, is_batch, stored_rows, column_slots, AreBatches, RowsAreColumns}
 use Rattle.tables_chunks.proofs.CutBatches.{are_parts}
 use Rattle.tables_chunks.proofs.Lists.{list_all-append, list_all-window, window-map}

@@ -5,9 +5,9 @@ use Rattle.std.specs.List.{list_all}
 use Rattle.std.proofs.Math.Nat.{min-le_right}
 use Rattle.std.proofs.lemmas.Bool.{and_parts, and_from, eq-eqb, eqb-true, eqb-false, lt-ltb}
 use Rattle.std.proofs.lemmas.List.{length-map}
-use Rattle.tables_file_reading.specs.ipc_format.columns.Slots.{Slot}
-use Rattle.tables_file_reading.specs.ipc_format.columns.StoredColumns.{Column, cut, cut_list, slots}
-use Rattle.tables_file_reading.specs.ipc_format.columns.Tables.{batch_rows}
+use Rattle.ipc_format.specs.columns.Slots.{Slot}
+use Rattle.ipc_format.specs.columns.StoredColumns.{Column, cut, cut_list, slots}
+use Rattle.ipc_format.specs.columns.Tables.{batch_rows}
 use Rattle.tables_chunks.specs.Batches.{batch_len, is_batch, stored_rows, cut_batch, cut_batches, AreBatches, CutsHaveParts}
 use Rattle.tables_chunks.proofs.Lists.{cut_append, cut_none, left_of_least}
 use Rattle.tables_chunks.proofs.LongColumns.{rows_count, cut_batch_len, cut_is_batch, cut_batch_rows}

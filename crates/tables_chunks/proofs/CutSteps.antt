@@ -1,7 +1,7 @@
 -- The arrays of a batch are cut one by one.
 use Rattle.std.proofs.Common.{◌≡◌, ◌∙◌, ℕ, ◌+◌, ◌≤◌, ◌<◌, true, List, length, take, ap, arith}
 use Rattle.std.proofs.lemmas.List.{take_all}
-use Rattle.tables_file_reading.specs.ipc_format.columns.StoredColumns.{Column}
+use Rattle.ipc_format.specs.columns.StoredColumns.{Column}
 use Rattle.tables_chunks.specs.Batches.{batch_len, is_batch, cut_batch}
 use Rattle.tables_chunks.proofs.LongColumns.{cut_is_batch}
 

@@ -1,9 +1,9 @@
 -- Why a file isn't written, from the parts of it to the whole.
 use Rattle.std.proofs.Common.{ℕ, subst, sym}
 use Rattle.columnar_memory_types.specs.Error.{IsIo, IsOutOfMemory}
-use Rattle.tables_file_reading.specs.ipc_format.columnar_memory.declared.Error.{Error}
-use Rattle.tables_file_reading.specs.ipc_format.columnar_memory.declared.Error.TheVariants as errors
-use Rattle.tables_file_reading.specs.ipc_format.streams.Devices.{IsNamed}
+use Rattle.ipc_format.specs.columnar_memory.declared.Error.{Error}
+use Rattle.ipc_format.specs.columnar_memory.declared.Error.TheVariants as errors
+use Rattle.ipc_format.specs.streams.Devices.{IsNamed}
 use Rattle.tables_chunks.specs.Faults.{fault_of}
 use Rattle.tables_chunks.specs.Refusals.{IsRefusal}
 use Rattle.tables_chunks.specs.WrittenFiles.{IsFileError, IsFileFault, IsFileRefusal}

@@ -2,21 +2,21 @@
 use Rattle.std.proofs.Common.{◌≡◌, ◌∙◌, ℕ, ◌<◌, ◌≤◌, ◌^◌, List, [], length, refl, sym, ap, subst, arith}
 use Rattle.std.proofs.lemmas.List.{take_all}
 use Rattle.std.specs.Prelude.{Option, Some, None, IsSomeAnd, Result, Ok, Err}
-use Rattle.tables_file_reading.specs.ipc_format.Refusals.{HasTooManyRows, first_batches}
-use Rattle.tables_file_reading.specs.ipc_format.columnar_memory.declared.Error.{Error}
-use Rattle.tables_file_reading.specs.ipc_format.columnar_memory.declared.Error.TheVariants as errors
-use Rattle.tables_file_reading.specs.ipc_format.columnar_memory.declared.Schema.{Schema}
-use Rattle.tables_file_reading.specs.ipc_format.columns.Slots.{Slot}
-use Rattle.tables_file_reading.specs.ipc_format.columns.Tables.{rows_of_batches}
-use Rattle.tables_file_reading.specs.ipc_format.grammar.Files.{Block, Footer, file_entries, footer_in}
-use Rattle.tables_file_reading.specs.ipc_format.flatbuffers.Reading.{◌>>=◌}
-use Rattle.tables_file_reading.specs.ipc_format.grammar.SchemaGrammar.{schema_in}
-use Rattle.tables_file_reading.specs.ipc_format.grammar.Tables.{Contents, file, batches_in, batches_of, contents_of, layout_of, table_of}
-use Rattle.tables_file_reading.specs.ipc_format.Writable.{normalised}
-use Rattle.tables_file_reading.proofs.ipc_format_lemmas.Binding.{came_of}
-use Rattle.tables_file_reading.proofs.ipc_format_lemmas.StreamParts.{fitting, fits, too_many}
-use Rattle.tables_file_reading.specs.Reading.{ReadsFile}
-use Rattle.tables_file_reading.specs.declared.reading.FileBatches.{FileBatches}
+use Rattle.ipc_format.specs.Refusals.{HasTooManyRows, first_batches}
+use Rattle.ipc_format.specs.columnar_memory.declared.Error.{Error}
+use Rattle.ipc_format.specs.columnar_memory.declared.Error.TheVariants as errors
+use Rattle.ipc_format.specs.columnar_memory.declared.Schema.{Schema}
+use Rattle.ipc_format.specs.columns.Slots.{Slot}
+use Rattle.ipc_format.specs.columns.Tables.{rows_of_batches}
+use Rattle.ipc_format.specs.grammar.Files.{Block, Footer, file_entries, footer_in}
+use Rattle.ipc_format.specs.flatbuffers.Reading.{◌>>=◌}
+use Rattle.ipc_format.specs.grammar.SchemaGrammar.{schema_in}
+use Rattle.ipc_format.specs.grammar.Tables.{Contents, file, batches_in, batches_of, contents_of, layout_of, table_of}
+use Rattle.ipc_format.specs.Writable.{normalised}
+use Rattle.ipc_format.proofs.Binding.{came_of}
+use Rattle.ipc_format.proofs.StreamParts.{fitting, fits, too_many}
+use Rattle.tables_chunks.specs.ReadFiles.{ReadsFile}
+use Rattle.tables_chunks.specs.declared.file.FileBatches.{FileBatches}
 use Rattle.tables_chunks.specs.Faults.{fault_of}
 use Rattle.tables_chunks.specs.ReadTables.{ReadsFileTable}
 use Rattle.tables_chunks.specs.Reading.{slots_of_batches}

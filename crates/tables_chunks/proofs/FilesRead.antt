@@ -7,45 +7,45 @@ use Rattle.std.specs.Int.{w32, to_le_bytes}
 use Rattle.std.specs.List.{list_all}
 use Rattle.std.proofs.lemmas.Bool.{and_parts, ltb-true}
 use Rattle.std.proofs.lemmas.List.{length-map, map-append}
-use Rattle.tables_file_reading.specs.ipc_format.columnar_memory.declared.Field.{Field}
-use Rattle.tables_file_reading.specs.ipc_format.columnar_memory.declared.Schema.{Schema}
-use Rattle.tables_file_reading.specs.ipc_format.columns.Slots.{Slot}
-use Rattle.tables_file_reading.specs.ipc_format.columns.StoredColumns.{Column}
-use Rattle.tables_file_reading.specs.ipc_format.columns.Tables.{rows_of_batches}
-use Rattle.tables_file_reading.specs.ipc_format.grammar.Limits.{file_limit, most_dictionaries}
-use Rattle.tables_file_reading.specs.ipc_format.Dictionaries.{Entry, Layout}
-use Rattle.tables_file_reading.specs.ipc_format.Files.{file_entries, file_mark}
-use Rattle.tables_file_reading.specs.ipc_format.GivenDictionaries.{Given, last_under, stands_for, to_write, written_after}
-use Rattle.tables_file_reading.specs.ipc_format.Schemas.{IdsList}
-use Rattle.tables_file_reading.specs.ipc_format.Tables.{file, batches_of}
-use Rattle.tables_file_reading.specs.ipc_format.Writable.{normalised, normalised_field}
-use Rattle.tables_file_reading.specs.ipc_format.WrittenFiles.{Blocks, all_given, batch_blocks, block_of, dictionary_blocks, file_bytes, file_end}
-use Rattle.tables_file_reading.specs.ipc_format.WrittenFiles.{file_start, footer_bytes, place_after, with_record_batch}
-use Rattle.tables_file_reading.specs.ipc_format.WrittenMessages.{end_mark, fits_limit, message_bytes, record_message, schema_written}
-use Rattle.tables_file_reading.specs.ipc_format.WrittenStreams.{Batch, batch_of_stored, bytes_of_messages, given_of_stored, messages_after}
-use Rattle.tables_file_reading.specs.ipc_format.WrittenStreams.{stream_bytes, stream_messages}
-use Rattle.tables_file_reading.specs.ipc_format.reading_laws.laws.Contents.{Sent, batch, dictionary}
-use Rattle.tables_file_reading.specs.ipc_format.reading_laws.laws.Footers.{HasFooter, block_read, file_with}
-use Rattle.tables_file_reading.specs.ipc_format.reading_laws.laws.Schemas.{HasTexts, ids_read}
-use Rattle.tables_file_reading.specs.ipc_format.reading_laws.StoredTables.{HoldsBatches, read_batches}
-use Rattle.tables_file_reading.proofs.ipc_format_lemmas.DefaultIds.{defaults_fit}
-use Rattle.tables_file_reading.proofs.ipc_format_lemmas.Footers.{footers_read_back}
-use Rattle.tables_file_reading.proofs.ipc_format_lemmas.LimitsOfRoom.{fit_ids_list}
-use Rattle.tables_file_reading.proofs.ipc_format_lemmas.Places.{Stands, back}
-use Rattle.tables_file_reading.proofs.ipc_format_lemmas.SealedIds.{defaults_signed}
-use Rattle.tables_file_reading.proofs.ipc_format_lemmas.StoredGivenBrought.{given_of}
-use Rattle.tables_file_reading.proofs.ipc_format_lemmas.StoredGivenFits.{ids_are_read}
-use Rattle.tables_file_reading.proofs.ipc_format_lemmas.StoredGivenLists.{AreEach, Each, by_answer}
-use Rattle.tables_file_reading.proofs.ipc_format_lemmas.StoredGivenReady.{AgreePairs, brought_of, given_brought_of, given_few, pairs_back}
-use Rattle.tables_file_reading.proofs.ipc_format_lemmas.StoredGivenReady.{pairs_front, ready_of}
-use Rattle.tables_file_reading.proofs.ipc_format_lemmas.StoredTablesBatches.{IsBatch}
-use Rattle.tables_file_reading.proofs.ipc_format_lemmas.StoredTablesBlocks.{BlocksRead, all_written, blocks_stand}
-use Rattle.tables_file_reading.proofs.ipc_format_lemmas.StoredTablesEntries.{IsSent}
-use Rattle.tables_file_reading.proofs.ipc_format_lemmas.StoredTablesFiles.{batches_sent, columns_sent, contents_found, entries_found}
-use Rattle.tables_file_reading.proofs.ipc_format_lemmas.StoredTablesOnce.{agree_behind, given_all, given_of_all, later_batches, none_more}
-use Rattle.tables_file_reading.proofs.ipc_format_lemmas.StoredTablesOnce.{none_replaced_agree}
-use Rattle.tables_file_reading.proofs.ipc_format_lemmas.StoredTablesStreams.{all_stand, batch_dictionaries, holds_batches, layout_with}
-use Rattle.tables_file_reading.proofs.ipc_format_lemmas.StoredTypes.{stored_columns_read_back}
+use Rattle.ipc_format.specs.columnar_memory.declared.Field.{Field}
+use Rattle.ipc_format.specs.columnar_memory.declared.Schema.{Schema}
+use Rattle.ipc_format.specs.columns.Slots.{Slot}
+use Rattle.ipc_format.specs.columns.StoredColumns.{Column}
+use Rattle.ipc_format.specs.columns.Tables.{rows_of_batches}
+use Rattle.ipc_format.specs.grammar.Limits.{file_limit, most_dictionaries}
+use Rattle.ipc_format.specs.Dictionaries.{Entry, Layout}
+use Rattle.ipc_format.specs.Files.{file_entries, file_mark}
+use Rattle.ipc_format.specs.GivenDictionaries.{Given, last_under, stands_for, to_write, written_after}
+use Rattle.ipc_format.specs.Schemas.{IdsList}
+use Rattle.ipc_format.specs.Tables.{file, batches_of}
+use Rattle.ipc_format.specs.Writable.{normalised, normalised_field}
+use Rattle.ipc_format.specs.WrittenFiles.{Blocks, all_given, batch_blocks, block_of, dictionary_blocks, file_bytes, file_end}
+use Rattle.ipc_format.specs.WrittenFiles.{file_start, footer_bytes, place_after, with_record_batch}
+use Rattle.ipc_format.specs.WrittenMessages.{end_mark, fits_limit, message_bytes, record_message, schema_written}
+use Rattle.ipc_format.specs.WrittenStreams.{Batch, batch_of_stored, bytes_of_messages, given_of_stored, messages_after}
+use Rattle.ipc_format.specs.WrittenStreams.{stream_bytes, stream_messages}
+use Rattle.ipc_format.specs.reading_laws.laws.Contents.{Sent, batch, dictionary}
+use Rattle.ipc_format.specs.reading_laws.laws.Footers.{HasFooter, block_read, file_with}
+use Rattle.ipc_format.specs.reading_laws.laws.Schemas.{HasTexts, ids_read}
+use Rattle.ipc_format.specs.reading_laws.StoredTables.{HoldsBatches, read_batches}
+use Rattle.ipc_format.proofs.DefaultIds.{defaults_fit}
+use Rattle.ipc_format.proofs.Footers.{footers_read_back}
+use Rattle.ipc_format.proofs.LimitsOfRoom.{fit_ids_list}
+use Rattle.ipc_format.proofs.Places.{Stands, back}
+use Rattle.ipc_format.proofs.SealedIds.{defaults_signed}
+use Rattle.ipc_format.proofs.StoredGivenBrought.{given_of}
+use Rattle.ipc_format.proofs.StoredGivenFits.{ids_are_read}
+use Rattle.ipc_format.proofs.StoredGivenLists.{AreEach, Each, by_answer}
+use Rattle.ipc_format.proofs.StoredGivenReady.{AgreePairs, brought_of, given_brought_of, given_few, pairs_back}
+use Rattle.ipc_format.proofs.StoredGivenReady.{pairs_front, ready_of}
+use Rattle.ipc_format.proofs.StoredTablesBatches.{IsBatch}
+use Rattle.ipc_format.proofs.StoredTablesBlocks.{BlocksRead, all_written, blocks_stand}
+use Rattle.ipc_format.proofs.StoredTablesEntries.{IsSent}
+use Rattle.ipc_format.proofs.StoredTablesFiles.{batches_sent, columns_sent, contents_found, entries_found}
+use Rattle.ipc_format.proofs.StoredTablesOnce.{agree_behind, given_all, given_of_all, later_batches, none_more}
+use Rattle.ipc_format.proofs.StoredTablesOnce.{none_replaced_agree}
+use Rattle.ipc_format.proofs.StoredTablesStreams.{all_stand, batch_dictionaries, holds_batches, layout_with}
+use Rattle.ipc_format.proofs.StoredTypes.{stored_columns_read_back}
 use Rattle.tables_chunks.specs.Batches.{stored_rows}
 use Rattle.tables_chunks.specs.StoredTables.{IsTable}
 use Rattle.tables_chunks.specs.WrittenFiles.{IsTableFile, ReadAsTableFile, table_file}

@@ -2,8 +2,8 @@
 use Rattle.std.proofs.Common.{◌∙◌, List, length, map, ap, ◌&&◌, ◌==◌}
 use Rattle.std.proofs.lemmas.List.{map-append}
 use Rattle.std.proofs.lemmas.List.Concat.{flat_map-append}
-use Rattle.tables_file_reading.specs.ipc_format.columns.StoredColumns.{Column, slots}
-use Rattle.tables_file_reading.specs.ipc_format.columns.Tables.{batch_rows, rows_of_batches}
+use Rattle.ipc_format.specs.columns.StoredColumns.{Column, slots}
+use Rattle.ipc_format.specs.columns.Tables.{batch_rows, rows_of_batches}
 use Rattle.tables_chunks.specs.Batches.{is_batch, JoinsHaveBoth}
 use Rattle.tables_chunks.proofs.Lists.{list_all-append}
 

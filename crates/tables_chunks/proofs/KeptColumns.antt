@@ -4,25 +4,25 @@ use Rattle.std.specs.Prelude.{◌==◌, ℤ, length, Option, Some, None}
 use Rattle.std.specs.List.{list_all}
 use Rattle.std.proofs.lemmas.Bool.{and_parts, false≢true}
 use Rattle.columnar_memory_types.specs.Equality.{same_type, same_type-Decides}
-use Rattle.tables_file_reading.specs.ipc_format.columnar_memory.declared.DataType.{DataType}
-use Rattle.tables_file_reading.specs.ipc_format.columnar_memory.declared.DataType.TheOpen as layer
-use Rattle.tables_file_reading.specs.ipc_format.columnar_memory.declared.DataType.TheViews.{out-DataType}
-use Rattle.tables_file_reading.specs.ipc_format.columnar_memory.declared.Field.{Field}
-use Rattle.tables_file_reading.specs.ipc_format.columnar_memory.declared.UnionMode.TheVariants as modes
-use Rattle.tables_file_reading.specs.ipc_format.columns.Kinds.{is_key}
-use Rattle.tables_file_reading.specs.ipc_format.columns.SoundColumns.{has_an_id_each, has_child_types, has_field_types, has_fixed_item_type}
-use Rattle.tables_file_reading.specs.ipc_format.columns.SoundColumns.{has_item_type}
-use Rattle.tables_file_reading.specs.ipc_format.columns.SoundColumns.{has_value_type, have_types, is_entry, is_sound, are_sound}
-use Rattle.tables_file_reading.specs.ipc_format.columns.StoredColumns.{Column, Columns, nulls, flat, lists, fixed_lists, records, unions}
-use Rattle.tables_file_reading.specs.ipc_format.columns.StoredColumns.{dictionary}
-use Rattle.tables_file_reading.specs.ipc_format.columns.StoredColumns.{no_column, column_then, column_type, slots, type_layer}
-use Rattle.tables_file_reading.specs.ipc_format.Writable.{normalised_type}
-use Rattle.tables_file_reading.specs.ipc_format.reading_laws.NormalColumns.{normal_column, normal_columns}
-use Rattle.tables_file_reading.specs.ipc_format.reading_laws.StoredTables.{read_slots}
-use Rattle.tables_file_reading.proofs.ipc_format_lemmas.NormalColumnsKept.{all_slots_normal, sound_normal, type_normal}
-use Rattle.tables_file_reading.proofs.ipc_format_lemmas.NormalColumnsLayers.{Layer}
-use Rattle.tables_file_reading.proofs.ipc_format_lemmas.StoredGivenBrought.{sound_children, sound_fields, sound_fixed_item, sound_item}
-use Rattle.tables_file_reading.proofs.ipc_format_lemmas.StoredGivenBrought.{sound_values}
+use Rattle.ipc_format.specs.columnar_memory.declared.DataType.{DataType}
+use Rattle.ipc_format.specs.columnar_memory.declared.DataType.TheOpen as layer
+use Rattle.ipc_format.specs.columnar_memory.declared.DataType.TheViews.{out-DataType}
+use Rattle.ipc_format.specs.columnar_memory.declared.Field.{Field}
+use Rattle.ipc_format.specs.columnar_memory.declared.UnionMode.TheVariants as modes
+use Rattle.ipc_format.specs.columns.Kinds.{is_key}
+use Rattle.ipc_format.specs.columns.SoundColumns.{has_an_id_each, has_child_types, has_field_types, has_fixed_item_type}
+use Rattle.ipc_format.specs.columns.SoundColumns.{has_item_type}
+use Rattle.ipc_format.specs.columns.SoundColumns.{has_value_type, have_types, is_entry, is_sound, are_sound}
+use Rattle.ipc_format.specs.columns.StoredColumns.{Column, Columns, nulls, flat, lists, fixed_lists, records, unions}
+use Rattle.ipc_format.specs.columns.StoredColumns.{dictionary}
+use Rattle.ipc_format.specs.columns.StoredColumns.{no_column, column_then, column_type, slots, type_layer}
+use Rattle.ipc_format.specs.Writable.{normalised_type}
+use Rattle.ipc_format.specs.reading_laws.NormalColumns.{normal_column, normal_columns}
+use Rattle.ipc_format.specs.reading_laws.StoredTables.{read_slots}
+use Rattle.ipc_format.proofs.NormalColumnsKept.{all_slots_normal, sound_normal, type_normal}
+use Rattle.ipc_format.proofs.NormalColumnsLayers.{Layer}
+use Rattle.ipc_format.proofs.StoredGivenBrought.{sound_children, sound_fields, sound_fixed_item, sound_item}
+use Rattle.ipc_format.proofs.StoredGivenBrought.{sound_values}
 
 -- ---- a layer tells the types of children
 

@@ -6,6 +6,7 @@ pub mod Chunks
 pub mod ColumnsOfRows
 pub mod CutBatches
 pub mod CutSteps
+pub mod FileBatches
 pub mod FileRefused
 pub mod FileTables
 pub mod FilesRead
@@ -35,7 +36,6 @@ pub mod TellingTables
 pub mod Unread
 pub mod WithinLimits
 pub mod WrittenIds
-pub use Rattle.tables_file_reading.proofs.ipc_format_lemmas.Appending
-pub use Rattle.tables_file_reading.proofs.ipc_format_lemmas.Windows
-pub use Rattle.tables_file_reading.proofs.ipc_format_lemmas
-pub use Rattle.tables_file_reading.proofs as file_reading_lemmas
+pub use Rattle.ipc_format.proofs.Appending
+pub use Rattle.ipc_format.proofs.Windows
+pub use Rattle.ipc_format.proofs as ipc_format_lemmas

@@ -6,9 +6,9 @@ use Rattle.std.specs.List.{list_all, cons_option}
 use Rattle.std.proofs.Math.Nat.{min-eq_left, min-eq_right}
 use Rattle.std.proofs.lemmas.Bool.{and_parts, and_from, cases_lt}
 use Rattle.std.proofs.lemmas.List.{take_min}
-use Rattle.tables_file_reading.specs.ipc_format.columns.Slots.{window}
-use Rattle.tables_file_reading.specs.ipc_format.columns.StoredColumns.{cut_list}
-use Rattle.tables_file_reading.specs.ipc_format.columns.Tables.{chosen}
+use Rattle.ipc_format.specs.columns.Slots.{window}
+use Rattle.ipc_format.specs.columns.StoredColumns.{cut_list}
+use Rattle.ipc_format.specs.columns.Tables.{chosen}
 
 -- ---- parts of joined lists
 

@@ -4,13 +4,13 @@ use Rattle.std.proofs.Common.{refl, sym, ap, ap₂, arith, zero-add, ◌&&◌, �
 use Rattle.std.specs.Prelude.{slice_index_or}
 use Rattle.std.specs.List.{list_all}
 use Rattle.std.proofs.lemmas.Bool.{and_parts, and_from, eq-eqb, eqb-true}
-use Rattle.tables_file_reading.specs.ipc_format.columns.Slots.{Slot, null, window}
-use Rattle.tables_file_reading.specs.ipc_format.columns.SoundColumns.{is_sound}
-use Rattle.tables_file_reading.specs.ipc_format.columns.StoredColumns.{Column, column_len, cut, cut_list, slots}
-use Rattle.tables_file_reading.specs.ipc_format.columns.Tables.{row_at, rows_of_columns, batch_rows}
-use Rattle.tables_file_reading.proofs.ipc_format_lemmas.Columns.{cuts_slots, cuts_lengths, cuts_stay_sound}
-use Rattle.tables_file_reading.proofs.ipc_format_lemmas.ColumnSizes.{slots_lengths}
-use Rattle.tables_file_reading.proofs.ipc_format_lemmas.Windows.{window_same, length-window, get_or-cut_list, cut_list-window}
+use Rattle.ipc_format.specs.columns.Slots.{Slot, null, window}
+use Rattle.ipc_format.specs.columns.SoundColumns.{is_sound}
+use Rattle.ipc_format.specs.columns.StoredColumns.{Column, column_len, cut, cut_list, slots}
+use Rattle.ipc_format.specs.columns.Tables.{row_at, rows_of_columns, batch_rows}
+use Rattle.ipc_format.proofs.Columns.{cuts_slots, cuts_lengths, cuts_stay_sound}
+use Rattle.ipc_format.proofs.ColumnSizes.{slots_lengths}
+use Rattle.ipc_format.proofs.Windows.{window_same, length-window, get_or-cut_list, cut_list-window}
 use Rattle.tables_chunks.specs.Batches.{batch_len, is_batch, cut_batch}
 
 -- each column is sound, with so many slots

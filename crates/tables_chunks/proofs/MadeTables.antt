@@ -3,8 +3,8 @@ use Rattle.std.proofs.Common.{◌≡◌, ◌∙◌, ℕ, ◌+◌, ◌≤◌, tru
 use Rattle.std.specs.Prelude.{Ok}
 use Rattle.std.specs.List.{list_all}
 use Rattle.columnar_memory_types.specs.declared.schema.Schema.{Schema}
-use Rattle.tables_file_reading.specs.ipc_format.columns.StoredColumns.{Column}
-use Rattle.tables_file_reading.specs.ipc_format.columns.Tables.{chosen}
+use Rattle.ipc_format.specs.columns.StoredColumns.{Column}
+use Rattle.ipc_format.specs.columns.Tables.{chosen}
 use Rattle.tables_chunks.specs.Batches.{stored_rows, cut_batches, choose_batches}
 use Rattle.tables_chunks.specs.Choices.{IsChoice, are_below}
 use Rattle.tables_chunks.proofs.ChoiceSteps.{below_each}

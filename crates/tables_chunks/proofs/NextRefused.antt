@@ -2,25 +2,25 @@
 use Rattle.std.proofs.Common.{◌≡◌, ◌∙◌, ℕ, ◌+◌, ◌≤◌, true, List, map, ap, inl, subst, sym}
 use Rattle.std.proofs.lemmas.Bool.{le-ltb}
 use Rattle.std.specs.Prelude.{Some, None, Result}
-use Rattle.tables_file_reading.specs.ipc_format.BatchReads.{entry_in}
-use Rattle.tables_file_reading.specs.ipc_format.DictionaryReads.{is_unread}
-use Rattle.tables_file_reading.specs.ipc_format.columnar_memory.declared.Error.{Error}
-use Rattle.tables_file_reading.specs.ipc_format.columnar_memory.declared.Error.TheVariants as errors
-use Rattle.tables_file_reading.specs.ipc_format.columns.StoredColumns.{Column, slots}
-use Rattle.tables_file_reading.specs.ipc_format.FlatBuffers.{Table}
-use Rattle.tables_file_reading.specs.ipc_format.Reading.{◌>>=◌, guard}
-use Rattle.tables_file_reading.specs.ipc_format.Columns.{Dictionary}
-use Rattle.tables_file_reading.specs.ipc_format.Dictionaries.{Layout, dictionary_in}
-use Rattle.tables_file_reading.specs.ipc_format.Framing.{Framed, message_then, next_at, dictionaries_after}
-use Rattle.tables_file_reading.specs.ipc_format.grammar.Limits.{most_dictionaries}
-use Rattle.tables_file_reading.specs.ipc_format.Messages.{Header, Version, dictionary_batch, record_batch}
-use Rattle.tables_file_reading.specs.ipc_format.Tables.{batch_in, stream_entry}
-use Rattle.tables_file_reading.specs.ipc_format.metadata.Reading.{Reads, Refuses}
-use Rattle.tables_file_reading.specs.ipc_format.streams.Queues.{is_compressed}
-use Rattle.tables_file_reading.specs.ipc_format.Behind.{IsOutOfTurn}
+use Rattle.ipc_format.specs.BatchReads.{entry_in}
+use Rattle.ipc_format.specs.DictionaryReads.{is_unread}
+use Rattle.ipc_format.specs.columnar_memory.declared.Error.{Error}
+use Rattle.ipc_format.specs.columnar_memory.declared.Error.TheVariants as errors
+use Rattle.ipc_format.specs.columns.StoredColumns.{Column, slots}
+use Rattle.ipc_format.specs.FlatBuffers.{Table}
+use Rattle.ipc_format.specs.Reading.{◌>>=◌, guard}
+use Rattle.ipc_format.specs.Columns.{Dictionary}
+use Rattle.ipc_format.specs.Dictionaries.{Layout, dictionary_in}
+use Rattle.ipc_format.specs.Framing.{Framed, message_then, next_at, dictionaries_after}
+use Rattle.ipc_format.specs.grammar.Limits.{most_dictionaries}
+use Rattle.ipc_format.specs.Messages.{Header, Version, dictionary_batch, record_batch}
+use Rattle.ipc_format.specs.Tables.{batch_in, stream_entry}
+use Rattle.ipc_format.specs.metadata.Reading.{Reads, Refuses}
+use Rattle.ipc_format.specs.streams.Queues.{is_compressed}
+use Rattle.ipc_format.specs.Behind.{IsOutOfTurn}
 use Rattle.tables_chunks.specs.Messages.{RefusesNext, TakesDictionary}
-use Rattle.tables_file_reading.specs.ipc_format.Steps.{step_at}
-use Rattle.tables_file_reading.proofs.ipc_format_lemmas.StreamStepsPlaces.{dictionary_step, batch_step}
+use Rattle.ipc_format.specs.Steps.{step_at}
+use Rattle.ipc_format.proofs.StreamStepsPlaces.{dictionary_step, batch_step}
 use Rattle.tables_chunks.proofs.Unread.{dictionary_unread, batch_unread}
 
 -- a message that stands at a place, by what it carries

@@ -9,31 +9,31 @@ use Rattle.std.proofs.lemmas.Grind.{flat_map-append, take_at_read}
 use Rattle.std.proofs.lemmas.List.{append-nil, map-append, take-append-drop}
 use Rattle.std.proofs.lemmas.List.Folds.{list_all-append}
 use Rattle.columnar_memory_types.specs.Error.{IsIo}
-use Rattle.tables_file_reading.specs.ipc_format.columnar_memory.declared.Error.{Error}
-use Rattle.tables_file_reading.specs.ipc_format.columnar_memory.declared.Error.TheVariants as errors
-use Rattle.tables_file_reading.specs.ipc_format.columnar_memory.declared.Schema.{Schema}
-use Rattle.tables_file_reading.specs.ipc_format.columns.StoredColumns.{Column}
-use Rattle.tables_file_reading.specs.ipc_format.GivenDictionaries.{Given, agree, to_write}
-use Rattle.tables_file_reading.specs.ipc_format.Ids.{ids_fit_fields}
-use Rattle.tables_file_reading.specs.ipc_format.Schemas.{IdsList}
-use Rattle.tables_file_reading.specs.ipc_format.Writable.{is_writable}
-use Rattle.tables_file_reading.specs.ipc_format.WriterRuns.{may_tell}
-use Rattle.tables_file_reading.specs.ipc_format.WrittenMessages.{Written, body_limit, dictionary_message, fits_limit, framed, message_bytes}
-use Rattle.tables_file_reading.specs.ipc_format.WrittenMessages.{most_metadata, prefix_size, record_message, schema_written}
-use Rattle.tables_file_reading.specs.ipc_format.WrittenStreams.{Batch, batch_messages, bytes_of_messages}
-use Rattle.tables_file_reading.proofs.ipc_format_lemmas.PutMessages.{prefix_fits}
-use Rattle.tables_file_reading.proofs.ipc_format_lemmas.DefaultIds.{defaults_fit}
-use Rattle.tables_file_reading.specs.ipc_format.EncodedChunks.{Encodes, IsBarred, IsEncoded}
-use Rattle.tables_file_reading.specs.ipc_format.Tracking.{form_by, told_by}
-use Rattle.tables_file_reading.specs.ipc_format.streams.Devices.{AppendsBeginning, Puts}
-use Rattle.tables_file_reading.specs.ipc_format.writing.Floats.{has_float}
-use Rattle.tables_file_reading.specs.ipc_format.writing.Writing.{WritesSchema, may_write}
-use Rattle.tables_file_reading.proofs.ipc_format_lemmas.Appending.{appends_both, appends_nothing, begins_behind}
-use Rattle.tables_file_reading.proofs.ipc_format_lemmas.Appending.{begins_first, begins_nothing, begins_same}
+use Rattle.ipc_format.specs.columnar_memory.declared.Error.{Error}
+use Rattle.ipc_format.specs.columnar_memory.declared.Error.TheVariants as errors
+use Rattle.ipc_format.specs.columnar_memory.declared.Schema.{Schema}
+use Rattle.ipc_format.specs.columns.StoredColumns.{Column}
+use Rattle.ipc_format.specs.GivenDictionaries.{Given, agree, to_write}
+use Rattle.ipc_format.specs.Ids.{ids_fit_fields}
+use Rattle.ipc_format.specs.Schemas.{IdsList}
+use Rattle.ipc_format.specs.Writable.{is_writable}
+use Rattle.ipc_format.specs.WriterRuns.{may_tell}
+use Rattle.ipc_format.specs.WrittenMessages.{Written, body_limit, dictionary_message, fits_limit, framed, message_bytes}
+use Rattle.ipc_format.specs.WrittenMessages.{most_metadata, prefix_size, record_message, schema_written}
+use Rattle.ipc_format.specs.WrittenStreams.{Batch, batch_messages, bytes_of_messages}
+use Rattle.ipc_format.proofs.PutMessages.{prefix_fits}
+use Rattle.ipc_format.proofs.DefaultIds.{defaults_fit}
+use Rattle.ipc_format.specs.EncodedChunks.{Encodes, IsBarred, IsEncoded}
+use Rattle.ipc_format.specs.Tracking.{form_by, told_by}
+use Rattle.ipc_format.specs.streams.Devices.{AppendsBeginning, Puts}
+use Rattle.ipc_format.specs.writing.Floats.{has_float}
+use Rattle.ipc_format.specs.writing.Writing.{WritesSchema, may_write}
+use Rattle.ipc_format.proofs.Appending.{appends_both, appends_nothing, begins_behind}
+use Rattle.ipc_format.proofs.Appending.{begins_first, begins_nothing, begins_same}
 use Rattle.tables_chunks.specs.PutMessages.{IsPast, PutsBatch, PutsSchema}
 use Rattle.tables_chunks.specs.Refusals.{IsRefusal, StopsAtSchema}
 use Rattle.tables_chunks.specs.WrittenTables.{table_ids}
-use Rattle.tables_file_reading.proofs.ipc_format_lemmas.NoFloats.{no_float}
+use Rattle.ipc_format.proofs.NoFloats.{no_float}
 use Rattle.tables_chunks.proofs.RefusedWrites.{io_refused}
 use Rattle.tables_chunks.proofs.WithinLimits.{dictionaries_fit, has_limits}
 

@@ -10,28 +10,28 @@ use Rattle.std.proofs.lemmas.Grind.{flat_map-append}
 use Rattle.std.proofs.lemmas.List.{append-nil, take-append-drop}
 use Rattle.std.proofs.lemmas.List.Folds.{list_all-append}
 use Rattle.columnar_memory_types.specs.Error.{IsIo}
-use Rattle.tables_file_reading.specs.ipc_format.columnar_memory.declared.Error.{Error}
-use Rattle.tables_file_reading.specs.ipc_format.columnar_memory.declared.Error.TheVariants as errors
-use Rattle.tables_file_reading.specs.ipc_format.columnar_memory.declared.Schema.{Schema}
-use Rattle.tables_file_reading.specs.ipc_format.columns.StoredColumns.{Column}
-use Rattle.tables_file_reading.specs.ipc_format.grammar.Limits.{file_limit}
-use Rattle.tables_file_reading.specs.ipc_format.BlockPlacing.{joined, no_blocks, place_behind}
-use Rattle.tables_file_reading.specs.ipc_format.EncodedChunks.{Encodes, IsBarred, IsEncoded, is_batch_within}
-use Rattle.tables_file_reading.specs.ipc_format.FileRuns.{told_with}
-use Rattle.tables_file_reading.specs.ipc_format.GivenDictionaries.{Given, last_under, stands_for, written_after}
-use Rattle.tables_file_reading.specs.ipc_format.Tracking.{Tells, form_by, told_by}
-use Rattle.tables_file_reading.specs.ipc_format.WriterRuns.{may_tell}
-use Rattle.tables_file_reading.specs.ipc_format.WrittenFiles.{all_given, batch_blocks, is_first_or_same, none_replaced}
-use Rattle.tables_file_reading.specs.ipc_format.WrittenMessages.{Written, fits_limit, message_bytes}
-use Rattle.tables_file_reading.specs.ipc_format.WrittenStreams.{Batch, batch_messages, batch_of_stored, bytes_of_messages, messages_after}
-use Rattle.tables_file_reading.specs.ipc_format.streams.Devices.{AppendsBeginning, Puts}
-use Rattle.tables_file_reading.proofs.ipc_format_lemmas.Appending.{appends_both, appends_nothing, begins_behind}
-use Rattle.tables_file_reading.proofs.ipc_format_lemmas.Appending.{begins_first, begins_nothing, begins_same}
-use Rattle.tables_file_reading.proofs.ipc_format_lemmas.FileAdded.{message_blocks}
-use Rattle.tables_file_reading.proofs.ipc_format_lemmas.FilePlaced.{place_both}
-use Rattle.tables_file_reading.proofs.ipc_format_lemmas.FileRunBytes.{blocks_more}
-use Rattle.tables_file_reading.proofs.ipc_format_lemmas.PutMessages.{bytes_behind}
-use Rattle.tables_file_reading.proofs.ipc_format_lemmas.StoredGivenLists.{by_answer}
+use Rattle.ipc_format.specs.columnar_memory.declared.Error.{Error}
+use Rattle.ipc_format.specs.columnar_memory.declared.Error.TheVariants as errors
+use Rattle.ipc_format.specs.columnar_memory.declared.Schema.{Schema}
+use Rattle.ipc_format.specs.columns.StoredColumns.{Column}
+use Rattle.ipc_format.specs.grammar.Limits.{file_limit}
+use Rattle.ipc_format.specs.BlockPlacing.{joined, no_blocks, place_behind}
+use Rattle.ipc_format.specs.EncodedChunks.{Encodes, IsBarred, IsEncoded, is_batch_within}
+use Rattle.ipc_format.specs.FileRuns.{told_with}
+use Rattle.ipc_format.specs.GivenDictionaries.{Given, last_under, stands_for, written_after}
+use Rattle.ipc_format.specs.Tracking.{Tells, form_by, told_by}
+use Rattle.ipc_format.specs.WriterRuns.{may_tell}
+use Rattle.ipc_format.specs.WrittenFiles.{all_given, batch_blocks, is_first_or_same, none_replaced}
+use Rattle.ipc_format.specs.WrittenMessages.{Written, fits_limit, message_bytes}
+use Rattle.ipc_format.specs.WrittenStreams.{Batch, batch_messages, batch_of_stored, bytes_of_messages, messages_after}
+use Rattle.ipc_format.specs.streams.Devices.{AppendsBeginning, Puts}
+use Rattle.ipc_format.proofs.Appending.{appends_both, appends_nothing, begins_behind}
+use Rattle.ipc_format.proofs.Appending.{begins_first, begins_nothing, begins_same}
+use Rattle.ipc_format.proofs.FileAdded.{message_blocks}
+use Rattle.ipc_format.proofs.FilePlaced.{place_both}
+use Rattle.ipc_format.proofs.FileRunBytes.{blocks_more}
+use Rattle.ipc_format.proofs.PutMessages.{bytes_behind}
+use Rattle.ipc_format.proofs.StoredGivenLists.{by_answer}
 use Rattle.tables_chunks.specs.WrittenFiles.{AppendsNone, AreFilePut, FilePlaces, IsFilePast, IsFilePut, PlacesMessages, PutsFileAfter}
 use Rattle.tables_chunks.specs.WrittenFiles.{PutsFileBatch, ReplacesOne, StopsAmongFile, IsFileRefusal}
 use Rattle.tables_chunks.specs.WrittenTables.{are_within, table_ids, told_after, written_batches}

@@ -7,31 +7,31 @@ use Rattle.std.specs.declared.vec.Vec.{Vec}
 use Rattle.std.proofs.lemmas.Bool.{and_from, le-ltb}
 use Rattle.std.proofs.lemmas.List.{length-append}
 use Rattle.columnar_memory_types.specs.Error.{IsIo, IsOutOfMemory}
-use Rattle.tables_file_reading.specs.ipc_format.columnar_memory.declared.Error.{Error}
-use Rattle.tables_file_reading.specs.ipc_format.columnar_memory.declared.Error.TheVariants as errors
-use Rattle.tables_file_reading.specs.ipc_format.columnar_memory.declared.Schema.{Schema}
-use Rattle.tables_file_reading.specs.ipc_format.columns.StoredColumns.{Column}
-use Rattle.tables_file_reading.specs.ipc_format.grammar.Limits.{file_limit}
-use Rattle.tables_file_reading.specs.ipc_format.BlockPlacing.{place_behind}
-use Rattle.tables_file_reading.specs.ipc_format.Ends.{end_with, has_room, start_bytes}
-use Rattle.tables_file_reading.specs.ipc_format.FileRuns.{first_place}
-use Rattle.tables_file_reading.specs.ipc_format.FooterWriting.{WritesFooter}
-use Rattle.tables_file_reading.specs.ipc_format.GivenDictionaries.{Given}
-use Rattle.tables_file_reading.specs.ipc_format.Ids.{ids_fit_fields}
-use Rattle.tables_file_reading.specs.ipc_format.Schemas.{IdsList}
-use Rattle.tables_file_reading.specs.ipc_format.Writable.{is_writable}
-use Rattle.tables_file_reading.specs.ipc_format.WrittenFiles.{Blocks, batch_blocks, file_start, fits_file_limit, footer_object, is_footer}
-use Rattle.tables_file_reading.specs.ipc_format.WrittenMessages.{fits_limit, framed, message_bytes, schema_written}
-use Rattle.tables_file_reading.specs.ipc_format.WrittenStreams.{Batch, batch_of_stored, bytes_of_messages, messages_after}
-use Rattle.tables_file_reading.specs.ipc_format.flatbuffers.Objects.{laid}
-use Rattle.tables_file_reading.specs.ipc_format.streams.Devices.{AppendsBeginning, Puts}
-use Rattle.tables_file_reading.specs.ipc_format.writing.Floats.{has_float}
-use Rattle.tables_file_reading.specs.ipc_format.writing.Writing.{WritesSchema, may_write}
-use Rattle.tables_file_reading.proofs.ipc_format_lemmas.Appending.{appends_both, begins_behind, begins_first, begins_nothing, begins_same}
-use Rattle.tables_file_reading.proofs.ipc_format_lemmas.DefaultIds.{defaults_fit}
-use Rattle.tables_file_reading.proofs.ipc_format_lemmas.FileFirsts.{first_is}
-use Rattle.tables_file_reading.proofs.ipc_format_lemmas.FileRunBytes.{file_whole, footer_is, place_is}
-use Rattle.tables_file_reading.proofs.ipc_format_lemmas.NoFloats.{no_float}
+use Rattle.ipc_format.specs.columnar_memory.declared.Error.{Error}
+use Rattle.ipc_format.specs.columnar_memory.declared.Error.TheVariants as errors
+use Rattle.ipc_format.specs.columnar_memory.declared.Schema.{Schema}
+use Rattle.ipc_format.specs.columns.StoredColumns.{Column}
+use Rattle.ipc_format.specs.grammar.Limits.{file_limit}
+use Rattle.ipc_format.specs.BlockPlacing.{place_behind}
+use Rattle.ipc_format.specs.Ends.{end_with, has_room, start_bytes}
+use Rattle.ipc_format.specs.FileRuns.{first_place}
+use Rattle.ipc_format.specs.FooterWriting.{WritesFooter}
+use Rattle.ipc_format.specs.GivenDictionaries.{Given}
+use Rattle.ipc_format.specs.Ids.{ids_fit_fields}
+use Rattle.ipc_format.specs.Schemas.{IdsList}
+use Rattle.ipc_format.specs.Writable.{is_writable}
+use Rattle.ipc_format.specs.WrittenFiles.{Blocks, batch_blocks, file_start, fits_file_limit, footer_object, is_footer}
+use Rattle.ipc_format.specs.WrittenMessages.{fits_limit, framed, message_bytes, schema_written}
+use Rattle.ipc_format.specs.WrittenStreams.{Batch, batch_of_stored, bytes_of_messages, messages_after}
+use Rattle.ipc_format.specs.flatbuffers.Objects.{laid}
+use Rattle.ipc_format.specs.streams.Devices.{AppendsBeginning, Puts}
+use Rattle.ipc_format.specs.writing.Floats.{has_float}
+use Rattle.ipc_format.specs.writing.Writing.{WritesSchema, may_write}
+use Rattle.ipc_format.proofs.Appending.{appends_both, begins_behind, begins_first, begins_nothing, begins_same}
+use Rattle.ipc_format.proofs.DefaultIds.{defaults_fit}
+use Rattle.ipc_format.proofs.FileFirsts.{first_is}
+use Rattle.ipc_format.proofs.FileRunBytes.{file_whole, footer_is, place_is}
+use Rattle.ipc_format.proofs.NoFloats.{no_float}
 use Rattle.tables_chunks.specs.PutMessages.{PutsSchema}
 use Rattle.tables_chunks.specs.Refusals.{StopsAtSchema}
 use Rattle.tables_chunks.specs.WrittenFiles.{AreFilePut, FilePlaces, GivesTableFooter, IsFilePast, IsFileRefusal, PutsFile, PutsFileStart}

@@ -7,18 +7,18 @@ use Rattle.std.proofs.lemmas.Bool.{and_from}
 use Rattle.std.proofs.lemmas.Grind.{flat_map-append, take_at_read}
 use Rattle.std.proofs.lemmas.List.{append-nil, map-append, take-append-drop}
 use Rattle.columnar_memory_types.specs.Error.{IsOutOfMemory}
-use Rattle.tables_file_reading.specs.ipc_format.columnar_memory.declared.Error.{Error}
-use Rattle.tables_file_reading.specs.ipc_format.columnar_memory.declared.Schema.{Schema}
-use Rattle.tables_file_reading.specs.ipc_format.columns.StoredColumns.{Column}
-use Rattle.tables_file_reading.specs.ipc_format.GivenDictionaries.{Given, last_under, written_after}
-use Rattle.tables_file_reading.specs.ipc_format.WrittenMessages.{Written, end_mark, fits_limit, message_bytes, schema_written}
-use Rattle.tables_file_reading.specs.ipc_format.WrittenStreams.{Batch, batch_messages, batch_of_stored, bytes_of_messages, messages_after}
-use Rattle.tables_file_reading.specs.ipc_format.WrittenStreams.{stream_bytes, stream_messages}
-use Rattle.tables_file_reading.specs.ipc_format.EncodedChunks.{is_batch_within}
-use Rattle.tables_file_reading.specs.ipc_format.Tracking.{Tells, told_by}
-use Rattle.tables_file_reading.specs.ipc_format.streams.Devices.{Puts}
-use Rattle.tables_file_reading.proofs.ipc_format_lemmas.Appending.{appends_both, appends_nothing, begins_behind}
-use Rattle.tables_file_reading.proofs.ipc_format_lemmas.Appending.{begins_first, begins_nothing, begins_same}
+use Rattle.ipc_format.specs.columnar_memory.declared.Error.{Error}
+use Rattle.ipc_format.specs.columnar_memory.declared.Schema.{Schema}
+use Rattle.ipc_format.specs.columns.StoredColumns.{Column}
+use Rattle.ipc_format.specs.GivenDictionaries.{Given, last_under, written_after}
+use Rattle.ipc_format.specs.WrittenMessages.{Written, end_mark, fits_limit, message_bytes, schema_written}
+use Rattle.ipc_format.specs.WrittenStreams.{Batch, batch_messages, batch_of_stored, bytes_of_messages, messages_after}
+use Rattle.ipc_format.specs.WrittenStreams.{stream_bytes, stream_messages}
+use Rattle.ipc_format.specs.EncodedChunks.{is_batch_within}
+use Rattle.ipc_format.specs.Tracking.{Tells, told_by}
+use Rattle.ipc_format.specs.streams.Devices.{Puts}
+use Rattle.ipc_format.proofs.Appending.{appends_both, appends_nothing, begins_behind}
+use Rattle.ipc_format.proofs.Appending.{begins_first, begins_nothing, begins_same}
 use Rattle.tables_chunks.specs.PutMessages.{ArePut, IsPast, IsPut, PutsAfter, PutsBatch, PutsBatches, PutsSchema, StopsAmong}
 use Rattle.tables_chunks.specs.Refusals.{PutsTable, StopsAtSchema, StopsAtTooLong}
 use Rattle.tables_chunks.specs.WrittenTables.{are_within, table_bytes, table_ids, table_messages, told_after, written_batches}

@@ -3,9 +3,9 @@ use Rattle.std.proofs.Common.{◌≡◌, suc, true, List, [], ◌∷◌, map, re
 use Rattle.std.specs.List.{list_all}
 use Rattle.std.proofs.lemmas.Bool.{and_from}
 use Rattle.columnar_memory_types.specs.Equality.{same_type, same_type-Decides}
-use Rattle.tables_file_reading.specs.ipc_format.columnar_memory.declared.DataType.{DataType}
-use Rattle.tables_file_reading.specs.ipc_format.columnar_memory.declared.Field.{Field}
-use Rattle.tables_file_reading.specs.ipc_format.columns.StoredColumns.{Column, column_type}
+use Rattle.ipc_format.specs.columnar_memory.declared.DataType.{DataType}
+use Rattle.ipc_format.specs.columnar_memory.declared.Field.{Field}
+use Rattle.ipc_format.specs.columns.StoredColumns.{Column, column_type}
 use Rattle.tables_chunks.specs.Messages.{AreOfFields, type_of}
 use Rattle.tables_chunks.specs.StoredTables.{is_of_fields}
 

@@ -1,17 +1,17 @@
 -- What a message is refused for, said of the batches behind the schema.
 use Rattle.std.proofs.Common.{◌≡◌, ◌∙◌, ℕ, ◌+◌, ◌^◌, ◌≤◌, ◌<◌, true, List, [], ◌∷◌, ◌++◌, sym, inl, inr}
 use Rattle.std.specs.Prelude.{Some, None, Err}
-use Rattle.tables_file_reading.specs.ipc_format.columnar_memory.declared.Error.{Error}
-use Rattle.tables_file_reading.specs.ipc_format.columnar_memory.declared.Error.TheVariants as errors
-use Rattle.tables_file_reading.specs.ipc_format.columnar_memory.declared.Schema.{Schema}
-use Rattle.tables_file_reading.specs.ipc_format.Columns.{Dictionary}
-use Rattle.tables_file_reading.specs.ipc_format.Dictionaries.{Layout}
-use Rattle.tables_file_reading.specs.ipc_format.Messages.{Version}
+use Rattle.ipc_format.specs.columnar_memory.declared.Error.{Error}
+use Rattle.ipc_format.specs.columnar_memory.declared.Error.TheVariants as errors
+use Rattle.ipc_format.specs.columnar_memory.declared.Schema.{Schema}
+use Rattle.ipc_format.specs.Columns.{Dictionary}
+use Rattle.ipc_format.specs.Dictionaries.{Layout}
+use Rattle.ipc_format.specs.Messages.{Version}
 use Rattle.tables_chunks.specs.Faults.{fault_of}
 use Rattle.tables_chunks.specs.Messages.{RefusesNext}
 use Rattle.tables_chunks.specs.Reading.{ReadsBatches}
-use Rattle.tables_file_reading.specs.ipc_format.Steps.{Batches, step_at}
-use Rattle.tables_file_reading.proofs.ipc_format_lemmas.Progress.{MessagesRead, read_refused, turn_refused, not_unfinished, unread_from}
+use Rattle.ipc_format.specs.Steps.{Batches, step_at}
+use Rattle.ipc_format.proofs.Progress.{MessagesRead, read_refused, turn_refused, not_unfinished, unread_from}
 
 pub next_refused : (error : Error) (schema : Schema) (layout : Layout) (version : Version) (bytes : List ℕ) (first : ℕ) (batches : Batches)
     (standing : List Dictionary) (in_a_row place : ℕ) → MessagesRead layout version bytes first batches standing in_a_row place

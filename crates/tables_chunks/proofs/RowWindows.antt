@@ -6,11 +6,11 @@ use Rattle.std.proofs.lemmas.Bool.{and_from, le-leb}
 use Rattle.std.proofs.lemmas.List.{drop_more, drop_at, drop-append-le, take-append-le}
 use Rattle.std.proofs.lemmas.List.Folds.{drop_split}
 use Rattle.std.proofs.lemmas.List.Sums.{sum_by-cons}
-use Rattle.tables_file_reading.specs.ipc_format.columns.Slots.{Slot, null, window}
-use Rattle.tables_file_reading.specs.ipc_format.columns.SlotNodes.{slot_nodes}
-use Rattle.tables_file_reading.specs.ipc_format.columns.StoredColumns.{Column, column_len, slot_at, slots}
-use Rattle.tables_file_reading.specs.ipc_format.columns.Tables.{row_at, batch_rows}
-use Rattle.tables_file_reading.proofs.ipc_format_lemmas.Windows.{window_same, length-window, cut_list-window}
+use Rattle.ipc_format.specs.columns.Slots.{Slot, null, window}
+use Rattle.ipc_format.specs.columns.SlotNodes.{slot_nodes}
+use Rattle.ipc_format.specs.columns.StoredColumns.{Column, column_len, slot_at, slots}
+use Rattle.ipc_format.specs.columns.Tables.{row_at, batch_rows}
+use Rattle.ipc_format.proofs.Windows.{window_same, length-window, cut_list-window}
 use Rattle.tables_chunks.specs.Batches.{batch_len, is_batch, stored_rows}
 use Rattle.tables_chunks.proofs.LongColumns.{are_long, long_parts, rows_are}
 use Rattle.tables_chunks.specs.SameRows.{stored_row, rows_from, rows_behind, have_rows, nodes_in}

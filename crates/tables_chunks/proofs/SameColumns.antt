@@ -3,9 +3,9 @@ use Rattle.std.proofs.Common.{◌≡◌, ◌∙◌, ℕ, zero, suc, ◌+◌, ◌
 use Rattle.std.specs.Prelude.{◌↔◌, sum_by}
 use Rattle.std.proofs.lemmas.Bool.{and_parts, leb-true}
 use Rattle.std.proofs.lemmas.List.{drop_all, drop_more}
-use Rattle.tables_file_reading.specs.ipc_format.columns.Slots.{window}
-use Rattle.tables_file_reading.specs.ipc_format.columns.SlotNodes.{slot_nodes}
-use Rattle.tables_file_reading.specs.ipc_format.columns.StoredColumns.{Column, column_len, slot_at}
+use Rattle.ipc_format.specs.columns.Slots.{window}
+use Rattle.ipc_format.specs.columns.SlotNodes.{slot_nodes}
+use Rattle.ipc_format.specs.columns.StoredColumns.{Column, column_len, slot_at}
 use Rattle.tables_chunks.specs.SameRows.{rows_from, have_rows, nodes_in}
 use Rattle.tables_chunks.proofs.RowWindows.{rows_parts, rows_from_parts, no_columns, nodes_parts, no_nodes}
 

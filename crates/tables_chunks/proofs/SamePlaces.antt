@@ -4,10 +4,10 @@ use Rattle.std.proofs.Common.{length-append}
 use Rattle.std.specs.Prelude.{◌↔◌, IsTrue, Bool, sum_by}
 use Rattle.std.proofs.lemmas.List.{append_cancel_left, get_or_read, take_at}
 use Rattle.std.proofs.lemmas.List.Sums.{sum_by-append}
-use Rattle.tables_file_reading.specs.ipc_format.columns.Slots.{Slot}
-use Rattle.tables_file_reading.specs.ipc_format.columns.SlotNodes.{slot_nodes}
-use Rattle.tables_file_reading.specs.ipc_format.columns.StoredColumns.{Column}
-use Rattle.tables_file_reading.proofs.ipc_format_lemmas.Windows.{length-window}
+use Rattle.ipc_format.specs.columns.Slots.{Slot}
+use Rattle.ipc_format.specs.columns.SlotNodes.{slot_nodes}
+use Rattle.ipc_format.specs.columns.StoredColumns.{Column}
+use Rattle.ipc_format.proofs.Windows.{length-window}
 use Rattle.tables_chunks.specs.Batches.{batch_len, is_batch, stored_rows}
 use Rattle.tables_chunks.specs.SameRows.{stored_row, rows_from, rows_behind, nodes_in, AreAlike, IsPlace}
 use Rattle.tables_chunks.proofs.BatchLists.{batch_at}

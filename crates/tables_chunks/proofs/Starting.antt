@@ -1,24 +1,24 @@
 -- The schema that a stream begins with.
 use Rattle.std.proofs.Common.{◌≡◌, ◌∙◌, ℕ, true, List, ap, subst}
 use Rattle.std.specs.Prelude.{Some, Err}
-use Rattle.tables_file_reading.specs.ipc_format.Readable.{HasArrays, SchemasHaveArrays}
+use Rattle.ipc_format.specs.Readable.{HasArrays, SchemasHaveArrays}
 use Rattle.columnar_memory_types.specs.Error.{IsOutOfMemory}
-use Rattle.tables_file_reading.specs.ipc_format.columnar_memory.declared.Error.{Error}
-use Rattle.tables_file_reading.specs.ipc_format.columnar_memory.declared.Error.TheVariants as errors
-use Rattle.tables_file_reading.specs.ipc_format.Framing.{Framed, first_of}
-use Rattle.tables_file_reading.specs.ipc_format.Messages.{Header, Version, schema, dictionary_batch, record_batch, version_in}
-use Rattle.tables_file_reading.specs.ipc_format.Schemas.{SchemaIn}
-use Rattle.tables_file_reading.specs.ipc_format.Writable.{is_writable, normalised}
-use Rattle.tables_file_reading.specs.ipc_format.columnar_memory.Texts.{HasTexts}
-use Rattle.tables_file_reading.specs.ipc_format.Tables.{schema_of, layout_of}
-use Rattle.tables_file_reading.specs.ipc_format.streams.Starts.{Start, start_in}
+use Rattle.ipc_format.specs.columnar_memory.declared.Error.{Error}
+use Rattle.ipc_format.specs.columnar_memory.declared.Error.TheVariants as errors
+use Rattle.ipc_format.specs.Framing.{Framed, first_of}
+use Rattle.ipc_format.specs.Messages.{Header, Version, schema, dictionary_batch, record_batch, version_in}
+use Rattle.ipc_format.specs.Schemas.{SchemaIn}
+use Rattle.ipc_format.specs.Writable.{is_writable, normalised}
+use Rattle.ipc_format.specs.columnar_memory.Texts.{HasTexts}
+use Rattle.ipc_format.specs.Tables.{schema_of, layout_of}
+use Rattle.ipc_format.specs.streams.Starts.{Start, start_in}
 use Rattle.tables_chunks.specs.Faults.{fault_of}
 use Rattle.tables_chunks.specs.Reading.{ReadsStream}
 use Rattle.tables_chunks.specs.TableSchemas.{IsTableSchema}
-use Rattle.tables_file_reading.proofs.ipc_format_lemmas.StoredTablesNormal.{normal_again}
-use Rattle.tables_file_reading.proofs.ipc_format_lemmas.NormalForms.{keeps_writable}
-use Rattle.tables_file_reading.proofs.ipc_format_lemmas.Binding.{came_of, same_some}
-use Rattle.tables_file_reading.proofs.Files.{schema_written}
+use Rattle.ipc_format.proofs.StoredTablesNormal.{normal_again}
+use Rattle.ipc_format.proofs.NormalForms.{keeps_writable}
+use Rattle.ipc_format.proofs.Binding.{came_of, same_some}
+use Rattle.tables_chunks.proofs.FileBatches.{schema_written}
 
 -- a message's schema has arrays
 found_has_arrays : (framed : Framed) (header : Header) (found : SchemaIn) → SchemasHaveArrays → schema_of framed header ≡ Some found

@@ -1,21 +1,21 @@
 -- The table that is read of a stream is that of the batches behind its schema.
 use Rattle.std.proofs.Common.{◌≡◌, ◌∙◌, ℕ, ◌<◌, ◌^◌, List, [], length, sym, ap, subst, inl, All}
 use Rattle.std.specs.Prelude.{Some, Result, Ok, Err}
-use Rattle.tables_file_reading.specs.ipc_format.columnar_memory.declared.Error.{Error}
-use Rattle.tables_file_reading.specs.ipc_format.columnar_memory.declared.Error.TheVariants as errors
-use Rattle.tables_file_reading.specs.ipc_format.columnar_memory.declared.Schema.{Schema}
-use Rattle.tables_file_reading.specs.ipc_format.columns.Tables.{rows_of_batches}
-use Rattle.tables_file_reading.specs.ipc_format.Refusals.{HasFloat}
-use Rattle.tables_file_reading.specs.ipc_format.Tables.{stream, batches_behind, layout_of}
-use Rattle.tables_file_reading.specs.ipc_format.Writable.{normalised}
-use Rattle.tables_file_reading.specs.ipc_format.metadata.Reading.{Refuses}
-use Rattle.tables_file_reading.specs.ipc_format.streams.Starts.{Start, start_in}
+use Rattle.ipc_format.specs.columnar_memory.declared.Error.{Error}
+use Rattle.ipc_format.specs.columnar_memory.declared.Error.TheVariants as errors
+use Rattle.ipc_format.specs.columnar_memory.declared.Schema.{Schema}
+use Rattle.ipc_format.specs.columns.Tables.{rows_of_batches}
+use Rattle.ipc_format.specs.Refusals.{HasFloat}
+use Rattle.ipc_format.specs.Tables.{stream, batches_behind, layout_of}
+use Rattle.ipc_format.specs.Writable.{normalised}
+use Rattle.ipc_format.specs.metadata.Reading.{Refuses}
+use Rattle.ipc_format.specs.streams.Starts.{Start, start_in}
 use Rattle.tables_chunks.specs.Faults.{fault_of}
 use Rattle.tables_chunks.specs.declared.fault.Fault.{Fault}
 use Rattle.tables_chunks.specs.declared.fault.Fault.TheVariants as faults
-use Rattle.tables_file_reading.proofs.ipc_format_lemmas.StreamParts.{fitting, stream_from, no_table, never_unfinished, fits, too_many}
-use Rattle.tables_file_reading.proofs.ipc_format_lemmas.StreamParts.{unfinished_from, many_in_stream}
-use Rattle.tables_file_reading.proofs.ipc_format_lemmas.StreamParts.{unread_in_stream}
+use Rattle.ipc_format.proofs.StreamParts.{fitting, stream_from, no_table, never_unfinished, fits, too_many}
+use Rattle.ipc_format.proofs.StreamParts.{unfinished_from, many_in_stream}
+use Rattle.ipc_format.proofs.StreamParts.{unread_in_stream}
 use Rattle.tables_chunks.specs.Messages.{AreOfFields}
 use Rattle.tables_chunks.specs.Reading.{slots_of_batches, ReadsBatches, ReadsStream}
 use Rattle.tables_chunks.specs.TableSchemas.{IsTableSchema}

@@ -2,39 +2,39 @@
 use Rattle.std.proofs.Common.{◌≡◌, ◌∙◌, ℕ, ◌<◌, ◌^◌, true, List, [], ◌∷◌, ◌++◌, length, map, refl, sym, ap, subst, append-nil}
 use Rattle.std.specs.Prelude.{Some}
 use Rattle.std.proofs.lemmas.Bool.{and_parts}
-use Rattle.tables_file_reading.specs.ipc_format.Reading.{window_at}
-use Rattle.tables_file_reading.specs.ipc_format.columnar_memory.declared.Field.{Field}
-use Rattle.tables_file_reading.specs.ipc_format.columnar_memory.declared.Schema.{Schema}
-use Rattle.tables_file_reading.specs.ipc_format.columns.Slots.{Slot}
-use Rattle.tables_file_reading.specs.ipc_format.columns.StoredColumns.{Column}
-use Rattle.tables_file_reading.specs.ipc_format.columns.Tables.{rows_of_batches}
-use Rattle.tables_file_reading.specs.ipc_format.Dictionaries.{Entry, Layout}
-use Rattle.tables_file_reading.specs.ipc_format.Framing.{Framed}
-use Rattle.tables_file_reading.specs.ipc_format.GivenDictionaries.{Given, written_after}
-use Rattle.tables_file_reading.specs.ipc_format.Messages.{V5}
-use Rattle.tables_file_reading.specs.ipc_format.Tables.{stream, stream_entry, batches_of}
-use Rattle.tables_file_reading.specs.ipc_format.Writable.{normalised, normalised_field}
-use Rattle.tables_file_reading.specs.ipc_format.WrittenMessages.{Written, fits_limit, schema_written}
-use Rattle.tables_file_reading.specs.ipc_format.WrittenStreams.{batch_of_stored, given_of_stored, stream_bytes}
-use Rattle.tables_file_reading.specs.ipc_format.reading_laws.laws.Contents.{AreThoseOf, IsOfSent, Sent, sent_after}
-use Rattle.tables_file_reading.specs.ipc_format.reading_laws.laws.Contents as contents
-use Rattle.tables_file_reading.specs.ipc_format.reading_laws.laws.Schemas.{HasTexts}
-use Rattle.tables_file_reading.specs.ipc_format.reading_laws.StoredTables.{HoldsBatches, read_batches}
-use Rattle.tables_file_reading.proofs.ipc_format_lemmas.DefaultIds.{defaults_fit}
-use Rattle.tables_file_reading.proofs.ipc_format_lemmas.Places.{window_stands}
-use Rattle.tables_file_reading.proofs.ipc_format_lemmas.LimitsOfRoom.{fit_ids_list}
-use Rattle.tables_file_reading.proofs.ipc_format_lemmas.StreamContents.{IsWritten, stream_holds}
-use Rattle.tables_file_reading.proofs.ipc_format_lemmas.SealedIds.{defaults_signed}
-use Rattle.tables_file_reading.proofs.ipc_format_lemmas.StoredGivenFits.{ids_are_read}
-use Rattle.tables_file_reading.proofs.ipc_format_lemmas.StoredGivenLists.{AreEach, Each}
-use Rattle.tables_file_reading.proofs.ipc_format_lemmas.StoredGivenBrought.{given_of}
-use Rattle.tables_file_reading.proofs.ipc_format_lemmas.StoredGivenReady.{AgreePairs, agree_pairs, brought_of, given_brought_of, ready_of}
-use Rattle.tables_file_reading.proofs.ipc_format_lemmas.StoredGivenStanding.{as_read}
-use Rattle.tables_file_reading.proofs.ipc_format_lemmas.StoredTablesBatches.{IsBatch}
-use Rattle.tables_file_reading.proofs.ipc_format_lemmas.StoredTablesEntries.{IsSent}
-use Rattle.tables_file_reading.proofs.ipc_format_lemmas.StoredTablesStreams.{Agreed, all_stand, batch_dictionaries, batch_step, holds_batches}
-use Rattle.tables_file_reading.proofs.ipc_format_lemmas.StoredTablesStreams.{layout_with}
-use Rattle.tables_file_reading.proofs.ipc_format_lemmas.StoredTypes.{stored_columns_read_back}
+use Rattle.ipc_format.specs.Reading.{window_at}
+use Rattle.ipc_format.specs.columnar_memory.declared.Field.{Field}
+use Rattle.ipc_format.specs.columnar_memory.declared.Schema.{Schema}
+use Rattle.ipc_format.specs.columns.Slots.{Slot}
+use Rattle.ipc_format.specs.columns.StoredColumns.{Column}
+use Rattle.ipc_format.specs.columns.Tables.{rows_of_batches}
+use Rattle.ipc_format.specs.Dictionaries.{Entry, Layout}
+use Rattle.ipc_format.specs.Framing.{Framed}
+use Rattle.ipc_format.specs.GivenDictionaries.{Given, written_after}
+use Rattle.ipc_format.specs.Messages.{V5}
+use Rattle.ipc_format.specs.Tables.{stream, stream_entry, batches_of}
+use Rattle.ipc_format.specs.Writable.{normalised, normalised_field}
+use Rattle.ipc_format.specs.WrittenMessages.{Written, fits_limit, schema_written}
+use Rattle.ipc_format.specs.WrittenStreams.{batch_of_stored, given_of_stored, stream_bytes}
+use Rattle.ipc_format.specs.reading_laws.laws.Contents.{AreThoseOf, IsOfSent, Sent, sent_after}
+use Rattle.ipc_format.specs.reading_laws.laws.Contents as contents
+use Rattle.ipc_format.specs.reading_laws.laws.Schemas.{HasTexts}
+use Rattle.ipc_format.specs.reading_laws.StoredTables.{HoldsBatches, read_batches}
+use Rattle.ipc_format.proofs.DefaultIds.{defaults_fit}
+use Rattle.ipc_format.proofs.Places.{window_stands}
+use Rattle.ipc_format.proofs.LimitsOfRoom.{fit_ids_list}
+use Rattle.ipc_format.proofs.StreamContents.{IsWritten, stream_holds}
+use Rattle.ipc_format.proofs.SealedIds.{defaults_signed}
+use Rattle.ipc_format.proofs.StoredGivenFits.{ids_are_read}
+use Rattle.ipc_format.proofs.StoredGivenLists.{AreEach, Each}
+use Rattle.ipc_format.proofs.StoredGivenBrought.{given_of}
+use Rattle.ipc_format.proofs.StoredGivenReady.{AgreePairs, agree_pairs, brought_of, given_brought_of, ready_of}
+use Rattle.ipc_format.proofs.StoredGivenStanding.{as_read}
+use Rattle.ipc_format.proofs.StoredTablesBatches.{IsBatch}
+use Rattle.ipc_format.proofs.StoredTablesEntries.{IsSent}
+use Rattle.ipc_format.proofs.StoredTablesStreams.{Agreed, all_stand, batch_dictionaries, batch_step, holds_batches}
+use Rattle.ipc_format.proofs.StoredTablesStreams.{layout_with}
+use Rattle.ipc_format.proofs.StoredTypes.{stored_columns_read_back}
 use Rattle.tables_chunks.specs.Batches.{stored_rows}
 use Rattle.tables_chunks.specs.WrittenTables.{ReadAsTable, are_within, is_table_within, table_bytes, table_ids, written_batches}
 use Rattle.tables_chunks.specs.StoredTables.{IsTable}

@@ -8,11 +8,11 @@ use Rattle.std.proofs.lemmas.List.{length-map}
 use Rattle.columnar_memory_types.specs.Equality.{same_type}
 use Rattle.columnar_memory_types.specs.declared.data_type.Field.{Field}
 use Rattle.columnar_memory_types.specs.declared.schema.Schema.{Schema}
-use Rattle.tables_file_reading.specs.ipc_format.columns.Slots.{Slot}
-use Rattle.tables_file_reading.specs.ipc_format.columns.StoredColumns.{Column, column_type}
-use Rattle.tables_file_reading.specs.ipc_format.columns.Tables.{chosen, part, choice}
-use Rattle.tables_file_reading.proofs.ipc_format_lemmas.Cuts.{column_type-cut}
-use Rattle.tables_file_reading.proofs.ipc_format_lemmas.Windows.{length-cut_list}
+use Rattle.ipc_format.specs.columns.Slots.{Slot}
+use Rattle.ipc_format.specs.columns.StoredColumns.{Column, column_type}
+use Rattle.ipc_format.specs.columns.Tables.{chosen, part, choice}
+use Rattle.ipc_format.proofs.Cuts.{column_type-cut}
+use Rattle.ipc_format.proofs.Windows.{length-cut_list}
 use Rattle.tables_chunks.specs.Batches.{batch_len, is_batch, stored_rows, cut_batch, cut_batches, choose_batches}
 use Rattle.tables_chunks.proofs.ChosenBatches.{choices_have_columns}
 use Rattle.tables_chunks.proofs.CutBatches.{cuts_have_parts}

@@ -4,21 +4,21 @@ use Rattle.std.specs.Prelude.{◌&&◌, ◌==◌}
 use Rattle.std.specs.List.{list_all}
 use Rattle.std.proofs.lemmas.Bool.{and_parts, and_from, false≢true}
 use Rattle.columnar_memory_types.specs.Equality.{same_type, same_type-Decides}
-use Rattle.tables_file_reading.specs.ipc_format.columnar_memory.declared.DataType.{DataType}
-use Rattle.tables_file_reading.specs.ipc_format.columnar_memory.declared.Field.{Field}
-use Rattle.tables_file_reading.specs.ipc_format.columnar_memory.declared.Schema.{Schema}
-use Rattle.tables_file_reading.specs.ipc_format.columns.SoundColumns.{have_types, is_sound}
-use Rattle.tables_file_reading.specs.ipc_format.columns.StoredColumns.{Column, column_len, column_type, in_columns, slots}
-use Rattle.tables_file_reading.specs.ipc_format.Ids.{ids_fit_fields}
-use Rattle.tables_file_reading.specs.ipc_format.Schemas.{IdsList}
-use Rattle.tables_file_reading.specs.ipc_format.Writable.{normalised, normalised_field, normalised_type}
-use Rattle.tables_file_reading.specs.ipc_format.GivenDictionaries.{agree}
-use Rattle.tables_file_reading.specs.ipc_format.WrittenStreams.{are_equal, batch_of_stored, given_of_stored, is_column_of, pass_each}
-use Rattle.tables_file_reading.specs.ipc_format.reading_laws.StoredTables.{read_batches, read_slots}
-use Rattle.tables_file_reading.proofs.ipc_format_lemmas.DefaultIds.{defaults_fit}
-use Rattle.tables_file_reading.proofs.ipc_format_lemmas.StoredGivenLists.{Each}
-use Rattle.tables_file_reading.proofs.ipc_format_lemmas.StoredGivenReady.{are_columns}
-use Rattle.tables_file_reading.proofs.ipc_format_lemmas.StoredTablesBatches.{IsBatch}
+use Rattle.ipc_format.specs.columnar_memory.declared.DataType.{DataType}
+use Rattle.ipc_format.specs.columnar_memory.declared.Field.{Field}
+use Rattle.ipc_format.specs.columnar_memory.declared.Schema.{Schema}
+use Rattle.ipc_format.specs.columns.SoundColumns.{have_types, is_sound}
+use Rattle.ipc_format.specs.columns.StoredColumns.{Column, column_len, column_type, in_columns, slots}
+use Rattle.ipc_format.specs.Ids.{ids_fit_fields}
+use Rattle.ipc_format.specs.Schemas.{IdsList}
+use Rattle.ipc_format.specs.Writable.{normalised, normalised_field, normalised_type}
+use Rattle.ipc_format.specs.GivenDictionaries.{agree}
+use Rattle.ipc_format.specs.WrittenStreams.{are_equal, batch_of_stored, given_of_stored, is_column_of, pass_each}
+use Rattle.ipc_format.specs.reading_laws.StoredTables.{read_batches, read_slots}
+use Rattle.ipc_format.proofs.DefaultIds.{defaults_fit}
+use Rattle.ipc_format.proofs.StoredGivenLists.{Each}
+use Rattle.ipc_format.proofs.StoredGivenReady.{are_columns}
+use Rattle.ipc_format.proofs.StoredTablesBatches.{IsBatch}
 use Rattle.tables_chunks.specs.Batches.{batch_len, is_batch}
 use Rattle.tables_chunks.specs.WrittenTables.{table_ids}
 use Rattle.tables_chunks.specs.StoredTables.{IsTable}

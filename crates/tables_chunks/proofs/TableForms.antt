@@ -2,8 +2,8 @@
 use Rattle.std.proofs.Common.{◌≡◌, ◌∙◌, ◌↔◌, Bool, true, false, sym}
 use Rattle.std.proofs.lemmas.Bool.{false≢true}
 use Rattle.std.specs.Prelude.{IsTrue}
-use Rattle.tables_file_reading.specs.ipc_format.columnar_memory.declared.Schema.{Schema}
-use Rattle.tables_file_reading.specs.ipc_format.Writable.{is_writable, normalised}
+use Rattle.ipc_format.specs.columnar_memory.declared.Schema.{Schema}
+use Rattle.ipc_format.specs.Writable.{is_writable, normalised}
 use Rattle.tables_chunks.specs.TableSchemas.{IsTableSchema}
 
 -- one that is not written is none

@@ -5,9 +5,9 @@ use Rattle.std.specs.List.{list_all}
 use Rattle.std.proofs.lemmas.Bool.{false≢true, leb-true, le-leb}
 use Rattle.columnar_memory_types.specs.declared.data_type.Field.{Field}
 use Rattle.columnar_memory_types.specs.declared.schema.Schema.{Schema}
-use Rattle.tables_file_reading.specs.ipc_format.columns.Slots.{Slot}
-use Rattle.tables_file_reading.specs.ipc_format.columns.StoredColumns.{Column}
-use Rattle.tables_file_reading.specs.ipc_format.columns.Tables.{Table}
+use Rattle.ipc_format.specs.columns.Slots.{Slot}
+use Rattle.ipc_format.specs.columns.StoredColumns.{Column}
+use Rattle.ipc_format.specs.columns.Tables.{Table}
 use Rattle.tables_chunks.specs.Batches.{is_batch, stored_rows}
 use Rattle.tables_chunks.specs.SameRows.{AreAlike}
 use Rattle.tables_chunks.specs.StoredTables.{Stored, IsTable, as_table, is_of_fields, row_count}

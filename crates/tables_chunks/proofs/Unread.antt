@@ -1,15 +1,15 @@
 -- A message that is compressed, or that adds to an earlier dictionary.
 use Rattle.std.proofs.Common.{◌≡◌, ℕ, true, List, refl, sym, subst, inl}
 use Rattle.std.specs.Prelude.{Some, IsSome, ◌⊎◌}
-use Rattle.tables_file_reading.specs.ipc_format.DictionaryReads.{is_unread}
-use Rattle.tables_file_reading.specs.ipc_format.FlatBuffers.{Table}
-use Rattle.tables_file_reading.specs.ipc_format.Framing.{Framed, message_then, next_at}
-use Rattle.tables_file_reading.specs.ipc_format.Messages.{Header, record_batch, dictionary_batch}
-use Rattle.tables_file_reading.specs.ipc_format.Messages.{dictionary_batch_in}
-use Rattle.tables_file_reading.specs.ipc_format.Refusals.{compression_in, is_delta}
-use Rattle.tables_file_reading.specs.ipc_format.streams.Queues.{is_compressed}
-use Rattle.tables_file_reading.specs.ipc_format.Behind.{IsUnreadThere}
-use Rattle.tables_file_reading.proofs.Unread.{compressed, either_by}
+use Rattle.ipc_format.specs.DictionaryReads.{is_unread}
+use Rattle.ipc_format.specs.FlatBuffers.{Table}
+use Rattle.ipc_format.specs.Framing.{Framed, message_then, next_at}
+use Rattle.ipc_format.specs.Messages.{Header, record_batch, dictionary_batch}
+use Rattle.ipc_format.specs.Messages.{dictionary_batch_in}
+use Rattle.ipc_format.specs.Refusals.{compression_in, is_delta}
+use Rattle.ipc_format.specs.streams.Queues.{is_compressed}
+use Rattle.ipc_format.specs.Behind.{IsUnreadThere}
+use Rattle.ipc_format.proofs.UnreadBlocks.{compressed, either_by}
 
 pub batch_unread : (bytes : List ℕ) (place after : ℕ) (framed : Framed) (table : Table) → next_at bytes place ≡ Some (message_then framed after)
     → framed.header ≡ record_batch table → is_compressed framed.metadata table ≡ true → IsUnreadThere (next_at bytes place)

@@ -8,32 +8,32 @@ use Rattle.std.proofs.lemmas.Bool.{and_parts, and_from}
 use Rattle.std.proofs.lemmas.List.{map-append}
 use Rattle.std.proofs.lemmas.List.Elements.{All-head, All-tail, All-nil, All-cons}
 use Rattle.std.proofs.lemmas.List.Folds.{list_all-append}
-use Rattle.tables_file_reading.specs.ipc_format.columnar_memory.declared.Schema.{Schema}
-use Rattle.tables_file_reading.specs.ipc_format.columns.StoredColumns.{Column, nulls, flat, lists, fixed_lists, records, unions, dictionary}
-use Rattle.tables_file_reading.specs.ipc_format.columns.StoredColumns.{column_len, slot_at}
-use Rattle.tables_file_reading.proofs.ipc_format_lemmas.Windows.{length-window}
-use Rattle.tables_file_reading.specs.ipc_format.Encoding.{joined}
-use Rattle.tables_file_reading.specs.ipc_format.GivenDictionaries.{Given, last_under, stands_for, to_write, written_after}
-use Rattle.tables_file_reading.specs.ipc_format.Ids.{all_are_ids}
-use Rattle.tables_file_reading.specs.ipc_format.grammar.Limits.{length_limit}
-use Rattle.tables_file_reading.specs.ipc_format.Schemas.{IdsList}
-use Rattle.tables_file_reading.specs.ipc_format.StoredEncoding.{encode_range, encode_stored}
-use Rattle.tables_file_reading.specs.ipc_format.Writable.{is_writable}
-use Rattle.tables_file_reading.specs.ipc_format.WrittenMessages.{Written, dictionary_message, fits_limit, record_message}
-use Rattle.tables_file_reading.specs.ipc_format.WrittenStreams.{Batch, stored_columns, batch_messages, batch_of_stored, given_of_stored}
-use Rattle.tables_file_reading.specs.ipc_format.WrittenStreams.{has_nodes_in_room, is_in_room, is_node, messages_after, rows_of_stored}
-use Rattle.tables_file_reading.specs.ipc_format.reading_laws.laws.Contents.{AreThoseOf, IsOfSent, Sent, sent_after}
-use Rattle.tables_file_reading.specs.ipc_format.reading_laws.laws.Contents as contents
-use Rattle.tables_file_reading.proofs.ipc_format_lemmas.GivenIds.{batch_ids}
-use Rattle.tables_file_reading.proofs.ipc_format_lemmas.LaterMessages.{ReadLater}
-use Rattle.tables_file_reading.proofs.ipc_format_lemmas.LimitsOfRoom.{HasId, HasRoomForColumns, has_room_for_columns}
-use Rattle.tables_file_reading.proofs.ipc_format_lemmas.SentMessages.{sent_read}
-use Rattle.tables_file_reading.specs.ipc_format.Framing.{Framed}
-use Rattle.tables_file_reading.proofs.ipc_format_lemmas.StoredGivenBrought.{Brought, given_of}
-use Rattle.tables_file_reading.proofs.ipc_format_lemmas.StoredGivenLists.{Each, by_answer}
-use Rattle.tables_file_reading.proofs.ipc_format_lemmas.StoredGivenReady.{AreColumns, brought_of, given_brought_of, given_few}
-use Rattle.tables_file_reading.proofs.ipc_format_lemmas.StoredTablesBatches.{IsBatch}
-use Rattle.tables_file_reading.specs.ipc_format.EncodedChunks.{is_batch_within, is_given_within}
+use Rattle.ipc_format.specs.columnar_memory.declared.Schema.{Schema}
+use Rattle.ipc_format.specs.columns.StoredColumns.{Column, nulls, flat, lists, fixed_lists, records, unions, dictionary}
+use Rattle.ipc_format.specs.columns.StoredColumns.{column_len, slot_at}
+use Rattle.ipc_format.proofs.Windows.{length-window}
+use Rattle.ipc_format.specs.Encoding.{joined}
+use Rattle.ipc_format.specs.GivenDictionaries.{Given, last_under, stands_for, to_write, written_after}
+use Rattle.ipc_format.specs.Ids.{all_are_ids}
+use Rattle.ipc_format.specs.grammar.Limits.{length_limit}
+use Rattle.ipc_format.specs.Schemas.{IdsList}
+use Rattle.ipc_format.specs.StoredEncoding.{encode_range, encode_stored}
+use Rattle.ipc_format.specs.Writable.{is_writable}
+use Rattle.ipc_format.specs.WrittenMessages.{Written, dictionary_message, fits_limit, record_message}
+use Rattle.ipc_format.specs.WrittenStreams.{Batch, stored_columns, batch_messages, batch_of_stored, given_of_stored}
+use Rattle.ipc_format.specs.WrittenStreams.{has_nodes_in_room, is_in_room, is_node, messages_after, rows_of_stored}
+use Rattle.ipc_format.specs.reading_laws.laws.Contents.{AreThoseOf, IsOfSent, Sent, sent_after}
+use Rattle.ipc_format.specs.reading_laws.laws.Contents as contents
+use Rattle.ipc_format.proofs.GivenIds.{batch_ids}
+use Rattle.ipc_format.proofs.LaterMessages.{ReadLater}
+use Rattle.ipc_format.proofs.LimitsOfRoom.{HasId, HasRoomForColumns, has_room_for_columns}
+use Rattle.ipc_format.proofs.SentMessages.{sent_read}
+use Rattle.ipc_format.specs.Framing.{Framed}
+use Rattle.ipc_format.proofs.StoredGivenBrought.{Brought, given_of}
+use Rattle.ipc_format.proofs.StoredGivenLists.{Each, by_answer}
+use Rattle.ipc_format.proofs.StoredGivenReady.{AreColumns, brought_of, given_brought_of, given_few}
+use Rattle.ipc_format.proofs.StoredTablesBatches.{IsBatch}
+use Rattle.ipc_format.specs.EncodedChunks.{is_batch_within, is_given_within}
 use Rattle.tables_chunks.specs.WrittenTables.{are_within}
 
 -- ---- each message fits its limit

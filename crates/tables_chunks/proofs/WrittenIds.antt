@@ -3,27 +3,27 @@ use Rattle.std.proofs.Common.{◌≡◌, ℕ, ◌+◌, ◌≤◌, ℤ, true, Lis
 use Rattle.std.specs.Prelude.{Some, None}
 use Rattle.std.specs.Ordering.{int_eq}
 use Rattle.std.proofs.lemmas.Bool.{and_parts}
-use Rattle.tables_file_reading.specs.ipc_format.columnar_memory.declared.Field.{Field}
-use Rattle.tables_file_reading.specs.ipc_format.columnar_memory.declared.Schema.{Schema}
-use Rattle.tables_file_reading.specs.ipc_format.columns.SoundColumns.{is_sound, are_sound}
-use Rattle.tables_file_reading.specs.ipc_format.columns.StoredColumns.{Column, Columns, nulls, flat, lists, fixed_lists, records, unions}
-use Rattle.tables_file_reading.specs.ipc_format.columns.StoredColumns.{dictionary}
-use Rattle.tables_file_reading.specs.ipc_format.columns.StoredColumns.{no_column, column_then, column_type, slots}
-use Rattle.tables_file_reading.specs.ipc_format.Columns.{first_ids, other_ids, ids_below, own_id}
-use Rattle.tables_file_reading.specs.ipc_format.GivenDictionaries.{Given, agree, given_each, given_stored, id_or_0}
-use Rattle.tables_file_reading.specs.ipc_format.Schemas.{Ids, IdsList, ids, no_ids, ids_then}
-use Rattle.tables_file_reading.specs.ipc_format.StoredEncoding.{encode_stored}
-use Rattle.tables_file_reading.specs.ipc_format.Writable.{is_writable}
-use Rattle.tables_file_reading.specs.ipc_format.WrittenStreams.{given_of_stored}
-use Rattle.tables_file_reading.specs.ipc_format.reading_laws.laws.DefaultIds.{ids_in_order, all_in_order, ids_from, dictionary_count}
-use Rattle.tables_file_reading.proofs.ipc_format_lemmas.DefaultIds.{defaults_count}
-use Rattle.tables_file_reading.proofs.ipc_format_lemmas.SealedIds.{agree_apart, below_within, brought, brought-append, child_within, once, one_if}
-use Rattle.tables_file_reading.proofs.ipc_format_lemmas.SealedIds.{times, times-append}
-use Rattle.tables_file_reading.proofs.ipc_format_lemmas.StoredGivenBrought.{sound_children, sound_fields, sound_fixed_item, sound_item}
-use Rattle.tables_file_reading.proofs.ipc_format_lemmas.StoredGivenBrought.{sound_values}
-use Rattle.tables_file_reading.proofs.ipc_format_lemmas.StoredGivenFits.{FitsColumn, FitColumns, fits_children, fits_fields, fits_fixed_item}
-use Rattle.tables_file_reading.proofs.ipc_format_lemmas.StoredGivenFits.{fits_item, fits_values}
-use Rattle.tables_file_reading.proofs.ipc_format_lemmas.StoredGivenReady.{AreColumns}
+use Rattle.ipc_format.specs.columnar_memory.declared.Field.{Field}
+use Rattle.ipc_format.specs.columnar_memory.declared.Schema.{Schema}
+use Rattle.ipc_format.specs.columns.SoundColumns.{is_sound, are_sound}
+use Rattle.ipc_format.specs.columns.StoredColumns.{Column, Columns, nulls, flat, lists, fixed_lists, records, unions}
+use Rattle.ipc_format.specs.columns.StoredColumns.{dictionary}
+use Rattle.ipc_format.specs.columns.StoredColumns.{no_column, column_then, column_type, slots}
+use Rattle.ipc_format.specs.Columns.{first_ids, other_ids, ids_below, own_id}
+use Rattle.ipc_format.specs.GivenDictionaries.{Given, agree, given_each, given_stored, id_or_0}
+use Rattle.ipc_format.specs.Schemas.{Ids, IdsList, ids, no_ids, ids_then}
+use Rattle.ipc_format.specs.StoredEncoding.{encode_stored}
+use Rattle.ipc_format.specs.Writable.{is_writable}
+use Rattle.ipc_format.specs.WrittenStreams.{given_of_stored}
+use Rattle.ipc_format.specs.reading_laws.laws.DefaultIds.{ids_in_order, all_in_order, ids_from, dictionary_count}
+use Rattle.ipc_format.proofs.DefaultIds.{defaults_count}
+use Rattle.ipc_format.proofs.SealedIds.{agree_apart, below_within, brought, brought-append, child_within, once, one_if}
+use Rattle.ipc_format.proofs.SealedIds.{times, times-append}
+use Rattle.ipc_format.proofs.StoredGivenBrought.{sound_children, sound_fields, sound_fixed_item, sound_item}
+use Rattle.ipc_format.proofs.StoredGivenBrought.{sound_values}
+use Rattle.ipc_format.proofs.StoredGivenFits.{FitsColumn, FitColumns, fits_children, fits_fields, fits_fixed_item}
+use Rattle.ipc_format.proofs.StoredGivenFits.{fits_item, fits_values}
+use Rattle.ipc_format.proofs.StoredGivenReady.{AreColumns}
 use Rattle.tables_chunks.specs.WrittenTables.{table_ids}
 
 -- the ids of the first field and of the others

@@ -3,10 +3,10 @@
 use Rattle.std.specs.Prelude.{◌≡◌, ℕ, ◌+◌, ◌-◌, ◌<◌, ◌≤◌, min, Bool, true, ◌&&◌, ◌==◌, List, [], ◌∷◌, ◌++◌, length, map, if◌then◌else◌}
 use Rattle.std.specs.Prelude.{◌↔◌, slice_index_or, slice_range, nat_lt}
 use Rattle.std.specs.List.{list_all, flat_map}
-use Rattle.tables_file_reading.specs.ipc_format.columns.Slots.{Slot}
-use Rattle.tables_file_reading.specs.ipc_format.columns.SoundColumns.{is_sound}
-use Rattle.tables_file_reading.specs.ipc_format.columns.StoredColumns.{Column, column_len, cut, slots}
-use Rattle.tables_file_reading.specs.ipc_format.columns.Tables.{rows_of_batches, chosen}
+use Rattle.ipc_format.specs.columns.Slots.{Slot}
+use Rattle.ipc_format.specs.columns.SoundColumns.{is_sound}
+use Rattle.ipc_format.specs.columns.StoredColumns.{Column, column_len, cut, slots}
+use Rattle.ipc_format.specs.columns.Tables.{rows_of_batches, chosen}
 
 -- ---- batches of stored columns, and their rows
 

@@ -3,6 +3,7 @@ pub mod Choices
 pub mod Faults
 pub mod Messages
 pub mod PutMessages
+pub mod ReadFiles
 pub mod ReadTables
 pub mod Reading
 pub mod Refusals
@@ -13,5 +14,4 @@ pub mod TableSchemas
 pub mod Texts
 pub mod WrittenFiles
 pub mod WrittenTables
-pub use Rattle.tables_file_reading.specs as file_reading
-pub use Rattle.tables_file_reading.specs.ipc_format as ipc_format
+pub use Rattle.ipc_format.specs as ipc_format

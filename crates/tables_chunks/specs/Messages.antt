@@ -1,18 +1,18 @@
 -- What is read of the messages behind a stream's schema (Arrow IPC, "RecordBatch message", "Dictionary Messages").
 use Rattle.std.specs.Prelude.{◌≡◌, ◌⊎◌, ℕ, ◌<◌, ◌≤◌, List, ◌∷◌, length, map, Option, Some, None, Result, Ok, Err}
-use Rattle.tables_file_reading.specs.ipc_format.Standing.{StandAlike}
-use Rattle.tables_file_reading.specs.ipc_format.columnar_memory.declared.Error.{Error}
-use Rattle.tables_file_reading.specs.ipc_format.columnar_memory.declared.Error.TheVariants as errors
-use Rattle.tables_file_reading.specs.ipc_format.columnar_memory.declared.Field.{Field}
-use Rattle.tables_file_reading.specs.ipc_format.columns.StoredColumns.{slots}
-use Rattle.tables_file_reading.specs.ipc_format.Columns.{Dictionary}
-use Rattle.tables_file_reading.specs.ipc_format.Dictionaries.{Layout}
-use Rattle.tables_file_reading.specs.ipc_format.Framing.{next_at}
-use Rattle.tables_file_reading.specs.ipc_format.grammar.Limits.{most_dictionaries}
-use Rattle.tables_file_reading.specs.ipc_format.Messages.{Version}
-use Rattle.tables_file_reading.specs.ipc_format.Behind.{IsOutOfTurn, IsUnreadThere}
-use Rattle.tables_file_reading.specs.ipc_format.Steps.{Step, cut_off, ended, dictionary_then, batch_then, step_at}
-pub use Rattle.tables_file_reading.specs.Messages.{AreOfFields, TakesDictionary, layout_by, type_of}
+use Rattle.ipc_format.specs.Standing.{StandAlike}
+use Rattle.ipc_format.specs.columnar_memory.declared.Error.{Error}
+use Rattle.ipc_format.specs.columnar_memory.declared.Error.TheVariants as errors
+use Rattle.ipc_format.specs.columnar_memory.declared.Field.{Field}
+use Rattle.ipc_format.specs.columns.StoredColumns.{slots}
+use Rattle.ipc_format.specs.Columns.{Dictionary}
+use Rattle.ipc_format.specs.Dictionaries.{Layout}
+use Rattle.ipc_format.specs.Framing.{next_at}
+use Rattle.ipc_format.specs.grammar.Limits.{most_dictionaries}
+use Rattle.ipc_format.specs.Messages.{Version}
+use Rattle.ipc_format.specs.Behind.{IsOutOfTurn, IsUnreadThere}
+use Rattle.ipc_format.specs.Steps.{Step, cut_off, ended, dictionary_then, batch_then, step_at}
+pub use Rattle.ipc_format.specs.BlockMessages.{AreOfFields, TakesDictionary, layout_by, type_of}
 use Rattle.tables_chunks.specs.declared.messages.Next.{Next}
 use Rattle.tables_chunks.specs.declared.messages.Next.TheVariants as next
 

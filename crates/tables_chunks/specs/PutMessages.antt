@@ -1,15 +1,15 @@
 -- The messages of batches as they are put to a device, one after another.
 use Rattle.std.specs.Prelude.{◌≡◌, ℤ, ℕ, Bool, true, false, List, [], ◌∷◌, ◌++◌, Option, Result, Ok, Err}
 use Rattle.std.specs.Io.KnownBytes.{Appends}
-use Rattle.tables_file_reading.specs.ipc_format.columnar_memory.declared.Error.{Error}
-use Rattle.tables_file_reading.specs.ipc_format.columnar_memory.declared.Schema.{Schema}
-use Rattle.tables_file_reading.specs.ipc_format.columns.StoredColumns.{Column}
-use Rattle.tables_file_reading.specs.ipc_format.GivenDictionaries.{Given, written_after}
-use Rattle.tables_file_reading.specs.ipc_format.WrittenMessages.{message_bytes, fits_limit, schema_written}
-use Rattle.tables_file_reading.specs.ipc_format.WrittenStreams.{Batch, batch_messages, batch_of_stored, messages_after, bytes_of_messages}
-use Rattle.tables_file_reading.specs.ipc_format.EncodedChunks.{is_batch_within}
-use Rattle.tables_file_reading.specs.ipc_format.Tracking.{Tells}
-use Rattle.tables_file_reading.specs.ipc_format.streams.Devices.{AppendsBeginning}
+use Rattle.ipc_format.specs.columnar_memory.declared.Error.{Error}
+use Rattle.ipc_format.specs.columnar_memory.declared.Schema.{Schema}
+use Rattle.ipc_format.specs.columns.StoredColumns.{Column}
+use Rattle.ipc_format.specs.GivenDictionaries.{Given, written_after}
+use Rattle.ipc_format.specs.WrittenMessages.{message_bytes, fits_limit, schema_written}
+use Rattle.ipc_format.specs.WrittenStreams.{Batch, batch_messages, batch_of_stored, messages_after, bytes_of_messages}
+use Rattle.ipc_format.specs.EncodedChunks.{is_batch_within}
+use Rattle.ipc_format.specs.Tracking.{Tells}
+use Rattle.ipc_format.specs.streams.Devices.{AppendsBeginning}
 use Rattle.tables_chunks.specs.WrittenTables.{table_ids, told_after, are_within, written_batches}
 use Rattle.tables_chunks.specs.Refusals.{IsRefusal, StopsAtSchema}
 

@@ -1,8 +1,8 @@
 -- What is read of some bytes as a table, by their form (Arrow IPC, "IPC File Format", "IPC Streaming Format").
-use Rattle.std.specs.Prelude.{◌≡◌, ◌⊎◌, ℕ, List, Some, None, Result, Ok, Err}
-use Rattle.tables_file_reading.specs.ipc_format.Refusals.{HasFloat, HasCompression, HasDelta, HasTooManyRows}
-use Rattle.tables_file_reading.specs.ipc_format.columnar_memory.declared.Error.TheVariants as errors
-use Rattle.tables_file_reading.specs.ipc_format.grammar.Tables.{stream, file, batches_in, table_of}
+use Rattle.std.specs.Prelude.{◌≡◌, ℕ, List, Some, None, Result, Ok, Err}
+use Rattle.ipc_format.specs.Refusals.{HasTooManyRows, HasUnimplemented}
+use Rattle.ipc_format.specs.columnar_memory.declared.Error.TheVariants as errors
+use Rattle.ipc_format.specs.grammar.Tables.{stream, file, batches_in, table_of}
 use Rattle.tables_chunks.specs.declared.fault.Fault.{Fault}
 use Rattle.tables_chunks.specs.declared.fault.Fault.TheVariants as faults
 use Rattle.tables_chunks.specs.declared.read.Form.{Form}
@@ -17,15 +17,15 @@ ReadsStreamTable (Ok table) bytes =
 ReadsStreamTable (Err fault) bytes = ReadsStream (Err fault) bytes
 
 -- The table that the format gives of a file, batch by batch. What is refused as out of specification the format doesn't give. In what isn't
--- implemented stands a float field, a compressed batch, or a dictionary that adds to an earlier one. For too many rows its first batches have
--- them. Memory may run out anywhere.
+-- implemented stands the mark of Feather, a float field, a compressed batch, or a dictionary that adds to an earlier one. For too many rows its
+-- first batches have them. Memory may run out anywhere.
 abbrev pub ReadsFileTable : Result Stored Fault → List ℕ → Type 0
 ReadsFileTable (Ok table) bytes =
     (table_of file bytes ≡ Some (as_table table)) × (batches_in file bytes ≡ Some (slots_of_batches table.batches))
 ReadsFileTable (Err faults.Memory) bytes = Unit {0}
 ReadsFileTable (Err (faults.Ipc (errors.OutOfSpec what))) bytes = table_of file bytes ≡ None
 ReadsFileTable (Err (faults.Ipc (errors.NotYetImplemented what))) bytes =
-    (table_of file bytes ≡ None) × (HasFloat file bytes ⊎ (HasCompression file bytes ⊎ HasDelta file bytes))
+    (table_of file bytes ≡ None) × HasUnimplemented file bytes
 ReadsFileTable (Err faults.TooManyRows) bytes = (table_of file bytes ≡ None) × HasTooManyRows file bytes
 ReadsFileTable (Err _) bytes = ⊥
 

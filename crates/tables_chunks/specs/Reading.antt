@@ -1,17 +1,17 @@
 -- What is read of a stream, against what the format gives (Arrow IPC, "IPC Streaming Format").
 use Rattle.std.specs.Prelude.{◌≡◌, ◌⊎◌, ℕ, ◌≤◌, ◌<◌, ◌^◌, true, List, [], length, All, Some, None, IfSome, Result, Ok, Err}
-use Rattle.tables_file_reading.specs.ipc_format.columnar_memory.declared.Error.TheVariants as errors
-use Rattle.tables_file_reading.specs.ipc_format.columnar_memory.declared.Schema.{Schema}
-use Rattle.tables_file_reading.specs.ipc_format.columns.Tables.{Table, rows_of_batches}
-use Rattle.tables_file_reading.specs.ipc_format.Dictionaries.{Layout}
-use Rattle.tables_file_reading.specs.ipc_format.Framing.{truncated_from, EndsInLaterMessage}
-use Rattle.tables_file_reading.specs.ipc_format.Messages.{Version}
-use Rattle.tables_file_reading.specs.ipc_format.Refusals.{HasFloat, HasCompression, HasDelta, HasTooManyRows, IsUnfinished}
-use Rattle.tables_file_reading.specs.ipc_format.Tables.{stream, batches_in, batches_behind, table_of}
-pub use Rattle.tables_file_reading.specs.Messages.{slots_of_batches}
+use Rattle.ipc_format.specs.columnar_memory.declared.Error.TheVariants as errors
+use Rattle.ipc_format.specs.columnar_memory.declared.Schema.{Schema}
+use Rattle.ipc_format.specs.columns.Tables.{Table, rows_of_batches}
+use Rattle.ipc_format.specs.Dictionaries.{Layout}
+use Rattle.ipc_format.specs.Framing.{truncated_from, EndsInLaterMessage}
+use Rattle.ipc_format.specs.Messages.{Version}
+use Rattle.ipc_format.specs.Refusals.{HasFloat, HasCompression, HasDelta, HasTooManyRows, IsUnfinished}
+use Rattle.ipc_format.specs.Tables.{stream, batches_in, batches_behind, table_of}
+pub use Rattle.ipc_format.specs.BlockMessages.{slots_of_batches}
 use Rattle.tables_chunks.specs.declared.fault.Fault.{Fault}
 use Rattle.tables_chunks.specs.declared.fault.Fault.TheVariants as faults
-use Rattle.tables_file_reading.specs.ipc_format.Behind.{HasUnreadFrom, HasTooManyFrom, IsUnfinishedFrom}
+use Rattle.ipc_format.specs.Behind.{HasUnreadFrom, HasTooManyFrom, IsUnfinishedFrom}
 use Rattle.tables_chunks.specs.Messages.{AreOfFields}
 use Rattle.tables_chunks.specs.TableSchemas.{IsTableSchema}
 use Rattle.tables_chunks.specs.declared.reading.StreamBatches.{StreamBatches}

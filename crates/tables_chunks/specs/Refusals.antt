@@ -1,14 +1,14 @@
 -- What a call that writes a table's stream leaves behind what was there, and what its refusal says.
 use Rattle.std.specs.Prelude.{◌≡◌, ◌⊎◌, ℕ, ◌<◌, ◌≤◌, true, false, List, [], ◌∷◌, ◌++◌, Option, Result, Ok, Err}
 use Rattle.std.specs.Io.KnownBytes.{Appends}
-use Rattle.tables_file_reading.specs.ipc_format.columnar_memory.declared.Schema.{Schema}
-use Rattle.tables_file_reading.specs.ipc_format.columnar_memory.declared.Error.{Error}
-use Rattle.tables_file_reading.specs.ipc_format.columnar_memory.declared.Error.TheVariants as errors
-use Rattle.tables_file_reading.specs.ipc_format.columns.StoredColumns.{Column}
-use Rattle.tables_file_reading.specs.ipc_format.WrittenMessages.{fits_limit, schema_written}
-use Rattle.tables_file_reading.specs.ipc_format.WrittenStreams.{batch_of_stored, bytes_of_messages}
-use Rattle.tables_file_reading.specs.ipc_format.EncodedChunks.{is_batch_within}
-use Rattle.tables_file_reading.specs.ipc_format.streams.Devices.{AppendsBeginning}
+use Rattle.ipc_format.specs.columnar_memory.declared.Schema.{Schema}
+use Rattle.ipc_format.specs.columnar_memory.declared.Error.{Error}
+use Rattle.ipc_format.specs.columnar_memory.declared.Error.TheVariants as errors
+use Rattle.ipc_format.specs.columns.StoredColumns.{Column}
+use Rattle.ipc_format.specs.WrittenMessages.{fits_limit, schema_written}
+use Rattle.ipc_format.specs.WrittenStreams.{batch_of_stored, bytes_of_messages}
+use Rattle.ipc_format.specs.EncodedChunks.{is_batch_within}
+use Rattle.ipc_format.specs.streams.Devices.{AppendsBeginning}
 use Rattle.tables_chunks.specs.declared.fault.Fault.{Fault}
 use Rattle.tables_chunks.specs.declared.fault.Fault.TheVariants as faults
 use Rattle.tables_chunks.specs.WrittenTables.{table_ids, written_batches, table_messages, table_bytes, told_after, is_table_within}

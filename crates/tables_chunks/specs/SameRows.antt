@@ -1,9 +1,9 @@
 -- When two tables are the same, and how many slots are compared to tell.
 use Rattle.std.specs.Prelude.{◌≡◌, ◌↔◌, IsTrue, ℕ, ◌<◌, ◌≤◌, Bool, List, [], length, map, drop, sum_by, nat_le, slice_index_or, Result, Ok, Err}
 use Rattle.std.specs.List.{list_all}
-use Rattle.tables_file_reading.specs.ipc_format.columns.SlotNodes.{slot_nodes}
-use Rattle.tables_file_reading.specs.ipc_format.columns.Slots.{Slot, window}
-use Rattle.tables_file_reading.specs.ipc_format.columns.StoredColumns.{Column, column_len, slot_at}
+use Rattle.ipc_format.specs.columns.SlotNodes.{slot_nodes}
+use Rattle.ipc_format.specs.columns.Slots.{Slot, window}
+use Rattle.ipc_format.specs.columns.StoredColumns.{Column, column_len, slot_at}
 use Rattle.tables_chunks.specs.Batches.{batch_len, stored_rows, AreBatches}
 use Rattle.tables_chunks.specs.declared.fault.Fault.{Fault}
 use Rattle.tables_chunks.specs.StoredTables.{Stored, as_table}

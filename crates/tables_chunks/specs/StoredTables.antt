@@ -5,10 +5,10 @@ use Rattle.std.specs.List.{list_all}
 use Rattle.columnar_memory_types.specs.contracts.schema.Schema as schema_type
 use Rattle.columnar_memory_types.specs.declared.data_type.Field.{Field}
 use Rattle.columnar_memory_types.specs.declared.schema.Schema.{Schema}
-use Rattle.tables_file_reading.specs.ipc_format.columns.SoundColumns.{have_types}
-use Rattle.tables_file_reading.specs.ipc_format.columns.StoredColumns.{Column, in_columns}
-use Rattle.tables_file_reading.specs.ipc_format.columns.Tables.{Table}
-use Rattle.tables_file_reading.specs.ipc_format.columns.ColumnCodes.{column_code}
+use Rattle.ipc_format.specs.columns.SoundColumns.{have_types}
+use Rattle.ipc_format.specs.columns.StoredColumns.{Column, in_columns}
+use Rattle.ipc_format.specs.columns.Tables.{Table}
+use Rattle.ipc_format.specs.columns.ColumnCodes.{column_code}
 use Rattle.tables_chunks.specs.Batches.{batch_len, stored_rows, AreBatches}
 use Rattle.tables_chunks.specs.TableSchemas.{IsTableSchema}
 use Rattle.tables_chunks.specs.declared.fault.Fault.{Fault}

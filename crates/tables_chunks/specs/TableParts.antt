@@ -1,6 +1,6 @@
 -- What is made of stored tables: of their batches, with no cell copied, and so of their rows.
 use Rattle.std.specs.Prelude.{◌≡◌, ℕ, ◌+◌, ◌<◌, ◌^◌, List, ◌++◌, Result, Ok, Err}
-use Rattle.tables_file_reading.specs.ipc_format.columns.Tables.{part, choice, chosen, joined}
+use Rattle.ipc_format.specs.columns.Tables.{part, choice, chosen, joined}
 use Rattle.tables_chunks.specs.Batches.{cut_batches, choose_batches}
 use Rattle.tables_chunks.specs.declared.fault.Fault.{Fault}
 use Rattle.tables_chunks.specs.declared.fault.Fault.TheVariants as faults

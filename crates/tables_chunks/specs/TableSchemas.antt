@@ -1,7 +1,7 @@
 -- Which schemas tables have (Arrow columnar format, "Extension Types"; Arrow IPC, "Schema message").
 use Rattle.std.specs.Prelude.{◌≡◌, true}
-use Rattle.tables_file_reading.specs.ipc_format.columnar_memory.declared.Schema.{Schema}
-use Rattle.tables_file_reading.specs.ipc_format.Writable.{is_writable, normalised}
+use Rattle.ipc_format.specs.columnar_memory.declared.Schema.{Schema}
+use Rattle.ipc_format.specs.Writable.{is_writable, normalised}
 
 -- the schema of a table: one that may be written, in its one form
 pub record IsTableSchema (schema : Schema) : Type 0 where

@@ -4,27 +4,27 @@ use Rattle.std.specs.Prelude.{◌≡◌, ◌⊎◌, ℕ, ℤ, ◌<◌, ◌≤◌
 use Rattle.std.specs.Io.KnownBytes.{Appends}
 use Rattle.std.specs.declared.alloc.Global.{Global}
 use Rattle.std.specs.declared.vec.Vec.{Vec}
-use Rattle.tables_file_reading.specs.ipc_format.columnar_memory.declared.Error.{Error}
-use Rattle.tables_file_reading.specs.ipc_format.columnar_memory.declared.Error.TheVariants as errors
-use Rattle.tables_file_reading.specs.ipc_format.columnar_memory.declared.Schema.{Schema}
-use Rattle.tables_file_reading.specs.ipc_format.columns.Slots.{Slot}
-use Rattle.tables_file_reading.specs.ipc_format.columns.StoredColumns.{Column, slots}
-use Rattle.tables_file_reading.specs.ipc_format.columns.Tables.{rows_of_batches}
-use Rattle.tables_file_reading.specs.ipc_format.grammar.Limits.{file_limit}
-use Rattle.tables_file_reading.specs.ipc_format.BlockPlacing.{joined, place_behind, placed_blocks}
-use Rattle.tables_file_reading.specs.ipc_format.EncodedChunks.{is_batch_within}
-use Rattle.tables_file_reading.specs.ipc_format.Ends.{has_room, start_bytes}
-use Rattle.tables_file_reading.specs.ipc_format.FileRuns.{bytes_so_far, first_place}
-use Rattle.tables_file_reading.specs.ipc_format.FooterWriting.{blocks_view}
-use Rattle.tables_file_reading.specs.ipc_format.GivenDictionaries.{Given, written_after}
-use Rattle.tables_file_reading.specs.ipc_format.Tables.{file, batches_in, table_of}
-use Rattle.tables_file_reading.specs.ipc_format.Tracking.{Tells}
-use Rattle.tables_file_reading.specs.ipc_format.WrittenFiles.{Blocks, all_given, batch_blocks, file_bytes, fits_file_limit, footer_bytes}
-use Rattle.tables_file_reading.specs.ipc_format.WrittenFiles.{footer_object, is_footer, none_replaced}
-use Rattle.tables_file_reading.specs.ipc_format.WrittenMessages.{Written, fits_limit, schema_written}
-use Rattle.tables_file_reading.specs.ipc_format.WrittenStreams.{Batch, batch_messages, batch_of_stored, bytes_of_messages, messages_after}
-use Rattle.tables_file_reading.specs.ipc_format.flatbuffers.Objects.{laid}
-use Rattle.tables_file_reading.specs.ipc_format.streams.Devices.{AppendsBeginning}
+use Rattle.ipc_format.specs.columnar_memory.declared.Error.{Error}
+use Rattle.ipc_format.specs.columnar_memory.declared.Error.TheVariants as errors
+use Rattle.ipc_format.specs.columnar_memory.declared.Schema.{Schema}
+use Rattle.ipc_format.specs.columns.Slots.{Slot}
+use Rattle.ipc_format.specs.columns.StoredColumns.{Column, slots}
+use Rattle.ipc_format.specs.columns.Tables.{rows_of_batches}
+use Rattle.ipc_format.specs.grammar.Limits.{file_limit}
+use Rattle.ipc_format.specs.BlockPlacing.{joined, place_behind, placed_blocks}
+use Rattle.ipc_format.specs.EncodedChunks.{is_batch_within}
+use Rattle.ipc_format.specs.Ends.{has_room, start_bytes}
+use Rattle.ipc_format.specs.FileRuns.{bytes_so_far, first_place}
+use Rattle.ipc_format.specs.FooterWriting.{blocks_view}
+use Rattle.ipc_format.specs.GivenDictionaries.{Given, written_after}
+use Rattle.ipc_format.specs.Tables.{file, batches_in, table_of}
+use Rattle.ipc_format.specs.Tracking.{Tells}
+use Rattle.ipc_format.specs.WrittenFiles.{Blocks, all_given, batch_blocks, file_bytes, fits_file_limit, footer_bytes}
+use Rattle.ipc_format.specs.WrittenFiles.{footer_object, is_footer, none_replaced}
+use Rattle.ipc_format.specs.WrittenMessages.{Written, fits_limit, schema_written}
+use Rattle.ipc_format.specs.WrittenStreams.{Batch, batch_messages, batch_of_stored, bytes_of_messages, messages_after}
+use Rattle.ipc_format.specs.flatbuffers.Objects.{laid}
+use Rattle.ipc_format.specs.streams.Devices.{AppendsBeginning}
 use Rattle.tables_chunks.specs.Refusals.{StopsAtSchema}
 use Rattle.tables_chunks.specs.WrittenTables.{are_within, is_table_within, table_ids, told_after, written_batches}
 use Rattle.tables_chunks.specs.declared.fault.Fault.{Fault}

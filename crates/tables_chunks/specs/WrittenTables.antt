@@ -1,15 +1,15 @@
 -- The stream that is written of a table: its messages, when they are within their limits, and what it reads as (Arrow IPC, "IPC Streaming
 -- Format", "Dictionary Messages").
 use Rattle.std.specs.Prelude.{Bool, true, ◌&&◌, ℕ, List, [], ◌∷◌, ◌++◌, map}
-use Rattle.tables_file_reading.specs.ipc_format.columnar_memory.declared.Schema.{Schema}
-use Rattle.tables_file_reading.specs.ipc_format.columns.StoredColumns.{Column, slots}
-use Rattle.tables_file_reading.specs.ipc_format.GivenDictionaries.{Given, written_after}
-use Rattle.tables_file_reading.specs.ipc_format.Ids.{default_ids}
-use Rattle.tables_file_reading.specs.ipc_format.Schemas.{IdsList}
-use Rattle.tables_file_reading.specs.ipc_format.WrittenMessages.{Written, fits_limit, schema_written}
-use Rattle.tables_file_reading.specs.ipc_format.WrittenStreams.{Batch, batch_of_stored, stream_messages, stream_bytes}
-use Rattle.tables_file_reading.specs.ipc_format.reading_laws.laws.Tables.{ReadsAs}
-use Rattle.tables_file_reading.specs.ipc_format.EncodedChunks.{is_batch_within}
+use Rattle.ipc_format.specs.columnar_memory.declared.Schema.{Schema}
+use Rattle.ipc_format.specs.columns.StoredColumns.{Column, slots}
+use Rattle.ipc_format.specs.GivenDictionaries.{Given, written_after}
+use Rattle.ipc_format.specs.Ids.{default_ids}
+use Rattle.ipc_format.specs.Schemas.{IdsList}
+use Rattle.ipc_format.specs.WrittenMessages.{Written, fits_limit, schema_written}
+use Rattle.ipc_format.specs.WrittenStreams.{Batch, batch_of_stored, stream_messages, stream_bytes}
+use Rattle.ipc_format.specs.reading_laws.laws.Tables.{ReadsAs}
+use Rattle.ipc_format.specs.EncodedChunks.{is_batch_within}
 
 -- the ids of a table's dictionaries: from 0 on
 abbrev pub table_ids : Schema → IdsList

@@ -7,9 +7,9 @@ ghost use Rattle.tables_chunks.specs.StoredTables.{IsTable, is_of_fields};
 ghost use Rattle.tables_chunks.specs.TableSchemas.{IsTableSchema};
 
 use columnar_memory_types::{Field, Result as Answer, Schema};
+use ipc_format::nested_arrays::AnyArray;
+use ipc_format::{Chunk, can_write, normalised};
 use std::alloc::{AllocError, Global};
-use tables_file_reading::ipc_format::nested_arrays::AnyArray;
-use tables_file_reading::ipc_format::{Chunk, can_write, normalised};
 
 /// Whether a schema may be that of a table: whether it may be written, and is in its one form, where the keys of each field's extension are those of
 /// its type (Arrow columnar format, "Extension Types").

@@ -1,8 +1,8 @@
 //! Columns of a table, in another order.
 ghost use Rattle.std.specs.Prelude.{◌≡◌, ◌↔◌, IsTrue, IfOk, List, length, map, true};
 ghost use Rattle.std.specs.List.{list_all};
-ghost use Rattle.tables_file_reading.specs.ipc_format.columns.StoredColumns.{Column};
-ghost use Rattle.tables_file_reading.specs.ipc_format.columns.Tables.{chosen};
+ghost use Rattle.ipc_format.specs.columns.StoredColumns.{Column};
+ghost use Rattle.ipc_format.specs.columns.Tables.{chosen};
 ghost use Rattle.tables_chunks.specs.Choices.{IsChoice, are_below, are_distinct};
 ghost use Rattle.tables_chunks.specs.TableParts.{ChoosesColumns};
 
@@ -10,9 +10,9 @@ use crate::batches::{chunk_of, is_whole};
 use crate::fault::Fault;
 use crate::table::Table;
 use columnar_memory_types::{Items, Schema};
+use ipc_format::Chunk;
+use ipc_format::nested_arrays::AnyArray;
 use std::alloc::{AllocError, Global};
-use tables_file_reading::ipc_format::Chunk;
-use tables_file_reading::ipc_format::nested_arrays::AnyArray;
 
 /// Whether no column is named twice. No memory is taken.
 pub fn distinct(columns: &[usize]) -> bool

@@ -7,9 +7,9 @@ ghost use Rattle.tables_chunks.specs.TableParts.{CutsTable};
 use crate::batches::{chunk_of, is_whole, len_of};
 use crate::fault::Fault;
 use crate::table::Table;
+use ipc_format::Chunk;
+use ipc_format::nested_arrays::AnyArray;
 use std::alloc::{AllocError, Global};
-use tables_file_reading::ipc_format::Chunk;
-use tables_file_reading::ipc_format::nested_arrays::AnyArray;
 
 impl Table {
     /// The `length` rows from `offset` on, with no cell copied: a window of each batch that has one of these rows, in order, under the same

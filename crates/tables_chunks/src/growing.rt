@@ -6,10 +6,10 @@ ghost use Rattle.tables_chunks.specs.TableSchemas.{IsTableSchema};
 use crate::fault::Fault;
 use crate::table::Table;
 use columnar_memory_types::Schema;
+use ipc_format::Chunk;
+use ipc_format::nested_arrays::AnyArray;
 use std::alloc::Global;
 use std::marker::Model;
-use tables_file_reading::ipc_format::Chunk;
-use tables_file_reading::ipc_format::nested_arrays::AnyArray;
 
 /// A schema, and the batches of a table under it that came so far. A contract sees the table of these.
 #[derive(Drop)]

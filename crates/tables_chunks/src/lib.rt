@@ -9,6 +9,7 @@ mod batches;
 mod choices;
 mod cuts;
 mod fault;
+mod file;
 mod growing;
 mod joins;
 mod laws;
@@ -25,24 +26,24 @@ mod writing;
 pub use batches::{fits_schema, is_table_schema};
 pub use choices::{are_all_below, choose_fields, choose_of, distinct};
 pub use fault::{Fault, SealBar};
+pub use file::metadata_of_file;
 pub use growing::GrowingTable;
+pub use ipc_format::messages::{
+    DictionaryBatchRef, MessageHeaderRef, MetadataVersion, RecordBatchRef,
+};
+pub use ipc_format::metadata::IpcSchema;
+pub use ipc_format::reading_laws::{
+    choices_are_isolated, choices_are_of_the_whole, seals_read_back, seals_tell_tables_apart,
+};
+pub use ipc_format::streams::{NextMessage, next_at};
+pub use ipc_format::{
+    Chunk, Dictionaries, Entry, Faults, InMemory, can_write, columnar_memory, file_entries,
+    look_ups_are_enough, nested_arrays, normalised, put, read_dictionary, read_record_batch,
+    schemas_have_arrays, stream_start,
+};
 pub use laws::{
     choices_have_columns, cuts_and_choices_commute, cuts_have_parts, joins_have_both,
     rows_are_columns,
 };
 pub use read::Form;
 pub use table::Table;
-pub use tables_file_reading::ipc_format::messages::{
-    DictionaryBatchRef, MessageHeaderRef, MetadataVersion, RecordBatchRef,
-};
-pub use tables_file_reading::ipc_format::metadata::IpcSchema;
-pub use tables_file_reading::ipc_format::reading_laws::{
-    choices_are_isolated, choices_are_of_the_whole, seals_read_back, seals_tell_tables_apart,
-};
-pub use tables_file_reading::ipc_format::streams::{NextMessage, next_at};
-pub use tables_file_reading::ipc_format::{
-    Chunk, Dictionaries, Faults, InMemory, can_write, columnar_memory, look_ups_are_enough,
-    nested_arrays, normalised, put, read_dictionary, read_record_batch, schemas_have_arrays,
-    stream_start,
-};
-pub use tables_file_reading::{Entry, file_entries, file_start};

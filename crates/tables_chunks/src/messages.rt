@@ -1,30 +1,26 @@
 //! The messages behind a stream's schema.
 ghost use Rattle.std.specs.Prelude.{◌≡◌, ◌<◌, ◌^◌, map, IfOk, true};
-ghost use Rattle.tables_file_reading.specs.ipc_format.BatchReads.{entry_in};
-ghost use Rattle.tables_file_reading.specs.ipc_format.DictionaryReads.{is_unread};
-ghost use Rattle.tables_file_reading.specs.ipc_format.Readable.{HasArrays};
-ghost use Rattle.tables_file_reading.specs.ipc_format.columns.StoredColumns.{slots};
-ghost use Rattle.tables_file_reading.specs.ipc_format.Views.{table_of};
-ghost use Rattle.tables_file_reading.specs.ipc_format.Messages.{dictionary_batch, record_batch};
-ghost use Rattle.tables_file_reading.specs.ipc_format.Dictionaries.{dictionary_in};
-ghost use Rattle.tables_file_reading.specs.ipc_format.Tables.{batch_in};
-ghost use Rattle.tables_file_reading.specs.ipc_format.MessageViews.{version_view};
-ghost use Rattle.tables_file_reading.specs.ipc_format.metadata.Reading.{Reads};
-ghost use Rattle.tables_file_reading.specs.ipc_format.streams.Queues.{is_compressed};
-ghost use Rattle.tables_file_reading.specs.ipc_format.ReadArrays.{standing_in};
+ghost use Rattle.ipc_format.specs.BatchReads.{entry_in};
+ghost use Rattle.ipc_format.specs.DictionaryReads.{is_unread};
+ghost use Rattle.ipc_format.specs.Readable.{HasArrays};
+ghost use Rattle.ipc_format.specs.columns.StoredColumns.{slots};
+ghost use Rattle.ipc_format.specs.Views.{table_of};
+ghost use Rattle.ipc_format.specs.Messages.{dictionary_batch, record_batch};
+ghost use Rattle.ipc_format.specs.Dictionaries.{dictionary_in};
+ghost use Rattle.ipc_format.specs.Tables.{batch_in};
+ghost use Rattle.ipc_format.specs.MessageViews.{version_view};
+ghost use Rattle.ipc_format.specs.metadata.Reading.{Reads};
+ghost use Rattle.ipc_format.specs.streams.Queues.{is_compressed};
+ghost use Rattle.ipc_format.specs.ReadArrays.{standing_in};
 ghost use Rattle.tables_chunks.specs.Messages.{AreOfFields, ReadsNext, TakesDictionary, layout_by};
 
+use ipc_format::columnar_memory::{Error, Field, Result};
+use ipc_format::messages::{DictionaryBatchRef, MessageHeaderRef, MetadataVersion, RecordBatchRef};
+use ipc_format::metadata::IpcSchema;
+use ipc_format::nested_arrays::AnyArray;
+use ipc_format::streams::{NextMessage, next_at};
+use ipc_format::{Chunk, Dictionaries, InMemory, read_dictionary, read_record_batch};
 use std::alloc::Global;
-use tables_file_reading::ipc_format::columnar_memory::{Error, Field, Result};
-use tables_file_reading::ipc_format::messages::{
-    DictionaryBatchRef, MessageHeaderRef, MetadataVersion, RecordBatchRef,
-};
-use tables_file_reading::ipc_format::metadata::IpcSchema;
-use tables_file_reading::ipc_format::nested_arrays::AnyArray;
-use tables_file_reading::ipc_format::streams::{NextMessage, next_at};
-use tables_file_reading::ipc_format::{
-    Chunk, Dictionaries, InMemory, read_dictionary, read_record_batch,
-};
 
 /// So many messages of dictionaries may stand in a row.
 const MOST_DICTIONARIES: usize = 65536;

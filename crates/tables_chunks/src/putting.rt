@@ -1,22 +1,22 @@
 //! The messages of a stream, put to a device one after another.
 ghost use Rattle.std.specs.Prelude.{◌≡◌, true};
-ghost use Rattle.tables_file_reading.specs.ipc_format.Tracking.{tracked};
-ghost use Rattle.tables_file_reading.specs.ipc_format.metadata.Views.{ids_views};
-ghost use Rattle.tables_file_reading.specs.ipc_format.GivenDictionaries.{agree};
-ghost use Rattle.tables_file_reading.specs.ipc_format.Writable.{is_writable};
-ghost use Rattle.tables_file_reading.specs.ipc_format.WrittenStreams.{batch_of_stored};
+ghost use Rattle.ipc_format.specs.Tracking.{tracked};
+ghost use Rattle.ipc_format.specs.metadata.Views.{ids_views};
+ghost use Rattle.ipc_format.specs.GivenDictionaries.{agree};
+ghost use Rattle.ipc_format.specs.Writable.{is_writable};
+ghost use Rattle.ipc_format.specs.WrittenStreams.{batch_of_stored};
 ghost use Rattle.tables_chunks.specs.PutMessages.{PutsBatch, PutsBatches, PutsSchema};
 ghost use Rattle.tables_chunks.specs.WrittenTables.{table_ids};
 ghost use Rattle.tables_chunks.specs.StoredTables.{IsTable};
 
 use columnar_memory_types::{Result, Schema};
-use std::alloc::Global;
-use std::io::Write;
-use tables_file_reading::ipc_format::nested_arrays::AnyArray;
-use tables_file_reading::ipc_format::{
+use ipc_format::nested_arrays::AnyArray;
+use ipc_format::{
     Chunk, DictionaryTracker, EncodedData, IpcField, encode_batch, put_message, put_messages,
     schema_to_bytes,
 };
+use std::alloc::Global;
+use std::io::Write;
 
 /// Writes the message of a schema, with the default ids of its dictionaries.
 pub(crate) fn put_schema<W: Write>(

@@ -3,10 +3,10 @@ ghost use Rattle.tables_chunks.specs.ReadTables.{ReadsTable};
 
 use crate::batches::are_batches;
 use crate::fault::Fault;
+use crate::file::read_file;
 use crate::reading::read_stream;
 use crate::table::Table;
 use std::alloc::Global;
-use tables_file_reading::read_file;
 
 /// The two forms of Arrow's bytes (Arrow IPC, "IPC File Format", "IPC Streaming Format").
 #[derive(Clone, Copy, Debug, PartialEq, Eq)]

@@ -1,21 +1,19 @@
 //! Streams in memory, read whole.
 ghost use Rattle.std.specs.Prelude.{◌<◌, ◌≤◌, length};
-ghost use Rattle.tables_file_reading.specs.ipc_format.Readable.{HasArrays};
-ghost use Rattle.tables_file_reading.specs.ipc_format.MessageViews.{version_view};
+ghost use Rattle.ipc_format.specs.Readable.{HasArrays};
+ghost use Rattle.ipc_format.specs.MessageViews.{version_view};
 ghost use Rattle.tables_chunks.specs.Messages.{layout_by};
 ghost use Rattle.tables_chunks.specs.Reading.{ReadsBatches, ReadsStream};
 
 use crate::fault::Fault;
 use crate::messages::{Next, read_next};
+use ipc_format::columnar_memory::Schema;
+use ipc_format::messages::MetadataVersion;
+use ipc_format::metadata::IpcSchema;
+use ipc_format::nested_arrays::AnyArray;
+use ipc_format::{Chunk, look_ups_are_enough, normalised, schemas_have_arrays, stream_start};
 use std::alloc::Global;
 use std::collections::BTreeMap;
-use tables_file_reading::ipc_format::columnar_memory::Schema;
-use tables_file_reading::ipc_format::messages::MetadataVersion;
-use tables_file_reading::ipc_format::metadata::IpcSchema;
-use tables_file_reading::ipc_format::nested_arrays::AnyArray;
-use tables_file_reading::ipc_format::{
-    Chunk, look_ups_are_enough, normalised, schemas_have_arrays, stream_start,
-};
 
 /// What a stream holds.
 #[derive(Drop)]

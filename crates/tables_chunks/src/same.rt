@@ -6,9 +6,9 @@ ghost use Rattle.tables_chunks.specs.SameRows.{AreAlike, IsPlace, TellsSame, hav
 use crate::batches::len_of;
 use crate::fault::Fault;
 use crate::table::{Table, has_schema_of};
-use tables_file_reading::ipc_format::Chunk;
-use tables_file_reading::ipc_format::columnar_memory::Steps;
-use tables_file_reading::ipc_format::nested_arrays::{AnyArray, same_slot_ranges};
+use ipc_format::Chunk;
+use ipc_format::columnar_memory::Steps;
+use ipc_format::nested_arrays::{AnyArray, same_slot_ranges};
 
 impl Table {
     /// Whether two tables have one schema and the same rows, however these are divided into batches: as `same_slots` compares slots, so a

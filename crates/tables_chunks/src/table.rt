@@ -8,10 +8,10 @@ ghost use Rattle.tables_chunks.specs.TableSchemas.{IsTableSchema};
 use crate::batches::{are_batches, is_whole, len_of, rows_of};
 use crate::fault::Fault;
 use columnar_memory_types::Schema;
+use ipc_format::Chunk;
+use ipc_format::nested_arrays::AnyArray;
 use std::alloc::{AllocError, Global};
 use std::marker::Model;
-use tables_file_reading::ipc_format::Chunk;
-use tables_file_reading::ipc_format::nested_arrays::AnyArray;
 
 /// A schema, and rows under it, batch by batch: a contract sees the schema, and what each column of each batch stores. Arrays are shared between
 /// a table and what is made of it. The schema may be written, and is in its one form. Without fields there are no rows.

@@ -6,9 +6,9 @@ ghost use Rattle.tables_chunks.specs.WrittenTables.{ReadAsTable, table_bytes};
 use crate::fault::Fault;
 use crate::table::Table;
 use crate::writing::write_batches;
+use ipc_format::Faults;
 use std::alloc::Global;
 use std::io::Write;
-use tables_file_reading::ipc_format::Faults;
 
 impl Table {
     /// Writes the table as an Arrow stream (Arrow IPC, "IPC Streaming Format", "Dictionary Messages"): its schema, with the ids of dictionaries

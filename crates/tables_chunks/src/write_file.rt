@@ -1,16 +1,16 @@
 //! Tables written as files: the start and the schema's message, the messages of the batches, which a footer places, and the footer.
 ghost use Rattle.std.specs.Prelude.{◌≡◌, ◌+◌, ◌≤◌, ◌<◌, ◌^◌, ◌++◌, ◌∷◌, [], IfOk, length, true};
 ghost use Rattle.std.specs.List.{list_all};
-ghost use Rattle.tables_file_reading.specs.ipc_format.reading_laws.laws.Schemas.{HasTexts};
-ghost use Rattle.tables_file_reading.specs.ipc_format.BlockPlacing.{StandAt, StandsAt};
-ghost use Rattle.tables_file_reading.specs.ipc_format.EncodedChunks.{message_in, messages_in};
-ghost use Rattle.tables_file_reading.specs.ipc_format.Ends.{end_with, file_tail, has_room};
-ghost use Rattle.tables_file_reading.specs.ipc_format.Tracking.{tracked};
-ghost use Rattle.tables_file_reading.specs.ipc_format.Writable.{is_writable};
-ghost use Rattle.tables_file_reading.specs.ipc_format.WrittenMessages.{fits_limit, most_metadata, prefix_size};
-ghost use Rattle.tables_file_reading.specs.ipc_format.WrittenStreams.{batch_of_stored};
-ghost use Rattle.tables_file_reading.specs.ipc_format.metadata.Views.{ids_views};
-ghost use Rattle.tables_file_reading.specs.ipc_format.streams.Devices.{Puts};
+ghost use Rattle.ipc_format.specs.reading_laws.laws.Schemas.{HasTexts};
+ghost use Rattle.ipc_format.specs.BlockPlacing.{StandAt, StandsAt};
+ghost use Rattle.ipc_format.specs.EncodedChunks.{message_in, messages_in};
+ghost use Rattle.ipc_format.specs.Ends.{end_with, file_tail, has_room};
+ghost use Rattle.ipc_format.specs.Tracking.{tracked};
+ghost use Rattle.ipc_format.specs.Writable.{is_writable};
+ghost use Rattle.ipc_format.specs.WrittenMessages.{fits_limit, most_metadata, prefix_size};
+ghost use Rattle.ipc_format.specs.WrittenStreams.{batch_of_stored};
+ghost use Rattle.ipc_format.specs.metadata.Views.{ids_views};
+ghost use Rattle.ipc_format.specs.streams.Devices.{Puts};
 ghost use Rattle.tables_chunks.specs.Batches.{stored_rows};
 ghost use Rattle.tables_chunks.specs.StoredTables.{IsTable};
 ghost use Rattle.tables_chunks.specs.WrittenTables.{table_ids};
@@ -20,14 +20,14 @@ ghost use Rattle.tables_chunks.specs.WrittenFiles.{ReadAsTableFile, WritesFile, 
 use crate::fault::Fault;
 use crate::table::Table;
 use columnar_memory_types::{Error, Result as Answer, Schema};
-use std::alloc::Global;
-use std::io::Write;
-use tables_file_reading::ipc_format::messages::Block;
-use tables_file_reading::ipc_format::nested_arrays::AnyArray;
-use tables_file_reading::ipc_format::{
+use ipc_format::messages::Block;
+use ipc_format::nested_arrays::AnyArray;
+use ipc_format::{
     Chunk, DictionaryTracker, EncodedData, Faults, IpcField, default_ipc_fields, encode_batch,
     footer_to_bytes, put, put_message, put_messages, refusal, schema_to_bytes,
 };
+use std::alloc::Global;
+use std::io::Write;
 
 /// The mark of a file, and two zeros.
 const START: [u8; 8] = [65, 82, 82, 79, 87, 49, 0, 0];

@@ -1,6 +1,6 @@
 //! The stream of a table: its schema, its batches with the dictionaries that go before them, and the end mark.
 ghost use Rattle.std.specs.Prelude.{◌≡◌, ◌<◌, ◌^◌, IfOk, length};
-ghost use Rattle.tables_file_reading.specs.ipc_format.reading_laws.laws.Schemas.{HasTexts};
+ghost use Rattle.ipc_format.specs.reading_laws.laws.Schemas.{HasTexts};
 ghost use Rattle.tables_chunks.specs.Batches.{stored_rows};
 ghost use Rattle.tables_chunks.specs.Refusals.{PutsTable, WritesStream, WritesTable};
 ghost use Rattle.tables_chunks.specs.WrittenTables.{ReadAsTable, table_bytes};
@@ -9,10 +9,10 @@ ghost use Rattle.tables_chunks.specs.StoredTables.{IsTable};
 use crate::fault::Fault;
 use crate::putting::{put_batches, put_schema};
 use columnar_memory_types::{Result as Answer, Schema};
+use ipc_format::nested_arrays::AnyArray;
+use ipc_format::{Chunk, Faults, default_ipc_fields, put, refusal};
 use std::alloc::Global;
 use std::io::Write;
-use tables_file_reading::ipc_format::nested_arrays::AnyArray;
-use tables_file_reading::ipc_format::{Chunk, Faults, default_ipc_fields, put, refusal};
 
 /// A length of 0 behind the continuation marker, which ends a stream.
 const END: [u8; 8] = [0xff, 0xff, 0xff, 0xff, 0, 0, 0, 0];

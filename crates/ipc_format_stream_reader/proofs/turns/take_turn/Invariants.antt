@@ -1,5 +1,6 @@
 -- The dictionaries that were read lead from where the reader stood to where it stands, and their number is bounded.
 use Rattle.std.proofs.Common.{◌-◌, ◌<◌, length}
+use Rattle.std.specs.Option.{option_copied}
 use Rattle.std.specs.Io.KnownBytes.{prepend_known}
 use Rattle.ipc_format_chunk_writing.specs.ReadArrays.{standing_in}
 use Rattle.ipc_format_chunk_writing.specs.grammar.Limits.{most_dictionaries}
@@ -11,7 +12,7 @@ use Rattle.ipc_format_stream_reader.proofs.turns.take_turn.Given as goal
 abbrev pub invariant-messages : goal.invariant-messages
 invariant-messages g l = record {
   held : length l.standing.held.items < 4;
-  leads : Leads
+  leads : Leads (option_copied l.columns)
       (record { fields = l.fields; below = ids_views l.ipc_schema.fields; is_little_endian = l.ipc_schema.is_little_endian }) (version_view l.version)
       (record {
         left = prepend_known l.initial.standing.held.items (g.R.Read.remaining l.initial.device);

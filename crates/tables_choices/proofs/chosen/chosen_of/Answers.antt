@@ -3,7 +3,7 @@ use Rattle.std.proofs.Common.{rules, ◌≡◌, true, List, ℕ, length, map, sy
 use Rattle.std.specs.Prelude.{Err}
 use Rattle.tables_rows.specs.chunks.Choices.{are_below}
 use Rattle.tables_rows.specs.chunks.Messages.{layout_by, type_of}
-use Rattle.tables_rows.specs.chunks.file_reading.FileEntries.{entry_view}
+use Rattle.tables_rows.specs.chunks.ipc_format.FileEntries.{entry_view}
 use Rattle.tables_rows.specs.chunks.ipc_format.ReadArrays.{standing_in}
 use Rattle.tables_rows.specs.chunks.ipc_format.columns.StoredColumns.{Column, column_type, slots}
 use Rattle.tables_rows.specs.chunks.ipc_format.columns.Tables.{chosen}

@@ -3,12 +3,12 @@ use Rattle.std.proofs.Common.{rules, ◌≡◌, ◌≤◌, ◌++◌, ◌∷◌, 
 use Rattle.std.proofs.lemmas.List.{length-map}
 use Rattle.std.specs.Prelude.{Some, None, Ok, Err, slice_get}
 use Rattle.tables_rows.specs.chunks.Messages.{layout_by}
-use Rattle.tables_rows.specs.chunks.file_reading.FileEntries.{entries_of, entry_view}
+use Rattle.tables_rows.specs.chunks.ipc_format.FileEntries.{entries_of, entry_view}
 use Rattle.tables_rows.specs.chunks.ipc_format.Chunks.{rows_of}
 use Rattle.tables_rows.specs.chunks.ipc_format.ReadArrays.{standing_in}
 use Rattle.tables_rows.specs.chunks.ipc_format.columns.StoredColumns.{Column}
 use Rattle.tables_rows.specs.chunks.ipc_format.grammar.Tables.{left_of}
-use Rattle.tables_rows.proofs.chunk_lemmas.file_reading_lemmas.Lists.{seen_at}
+use Rattle.tables_rows.proofs.chunk_lemmas.ipc_format_lemmas.FileLists.{seen_at}
 use Rattle.tables_choices.specs.EntryChoices.{GathersEntry}
 use Rattle.tables_choices.specs.Gathered.{GathersBatches}
 use Rattle.tables_choices.specs.Orders.{asked}

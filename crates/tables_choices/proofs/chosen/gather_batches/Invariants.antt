@@ -1,6 +1,6 @@
 -- The messages so far are gathered.
 use Rattle.tables_rows.specs.chunks.Messages.{layout_by}
-use Rattle.tables_rows.specs.chunks.file_reading.FileEntries.{entries_of}
+use Rattle.tables_rows.specs.chunks.ipc_format.FileEntries.{entries_of}
 use Rattle.tables_rows.specs.chunks.ipc_format.ReadArrays.{standing_in}
 use Rattle.tables_choices.specs.Orders.{asked}
 use Rattle.tables_choices.proofs.GatheredSteps.{AreGathered}

@@ -5,7 +5,7 @@ use Rattle.tables_rows.specs.chunks.ipc_format.Messages.{dictionary_batch}
 use Rattle.tables_rows.specs.chunks.ipc_format.MessageViews.{version_view}
 use Rattle.tables_rows.specs.chunks.ipc_format.ReadArrays.{standing_in}
 use Rattle.tables_rows.specs.chunks.ipc_format.Views.{table_of}
-use Rattle.tables_rows.proofs.chunk_lemmas.file_reading_lemmas.RoomReads.{dictionary_read}
+use Rattle.tables_rows.proofs.chunk_lemmas.ipc_format_lemmas.RoomReads.{dictionary_read}
 use Rattle.tables_choices.proofs.EntryReads.{entry_taken}
 use Rattle.tables_choices.proofs.chosen.take_dictionary.Goals as goal
 

@@ -5,16 +5,16 @@ use Rattle.columnar_memory_types.specs.Error.{IsOutOfMemory}
 use Rattle.tables_rows.specs.chunks.Choices.{are_below}
 use Rattle.tables_rows.specs.chunks.Faults.{fault_of}
 use Rattle.tables_rows.specs.chunks.Messages.{layout_by}
-use Rattle.tables_rows.specs.chunks.file_reading.FileEntries.{entries_view}
-use Rattle.tables_rows.specs.chunks.file_reading.Starts.{start_in, start_view}
+use Rattle.tables_rows.specs.chunks.ipc_format.FileEntries.{entries_view}
+use Rattle.tables_rows.specs.chunks.ipc_format.FileReads.{IsUnreadFile}
+use Rattle.tables_rows.specs.chunks.ipc_format.FileStarts.{start_in, start_view}
 use Rattle.tables_rows.specs.chunks.ipc_format.Readable.{HasArrays}
-use Rattle.tables_rows.specs.chunks.ipc_format.Refusals.{HasFloat}
 use Rattle.tables_rows.specs.chunks.ipc_format.Writable.{normalised}
 use Rattle.tables_rows.specs.chunks.ipc_format.columnar_memory.declared.Schema.{Schema}
 use Rattle.tables_rows.specs.chunks.ipc_format.grammar.Files.{file_entries}
 use Rattle.tables_rows.specs.chunks.ipc_format.grammar.Tables.{file}
 use Rattle.tables_rows.specs.chunks.ipc_format.metadata.Reading.{Refuses}
-use Rattle.tables_rows.proofs.chunk_lemmas.file_reading_lemmas.Files.{HasOneForm, start_form, start_has_arrays}
+use Rattle.tables_rows.proofs.chunk_lemmas.FileBatches.{HasOneForm, start_form, start_has_arrays}
 use Rattle.tables_choices.specs.Gathered.{GathersTable}
 use Rattle.tables_choices.proofs.ChoicesRead.{ReadsStored, file_entries_found, file_entries_refused, file_start_refused, held_read, memory_refused}
 use Rattle.tables_choices.proofs.read_choice.choice_of_file.Goals as goal
@@ -23,7 +23,7 @@ pub returns-in_err-start : goal.returns-in_err-start
 returns-in_err-start c =
     let bytes = c.args.bytes.now in
     let error = c.in_err-start.field-0.0 in
-    let refused : Refuses (HasFloat file bytes) error (start_in bytes) = search rules in
+    let refused : Refuses (IsUnreadFile bytes) error (start_in bytes) = search rules in
     let whole : ReadsStored file bytes c.args.columns.now c.args.limit (Err (fault_of error)) =
     file_start_refused error bytes c.args.columns.now c.args.limit refused in
     search (rules, whole)

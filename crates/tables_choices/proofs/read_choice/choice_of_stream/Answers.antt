@@ -6,7 +6,7 @@ use Rattle.tables_rows.specs.chunks.Choices.{are_below}
 use Rattle.tables_rows.specs.chunks.Faults.{fault_of}
 use Rattle.tables_rows.specs.chunks.Messages.{layout_by}
 use Rattle.tables_rows.specs.chunks.TableSchemas.{IsTableSchema}
-use Rattle.tables_rows.specs.chunks.file_reading.FileEntries.{entries_view}
+use Rattle.tables_rows.specs.chunks.ipc_format.FileEntries.{entries_view}
 use Rattle.tables_rows.specs.chunks.ipc_format.MessageViews.{version_view}
 use Rattle.tables_rows.specs.chunks.ipc_format.Readable.{HasArrays}
 use Rattle.tables_rows.specs.chunks.ipc_format.Refusals.{HasFloat}

@@ -3,7 +3,7 @@ use Rattle.std.proofs.Common.{rules, ◌≡◌, List, sym, subst}
 use Rattle.std.specs.Prelude.{Ok, Err}
 use Rattle.tables_rows.specs.chunks.Faults.{fault_of}
 use Rattle.tables_rows.specs.chunks.Messages.{layout_by}
-use Rattle.tables_rows.specs.chunks.file_reading.FileEntries.{entries_of}
+use Rattle.tables_rows.specs.chunks.ipc_format.FileEntries.{entries_of}
 use Rattle.tables_rows.specs.chunks.ipc_format.Readable.{HasArrays}
 use Rattle.tables_rows.specs.chunks.ipc_format.columnar_memory.declared.Field.{Field}
 use Rattle.tables_choices.specs.Gathered.{GathersBatches, GathersTable}

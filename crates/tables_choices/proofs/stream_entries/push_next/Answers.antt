@@ -2,7 +2,7 @@
 use Rattle.std.proofs.Common.{rules, ◌≡◌, [], ◌∷◌, ◌++◌, ℕ, List, length, map, refl, ap, inl}
 use Rattle.std.proofs.lemmas.List.{map-append}
 use Rattle.std.specs.Prelude.{Some, None, Err}
-use Rattle.tables_rows.specs.chunks.file_reading.FileEntries.{entry_view, entries_view}
+use Rattle.tables_rows.specs.chunks.ipc_format.FileEntries.{entry_view, entries_view}
 use Rattle.tables_rows.specs.chunks.ipc_format.Frames.{ReachesBehind}
 use Rattle.tables_rows.specs.chunks.ipc_format.Framing.{Framed, nothing_whole, at_end, message_then, next_at, dictionaries_after}
 use Rattle.tables_rows.specs.chunks.ipc_format.MessageViews.{kind_view, version_view}

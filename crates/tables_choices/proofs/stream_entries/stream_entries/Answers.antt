@@ -1,7 +1,7 @@
 -- The messages are found one after another.
 use Rattle.std.proofs.Common.{rules, ◌≡◌, ◌∙◌, List, [], sym, ap, subst}
 use Rattle.std.specs.Prelude.{Some, Ok, Err}
-use Rattle.tables_rows.specs.chunks.file_reading.FileEntries.{entries_view}
+use Rattle.tables_rows.specs.chunks.ipc_format.FileEntries.{entries_view}
 use Rattle.tables_rows.specs.chunks.ipc_format.Dictionaries.{Entry}
 use Rattle.tables_rows.specs.chunks.ipc_format.Framing.{at_end, next_at}
 use Rattle.tables_rows.specs.chunks.ipc_format.MessageViews.{version_view}

@@ -1,6 +1,6 @@
 -- The messages so far were found, and the place is behind them.
 use Rattle.std.proofs.Common.{◌-◌, length}
-use Rattle.tables_rows.specs.chunks.file_reading.FileEntries.{entries_view}
+use Rattle.tables_rows.specs.chunks.ipc_format.FileEntries.{entries_view}
 use Rattle.tables_rows.specs.chunks.ipc_format.MessageViews.{version_view}
 use Rattle.tables_choices.proofs.FoundEntries.{EntriesFound}
 use Rattle.tables_choices.proofs.stream_entries.stream_entries.Given as goal

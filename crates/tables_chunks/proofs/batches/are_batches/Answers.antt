@@ -2,7 +2,7 @@
 use Rattle.std.proofs.Common.{◌≡◌, ◌∙◌, true, List, ap, sym}
 use Rattle.std.specs.List.{list_all}
 use Rattle.std.proofs.lemmas.List.{take_all}
-use Rattle.tables_file_reading.specs.ipc_format.columns.StoredColumns.{Column}
+use Rattle.ipc_format.specs.columns.StoredColumns.{Column}
 use Rattle.tables_chunks.specs.Batches.{is_batch}
 use Rattle.tables_chunks.proofs.BatchLists.{table_from}
 use Rattle.tables_chunks.proofs.batches.are_batches.Goals as goal

@@ -1,6 +1,6 @@
 -- A schema that is written is a table's where its one form is the schema.
 use Rattle.std.proofs.Common.{◌≡◌, ◌∙◌, true, false, rules, sym}
-use Rattle.tables_file_reading.specs.ipc_format.Writable.{is_writable, normalised}
+use Rattle.ipc_format.specs.Writable.{is_writable, normalised}
 use Rattle.tables_chunks.proofs.TableForms.{not_written, form_decides}
 use Rattle.tables_chunks.proofs.batches.is_table_schema.Goals as goal
 

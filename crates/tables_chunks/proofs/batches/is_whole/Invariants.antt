@@ -1,7 +1,7 @@
 -- The arrays so far are sound.
 use Rattle.std.proofs.Common.{◌≡◌, true, take}
 use Rattle.std.specs.List.{list_all}
-use Rattle.tables_file_reading.specs.ipc_format.columns.SoundColumns.{is_sound}
+use Rattle.ipc_format.specs.columns.SoundColumns.{is_sound}
 use Rattle.tables_chunks.proofs.batches.is_whole.Given as goal
 
 abbrev pub invariant-loop-array : goal.invariant-loop-array

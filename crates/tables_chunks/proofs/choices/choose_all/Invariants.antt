@@ -1,6 +1,6 @@
 -- The batches so far are chosen from.
 use Rattle.std.proofs.Common.{◌≡◌, map, take}
-use Rattle.tables_file_reading.specs.ipc_format.columns.Tables.{chosen}
+use Rattle.ipc_format.specs.columns.Tables.{chosen}
 use Rattle.tables_chunks.proofs.choices.choose_all.Given as goal
 
 abbrev pub invariant-loop-batch : goal.invariant-loop-batch

@@ -1,6 +1,6 @@
 -- The arrays so far are those of the places so far.
 use Rattle.std.proofs.Common.{◌≡◌, take}
-use Rattle.tables_file_reading.specs.ipc_format.columns.Tables.{chosen}
+use Rattle.ipc_format.specs.columns.Tables.{chosen}
 use Rattle.tables_chunks.proofs.choices.choose_of.Given as goal
 
 abbrev pub invariant-loop-column : goal.invariant-loop-column

@@ -1,18 +1,18 @@
 -- The arrays of a schema's batch are its columns.
 use Rattle.std.proofs.Common.{rules, ◌≡◌, true, List, map, subst}
 use Rattle.std.specs.Prelude.{Result, Err, Ok}
-use Rattle.tables_file_reading.specs.ipc_format.BatchReads.{entry_in}
-use Rattle.tables_file_reading.specs.ipc_format.ReadArrays.{standing_in}
-use Rattle.tables_file_reading.specs.ipc_format.columnar_memory.declared.Error.{Error}
-use Rattle.tables_file_reading.specs.ipc_format.columns.StoredColumns.{Column, slots}
-use Rattle.tables_file_reading.specs.ipc_format.Views.{table_of}
-use Rattle.tables_file_reading.specs.ipc_format.Messages.{record_batch}
-use Rattle.tables_file_reading.specs.ipc_format.Tables.{batch_in}
-use Rattle.tables_file_reading.specs.ipc_format.MessageViews.{version_view}
-use Rattle.tables_file_reading.specs.ipc_format.metadata.Reading.{Reads}
-use Rattle.tables_file_reading.specs.ipc_format.streams.Queues.{is_compressed}
+use Rattle.ipc_format.specs.BatchReads.{entry_in}
+use Rattle.ipc_format.specs.ReadArrays.{standing_in}
+use Rattle.ipc_format.specs.columnar_memory.declared.Error.{Error}
+use Rattle.ipc_format.specs.columns.StoredColumns.{Column, slots}
+use Rattle.ipc_format.specs.Views.{table_of}
+use Rattle.ipc_format.specs.Messages.{record_batch}
+use Rattle.ipc_format.specs.Tables.{batch_in}
+use Rattle.ipc_format.specs.MessageViews.{version_view}
+use Rattle.ipc_format.specs.metadata.Reading.{Reads}
+use Rattle.ipc_format.specs.streams.Queues.{is_compressed}
 use Rattle.tables_chunks.specs.Messages.{layout_by}
-use Rattle.tables_file_reading.proofs.RoomReads.{batch_read}
+use Rattle.ipc_format.proofs.RoomReads.{batch_read}
 use Rattle.tables_chunks.proofs.messages.batch_of.Goals as goal
 
 pub returns-in_err-chunk-clause-value : goal.returns-in_err-chunk-clause-value

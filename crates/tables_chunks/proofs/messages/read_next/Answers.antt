@@ -1,28 +1,28 @@
 -- What stands at the place is what the format gives there.
 use Rattle.std.proofs.Common.{rules, ◌≡◌, ◌∙◌, true, List, length, map, refl, sym, ap, subst, inl, inr}
 use Rattle.std.specs.Prelude.{Some, None, Result, Ok, Err, ⊤}
-use Rattle.tables_file_reading.specs.ipc_format.BatchReads.{entry_in}
-use Rattle.tables_file_reading.specs.ipc_format.DictionaryReads.{is_unread}
-use Rattle.tables_file_reading.specs.ipc_format.ReadArrays.{standing_in}
-use Rattle.tables_file_reading.specs.ipc_format.columnar_memory.declared.Error.{Error}
-use Rattle.tables_file_reading.specs.ipc_format.columns.StoredColumns.{Column, slots}
-use Rattle.tables_file_reading.specs.ipc_format.Views.{table_of}
-use Rattle.tables_file_reading.specs.ipc_format.Dictionaries.{dictionary_in}
-use Rattle.tables_file_reading.specs.ipc_format.Framing.{Framed, nothing_whole, at_end, message_then, next_at}
-use Rattle.tables_file_reading.specs.ipc_format.Messages.{dictionary_batch, record_batch}
-use Rattle.tables_file_reading.specs.ipc_format.Tables.{batch_in}
-use Rattle.tables_file_reading.specs.ipc_format.MessageViews.{header_view, kind_view, version_view}
-use Rattle.tables_file_reading.specs.ipc_format.messages.declared.messages.MessageHeaderRef.{MessageHeaderRef}
-use Rattle.tables_file_reading.specs.ipc_format.messages.declared.messages.MessageHeaderRef.TheVariants as headers
-use Rattle.tables_file_reading.specs.ipc_format.metadata.Reading.{Reads}
-use Rattle.tables_file_reading.specs.ipc_format.Frames.{ReachesBehind}
-use Rattle.tables_file_reading.specs.ipc_format.streams.Queues.{is_compressed}
-use Rattle.tables_file_reading.specs.ipc_format.streams.declared.frames.Framed as code
-use Rattle.tables_file_reading.specs.ipc_format.streams.declared.frames.NextMessage.TheVariants as nexts
+use Rattle.ipc_format.specs.BatchReads.{entry_in}
+use Rattle.ipc_format.specs.DictionaryReads.{is_unread}
+use Rattle.ipc_format.specs.ReadArrays.{standing_in}
+use Rattle.ipc_format.specs.columnar_memory.declared.Error.{Error}
+use Rattle.ipc_format.specs.columns.StoredColumns.{Column, slots}
+use Rattle.ipc_format.specs.Views.{table_of}
+use Rattle.ipc_format.specs.Dictionaries.{dictionary_in}
+use Rattle.ipc_format.specs.Framing.{Framed, nothing_whole, at_end, message_then, next_at}
+use Rattle.ipc_format.specs.Messages.{dictionary_batch, record_batch}
+use Rattle.ipc_format.specs.Tables.{batch_in}
+use Rattle.ipc_format.specs.MessageViews.{header_view, kind_view, version_view}
+use Rattle.ipc_format.specs.messages.declared.messages.MessageHeaderRef.{MessageHeaderRef}
+use Rattle.ipc_format.specs.messages.declared.messages.MessageHeaderRef.TheVariants as headers
+use Rattle.ipc_format.specs.metadata.Reading.{Reads}
+use Rattle.ipc_format.specs.Frames.{ReachesBehind}
+use Rattle.ipc_format.specs.streams.Queues.{is_compressed}
+use Rattle.ipc_format.specs.streams.declared.frames.Framed as code
+use Rattle.ipc_format.specs.streams.declared.frames.NextMessage.TheVariants as nexts
 use Rattle.tables_chunks.specs.Messages.{AreOfFields, ReadsNext, TakesDictionary, layout_by}
 use Rattle.tables_chunks.proofs.NextRefused.{dictionary_refused, batch_refused, too_many, dictionary_framed, batch_framed}
-use Rattle.tables_file_reading.proofs.ipc_format_lemmas.StreamStepsPlaces.{no_step, ended_step, schema_step, dictionary_step, batch_step}
-use Rattle.tables_file_reading.proofs.ipc_format_lemmas.Steps.{cut_step}
+use Rattle.ipc_format.proofs.StreamStepsPlaces.{no_step, ended_step, schema_step, dictionary_step, batch_step}
+use Rattle.ipc_format.proofs.Steps.{cut_step}
 use Rattle.tables_chunks.proofs.messages.read_next.Goals as goal
 
 pub returns-in-None : goal.returns-in-None

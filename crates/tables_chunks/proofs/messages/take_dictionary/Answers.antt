@@ -1,10 +1,10 @@
 -- The dictionary of a schema's message stands as the latest one.
 use Rattle.std.proofs.Common.{rules}
-use Rattle.tables_file_reading.specs.ipc_format.Views.{table_of}
-use Rattle.tables_file_reading.specs.ipc_format.Messages.{dictionary_batch}
-use Rattle.tables_file_reading.specs.ipc_format.MessageViews.{version_view}
+use Rattle.ipc_format.specs.Views.{table_of}
+use Rattle.ipc_format.specs.Messages.{dictionary_batch}
+use Rattle.ipc_format.specs.MessageViews.{version_view}
 use Rattle.tables_chunks.specs.Messages.{layout_by}
-use Rattle.tables_file_reading.proofs.RoomReads.{dictionary_read}
+use Rattle.ipc_format.proofs.RoomReads.{dictionary_read}
 use Rattle.tables_chunks.proofs.messages.take_dictionary.Goals as goal
 
 pub returns : goal.returns

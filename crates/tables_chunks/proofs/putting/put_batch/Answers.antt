@@ -3,14 +3,14 @@ use Rattle.std.proofs.Common.{rules, ◌∙◌, ℕ, List, ap, ap₂, subst}
 use Rattle.std.specs.List.{list_all}
 use Rattle.std.specs.Io.KnownBytes.{Appends}
 use Rattle.columnar_memory_types.specs.Error.{IsIo}
-use Rattle.tables_file_reading.specs.ipc_format.WrittenMessages.{fits_limit, framed}
-use Rattle.tables_file_reading.specs.ipc_format.WrittenStreams.{batch_of_stored, bytes_of_messages}
-use Rattle.tables_file_reading.specs.ipc_format.EncodedChunks.{message_in, messages_in}
-use Rattle.tables_file_reading.specs.ipc_format.Tracking.{tracked}
-use Rattle.tables_file_reading.specs.ipc_format.metadata.Views.{ids_views}
-use Rattle.tables_file_reading.specs.ipc_format.streams.Devices.{AppendsBeginning, Puts}
-use Rattle.tables_file_reading.specs.ipc_format.streams.declared.EncodedData.{EncodedData}
-use Rattle.tables_file_reading.proofs.ipc_format_lemmas.PutMessages.{prefix_fits}
+use Rattle.ipc_format.specs.WrittenMessages.{fits_limit, framed}
+use Rattle.ipc_format.specs.WrittenStreams.{batch_of_stored, bytes_of_messages}
+use Rattle.ipc_format.specs.EncodedChunks.{message_in, messages_in}
+use Rattle.ipc_format.specs.Tracking.{tracked}
+use Rattle.ipc_format.specs.metadata.Views.{ids_views}
+use Rattle.ipc_format.specs.streams.Devices.{AppendsBeginning, Puts}
+use Rattle.ipc_format.specs.streams.declared.EncodedData.{EncodedData}
+use Rattle.ipc_format.proofs.PutMessages.{prefix_fits}
 use Rattle.tables_chunks.proofs.PutBatches.{batch_put, batch_unwritten, own_fits, sent_fit, sent_refused}
 use Rattle.tables_chunks.proofs.putting.put_batch.Goals as goal
 

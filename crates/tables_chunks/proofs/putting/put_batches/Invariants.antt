@@ -1,5 +1,5 @@
 -- The batches before the place are written, and their dictionaries are told.
-use Rattle.tables_file_reading.specs.ipc_format.Tracking.{tracked}
+use Rattle.ipc_format.specs.Tracking.{tracked}
 use Rattle.tables_chunks.proofs.PutTables.{FirstPut}
 use Rattle.tables_chunks.proofs.putting.put_batches.Given as goal
 

@@ -1,6 +1,6 @@
 -- The metadata, and no body.
 use Rattle.std.proofs.Common.{rules, ◌∙◌}
-use Rattle.tables_file_reading.specs.ipc_format.metadata.Views.{ids_views}
+use Rattle.ipc_format.specs.metadata.Views.{ids_views}
 use Rattle.tables_chunks.proofs.PutBatches.{schema_unwritten, schema_prefix, schema_put}
 use Rattle.tables_chunks.proofs.putting.put_schema.Goals as goal
 

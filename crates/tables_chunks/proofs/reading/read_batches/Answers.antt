@@ -3,20 +3,20 @@ use Rattle.std.proofs.Common.{rules, arith, ◌≡◌, ◌+◌, ◌≤◌, ◌^�
 use Rattle.std.specs.List.{All}
 use Rattle.std.specs.Prelude.{Some, Result}
 use Rattle.std.proofs.lemmas.List.Elements.{All-push}
-use Rattle.tables_file_reading.specs.ipc_format.ReadArrays.{standing_in}
-use Rattle.tables_file_reading.specs.ipc_format.Chunks.{rows_of}
-use Rattle.tables_file_reading.specs.ipc_format.columnar_memory.declared.Error.{Error}
-use Rattle.tables_file_reading.specs.ipc_format.columnar_memory.declared.Field.{Field}
-use Rattle.tables_file_reading.specs.ipc_format.columns.StoredColumns.{Column, slots}
-use Rattle.tables_file_reading.specs.ipc_format.columns.Tables.{rows_of_columns, rows_of_batches}
-use Rattle.tables_file_reading.specs.ipc_format.Columns.{Dictionary}
-use Rattle.tables_file_reading.specs.ipc_format.MessageViews.{version_view}
+use Rattle.ipc_format.specs.ReadArrays.{standing_in}
+use Rattle.ipc_format.specs.Chunks.{rows_of}
+use Rattle.ipc_format.specs.columnar_memory.declared.Error.{Error}
+use Rattle.ipc_format.specs.columnar_memory.declared.Field.{Field}
+use Rattle.ipc_format.specs.columns.StoredColumns.{Column, slots}
+use Rattle.ipc_format.specs.columns.Tables.{rows_of_columns, rows_of_batches}
+use Rattle.ipc_format.specs.Columns.{Dictionary}
+use Rattle.ipc_format.specs.MessageViews.{version_view}
 use Rattle.tables_chunks.specs.Faults.{fault_of}
 use Rattle.tables_chunks.specs.Messages.{AreOfFields, ReadsNext, RefusesNext, layout_by}
 use Rattle.tables_chunks.specs.Reading.{ReadsBatches, slots_of_batches}
-use Rattle.tables_file_reading.specs.ipc_format.Steps.{cut_off, ended, batch_then, step_at}
-use Rattle.tables_file_reading.proofs.ipc_format_lemmas.Progress.{MessagesRead, batch_read, dictionary_read, read_alike, read_cut, read_ended}
-use Rattle.tables_file_reading.proofs.ipc_format_lemmas.Progress.{read_many}
+use Rattle.ipc_format.specs.Steps.{cut_off, ended, batch_then, step_at}
+use Rattle.ipc_format.proofs.Progress.{MessagesRead, batch_read, dictionary_read, read_alike, read_cut, read_ended}
+use Rattle.ipc_format.proofs.Progress.{read_many}
 use Rattle.tables_chunks.specs.declared.messages.Next.{Next}
 use Rattle.tables_chunks.specs.declared.messages.Next.TheVariants as next
 use Rattle.tables_chunks.proofs.Chunks.{rows_of_chunk, slots_more, counted_more}

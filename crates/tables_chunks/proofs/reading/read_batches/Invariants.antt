@@ -1,12 +1,12 @@
 -- The rows are those of the batches that were read, and the batches are these and those of the messages that are left.
 use Rattle.std.proofs.Common.{◌≡◌, ◌-◌, ◌<◌, ◌^◌, length}
 use Rattle.std.specs.List.{All}
-use Rattle.tables_file_reading.specs.ipc_format.ReadArrays.{standing_in}
-use Rattle.tables_file_reading.specs.ipc_format.columns.Tables.{rows_of_batches}
-use Rattle.tables_file_reading.specs.ipc_format.MessageViews.{version_view}
+use Rattle.ipc_format.specs.ReadArrays.{standing_in}
+use Rattle.ipc_format.specs.columns.Tables.{rows_of_batches}
+use Rattle.ipc_format.specs.MessageViews.{version_view}
 use Rattle.tables_chunks.specs.Messages.{AreOfFields, layout_by}
 use Rattle.tables_chunks.specs.Reading.{slots_of_batches}
-use Rattle.tables_file_reading.proofs.ipc_format_lemmas.Progress.{MessagesRead}
+use Rattle.ipc_format.proofs.Progress.{MessagesRead}
 use Rattle.tables_chunks.proofs.reading.read_batches.Given as goal
 
 abbrev pub invariant-messages : goal.invariant-messages

@@ -1,16 +1,16 @@
 -- What is read behind the schema is read of the whole stream.
 use Rattle.std.proofs.Common.{rules, ◌≡◌, sym, ap, subst}
 use Rattle.std.specs.Prelude.{Some, Err}
-use Rattle.tables_file_reading.specs.ipc_format.Readable.{HasArrays}
+use Rattle.ipc_format.specs.Readable.{HasArrays}
 use Rattle.columnar_memory_types.specs.Error.{IsOutOfMemory}
-use Rattle.tables_file_reading.specs.ipc_format.columnar_memory.declared.Schema.{Schema}
-use Rattle.tables_file_reading.specs.ipc_format.Dictionaries.{Layout}
-use Rattle.tables_file_reading.specs.ipc_format.Refusals.{HasFloat}
-use Rattle.tables_file_reading.specs.ipc_format.Tables.{stream, layout_of}
-use Rattle.tables_file_reading.specs.ipc_format.Writable.{normalised}
-use Rattle.tables_file_reading.specs.ipc_format.MessageViews.{version_view}
-use Rattle.tables_file_reading.specs.ipc_format.metadata.Reading.{Refuses}
-use Rattle.tables_file_reading.specs.ipc_format.streams.Starts.{start_in, start_view}
+use Rattle.ipc_format.specs.columnar_memory.declared.Schema.{Schema}
+use Rattle.ipc_format.specs.Dictionaries.{Layout}
+use Rattle.ipc_format.specs.Refusals.{HasFloat}
+use Rattle.ipc_format.specs.Tables.{stream, layout_of}
+use Rattle.ipc_format.specs.Writable.{normalised}
+use Rattle.ipc_format.specs.MessageViews.{version_view}
+use Rattle.ipc_format.specs.metadata.Reading.{Refuses}
+use Rattle.ipc_format.specs.streams.Starts.{start_in, start_view}
 use Rattle.tables_chunks.specs.Faults.{fault_of}
 use Rattle.tables_chunks.specs.Messages.{layout_by}
 use Rattle.tables_chunks.specs.Reading.{ReadsBatches, ReadsStream}

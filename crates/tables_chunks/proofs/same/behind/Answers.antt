@@ -1,7 +1,7 @@
 -- Behind the last row of a batch begins the next.
 use Rattle.std.proofs.Common.{◌≡◌, ◌∙◌, ◌+◌, [], true, List, ap, sym, get_or, arith}
 use Rattle.std.proofs.lemmas.List.{get_or_read}
-use Rattle.tables_file_reading.specs.ipc_format.columns.StoredColumns.{Column}
+use Rattle.ipc_format.specs.columns.StoredColumns.{Column}
 use Rattle.tables_chunks.specs.Batches.{batch_len, is_batch}
 use Rattle.tables_chunks.proofs.RowWindows.{rows_turn}
 use Rattle.tables_chunks.proofs.same.behind.Goals as goal

@@ -1,7 +1,7 @@
 -- Window by window.
 use Rattle.std.proofs.Common.{◌≡◌, ◌∙◌, ◌+◌, List, length, ap, sym, arith}
 use Rattle.std.specs.Prelude.{◌↔◌, IsTrue}
-use Rattle.tables_file_reading.specs.ipc_format.columns.StoredColumns.{Column}
+use Rattle.ipc_format.specs.columns.StoredColumns.{Column}
 use Rattle.tables_chunks.specs.Batches.{is_batch, stored_rows}
 use Rattle.tables_chunks.specs.SameRows.{have_rows, rows_from, nodes_in}
 use Rattle.tables_chunks.proofs.RowWindows.{batch_has_rows}

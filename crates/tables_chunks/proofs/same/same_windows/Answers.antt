@@ -1,7 +1,7 @@
 -- Column by column.
 use Rattle.std.proofs.Common.{◌≡◌, List}
-use Rattle.tables_file_reading.specs.ipc_format.columns.Slots.{window}
-use Rattle.tables_file_reading.specs.ipc_format.columns.StoredColumns.{Column, slot_at}
+use Rattle.ipc_format.specs.columns.Slots.{window}
+use Rattle.ipc_format.specs.columns.StoredColumns.{Column, slot_at}
 use Rattle.tables_chunks.specs.SameRows.{rows_from}
 use Rattle.tables_chunks.proofs.SameColumns.{columns_at_end, columns_differ, columns_more, columns_used, columns_at}
 use Rattle.tables_chunks.proofs.TellingTables.{tells_false, tells_not, tells_so}

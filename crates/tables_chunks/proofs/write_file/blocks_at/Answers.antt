@@ -1,12 +1,12 @@
 -- One block more.
 use Rattle.std.proofs.Common.{rules, ◌≡◌, ◌∙◌, ◌<◌, ◌≤◌, ◌++◌, ◌∷◌, [], refl, length, get_or, map, ap}
 use Rattle.std.proofs.lemmas.List.{map-append}
-use Rattle.tables_file_reading.specs.ipc_format.EncodedChunks.{message_in}
-use Rattle.tables_file_reading.specs.ipc_format.grammar.Limits.{file_limit}
-use Rattle.tables_file_reading.specs.ipc_format.WrittenFiles.{place_after}
-use Rattle.tables_file_reading.specs.ipc_format.FooterWriting.{block_view}
-use Rattle.tables_file_reading.proofs.ipc_format_lemmas.PutMessages.{message_fits, prefix_fits}
-use Rattle.tables_file_reading.proofs.ipc_format_lemmas.FilePlaced.{block_more, past_all}
+use Rattle.ipc_format.specs.EncodedChunks.{message_in}
+use Rattle.ipc_format.specs.grammar.Limits.{file_limit}
+use Rattle.ipc_format.specs.WrittenFiles.{place_after}
+use Rattle.ipc_format.specs.FooterWriting.{block_view}
+use Rattle.ipc_format.proofs.PutMessages.{message_fits, prefix_fits}
+use Rattle.ipc_format.proofs.FilePlaced.{block_more, past_all}
 use Rattle.tables_chunks.proofs.write_file.blocks_at.Goals as goal
 
 pub block_at-requires : goal.block_at-requires

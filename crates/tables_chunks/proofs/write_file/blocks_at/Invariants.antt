@@ -1,9 +1,9 @@
 -- The messages before the place have their blocks.
 use Rattle.std.proofs.Common.{◌≡◌, map}
-use Rattle.tables_file_reading.specs.ipc_format.EncodedChunks.{message_in}
-use Rattle.tables_file_reading.specs.ipc_format.FooterWriting.{block_view}
-use Rattle.tables_file_reading.proofs.ipc_format_lemmas.PutMessages.{FirstMessages}
-use Rattle.tables_file_reading.specs.ipc_format.BlockPlacing.{blocks_of, place_behind}
+use Rattle.ipc_format.specs.EncodedChunks.{message_in}
+use Rattle.ipc_format.specs.FooterWriting.{block_view}
+use Rattle.ipc_format.proofs.PutMessages.{FirstMessages}
+use Rattle.ipc_format.specs.BlockPlacing.{blocks_of, place_behind}
 use Rattle.tables_chunks.proofs.write_file.blocks_at.Given as goal
 
 abbrev pub invariant-loop-message : goal.invariant-loop-message

@@ -1,7 +1,7 @@
 -- The start, the batches, the footer and the end behind one another.
 use Rattle.std.proofs.Common.{rules, ◌∙◌, ap}
-use Rattle.tables_file_reading.specs.ipc_format.Ids.{default_ids}
-use Rattle.tables_file_reading.specs.ipc_format.metadata.Views.{ids_views}
+use Rattle.ipc_format.specs.Ids.{default_ids}
+use Rattle.ipc_format.specs.metadata.Views.{ids_views}
 use Rattle.tables_chunks.specs.WrittenFiles.{places_of}
 use Rattle.tables_chunks.proofs.PutFiles.{file_batches_stopped, file_ended, file_footer_stopped, file_ids_stopped, file_start_stopped}
 use Rattle.tables_chunks.proofs.write_file.put_file.Goals as goal

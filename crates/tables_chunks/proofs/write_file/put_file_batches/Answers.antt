@@ -1,10 +1,10 @@
 -- One batch more.
 use Rattle.std.proofs.Common.{rules, arith, ◌≡◌, ◌<◌, ap, length, take, get_or}
 use Rattle.std.proofs.lemmas.List.{take_all}
-use Rattle.tables_file_reading.specs.ipc_format.Tracking.{tracked}
-use Rattle.tables_file_reading.specs.ipc_format.metadata.Views.{ids_views}
-use Rattle.tables_file_reading.specs.ipc_format.Schemas.{IdsList}
-use Rattle.tables_file_reading.specs.ipc_format.WrittenStreams.{batch_of_stored}
+use Rattle.ipc_format.specs.Tracking.{tracked}
+use Rattle.ipc_format.specs.metadata.Views.{ids_views}
+use Rattle.ipc_format.specs.Schemas.{IdsList}
+use Rattle.ipc_format.specs.WrittenStreams.{batch_of_stored}
 use Rattle.tables_chunks.specs.WrittenFiles.{places_of}
 use Rattle.tables_chunks.proofs.PutFileBatches.{all_file_put, first_file_put, next_file_put, next_file_refused}
 use Rattle.tables_chunks.proofs.write_file.put_file_batches.Goals as goal

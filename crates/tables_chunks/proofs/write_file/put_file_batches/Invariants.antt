@@ -1,5 +1,5 @@
 -- The batches before the place are written and placed, and their dictionaries are told.
-use Rattle.tables_file_reading.specs.ipc_format.Tracking.{tracked}
+use Rattle.ipc_format.specs.Tracking.{tracked}
 use Rattle.tables_chunks.specs.WrittenFiles.{places_of}
 use Rattle.tables_chunks.proofs.PutFileBatches.{FirstFilePut}
 use Rattle.tables_chunks.proofs.write_file.put_file_batches.Given as goal

@@ -1,10 +1,10 @@
 -- The end mark, the footer and what stands behind it, one behind the other.
 use Rattle.std.proofs.Common.{rules, ℕ, List, length}
-use Rattle.tables_file_reading.specs.ipc_format.WrittenFiles.{file_end}
-use Rattle.tables_file_reading.specs.ipc_format.WrittenMessages.{end_mark}
-use Rattle.tables_file_reading.proofs.ipc_format_lemmas.Appending.{puts_behind, puts_between, puts_first, puts_same, refused_same}
-use Rattle.tables_file_reading.specs.ipc_format.Ends.{end_with, file_tail}
-use Rattle.tables_file_reading.proofs.ipc_format_lemmas.FileEndBytes.{end_behind, end_parts}
+use Rattle.ipc_format.specs.WrittenFiles.{file_end}
+use Rattle.ipc_format.specs.WrittenMessages.{end_mark}
+use Rattle.ipc_format.proofs.Appending.{puts_behind, puts_between, puts_first, puts_same, refused_same}
+use Rattle.ipc_format.specs.Ends.{end_with, file_tail}
+use Rattle.ipc_format.proofs.FileEndBytes.{end_behind, end_parts}
 use Rattle.tables_chunks.proofs.write_file.put_file_end.Goals as goal
 
 pub returns-in_err-put : goal.returns-in_err-put

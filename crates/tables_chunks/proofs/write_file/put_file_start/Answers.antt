@@ -1,6 +1,6 @@
 -- The mark, and the schema's message behind it.
 use Rattle.std.proofs.Common.{rules, ◌≡◌, ◌∙◌, length, refl}
-use Rattle.tables_file_reading.specs.ipc_format.metadata.Views.{ids_views}
+use Rattle.ipc_format.specs.metadata.Views.{ids_views}
 use Rattle.tables_chunks.proofs.PutBatches.{schema_prefix}
 use Rattle.tables_chunks.proofs.PutFiles.{mark_refused, start_put, start_refused, start_unwritten}
 use Rattle.tables_chunks.proofs.write_file.put_file_start.Goals as goal

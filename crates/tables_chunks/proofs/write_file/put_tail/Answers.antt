@@ -1,8 +1,8 @@
 -- The length and the mark behind one another.
 use Rattle.std.proofs.Common.{rules}
 use Rattle.std.specs.Int.{w32, to_le_bytes}
-use Rattle.tables_file_reading.specs.ipc_format.Files.{file_mark}
-use Rattle.tables_file_reading.proofs.ipc_format_lemmas.Appending.{appends_same, puts_behind, puts_first, refused_same}
+use Rattle.ipc_format.specs.Files.{file_mark}
+use Rattle.ipc_format.proofs.Appending.{appends_same, puts_behind, puts_first, refused_same}
 use Rattle.tables_chunks.proofs.write_file.put_tail.Goals as goal
 
 pub returns-in_err-put : goal.returns-in_err-put

@@ -1,6 +1,6 @@
 -- The footer, and whether the file has room for it.
 use Rattle.std.proofs.Common.{rules}
-use Rattle.tables_file_reading.specs.ipc_format.metadata.Views.{ids_views}
+use Rattle.ipc_format.specs.metadata.Views.{ids_views}
 use Rattle.tables_chunks.specs.WrittenFiles.{places_of}
 use Rattle.tables_chunks.proofs.PutFiles.{footer_unwritten}
 use Rattle.tables_chunks.proofs.write_file.table_footer.Goals as goal

@@ -1,7 +1,7 @@
 -- The schema, the batches and the end mark behind one another.
 use Rattle.std.proofs.Common.{rules, ◌∙◌, ap}
-use Rattle.tables_file_reading.specs.ipc_format.Ids.{default_ids}
-use Rattle.tables_file_reading.specs.ipc_format.metadata.Views.{ids_views}
+use Rattle.ipc_format.specs.Ids.{default_ids}
+use Rattle.ipc_format.specs.metadata.Views.{ids_views}
 use Rattle.tables_chunks.proofs.PutTables.{batches_stopped, ids_stopped, schema_stopped, table_ended}
 use Rattle.tables_chunks.proofs.writing.put_table.Goals as goal
 

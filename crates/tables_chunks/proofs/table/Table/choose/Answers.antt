@@ -1,7 +1,7 @@
 -- The chosen columns have the choice of the rows.
 use Rattle.std.proofs.Common.{◌≡◌, false, map, length, eqb, rules}
 use Rattle.std.proofs.lemmas.Bool.{eqb-false}
-use Rattle.tables_file_reading.specs.ipc_format.columns.Tables.{chosen}
+use Rattle.ipc_format.specs.columns.Tables.{chosen}
 use Rattle.tables_chunks.proofs.MadeTables.{chooses_each, none_made, picked_made, picked_chooses}
 use Rattle.tables_chunks.proofs.table.Table.choose.Goals as goal
 

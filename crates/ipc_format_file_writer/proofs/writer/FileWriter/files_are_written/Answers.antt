@@ -1,6 +1,0 @@
--- The law, for a writer's device.
-use Rattle.ipc_format_file_writer.proofs.Runs.{files_are_written}
-use Rattle.ipc_format_file_writer.proofs.writer.FileWriter.files_are_written.Goals as goal
-
-pub returns : goal.returns
-returns g c = files_are_written g.W.Write.contents g.W.Faults.failures

@@ -1,0 +1,30 @@
+pub mod Added
+pub mod AskedBatches
+pub mod BlockEntries
+pub mod BlockLists
+pub mod BlockRuns
+pub mod BlocksRead
+pub mod EndBytes
+pub mod EntryLists
+pub mod Firsts
+pub mod Footed
+pub mod FooterTaken
+pub mod Lists
+pub mod MessageReads
+pub mod MetadataRead
+pub mod MetadataTaken
+pub mod NextBatches
+pub mod NoFloats
+pub mod Parts
+pub mod Passed
+pub mod Placed
+pub mod PushedEntries
+pub mod RoomReads
+pub mod Rooms
+pub mod RunBytes
+pub mod Runs
+pub mod Starts
+pub mod Unread
+pub mod Writes
+pub use Rattle.ipc_format_stream_writer.proofs as stream_writer_lemmas
+pub use Rattle.ipc_format_reading_laws.proofs as reading_laws_lemmas

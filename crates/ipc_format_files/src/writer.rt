@@ -1,0 +1,255 @@
+//! The writer of a file.
+ghost use Rattle.std.specs.Prelude.{◌≡◌, true};
+ghost use Rattle.std.specs.Option.{option_copied};
+ghost use Rattle.ipc_format_stream_writer.specs.Opening.{ids_given};
+ghost use Rattle.ipc_format_stream_writer.specs.reader.chunk_writing.columnar_memory.Error.{IsOutOfSpec};
+ghost use Rattle.ipc_format_stream_writer.specs.reader.chunk_writing.metadata.Views.{ids_views};
+ghost use Rattle.ipc_format_files.specs.Ends.{GivesFooter, has_room, may_be_written};
+ghost use Rattle.ipc_format_files.specs.Phases.{phase_of};
+ghost use Rattle.ipc_format_files.specs.Writing.{Finishes, IsMade, IsMadeStarted, Starts, WritesChunk};
+
+use crate::batches::add_batch;
+use crate::opening::open;
+use crate::phases::is_fresh;
+use crate::sending::{send_end, send_start};
+use crate::state::State;
+use ipc_format_stream_writer::reader::chunk_writing::nested_arrays::AnyArray;
+use ipc_format_stream_writer::reader::chunk_writing::{Chunk, WriteOptions};
+use ipc_format_stream_writer::reader::streams::columnar_memory::{Error, Items, Result, Schema};
+use ipc_format_stream_writer::reader::streams::metadata::IpcField;
+use ipc_format_stream_writer::reader::streams::owned::writing::footer_to_bytes;
+use ipc_format_stream_writer::reader::streams::{EncodedData, Faults};
+use ipc_format_stream_writer::{fields_or, ids_or_default, send};
+use std::alloc::Global;
+use std::io::Write;
+use std::marker::Model;
+
+/// How many bytes stand behind the last message beside the footer: the end mark, the footer's length, and the mark.
+const AROUND_FOOTER: u64 = 18;
+
+/// The last place that a footer can state.
+const LAST_PLACE: u64 = 9_223_372_036_854_775_807;
+
+/// A call that comes out of order.
+fn out_of_order() -> Error
+    ensures { IsOutOfSpec result }
+{
+    Error::OutOfSpec("a writer's call out of order")
+}
+
+/// Whether a file whose messages end at a place has fewer than 2^63 bytes with a footer.
+fn has_room(place: u64, footer: &[u8]) -> bool
+    ensures { result ≡ has_room place footer.now }
+{
+    let Some(room) = place.checked_add(AROUND_FOOTER) else {
+        return false;
+    };
+    match room.checked_add(footer.len() as u64) {
+        Some(length) => length <= LAST_PLACE,
+        None => false,
+    }
+}
+
+/// A writer of a file of batches to a device (Arrow IPC, "IPC File Format"): `start` writes the mark and the schema, each `write` a batch behind
+/// the dictionaries that it brings, and `finish` the end mark, the footer and the mark.
+#[derive(Drop)]
+pub struct FileWriter<W: Write + Faults> {
+    writer: W,
+    schema: Schema,
+    /// The ids of its dictionaries.
+    ids: Items<IpcField>,
+    options: WriteOptions,
+    state: State,
+    /// The message of the last batch, whose memory the next one takes.
+    encoded: EncodedData,
+    ghost may: { may_be_written (phase_of state) schema (ids_views ids) ≡ true },
+}
+
+impl<W: Write + Faults> Model for FileWriter<W> {
+    ghost use Rattle.ipc_format_files.specs.Phases.{Writer, phase_of};
+    ghost use Rattle.ipc_format_files.specs.WriterCodes.{writer_code};
+
+    ghost Value = { Writer W };
+
+    ghost coded = { writer_code W.code };
+
+    ghost view = { λ it. record {
+      device = it.writer;
+      schema = it.schema;
+      ids = it.ids;
+      compression = it.options.compression;
+      phase = phase_of it.state;
+    } };
+}
+
+impl<W: Write + Faults + Drop> FileWriter<W> {
+    /// A writer of files of a schema to a device, which has written nothing. The ids of its dictionaries are those that are given, or else numbers
+    /// from 0 on in pre-order.
+    ///
+    /// # Errors
+    /// `OutOfMemory`: there was no memory for the ids.
+    pub fn new(
+        alloc: Global,
+        writer: W,
+        schema: Schema,
+        ipc_fields: Option<Vec<IpcField>>,
+        options: WriteOptions,
+    ) -> Result<Self>
+        ensures { IsMade result writer schema (ids_given schema ipc_fields) options.compression }
+    {
+        let ids = ids_or_default(alloc, &schema, ipc_fields)?;
+        Ok(FileWriter {
+            writer,
+            schema,
+            ids: Items::from_vec(ids),
+            options,
+            state: State::Fresh,
+            encoded: EncodedData::new(alloc),
+        })
+    }
+
+    /// A writer that is started.
+    ///
+    /// # Errors
+    /// Those of `start`.
+    pub fn try_new(
+        alloc: Global,
+        writer: W,
+        schema: Schema,
+        ipc_fields: Option<Vec<IpcField>>,
+        options: WriteOptions,
+    ) -> Result<Self>
+        ensures { IsMadeStarted W.contents W.failures result writer schema (ids_given schema ipc_fields) options.compression }
+    {
+        let mut made = FileWriter::new(alloc, writer, schema, ipc_fields, options)?;
+        made.start(alloc)?;
+        Ok(made)
+    }
+}
+
+impl<W: Write + Faults> FileWriter<W> {
+    /// Writes the file's mark, and the schema's message with the ids of its dictionaries.
+    ///
+    /// # Errors
+    /// - `OutOfSpec`: the writer was started before, or its device has failed. Nothing changes. Or the device took nothing of a piece now.
+    /// - `NotYetImplemented`: a field of floating-point numbers stands in the schema. Nothing changes, as with the next three.
+    /// - `InvalidArgumentError`: the schema is none that is written, or the ids are not those of its dictionaries.
+    /// - `Overflow`: with its prefix of 8 bytes the metadata would have more than 2,147,483,640 bytes.
+    /// - `OutOfMemory`: there was no memory for the metadata. Or the device had none.
+    /// - `Io`: the device failed.
+    ///
+    /// Where the device refused, a beginning of the bytes is written, and the writer refuses all later calls.
+    pub fn start(&mut self, alloc: Global) -> Result<()>
+        ensures { Starts W.contents W.failures self.old self.new result }
+    {
+        if !is_fresh(&self.state) {
+            return Err(out_of_order());
+        }
+        let (progress, message) = open(alloc, &self.schema, self.ids.as_slice())?;
+        match send_start(&mut self.writer, &message) {
+            Ok(()) => {
+                self.state = State::Started(progress);
+                Ok(())
+            }
+            Err(error) => {
+                self.state = State::Broken;
+                Err(error)
+            }
+        }
+    }
+
+    /// Writes a batch: the dictionaries that go before it, and its own message, which are all encoded before the first of them is written.
+    /// The ids of its dictionaries are those that are given, or else the writer's.
+    ///
+    /// # Errors
+    /// - `OutOfSpec`: the writer was not started, is finished, or its device has failed. Nothing changes. Or the device took nothing of a piece now.
+    /// - `NotYetImplemented`: the writer was told to compress. Nothing changes, as with the next three.
+    /// - `InvalidArgumentError`: the batch doesn't belong to the schema, the ids are not those of its dictionaries, or a dictionary differs from
+    ///   another one under its id.
+    /// - `Overflow`: a message is past its limit, or the file would have 2^63 bytes or more.
+    /// - `OutOfMemory`: there was no memory for the messages or for what the writer keeps. Or the device had none.
+    /// - `Io`: the device failed.
+    ///
+    /// Where the device refused, a beginning of the messages is written, and the writer refuses all later calls.
+    pub fn write(
+        &mut self,
+        alloc: Global,
+        columns: &Chunk<AnyArray>,
+        ipc_fields: Option<&[IpcField]>,
+    ) -> Result<()>
+        ensures { WritesChunk W.contents W.failures self.old self.new (option_copied ipc_fields.entry) columns.now result }
+    {
+        let State::Started(file) = &mut self.state else {
+            return Err(out_of_order());
+        };
+        if self.options.compression.is_some() {
+            return Err(Error::NotYetImplemented("compression of buffers"));
+        }
+        let ids = fields_or(self.ids.as_slice(), ipc_fields);
+        let dictionaries = add_batch(alloc, &self.schema, ids, file, columns, &mut self.encoded)?;
+        match send(&mut self.writer, &dictionaries, &self.encoded) {
+            Ok(()) => Ok(()),
+            Err(error) => {
+                self.state = State::Broken;
+                Err(error)
+            }
+        }
+    }
+
+    /// The footer of what is written (File.fbs).
+    ///
+    /// # Errors
+    /// - `OutOfSpec`: the writer was not started, is finished, or its device has failed.
+    /// - `Overflow`: the footer would have 2^31 bytes or more, or the file 2^63 or more.
+    /// - `OutOfMemory`: there was no memory for the footer.
+    fn footer(&self, alloc: Global) -> Result<Vec<u8>>
+        ensures { GivesFooter result self.now }
+    {
+        let State::Started(file) = &self.state else {
+            return Err(out_of_order());
+        };
+        let footer = footer_to_bytes(
+            alloc,
+            &self.schema,
+            self.ids.as_slice(),
+            &file.dictionaries,
+            &file.record_batches,
+        )?;
+        if !has_room(file.place, &footer) {
+            return Err(Error::Overflow);
+        }
+        Ok(footer)
+    }
+
+    /// Writes the end mark, the footer, its length, and the file's mark.
+    ///
+    /// # Errors
+    /// - `OutOfSpec`: the writer was not started, is finished, or its device has failed. Nothing changes. Or the device took nothing of a piece now.
+    /// - `Overflow`: the footer would have 2^31 bytes or more, or the file 2^63 or more. Nothing changes.
+    /// - `OutOfMemory`: there was no memory for the footer, and nothing changes. Or the device had none.
+    /// - `Io`: the device failed.
+    ///
+    /// Where the device refused, a beginning of the bytes is written, and the writer refuses all later calls.
+    pub fn finish(&mut self, alloc: Global) -> Result<()>
+        ensures { Finishes W.contents W.failures self.old self.new result }
+    {
+        let footer = self.footer(alloc)?;
+        match send_end(&mut self.writer, &footer) {
+            Ok(()) => {
+                self.state = State::Finished;
+                Ok(())
+            }
+            Err(error) => {
+                self.state = State::Broken;
+                Err(error)
+            }
+        }
+    }
+
+    /// The device, with no copy.
+    pub fn into_inner(self) -> W
+        ensures { result ≡ self.device }
+    {
+        self.writer
+    }
+}
