@@ -237,7 +237,9 @@ def check(copy, crate, more):
         lacking = {it for line in ran.stdout.split('\n') if ': no proof' in line for it in re.findall(r'`([a-z]\w*(?:::\w+)+)`', line)}
         for it in wrong:
             shutil.rmtree(os.path.join(folder, it) if not os.path.isabs(it) else it, ignore_errors=True)
-        written = [it for it in sorted(lacking) if not it.startswith(crate + '::') and write_hole(copy, it.split('::')[0], it.split('::')[1:])]
+        # A whole impl has no proof of its own, so its name, which begins with a capital, wants no hole.
+        holes = [it for it in sorted(lacking) if not it.startswith(crate + '::') and it.split('::')[-1][0].islower()]
+        written = [it for it in holes if write_hole(copy, it.split('::')[0], it.split('::')[1:])]
         if not (wrong or written):
             break
     print(ran.stdout, end='')

@@ -46,12 +46,13 @@ pub use Rattle.ipc_format_files.proofs.reading_laws_lemmas.StoredTablesOnce
 pub use Rattle.ipc_format_files.proofs.reading_laws_lemmas.laws_lemmas.Footers
 pub use Rattle.ipc_format_files.proofs.Added as FileAdded
 pub use Rattle.ipc_format_files.proofs.EndBytes as FileEndBytes
+pub use Rattle.ipc_format_files.proofs.WholeFiles
 pub use Rattle.ipc_format_files.proofs.Placed as FilePlaced
 pub use Rattle.ipc_format_files.proofs.RunBytes as FileRunBytes
 pub use Rattle.ipc_format_files.proofs.Firsts as FileFirsts
-pub use Rattle.ipc_format_files.proofs.EntryLists
-pub use Rattle.ipc_format_files.proofs.Lists as FileLists
-pub use Rattle.ipc_format_files.proofs.MessageReads as BlockReads
-pub use Rattle.ipc_format_files.proofs.RoomReads
-pub use Rattle.ipc_format_files.proofs.Starts as FileStarts
-pub use Rattle.ipc_format_files.proofs.Unread as UnreadBlocks
+pub use Rattle.ipc_format_files.proofs.stream_writer_lemmas.reader_lemmas.EntryLists
+pub use Rattle.ipc_format_files.proofs.stream_writer_lemmas.reader_lemmas.Lists as FileLists
+pub use Rattle.ipc_format_files.proofs.stream_writer_lemmas.reader_lemmas.MessageReads as BlockReads
+pub use Rattle.ipc_format_files.proofs.stream_writer_lemmas.reader_lemmas.RoomReads
+pub use Rattle.ipc_format_files.proofs.stream_writer_lemmas.reader_lemmas.Starts as FileStarts
+pub use Rattle.ipc_format_files.proofs.stream_writer_lemmas.reader_lemmas.Unread as UnreadBlocks

@@ -61,6 +61,18 @@ pub use Rattle.ipc_format_files.specs.stream_writer.reader.chunk_writing.Readabl
 pub use Rattle.ipc_format_files.specs.stream_writer.reader.chunk_writing.Standing
 pub use Rattle.ipc_format_files.specs.stream_writer.reader.chunk_writing.ReadArrays
 pub use Rattle.ipc_format_files.specs.stream_writer.reader.chunk_writing.Rooms
+pub use Rattle.ipc_format_files.specs.stream_writer.reader.chunk_writing.ArrayReads
+pub use Rattle.ipc_format_files.specs.stream_writer.reader.chunk_writing.reading.Queues
+pub use Rattle.ipc_format_files.specs.stream_writer.reader.chunk_writing.reading.Reads
+pub use Rattle.ipc_format_files.specs.stream_writer.reader.chunk_writing.reading.Buffers as QueuedBuffers
+pub use Rattle.ipc_format_files.specs.stream_writer.reader.chunk_writing.reading.FlatColumns
+pub use Rattle.ipc_format_files.specs.stream_writer.reader.chunk_writing.reading.childless_reading.array_reading.TypedReads
+pub use Rattle.ipc_format_files.specs.stream_writer.reader.chunk_writing.reading.childless_reading.array_reading.column_writing.Written
+pub use Rattle.ipc_format_files.specs.stream_writer.reader.chunk_writing.column_bytes.Bodies
+pub use Rattle.ipc_format_files.specs.stream_writer.reader.chunk_writing.column_bytes.FlatColumns as WrittenFlatColumns
+pub use Rattle.ipc_format_files.specs.stream_writer.reader.chunk_writing.column_bytes.Numbers
+pub use Rattle.ipc_format_files.specs.stream_writer.reader.chunk_writing.column_bytes.WholeColumns
+pub use Rattle.ipc_format_files.specs.stream_writer.reader.chunk_writing.column_bytes.flat_arrays
 pub use Rattle.ipc_format_files.specs.stream_writer.reader.Steps
 pub use Rattle.ipc_format_files.specs.stream_writer.reader.Behind
 pub use Rattle.ipc_format_files.specs.reading_laws
@@ -74,20 +86,27 @@ pub use Rattle.ipc_format_files.specs.stream_writer.Objections
 pub use Rattle.ipc_format_files.specs.stream_writer.Opening
 pub use Rattle.ipc_format_files.specs.stream_writer.Phases
 pub use Rattle.ipc_format_files.specs.stream_writer.Room as ShortColumns
+pub use Rattle.ipc_format_files.specs.stream_writer.Runs as StreamRuns
 pub use Rattle.ipc_format_files.specs.stream_writer.Sending
 pub use Rattle.ipc_format_files.specs.stream_writer.Streams as OpenedStreams
 pub use Rattle.ipc_format_files.specs.stream_writer.Writing
 pub use Rattle.ipc_format_files.specs.Adding
+pub use Rattle.ipc_format_files.specs.Appending
+pub use Rattle.ipc_format_files.specs.Growing
+pub use Rattle.ipc_format_files.specs.Resuming
 pub use Rattle.ipc_format_files.specs.Ends
 pub use Rattle.ipc_format_files.specs.Opening as FileOpening
 pub use Rattle.ipc_format_files.specs.Phases as FilePhases
 pub use Rattle.ipc_format_files.specs.Placing as BlockPlacing
+pub use Rattle.ipc_format_files.specs.ReadFiles
 pub use Rattle.ipc_format_files.specs.Runs as FileRuns
+pub use Rattle.ipc_format_files.specs.WholeRuns
 pub use Rattle.ipc_format_files.specs.Writing as FileWriting
-pub use Rattle.ipc_format_files.specs.BlockMessages
-pub use Rattle.ipc_format_files.specs.FileEntries
-pub use Rattle.ipc_format_files.specs.FileReadings
-pub use Rattle.ipc_format_files.specs.FileReads
-pub use Rattle.ipc_format_files.specs.BlockRuns
-pub use Rattle.ipc_format_files.specs.FileStarts
+pub use Rattle.ipc_format_files.specs.stream_writer.reader.BlockMessages
+pub use Rattle.ipc_format_files.specs.stream_writer.reader.FileEntries
+pub use Rattle.ipc_format_files.specs.stream_writer.reader.FileReadings
+pub use Rattle.ipc_format_files.specs.stream_writer.reader.FileReads
+pub use Rattle.ipc_format_files.specs.stream_writer.reader.BlockRuns
+pub use Rattle.ipc_format_files.specs.stream_writer.reader.FileStarts
+pub use Rattle.ipc_format_files.specs.stream_writer.reader as readers
 pub use Rattle.ipc_format_files.specs as files

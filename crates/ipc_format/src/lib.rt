@@ -24,13 +24,24 @@ pub use ipc_format_files::stream_writer::reader::streams::{
     flatbuffers, next_at, put, read_stream_metadata, refusal, write_continuation, write_message,
 };
 pub use ipc_format_files::stream_writer::reader::{
-    StreamReader, StreamState, stream_start, streams_are_read_by_turns,
+    Entry, FileMetadata, FileReader, MessageBlock, StreamReader, StreamState, file_entries,
+    files_are_read_by_blocks, read_batch, read_file_dictionaries, read_file_metadata, stream_start,
+    streams_are_read_by_turns,
 };
 pub use ipc_format_files::stream_writer::{StreamWriter, put_message, put_messages};
-pub use ipc_format_files::{
-    Entry, FileMetadata, FileReader, FileWriter, MessageBlock, file_entries,
-    files_are_read_by_blocks, read_batch, read_file_dictionaries, read_file_metadata,
-};
+pub use ipc_format_files::{FileBatches, FileWriter, append_file, metadata_of_file, read_file};
+
+/// Columns one by one: read at the fronts of queues of nodes and buffers (those of `messages`), passed over there, and written behind what stands
+/// in a body; and single buffers that are read. `read_dictionary` reads a column of keys here, and a dictionary batch outside.
+pub mod columns {
+    pub use ipc_format_files::stream_writer::reader::columns::{
+        Body, Lengths, read_binary, read_bitmap, read_boolean, read_buffer, read_dictionary,
+        read_fixed_size_binary, read_null, read_primitive, read_utf8, read_validity, skip,
+        skip_binary, skip_boolean, skip_dictionary, skip_fixed_size_binary, skip_fixed_size_list,
+        skip_list, skip_map, skip_null, skip_primitive, skip_struct, skip_union, skip_utf8,
+        write_binary, write_boolean, write_primitive, write_struct, write_union, write_utf8,
+    };
+}
 
 /// What `ipc_format_files::stream_writer::reader::streams::messages` has.
 pub mod messages {
@@ -77,9 +88,9 @@ pub mod streams {
     /// Of `owned`.
     pub mod owned {
         pub use ipc_format_files::stream_writer::reader::streams::owned::{
-            DictionaryEncoding, Field, Footer, Int, Message, MessageHeader, Type_,
-            dictionary_batch_of, field_of, footer_of, key_value_of, message_header_of, message_of,
-            record_batch_of, schema_of, type_of,
+            DictionaryBatch, DictionaryEncoding, Field, Footer, Int, KeyValue, Message,
+            MessageHeader, RecordBatch, Schema, Type_, dictionary_batch_of, field_of, footer_of,
+            key_value_of, message_header_of, message_of, record_batch_of, schema_of, type_of,
         };
     }
 }

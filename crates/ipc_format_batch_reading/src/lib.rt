@@ -24,6 +24,42 @@ pub use projection::{
 };
 pub use record_batch::{is_projection, read_record_batch};
 
+/// What `ipc_format_reading::childless_reading` has, as far as packages above use it.
+pub mod childless_reading {
+    pub use ipc_format_reading::childless_reading::read_dictionary;
+
+    /// Of `array_reading`.
+    pub mod array_reading {
+        pub use ipc_format_reading::childless_reading::array_reading::{
+            read_fixed_size_binary, read_null,
+        };
+
+        /// Of `column_writing`.
+        pub mod column_writing {
+            pub use ipc_format_reading::childless_reading::array_reading::column_writing::{
+                write_struct, write_union,
+            };
+
+            /// Of `column_reading`.
+            pub mod column_reading {
+                pub use ipc_format_reading::childless_reading::array_reading::column_writing::column_reading::{
+                    read_binary, read_bitmap, read_boolean, read_buffer, read_primitive, read_utf8,
+                    read_validity, skip, skip_binary, skip_boolean, skip_dictionary,
+                    skip_fixed_size_binary, skip_fixed_size_list, skip_list, skip_map, skip_null,
+                    skip_primitive, skip_struct, skip_union, skip_utf8,
+                };
+
+                /// Of `column_bytes`.
+                pub mod column_bytes {
+                    pub use ipc_format_reading::childless_reading::array_reading::column_writing::column_reading::column_bytes::{
+                        Body, Lengths, write_binary, write_boolean, write_primitive, write_utf8,
+                    };
+                }
+            }
+        }
+    }
+}
+
 /// What `ipc_format_reading::streams` has, as far as packages above use it.
 pub mod streams {
     pub use ipc_format_reading::streams::{
@@ -59,9 +95,10 @@ pub mod streams {
     /// Of `owned`.
     pub mod owned {
         pub use ipc_format_reading::streams::owned::{
-            DictionaryEncoding, Field, Footer, Int, Message, MessageHeader, Type_,
-            dictionary_batch_of, field_of, footer_of, key_value_of, message_header_of, message_of,
-            record_batch_of, schema_of, serialize_schema, type_of,
+            DictionaryBatch, DictionaryEncoding, Field, Footer, Int, KeyValue, Message,
+            MessageHeader, RecordBatch, Schema, Type_, dictionary_batch_of, field_of, footer_of,
+            key_value_of, message_header_of, message_of, record_batch_of, schema_of,
+            serialize_schema, type_of,
         };
 
         /// Of `writing`.

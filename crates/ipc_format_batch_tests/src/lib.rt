@@ -1,5 +1,4 @@
-//! Tests of batches, their dictionaries, and streams and files of them, read and written. They stand here since a crate with tests is proved
-//! twice.
+//! Tests of batches, their dictionaries, and streams of them, read and written. They stand here since a crate with tests is proved twice.
 #![tactic(auto)]
 
 #[cfg(test)]
@@ -14,10 +13,6 @@ mod devices;
 mod dictionaries;
 #[cfg(test)]
 mod encoded;
-#[cfg(test)]
-mod file_reader;
-#[cfg(test)]
-mod file_writer;
 #[cfg(test)]
 mod projections;
 #[cfg(test)]

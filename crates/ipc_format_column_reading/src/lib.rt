@@ -45,6 +45,7 @@ pub use utf8::{read_utf8, skip_utf8};
 pub mod column_bytes {
     pub use ipc_format_column_bytes::{
         Body, Lengths, Placed, columnar_memory, dictionary_metadata, offset_at, record_metadata,
+        write_binary, write_boolean, write_primitive, write_utf8,
     };
 
     /// Of `messages`.
@@ -88,9 +89,10 @@ pub mod column_bytes {
         /// Of `owned`.
         pub mod owned {
             pub use ipc_format_column_bytes::streams::owned::{
-                DictionaryEncoding, Field, Footer, Int, Message, MessageHeader, Type_,
-                dictionary_batch_of, field_of, footer_of, key_value_of, message_header_of,
-                message_of, record_batch_of, schema_of, serialize_schema, type_of,
+                DictionaryBatch, DictionaryEncoding, Field, Footer, Int, KeyValue, Message,
+                MessageHeader, RecordBatch, Schema, Type_, dictionary_batch_of, field_of,
+                footer_of, key_value_of, message_header_of, message_of, record_batch_of, schema_of,
+                serialize_schema, type_of,
             };
 
             /// Of `writing`.

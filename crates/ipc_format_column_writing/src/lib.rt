@@ -19,14 +19,18 @@ pub mod chunks {
 /// What `ipc_format_column_reading` has, as far as packages above use it.
 pub mod column_reading {
     pub use ipc_format_column_reading::{
-        InMemory, Marked, Room, columnar_memory, read_binary, read_boolean, read_buffer,
-        read_bytes, read_marked, read_offsets, read_primitive, read_utf8, slots_taken,
+        InMemory, Marked, Room, columnar_memory, read_binary, read_bitmap, read_boolean,
+        read_buffer, read_bytes, read_marked, read_offsets, read_primitive, read_utf8,
+        read_validity, skip, skip_binary, skip_boolean, skip_dictionary, skip_fixed_size_binary,
+        skip_fixed_size_list, skip_list, skip_map, skip_null, skip_primitive, skip_struct,
+        skip_union, skip_utf8, slots_taken,
     };
 
     /// Of `column_bytes`.
     pub mod column_bytes {
         pub use ipc_format_column_reading::column_bytes::{
-            Placed, dictionary_metadata, record_metadata,
+            Body, Lengths, Placed, dictionary_metadata, record_metadata, write_binary,
+            write_boolean, write_primitive, write_utf8,
         };
 
         /// Of `streams`.
@@ -65,9 +69,10 @@ pub mod column_reading {
             /// Of `owned`.
             pub mod owned {
                 pub use ipc_format_column_reading::column_bytes::streams::owned::{
-                    DictionaryEncoding, Field, Footer, Int, Message, MessageHeader, Type_,
-                    dictionary_batch_of, field_of, footer_of, key_value_of, message_header_of,
-                    message_of, record_batch_of, schema_of, serialize_schema, type_of,
+                    DictionaryBatch, DictionaryEncoding, Field, Footer, Int, KeyValue, Message,
+                    MessageHeader, RecordBatch, Schema, Type_, dictionary_batch_of, field_of,
+                    footer_of, key_value_of, message_header_of, message_of, record_batch_of,
+                    schema_of, serialize_schema, type_of,
                 };
 
                 /// Of `writing`.

@@ -22,9 +22,9 @@ no_body schema ids = refl
 
 pub first_is : (schema : Schema) (ids : IdsList) (metadata : List ℕ) (n : ℕ) (told : List (ℤ × Column)) (dictionaries batches : List Block)
     → metadata ≡ (schema_written schema ids).metadata → n ≡ length metadata → told ≡ [] → dictionaries ≡ [] → batches ≡ []
-    → record { told = told; place = 16 + n; blocks = blocks_view dictionaries batches } ≡ first_progress schema ids
+    → record { told = told; place = 16 + n; size = 0; blocks = blocks_view dictionaries batches } ≡ first_progress schema ids
 first_is schema ids metadata n told dictionaries batches same long nothing none neither =
-    λ j. record { told = nothing j; place = place j; blocks = blocks_view (none j) (neither j) }
+    λ j. record { told = nothing j; place = place j; size = 0; blocks = blocks_view (none j) (neither j) }
   where
     place : 16 + n ≡ place_after (length file_start) (schema_written schema ids)
     place =

@@ -1,5 +1,5 @@
 -- The footer of what is written of a file.
-use Rattle.std.proofs.Common.{◌≡◌, true, length, subst, inl}
+use Rattle.std.proofs.Common.{◌≡◌, true, length, inl}
 use Rattle.std.specs.Prelude.{Err}
 use Rattle.std.proofs.lemmas.Bool.{and_parts, both_ways, le-ltb}
 use Rattle.ipc_format_stream_writer.specs.reader.chunk_writing.columnar_memory.declared.Error.{Error}
@@ -8,16 +8,15 @@ use Rattle.ipc_format_stream_writer.specs.reader.chunk_writing.columnar_memory.d
 use Rattle.ipc_format_stream_writer.specs.reader.chunk_writing.grammar.Ids.{ids_fit_fields}
 use Rattle.ipc_format_stream_writer.specs.reader.chunk_writing.grammar.Schemas.{IdsList}
 use Rattle.ipc_format_stream_writer.specs.reader.chunk_writing.grammar.Writable.{is_writable}
-use Rattle.ipc_format_stream_writer.specs.reader.chunk_writing.metadata.Views.{ids_views}
 use Rattle.ipc_format_stream_writer.specs.reader.streams.owned.writing.Floats.{has_float}
 use Rattle.ipc_format_stream_writer.specs.reader.streams.owned.writing.FooterWriting.{WritesFooter}
 use Rattle.ipc_format_stream_writer.specs.reader.streams.owned.writing.Writing.{may_write}
-use Rattle.ipc_format_files.specs.Ends.{GivesFooter, GivesFooterIn, HasNoFooter, footer_of}
-use Rattle.ipc_format_files.specs.Phases.{Phase, Progress, Writer, started}
+use Rattle.ipc_format_files.specs.Ends.{HasNoFooter, footer_of}
+use Rattle.ipc_format_files.specs.Phases.{Progress}
 use Rattle.ipc_format_files.proofs.NoFloats.{no_float}
 
 -- a schema that may be written is none that is refused
-no_footer : (error : Error) (schema : Schema) (ids : IdsList) (progress : Progress) → may_write schema ids ≡ true
+pub no_footer : (error : Error) (schema : Schema) (ids : IdsList) (progress : Progress) → may_write schema ids ≡ true
     → WritesFooter (Err error) schema ids progress.blocks → HasNoFooter error schema ids progress
 no_footer errors.Overflow schema ids progress may why = inl (le-ltb (length (footer_of schema ids progress)) _ why.1)
 no_footer errors.OutOfMemory schema ids progress may why = tt
@@ -25,10 +24,3 @@ no_footer (errors.NotYetImplemented what) schema ids progress may why =
     absurd (both_ways (has_float schema) (no_float schema (and_parts (is_writable schema) (ids_fit_fields schema.fields ids) may).0) why)
 no_footer (errors.InvalidArgumentError what) schema ids progress may why = absurd (both_ways (may_write schema ids) why.1 may)
 no_footer _ schema ids progress may why = absurd why
-
-pub gives_none : {W : Type 0} (writer : Writer W) (progress : Progress) (error : Error) → started progress ≡ writer.phase
-    → may_write writer.schema (ids_views writer.ids) ≡ true → WritesFooter (Err error) writer.schema (ids_views writer.ids) progress.blocks
-    → GivesFooter (Err error) writer
-gives_none writer progress error was may why =
-    subst (λ (phase : Phase). GivesFooterIn phase (Err error) writer.schema (ids_views writer.ids)) was
-    (no_footer error writer.schema (ids_views writer.ids) progress may why)

@@ -8,8 +8,7 @@ use Rattle.ipc_format_stream_writer.specs.reader.chunk_writing.grammar.WrittenFi
 use Rattle.ipc_format_stream_writer.specs.reader.chunk_writing.grammar.WrittenMessages.{Written, message_bytes}
 use Rattle.ipc_format_stream_writer.specs.reader.chunk_writing.grammar.WrittenStreams.{bytes_of_messages}
 use Rattle.ipc_format_stream_writer.proofs.PutMessages.{FirstMessages}
-use Rattle.ipc_format_files.specs.Phases.{Progress}
-use Rattle.ipc_format_files.specs.Placing.{blocks_of, joined, place_behind, with_blocks, with_messages}
+use Rattle.ipc_format_files.specs.Placing.{blocks_of, place_behind}
 
 -- ---- places
 
@@ -84,36 +83,3 @@ module _ {A : Type 0} (message : A → Written) where
       le_trans (subst (λ (n : ℕ). limit ≤ n) reached past)
       (subst (λ (messages : List Written). place_behind place (FirstMessages message all (i + 1)) ≤ place_behind place messages) all_of
       (place_grows place (FirstMessages message all (i + 1)) (map message (drop (i + 1) all))))
-
--- ---- a batch
-
--- its blocks and the place behind it, from the steps
-pub batch_placed : (old after : Progress) (at behind : ℕ) (blocks : List files.Block) (block : files.Block) (messages : List Written) (own : Written)
-    → after ≡ with_blocks old blocks block → blocks ≡ blocks_of old.place messages → at ≡ place_behind old.place messages
-    → block ≡ block_of at own → behind ≡ place_after at own
-    → record after { place = behind } ≡ with_messages old messages own
-batch_placed old after at behind blocks block messages own step them is its follows =
-    let its_place = ap (λ (it : ℕ). block_of it own) is in
-    let here = follows ∙ ap (λ (it : ℕ). place_after it own) is ∙ sym (place_more old.place messages own) in
-    λ j. record {
-      told = (step j).told;
-      place = here j;
-      blocks = (ap (λ (it : Progress). it.blocks) step
-          ∙ (λ k. joined old.blocks (record { dictionaries = them k; record_batches = (its ∙ its_place) k ∷ [] }))) j;
-    }
-
--- the file is too long with it, or not
-pub batch_room : (limit place at behind : ℕ) (messages : List Written) (own : Written) → at ≡ place_behind place messages
-    → behind ≡ place_after at own → behind < limit → place_behind place (messages ++ own ∷ []) < limit
-batch_room limit place at behind messages own is follows room =
-    subst (λ (n : ℕ). n < limit) (follows ∙ ap (λ (it : ℕ). place_after it own) is ∙ sym (place_more place messages own)) room
-
-pub batch_past : (limit place at : ℕ) (messages : List Written) (own : Written) → at ≡ place_behind place messages
-    → limit ≤ place_after at own → limit ≤ place_behind place (messages ++ own ∷ [])
-batch_past limit place at messages own is past =
-    subst (λ (n : ℕ). limit ≤ n) (ap (λ (it : ℕ). place_after it own) is ∙ sym (place_more place messages own)) past
-
--- so it is where it is too long with the messages before
-pub before_past : (limit place : ℕ) (messages : List Written) (own : Written) → limit ≤ place_behind place messages
-    → limit ≤ place_behind place (messages ++ own ∷ [])
-before_past limit place messages own past = le_trans past (place_grows place messages (own ∷ []))

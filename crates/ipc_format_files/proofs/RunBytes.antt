@@ -22,7 +22,7 @@ use Rattle.ipc_format_files.proofs.Placed.{place_both, place_more}
 
 -- ---- messages
 
-messages_more : (told : List Given) (batches : List Batch) (batch : Batch)
+pub messages_more : (told : List Given) (batches : List Batch) (batch : Batch)
     → messages_after told (batches ++ batch ∷ []) ≡ messages_after told batches ++ batch_messages (told_with told batches) batch
 messages_more told [] batch = append-nil (batch_messages told batch)
 messages_more told (first ∷ batches) batch =
@@ -55,6 +55,12 @@ place_is schema ids batches =
 
 -- ---- blocks
 
+pub joined_thrice : (a b c : Blocks) → joined (joined a b) c ≡ joined a (joined b c)
+joined_thrice a b c = λ j. record {
+  dictionaries = append_assoc a.dictionaries b.dictionaries c.dictionaries j;
+  record_batches = append_assoc a.record_batches b.record_batches c.record_batches j;
+}
+
 -- those of a batch, and then those of the others
 blocks_first : (place : ℕ) (told : List Given) (batch : Batch) (others : List Batch)
     → batch_blocks place told (batch ∷ others)
@@ -85,12 +91,6 @@ blocks_more place told (first ∷ batches) batch =
     ∙ sym (joined_thrice head (batch_blocks here later batches) (tail (place_behind here (messages_after later batches))))
     ∙ (λ j. joined (sym (blocks_first place told first batches) j)
     (tail (sym (place_both place (batch_messages told first) (messages_after later batches)) j)))
-  where
-    joined_thrice : (a b c : Blocks) → joined (joined a b) c ≡ joined a (joined b c)
-    joined_thrice a b c = λ j. record {
-      dictionaries = append_assoc a.dictionaries b.dictionaries c.dictionaries j;
-      record_batches = append_assoc a.record_batches b.record_batches c.record_batches j;
-    }
 
 -- ---- the whole file
 

@@ -14,12 +14,13 @@ use Rattle.ipc_format_stream_writer.specs.reader.chunk_writing.grammar.WrittenFi
 use Rattle.ipc_format_stream_writer.specs.reader.chunk_writing.grammar.WrittenStreams.{Batch, batch_messages, batch_of_stored, bytes_of_messages}
 use Rattle.ipc_format_stream_writer.specs.reader.chunk_writing.metadata.Views.{ids_views}
 use Rattle.ipc_format_stream_writer.proofs.reader_lemmas.chunk_lemmas.Appending.{appends_both, appends_same}
-use Rattle.ipc_format_files.specs.Ends.{end_with, start_bytes}
+use Rattle.ipc_format_files.specs.Ends.{end_of, end_with, start_bytes}
 use Rattle.ipc_format_files.specs.Phases.{Phase, Progress, Writer, broken, finished, fresh, started}
 use Rattle.ipc_format_files.specs.Placing.{joined}
 use Rattle.ipc_format_files.specs.Runs.{FilesAreWritten, FinishesFile, HasWritten, StartsNone, WritesMore, bytes_so_far, first_place}
 use Rattle.ipc_format_files.specs.Runs.{told_with}
 use Rattle.ipc_format_files.specs.Writing.{FinishesIn, IsStarted, IsWritten, StartsIn, WritesIn, WritesUnder}
+use Rattle.ipc_format_files.proofs.EndBytes.{end_of_new}
 use Rattle.ipc_format_files.proofs.RunBytes.{blocks_more, bytes_more, file_whole, footer_is, place_is, told_more}
 
 module _ {W : Type 0} (contents : W → Option (List ℕ)) (failures : W → ℕ) where
@@ -31,7 +32,7 @@ module _ {W : Type 0} (contents : W → Option (List ℕ)) (failures : W → ℕ
   starts_in finished old new does = absurd does
   starts_in broken old new does = absurd does
 
-  writes_under : (compression : Option Compression) (old new : Writer W) (before : Progress) (ids : IdsList) (columns : List Column)
+  pub writes_under : (compression : Option Compression) (old new : Writer W) (before : Progress) (ids : IdsList) (columns : List Column)
       → WritesUnder contents failures compression old new before ids columns (Ok tt)
       → (told : List Given) → Tells before.told told → IsWritten contents failures old new before ids told columns
   writes_under None old new before ids columns does = does
@@ -50,6 +51,7 @@ module _ {W : Type 0} (contents : W → Option (List ℕ)) (failures : W → ℕ
         device = appends_same _ _ _ _ (sym (append-nil (start_bytes old.schema (ids_views old.ids)))) here.sends.device;
         tells = λ id. refl;
         place = sym (place_is old.schema (ids_views old.ids) [] ∙ add-zero (first_place old.schema (ids_views old.ids)));
+        size = refl;
         blocks = refl;
       }
 
@@ -72,6 +74,7 @@ module _ {W : Type 0} (contents : W → Option (List ℕ)) (failures : W → ℕ
         tells = subst (λ (told : List Given). Tells does.after.told told) (sym (told_more [] batches batch)) does.behind.tells;
         place = does.behind.place ∙ ap (λ (n : ℕ). n + length next) before.place ∙ sym (length-append so_far next)
             ∙ ap (λ (bytes : List ℕ). length bytes) (sym more);
+        size = does.behind.size ∙ before.size;
         blocks = does.behind.blocks
             ∙ (λ j. joined (before.blocks j)
             (batch_blocks ((before.place ∙ place_is old.schema (ids_views old.ids) batches) j) (told_with [] batches) (batch ∷ [])))
@@ -95,8 +98,10 @@ module _ {W : Type 0} (contents : W → Option (List ℕ)) (failures : W → ℕ
       let so_far = bytes_so_far schema ids batches in
       let same : here.footer ≡ footer_bytes schema ids batches =
       here.is.same ∙ (λ j. laid (footer_object (before.schema j) (ids_views (before.ids j)) (before.blocks j))) ∙ footer_is schema ids batches in (
-        appends_same _ _ _ _ (ap (λ (footer : List ℕ). so_far ++ end_with footer) same ∙ file_whole schema ids batches)
-            (appends_both _ _ _ so_far (end_with here.footer) before.device here.sends.device),
+        appends_same _ _ _ _
+            (ap (λ (bytes : List ℕ). so_far ++ bytes) (end_of_new before.progress here.footer before.size)
+            ∙ ap (λ (footer : List ℕ). so_far ++ end_with footer) same ∙ file_whole schema ids batches)
+            (appends_both _ _ _ so_far (end_of before.progress here.footer) before.device here.sends.device),
         here.sends.phase,
       )
 

@@ -1,5 +1,5 @@
 -- What is written at both ends of a file (Arrow IPC, "IPC File Format").
-use Rattle.std.specs.Prelude.{◌≡◌, ◌⊎◌, ℕ, ◌+◌, Bool, true, false, List, ◌++◌, length, nat_lt, Result, Ok, Err}
+use Rattle.std.specs.Prelude.{◌≡◌, ◌⊎◌, ℕ, ◌+◌, ◌-◌, Bool, true, false, List, ◌++◌, length, replicate, nat_lt, Result, Ok, Err}
 use Rattle.std.specs.Int.{w32, to_le_bytes}
 use Rattle.std.specs.declared.alloc.Global.{Global}
 use Rattle.std.specs.declared.vec.Vec.{Vec}
@@ -36,6 +36,18 @@ file_tail length = to_le_bytes w32 length ++ file_mark
 abbrev pub end_with : List ℕ → List ℕ
 end_with footer = end_mark ++ file_end footer
 
+-- the same with some zeros between the end mark and the footer
+abbrev pub end_with_zeros : ℕ → List ℕ → List ℕ
+end_with_zeros count footer = end_mark ++ replicate count 0 ++ file_end footer
+
+-- how many zeros stand there, so that the file has no fewer bytes than before
+abbrev pub zeros_before : Progress → List ℕ → ℕ
+zeros_before progress footer = progress.size - (progress.place + length (end_with footer))
+
+-- what is written behind the last message of a file of which so much is written
+abbrev pub end_of : Progress → List ℕ → List ℕ
+end_of progress footer = end_with_zeros (zeros_before progress footer) footer
+
 -- whether a file whose messages end at a place is within its limit with a footer
 abbrev pub has_room : ℕ → List ℕ → Bool
 has_room place footer = nat_lt (place + length (end_with footer)) file_limit
@@ -53,15 +65,20 @@ HasNoFooter errors.Overflow schema ids progress =
 HasNoFooter errors.OutOfMemory schema ids progress = Unit {0}
 HasNoFooter _ schema ids progress = ⊥
 
--- the footer of what is written; or there is none; or the file is not started, or it is finished
-abbrev pub GivesFooterIn : Phase → Result (Vec ℕ Global) Error → Schema → IdsList → Type 0
-GivesFooterIn (started progress) (Ok footer) schema ids = IsFooter footer.items schema ids progress
-GivesFooterIn (started progress) (Err error) schema ids = HasNoFooter error schema ids progress
-GivesFooterIn _ (Err (errors.OutOfSpec what)) schema ids = Unit {0}
-GivesFooterIn _ _ schema ids = ⊥
+-- the footer of what is written; or there is none
+abbrev pub GivesFooter : Result (Vec ℕ Global) Error → Schema → IdsList → Progress → Type 0
+GivesFooter (Ok footer) schema ids progress = IsFooter footer.items schema ids progress
+GivesFooter (Err error) schema ids progress = HasNoFooter error schema ids progress
 
-abbrev pub GivesFooter : {W : Type 0} → Result (Vec ℕ Global) Error → Writer W → Type 0
-GivesFooter result writer = GivesFooterIn writer.phase result writer.schema (ids_views writer.ids)
+-- the footer of what a writer has written, and how many zeros stand before it; or there is none; or the file is not started, or it is finished
+abbrev pub GivesEndIn : Phase → Result (ℕ × Vec ℕ Global) Error → Schema → IdsList → Type 0
+GivesEndIn (started progress) (Ok end) schema ids = (end.0 ≡ zeros_before progress end.1.items) × IsFooter end.1.items schema ids progress
+GivesEndIn (started progress) (Err error) schema ids = HasNoFooter error schema ids progress
+GivesEndIn _ (Err (errors.OutOfSpec what)) schema ids = Unit {0}
+GivesEndIn _ _ schema ids = ⊥
+
+abbrev pub GivesEnd : {W : Type 0} → Result (ℕ × Vec ℕ Global) Error → Writer W → Type 0
+GivesEnd result writer = GivesEndIn writer.phase result writer.schema (ids_views writer.ids)
 
 -- whether a schema may be written with its ids, as it was where a file is started
 abbrev pub may_be_written : Phase → Schema → IdsList → Bool

@@ -1,21 +1,15 @@
 pub mod Adding
-pub mod BlockMessages
-pub mod BlockRuns
+pub mod Appending
 pub mod Ends
-pub mod FileEntries
-pub mod FileReadings
-pub mod FileReads
-pub mod FileStarts
-pub mod Footers
-pub mod MessagesTaken
-pub mod OneProof
+pub mod Growing
 pub mod Opening
 pub mod Phases
 pub mod Placing
-pub mod ReaderCodes
-pub mod ReaderSteps
+pub mod ReadFiles
+pub mod Resuming
 pub mod Runs
+pub mod WholeRuns
 pub mod WriterCodes
 pub mod Writing
 pub use Rattle.ipc_format_stream_writer.specs as stream_writer
-pub use Rattle.ipc_format_reading_laws.specs as reading_laws
+pub use Rattle.ipc_format_stream_writer.specs.reader.reading_laws

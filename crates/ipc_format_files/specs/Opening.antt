@@ -16,7 +16,7 @@ use Rattle.ipc_format_files.specs.Placing.{no_blocks}
 -- behind the message of a schema nothing is told, and no message stands
 abbrev pub first_progress : Schema → IdsList → Progress
 first_progress schema ids =
-    record { told = []; place = place_after (length file_start) (schema_written schema ids); blocks = no_blocks }
+    record { told = []; place = place_after (length file_start) (schema_written schema ids); size = 0; blocks = no_blocks }
 
 -- the message of a schema that may be written with some ids, and what is written behind it
 pub record IsOpening (file : kept.Progress.Progress) (message : EncodedData) (schema : Schema) (ids : IdsList) : Type 0 where

@@ -10,11 +10,12 @@ use Rattle.ipc_format_files.specs.declared.state as kept
 use Rattle.ipc_format_files.specs.declared.state.State.{State}
 use Rattle.ipc_format_files.specs.declared.state.State.TheVariants as states
 
--- What is written of a file behind its schema: the dictionaries that were told, where the next message stands, and where those that are
--- written do.
+-- What is written of a file behind its schema: the dictionaries that were told, where the next message stands, how many bytes the file had before
+-- it was added to (a new one had none), and where the messages that are written stand.
 pub record Progress : Type 0 where
   pub told : List (ℤ × Column)
   pub place : ℕ
+  pub size : ℕ
   pub blocks : Blocks
 
 -- How far a file is: nothing is written; its schema is, and so much behind it; its footer is; or the device failed.
@@ -28,6 +29,7 @@ abbrev pub progress_of : kept.Progress.Progress → Progress
 progress_of file = record {
   told = file.tracker.dictionaries.entries;
   place = file.place;
+  size = file.size;
   blocks = blocks_view file.dictionaries.items file.record_batches.items;
 }
 

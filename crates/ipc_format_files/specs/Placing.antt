@@ -1,10 +1,11 @@
 -- Where the messages of a file stand, one behind the other (File.fbs, `Block`).
-use Rattle.std.specs.Prelude.{◌≡◌, ℕ, ◌+◌, ◌≤◌, ◌<◌, List, [], ◌∷◌, ◌++◌, length, map, Option, Some, None, Result, Ok, Err}
+use Rattle.std.specs.Prelude.{◌≡◌, ◌⊎◌, ℕ, ◌+◌, ◌≤◌, ◌<◌, true, false, List, [], ◌∷◌, ◌++◌, length, map, Option, Some, None, Result, Ok, Err}
 use Rattle.std.specs.declared.alloc.Global.{Global}
 use Rattle.std.specs.declared.vec.Vec.{Vec}
 use Rattle.ipc_format_stream_writer.specs.reader.chunk_writing.columnar_memory.Error.{IsOutOfMemory}
 use Rattle.ipc_format_stream_writer.specs.reader.chunk_writing.columnar_memory.declared.Error.{Error}
 use Rattle.ipc_format_stream_writer.specs.reader.chunk_writing.columnar_memory.declared.Error.TheVariants as errors
+use Rattle.ipc_format_stream_writer.specs.reader.chunk_writing.grammar.AppendedFiles.{has_few_dictionaries}
 use Rattle.ipc_format_stream_writer.specs.reader.chunk_writing.grammar.Limits.{file_limit}
 use Rattle.ipc_format_stream_writer.specs.reader.chunk_writing.grammar.WrittenFiles as files
 use Rattle.ipc_format_stream_writer.specs.reader.chunk_writing.grammar.WrittenFiles.{Blocks, block_of, place_after}
@@ -68,14 +69,21 @@ abbrev pub with_messages : Progress → List Written → Written → Progress
 with_messages progress dictionaries batch = record {
   told = progress.told;
   place = place_behind progress.place (dictionaries ++ batch ∷ []);
+  size = progress.size;
   blocks = joined progress.blocks (placed_blocks progress.place dictionaries batch);
 }
 
--- they do; or the file would be too long, or memory ran out, and nothing is changed
+-- a footer can state the place behind the last message, and no more dictionaries stand in the file than are read of one
+abbrev pub IsWithinLimits : Progress → Type 0
+IsWithinLimits progress = (progress.place < file_limit) × (has_few_dictionaries progress.blocks ≡ true)
+
+-- it can't, or more do
+abbrev pub IsPastLimits : Progress → Type 0
+IsPastLimits progress = (file_limit ≤ progress.place) ⊎ (has_few_dictionaries progress.blocks ≡ false)
+
+-- they do; or the file would be too long, or have too many dictionaries, or memory ran out, and nothing is changed
 abbrev pub PlacesBatch : Progress → Progress → List Written → Written → Result (Unit {0}) Error → Type 0
-PlacesBatch old new dictionaries batch (Ok _) =
-    (new ≡ with_messages old dictionaries batch) × (place_behind old.place (dictionaries ++ batch ∷ []) < file_limit)
-PlacesBatch old new dictionaries batch (Err errors.Overflow) =
-    (file_limit ≤ place_behind old.place (dictionaries ++ batch ∷ [])) × (new ≡ old)
+PlacesBatch old new dictionaries batch (Ok _) = (new ≡ with_messages old dictionaries batch) × IsWithinLimits new
+PlacesBatch old new dictionaries batch (Err errors.Overflow) = IsPastLimits (with_messages old dictionaries batch) × (new ≡ old)
 PlacesBatch old new dictionaries batch (Err errors.OutOfMemory) = new ≡ old
 PlacesBatch old new dictionaries batch (Err _) = ⊥

@@ -40,6 +40,7 @@ module _ {W : Type 0} (contents : W → Option (List ℕ)) (failures : W → ℕ
     pub device : Appends (contents old.device) (contents now.device) (bytes_so_far old.schema (ids_views old.ids) batches)
     pub tells : Tells progress.told (told_with [] batches)
     pub place : progress.place ≡ length (bytes_so_far old.schema (ids_views old.ids) batches)
+    pub size : progress.size ≡ 0
     pub blocks : progress.blocks ≡ batch_blocks (first_place old.schema (ids_views old.ids)) [] batches
 
   -- after a start no batch is written

@@ -22,8 +22,10 @@ blocks_code = code_by (List Block × List Block) (coded× (coded_list block_code
     (λ p. record { dictionaries = p.0; record_batches = p.1 }) (λ _. refl)
 
 abbrev pub progress_code : Coded Progress
-progress_code = code_by (List (ℤ × Column) × (ℕ × Blocks)) (coded× (coded_list (coded× coded_ℤ column_code)) (coded× coded_ℕ blocks_code))
-    (λ it. (it.told, (it.place, it.blocks))) (λ p. record { told = p.0; place = p.1.0; blocks = p.1.1 }) (λ _. refl)
+progress_code = code_by (List (ℤ × Column) × (ℕ × (ℕ × Blocks)))
+    (coded× (coded_list (coded× coded_ℤ column_code)) (coded× coded_ℕ (coded× coded_ℕ blocks_code)))
+    (λ it. (it.told, (it.place, (it.size, it.blocks))))
+    (λ p. record { told = p.0; place = p.1.0; size = p.1.1.0; blocks = p.1.1.1 }) (λ _. refl)
 
 abbrev pub phase_parts : Phase → ℕ × Option Progress
 phase_parts fresh = (0, None)

@@ -23,7 +23,7 @@ use Rattle.ipc_format_stream_writer.specs.reader.chunk_writing.metadata.declared
 use Rattle.ipc_format_stream_writer.specs.reader.streams.Devices.{AppendsBeginning}
 use Rattle.ipc_format_stream_writer.specs.reader.streams.EncodedMessages.{IsRefusedWrite}
 use Rattle.ipc_format_files.specs.Adding.{IsBehind, IsNotAdded}
-use Rattle.ipc_format_files.specs.Ends.{HasNoFooter, IsFooter, end_with, footer_of, start_bytes}
+use Rattle.ipc_format_files.specs.Ends.{HasNoFooter, IsFooter, end_of, footer_of, start_bytes}
 use Rattle.ipc_format_files.specs.Opening.{first_progress}
 use Rattle.ipc_format_files.specs.Phases.{Phase, Progress, Writer, broken, finished, fresh, started}
 
@@ -113,7 +113,7 @@ module _ {W : Type 0} (contents : W → Option (List ℕ)) (failures : W → ℕ
 
   abbrev pub WritesBatch : Writer W → Writer W → Progress → IdsList → List Given → List Column → Result (Unit {0}) Error → Type 0
   WritesBatch old new before ids told columns (Ok _) = IsWritten old new before ids told columns
-  WritesBatch old new before ids told columns (Err error) = (IsNotAdded error old.schema ids told columns before.place × (new ≡ old))
+  WritesBatch old new before ids told columns (Err error) = (IsNotAdded error old.schema ids told columns before × (new ≡ old))
       ⊎ Breaks old new (bytes_of_messages (batch_messages told (batch_of_stored ids columns))) error
 
   -- no body is compressed
@@ -137,16 +137,16 @@ module _ {W : Type 0} (contents : W → Option (List ℕ)) (failures : W → ℕ
 
   -- ---- finish
 
-  -- the end mark and the footer were written
+  -- the end mark, zeros where the file was longer before, and the footer were written
   pub record IsFinished (old new : Writer W) (progress : Progress) : Type 0 where
     pub footer : List ℕ
     pub is : IsFooter footer old.schema (ids_views old.ids) progress
-    pub sends : Sends old new (end_with footer) finished
+    pub sends : Sends old new (end_of progress footer) finished
 
   abbrev pub FinishesIn : Phase → Writer W → Writer W → Result (Unit {0}) Error → Type 0
   FinishesIn (started progress) old new (Ok _) = IsFinished old new progress
   FinishesIn (started progress) old new (Err error) = (HasNoFooter error old.schema (ids_views old.ids) progress × (new ≡ old))
-      ⊎ Breaks old new (end_with (footer_of old.schema (ids_views old.ids) progress)) error
+      ⊎ Breaks old new (end_of progress (footer_of old.schema (ids_views old.ids) progress)) error
   FinishesIn _ old new result = IsOutOfOrder old new result
 
   -- They are written; or the call is refused.

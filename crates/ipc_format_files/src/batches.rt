@@ -20,7 +20,8 @@ use std::alloc::Global;
 /// Refused, nothing is told and nothing placed.
 /// - `InvalidArgumentError`: the batch doesn't belong to the schema, the ids are none of it, two dictionaries of one id differ, or one from an
 ///   earlier one; or an array, at some depth, is longer than arrays may be.
-/// - `Overflow`: a message is past its limit, or the place behind the messages past 2^63 - 1.
+/// - `Overflow`: a message is past its limit, or the place behind the messages past 2^63 - 1, or more than 65,536 messages of dictionaries would
+///   stand in the file.
 /// - `OutOfMemory`: there was no memory for the messages, for what is told, or for the blocks.
 pub(crate) fn add_batch(
     alloc: Global,

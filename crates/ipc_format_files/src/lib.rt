@@ -1,30 +1,33 @@
-//! Files of batches, read from memory or a device, and written to a device (Arrow IPC, "IPC File Format").
+//! Files of batches written to a device or added to, and files in memory read whole (Arrow IPC, "IPC File Format").
 #![tactic(auto)]
 
+mod appending;
 mod batches;
-mod block_messages;
-mod blocks;
-mod entries;
-mod file_batches;
-mod file_metadata;
-mod file_reader;
-mod footer;
+mod ends;
+mod growing;
 mod laws;
 mod opening;
 mod phases;
 mod placing;
 mod sending;
 mod state;
+mod whole_files;
 mod writer;
 
-pub use blocks::MessageBlock;
-pub use entries::{Entry, file_entries};
-pub use file_batches::{read_batch, read_file_dictionaries};
-pub use file_metadata::FileMetadata;
-pub use file_reader::FileReader;
-pub use footer::read_file_metadata;
-pub use laws::files_are_read_by_blocks;
+pub use appending::append_file;
+pub use whole_files::{FileBatches, metadata_of_file, read_file};
 pub use writer::FileWriter;
+
+/// What `ipc_format_stream_writer::reader::reading_laws` has, as far as packages above use it.
+pub mod reading_laws {
+    pub use ipc_format_stream_writer::reader::reading_laws::{
+        appended_files_read_back, choices_are_isolated, choices_are_of_the_whole,
+        columns_have_parts, columns_read_at_fronts, grown_files_read_back,
+        normal_columns_stay_whole, normalised_types_read_the_same_slots, seals_read_back,
+        seals_tell_tables_apart, stated_ends_are_enough, stored_columns_read_back,
+        stored_files_read_back, stored_streams_read_back,
+    };
+}
 
 /// What `ipc_format_stream_writer` has, as far as packages above use it.
 pub mod stream_writer {
@@ -33,8 +36,22 @@ pub mod stream_writer {
     /// Of `reader`.
     pub mod reader {
         pub use ipc_format_stream_writer::reader::{
-            StreamReader, StreamState, stream_start, streams_are_read_by_turns,
+            Entry, FileMetadata, FileReader, MessageBlock, StreamReader, StreamState, file_entries,
+            files_are_read_by_blocks, read_batch, read_file_dictionaries, read_file_metadata,
+            stream_start, streams_are_read_by_turns,
         };
+
+        /// Of `columns`.
+        pub mod columns {
+            pub use ipc_format_stream_writer::reader::columns::{
+                Body, Lengths, read_binary, read_bitmap, read_boolean, read_buffer,
+                read_dictionary, read_fixed_size_binary, read_null, read_primitive, read_utf8,
+                read_validity, skip, skip_binary, skip_boolean, skip_dictionary,
+                skip_fixed_size_binary, skip_fixed_size_list, skip_list, skip_map, skip_null,
+                skip_primitive, skip_struct, skip_union, skip_utf8, write_binary, write_boolean,
+                write_primitive, write_struct, write_union, write_utf8,
+            };
+        }
 
         /// Of `chunk_writing`.
         pub mod chunk_writing {
@@ -85,9 +102,10 @@ pub mod stream_writer {
             /// Of `owned`.
             pub mod owned {
                 pub use ipc_format_stream_writer::reader::streams::owned::{
-                    DictionaryEncoding, Field, Footer, Int, Message, MessageHeader, Type_,
-                    dictionary_batch_of, field_of, footer_of, key_value_of, message_header_of,
-                    message_of, record_batch_of, schema_of, serialize_schema, type_of,
+                    DictionaryBatch, DictionaryEncoding, Field, Footer, Int, KeyValue, Message,
+                    MessageHeader, RecordBatch, Schema, Type_, dictionary_batch_of, field_of,
+                    footer_of, key_value_of, message_header_of, message_of, record_batch_of,
+                    schema_of, serialize_schema, type_of,
                 };
 
                 /// Of `writing`.
@@ -100,15 +118,4 @@ pub mod stream_writer {
             }
         }
     }
-}
-
-/// What `ipc_format_reading_laws` has.
-pub mod reading_laws {
-    pub use ipc_format_reading_laws::{
-        appended_files_read_back, choices_are_isolated, choices_are_of_the_whole,
-        columns_have_parts, columns_read_at_fronts, grown_files_read_back,
-        normal_columns_stay_whole, normalised_types_read_the_same_slots, seals_read_back,
-        seals_tell_tables_apart, stated_ends_are_enough, stored_columns_read_back,
-        stored_files_read_back, stored_streams_read_back,
-    };
 }

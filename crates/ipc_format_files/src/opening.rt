@@ -33,6 +33,7 @@ pub(crate) fn open(
     let progress = Progress {
         tracker: DictionaryTracker::new(alloc, true),
         place: BEFORE_METADATA + metadata.len() as u64,
+        size: 0,
         dictionaries: Vec::new(alloc),
         record_batches: Vec::new(alloc),
     };

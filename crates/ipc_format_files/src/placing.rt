@@ -1,7 +1,8 @@
 //! Where the messages of a file stand (File.fbs, `Block`).
-ghost use Rattle.std.specs.Prelude.{◌≡◌, ◌+◌, ◌≤◌, ◌++◌, ◌∷◌, [], length, map, true};
+ghost use Rattle.std.specs.Prelude.{◌≡◌, ◌+◌, ◌≤◌, ◌++◌, ◌∷◌, [], length, map, nat_le, true};
 ghost use Rattle.std.specs.List.{list_all};
 ghost use Rattle.ipc_format_stream_writer.specs.reader.chunk_writing.EncodedChunks.{message_in, messages_in};
+ghost use Rattle.ipc_format_stream_writer.specs.reader.chunk_writing.grammar.Limits.{most_dictionaries};
 ghost use Rattle.ipc_format_stream_writer.specs.reader.chunk_writing.grammar.WrittenMessages.{fits_limit, most_metadata, prefix_size};
 ghost use Rattle.ipc_format_stream_writer.specs.reader.streams.owned.writing.FooterWriting.{block_view};
 ghost use Rattle.ipc_format_files.specs.Phases.{progress_of};
@@ -18,6 +19,9 @@ const PREFIX: u64 = 8;
 
 /// The last place that a footer can state.
 const LAST_PLACE: u64 = 9_223_372_036_854_775_807;
+
+/// So many messages of dictionaries may stand in a file.
+const MOST_DICTIONARIES: usize = 65536;
 
 /// The block of a message that stands at a place, and the place behind it; nothing where that is past 2^63 - 1.
 fn block_at(place: u64, message: &EncodedData) -> Option<(Block, u64)>
@@ -59,6 +63,16 @@ fn blocks_at(alloc: Global, place: u64, messages: &[EncodedData]) -> Result<(Vec
     Ok((blocks, here))
 }
 
+/// Whether so many dictionaries and so many more are no more than are read of a file.
+fn are_few(known: usize, more: usize) -> bool
+    ensures { result ≡ nat_le (known + more) most_dictionaries }
+{
+    match known.checked_add(more) {
+        Some(count) => count <= MOST_DICTIONARIES,
+        None => false,
+    }
+}
+
 impl Progress {
     /// Adds the blocks of dictionaries and of a batch.
     fn join(&mut self, dictionaries: &[Block], batch: Block) -> Result<()>
@@ -77,7 +91,7 @@ impl Progress {
     ///
     /// # Errors
     /// Refused, nothing changes.
-    /// - `Overflow`: the place behind them is past 2^63 - 1.
+    /// - `Overflow`: the place behind them is past 2^63 - 1, or more than 65,536 messages of dictionaries would stand in the file.
     /// - `OutOfMemory`: there was no memory for the blocks.
     pub(crate) fn place_batch(
         &mut self,
@@ -92,6 +106,9 @@ impl Progress {
         let Some((block, behind)) = block_at(here, batch) else {
             return Err(Error::Overflow);
         };
+        if !are_few(self.dictionaries.len(), blocks.len()) {
+            return Err(Error::Overflow);
+        }
         self.join(&blocks, block)?;
         self.place = behind;
         Ok(())

@@ -1,15 +1,17 @@
 //! What stands at both ends of a file, written to a device (Arrow IPC, "IPC File Format").
-ghost use Rattle.std.specs.Prelude.{◌≡◌, ◌<◌, ◌^◌, length, true};
+ghost use Rattle.std.specs.Prelude.{◌≡◌, ◌<◌, ◌^◌, [], IfErr, length, replicate, true};
 ghost use Rattle.ipc_format_stream_writer.specs.Sending.{Delivers};
 ghost use Rattle.ipc_format_stream_writer.specs.reader.chunk_writing.EncodedChunks.{message_in};
 ghost use Rattle.ipc_format_stream_writer.specs.reader.chunk_writing.grammar.WrittenMessages.{fits_limit};
+ghost use Rattle.ipc_format_stream_writer.specs.reader.chunk_writing.columnar_memory.Error.{IsIo};
 ghost use Rattle.ipc_format_stream_writer.specs.reader.streams.Devices.{Puts};
-ghost use Rattle.ipc_format_files.specs.Ends.{end_with, file_tail, first_bytes};
+ghost use Rattle.ipc_format_stream_writer.specs.reader.streams.EncodedMessages.{IsRefusedWrite};
+ghost use Rattle.ipc_format_files.specs.Ends.{end_with_zeros, file_tail, first_bytes};
 
 use ipc_format_stream_writer::put_message;
-use ipc_format_stream_writer::reader::streams::columnar_memory::Result;
+use ipc_format_stream_writer::reader::streams::columnar_memory::{Error, Result};
 use ipc_format_stream_writer::reader::streams::{EncodedData, Faults, put, refusal};
-use std::io::Write;
+use std::io::{Seek, SeekFrom, Write};
 
 /// The mark of a file, and two zeros.
 const START: [u8; 8] = [65, 82, 82, 79, 87, 49, 0, 0];
@@ -19,6 +21,9 @@ const MARK: [u8; 6] = [65, 82, 82, 79, 87, 49];
 
 /// What ends the messages.
 const END: [u8; 8] = [255, 255, 255, 255, 0, 0, 0, 0];
+
+/// As many zeros as are written at once.
+const ZEROS: [u8; 4096] = [0; 4096];
 
 /// Writes the start of a file, and its first message.
 fn put_start<W: Write>(writer: &mut W, message: &EncodedData) -> Result<()>
@@ -41,14 +46,47 @@ fn put_tail<W: Write>(writer: &mut W, length: u32) -> Result<()>
     put(writer, &MARK)
 }
 
-/// Writes the end mark of the messages, a footer, its length, and the mark.
-fn put_end<W: Write>(writer: &mut W, footer: &[u8]) -> Result<()>
+/// Writes so many zeros.
+pub(crate) fn put_zeros<W: Write>(writer: &mut W, count: u64) -> Result<()>
+    ensures { Puts result (W.contents writer.old) (W.contents writer.new) (replicate count 0) }
+{
+    let mut left = count;
+    while left > 0 {
+        let piece = left.min(ZEROS.len() as u64);
+        put(writer, &ZEROS[..piece as usize])?;
+        left -= piece;
+    }
+    Ok(())
+}
+
+/// Writes the end mark of the messages, so many zeros, a footer, its length, and the mark.
+pub(crate) fn put_end<W: Write>(writer: &mut W, zeros: u64, footer: &[u8]) -> Result<()>
     requires { length footer.now < 2 ^ 31 }
-    ensures { Puts result (W.contents writer.old) (W.contents writer.new) (end_with footer.now) }
+    ensures { Puts result (W.contents writer.old) (W.contents writer.new) (end_with_zeros zeros footer.now) }
 {
     put(writer, &END)?;
+    put_zeros(writer, zeros)?;
     put(writer, footer)?;
     put_tail(writer, footer.len() as u32)
+}
+
+/// Has a device let go what it holds back.
+fn flush<W: Write>(writer: &mut W) -> Result<()>
+    ensures { Puts result (W.contents writer.old) (W.contents writer.new) [] }
+{
+    match writer.flush() {
+        Ok(()) => Ok(()),
+        Err(error) => Err(Error::Io(error)),
+    }
+}
+
+/// Writes the end of a file, and has the device let go what it holds back.
+fn put_whole_end<W: Write>(writer: &mut W, zeros: u64, footer: &[u8]) -> Result<()>
+    requires { length footer.now < 2 ^ 31 }
+    ensures { Puts result (W.contents writer.old) (W.contents writer.new) (end_with_zeros zeros footer.now) }
+{
+    put_end(writer, zeros, footer)?;
+    flush(writer)
 }
 
 /// Writes the start of a file, and its first message.
@@ -71,7 +109,7 @@ pub(crate) fn send_start<W: Write + Faults>(writer: &mut W, message: &EncodedDat
     }
 }
 
-/// Writes the end mark of the messages, a footer, its length, and the mark.
+/// Writes the end mark of the messages, so many zeros, a footer, its length, and the mark, and has the device let go what it holds back.
 ///
 /// # Errors
 /// - `Io`: the device failed.
@@ -79,13 +117,43 @@ pub(crate) fn send_start<W: Write + Faults>(writer: &mut W, message: &EncodedDat
 /// - `OutOfMemory`: it had no memory.
 ///
 /// A beginning of the bytes is then written.
-pub(crate) fn send_end<W: Write + Faults>(writer: &mut W, footer: &[u8]) -> Result<()>
+pub(crate) fn send_end<W: Write + Faults>(writer: &mut W, zeros: u64, footer: &[u8]) -> Result<()>
     requires { length footer.now < 2 ^ 31 }
     ensures { Delivers result (W.failures writer.old) (W.failures writer.new) (W.contents writer.old) (W.contents writer.new)
-        (end_with footer.now) }
+        (end_with_zeros zeros footer.now) }
 {
     let before = writer.faults();
-    match put_end(writer, footer) {
+    match put_whole_end(writer, zeros, footer) {
+        Ok(()) => Ok(()),
+        Err(error) => Err(refusal(error, before, writer.faults())),
+    }
+}
+
+/// Has a device stand at a place, and writes so many zeros there.
+fn seek_behind<W: Write + Seek>(writer: &mut W, place: u64, zeros: u64) -> Result<()>
+    ensures { IfErr result IsIo }
+{
+    if let Err(error) = writer.seek(SeekFrom::Start(place)) {
+        return Err(Error::Io(error));
+    }
+    put_zeros(writer, zeros)
+}
+
+/// Has a device stand at a place, and writes so many zeros there.
+///
+/// # Errors
+/// - `Io`: the device failed.
+/// - `OutOfSpec`: it took nothing of a piece, or refused without a failure.
+/// - `OutOfMemory`: it had no memory.
+pub(crate) fn stand_behind<W: Write + Seek + Faults>(
+    writer: &mut W,
+    place: u64,
+    zeros: u64,
+) -> Result<()>
+    ensures { IfErr result (IsRefusedWrite (W.failures writer.old) (W.failures writer.new)) }
+{
+    let before = writer.faults();
+    match seek_behind(writer, place, zeros) {
         Ok(()) => Ok(()),
         Err(error) => Err(refusal(error, before, writer.faults())),
     }

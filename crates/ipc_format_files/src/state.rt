@@ -11,6 +11,8 @@ pub(crate) struct Progress {
     pub(crate) tracker: DictionaryTracker,
     /// Where the next message stands, counted from the file's first byte.
     pub(crate) place: u64,
+    /// How many bytes the file had before it was added to; a new one had none.
+    pub(crate) size: u64,
     /// Where the messages of dictionaries stand.
     pub(crate) dictionaries: Vec<Block>,
     /// Where those of batches do.

@@ -4,50 +4,35 @@ ghost use Rattle.std.specs.Option.{option_copied};
 ghost use Rattle.ipc_format_stream_writer.specs.Opening.{ids_given};
 ghost use Rattle.ipc_format_stream_writer.specs.reader.chunk_writing.columnar_memory.Error.{IsOutOfSpec};
 ghost use Rattle.ipc_format_stream_writer.specs.reader.chunk_writing.metadata.Views.{ids_views};
-ghost use Rattle.ipc_format_files.specs.Ends.{GivesFooter, has_room, may_be_written};
+ghost use Rattle.ipc_format_files.specs.Ends.{GivesEnd, may_be_written};
 ghost use Rattle.ipc_format_files.specs.Phases.{phase_of};
+ghost use Rattle.ipc_format_files.specs.Resuming.{Resumes};
 ghost use Rattle.ipc_format_files.specs.Writing.{Finishes, IsMade, IsMadeStarted, Starts, WritesChunk};
 
 use crate::batches::add_batch;
+use crate::ends::{footer_of, zeros_before};
+use crate::growing::{end_of_messages, progress_of_file};
 use crate::opening::open;
 use crate::phases::is_fresh;
-use crate::sending::{send_end, send_start};
+use crate::sending::{send_end, send_start, stand_behind};
 use crate::state::State;
 use ipc_format_stream_writer::reader::chunk_writing::nested_arrays::AnyArray;
 use ipc_format_stream_writer::reader::chunk_writing::{Chunk, WriteOptions};
 use ipc_format_stream_writer::reader::streams::columnar_memory::{Error, Items, Result, Schema};
 use ipc_format_stream_writer::reader::streams::metadata::IpcField;
-use ipc_format_stream_writer::reader::streams::owned::writing::footer_to_bytes;
 use ipc_format_stream_writer::reader::streams::{EncodedData, Faults};
+use ipc_format_stream_writer::reader::{FileMetadata, read_file_dictionaries};
 use ipc_format_stream_writer::{fields_or, ids_or_default, send};
 use std::alloc::Global;
-use std::io::Write;
+use std::io::{Read, Seek, Write};
 use std::marker::Model;
-
-/// How many bytes stand behind the last message beside the footer: the end mark, the footer's length, and the mark.
-const AROUND_FOOTER: u64 = 18;
-
-/// The last place that a footer can state.
-const LAST_PLACE: u64 = 9_223_372_036_854_775_807;
+use std::mem::replace;
 
 /// A call that comes out of order.
 fn out_of_order() -> Error
     ensures { IsOutOfSpec result }
 {
     Error::OutOfSpec("a writer's call out of order")
-}
-
-/// Whether a file whose messages end at a place has fewer than 2^63 bytes with a footer.
-fn has_room(place: u64, footer: &[u8]) -> bool
-    ensures { result ≡ has_room place footer.now }
-{
-    let Some(room) = place.checked_add(AROUND_FOOTER) else {
-        return false;
-    };
-    match room.checked_add(footer.len() as u64) {
-        Some(length) => length <= LAST_PLACE,
-        None => false,
-    }
 }
 
 /// A writer of a file of batches to a device (Arrow IPC, "IPC File Format"): `start` writes the mark and the schema, each `write` a batch behind
@@ -166,7 +151,7 @@ impl<W: Write + Faults> FileWriter<W> {
     /// - `NotYetImplemented`: the writer was told to compress. Nothing changes, as with the next three.
     /// - `InvalidArgumentError`: the batch doesn't belong to the schema, the ids are not those of its dictionaries, or a dictionary differs from
     ///   another one under its id.
-    /// - `Overflow`: a message is past its limit, or the file would have 2^63 bytes or more.
+    /// - `Overflow`: a message is past its limit, or the file would have 2^63 bytes or more, or more than 65,536 messages of dictionaries.
     /// - `OutOfMemory`: there was no memory for the messages or for what the writer keeps. Or the device had none.
     /// - `Io`: the device failed.
     ///
@@ -196,32 +181,24 @@ impl<W: Write + Faults> FileWriter<W> {
         }
     }
 
-    /// The footer of what is written (File.fbs).
+    /// The footer of what is written (File.fbs), and how many zeros stand before it.
     ///
     /// # Errors
     /// - `OutOfSpec`: the writer was not started, is finished, or its device has failed.
     /// - `Overflow`: the footer would have 2^31 bytes or more, or the file 2^63 or more.
     /// - `OutOfMemory`: there was no memory for the footer.
-    fn footer(&self, alloc: Global) -> Result<Vec<u8>>
-        ensures { GivesFooter result self.now }
+    fn end(&self, alloc: Global) -> Result<(u64, Vec<u8>)>
+        ensures { GivesEnd result self.now }
     {
         let State::Started(file) = &self.state else {
             return Err(out_of_order());
         };
-        let footer = footer_to_bytes(
-            alloc,
-            &self.schema,
-            self.ids.as_slice(),
-            &file.dictionaries,
-            &file.record_batches,
-        )?;
-        if !has_room(file.place, &footer) {
-            return Err(Error::Overflow);
-        }
-        Ok(footer)
+        let footer = footer_of(alloc, &self.schema, self.ids.as_slice(), file)?;
+        Ok((zeros_before(file, &footer), footer))
     }
 
-    /// Writes the end mark, the footer, its length, and the file's mark.
+    /// Writes the end mark, the footer, its length, and the file's mark, and has the device let go what it holds back. Between the end mark and the
+    /// footer of a file that was added to stand as many zeros as it takes for the file to have no fewer bytes than before.
     ///
     /// # Errors
     /// - `OutOfSpec`: the writer was not started, is finished, or its device has failed. Nothing changes. Or the device took nothing of a piece now.
@@ -233,8 +210,8 @@ impl<W: Write + Faults> FileWriter<W> {
     pub fn finish(&mut self, alloc: Global) -> Result<()>
         ensures { Finishes W.contents W.failures self.old self.new result }
     {
-        let footer = self.footer(alloc)?;
-        match send_end(&mut self.writer, &footer) {
+        let (zeros, footer) = self.end(alloc)?;
+        match send_end(&mut self.writer, zeros, &footer) {
             Ok(()) => {
                 self.state = State::Finished;
                 Ok(())
@@ -246,10 +223,60 @@ impl<W: Write + Faults> FileWriter<W> {
         }
     }
 
+    /// Takes the memory in which the messages of batches are encoded, and leaves none. Another writer may take it.
+    pub fn get_scratches(&mut self, alloc: Global) -> EncodedData
+        ensures { self.new ≡ self.old }
+    {
+        replace(&mut self.encoded, EncodedData::new(alloc))
+    }
+
+    /// Gives memory in which the messages of batches are encoded; what it holds is written over.
+    pub fn set_scratches(&mut self, scratches: EncodedData)
+        ensures { self.new ≡ self.old }
+    {
+        self.encoded = scratches;
+    }
+
     /// The device, with no copy.
     pub fn into_inner(self) -> W
         ensures { result ≡ self.device }
     {
         self.writer
+    }
+}
+
+impl<W: Read + Write + Seek + Faults + Drop> FileWriter<W> {
+    /// A writer that adds batches to a file on a device, by what its footer says (`read_file_metadata`): under the file's own schema and ids, behind
+    /// the last of its messages, over the end mark and the old footer. Its dictionaries are read, and none of them may be replaced. Until `finish`
+    /// has written a new footer the device holds no file.
+    ///
+    /// # Errors
+    /// - `NotYetImplemented`: the file's numbers have their highest byte first, or one of its dictionaries is compressed or adds to another.
+    /// - `OutOfSpec`: the file has no record batch, or a block states a negative length or ends past the file; or one of its dictionaries is out of
+    ///   specification; or the device refuses without a failure.
+    /// - `Overflow`: the file has 2^63 bytes or more.
+    /// - `OutOfMemory`: there was no memory for the dictionaries or for what the writer keeps. Or the device had none.
+    /// - `Io`: the device failed.
+    pub fn try_from_file(
+        alloc: Global,
+        mut writer: W,
+        metadata: FileMetadata,
+        options: WriteOptions,
+    ) -> Result<Self>
+        ensures { Resumes W.failures writer metadata options.compression result }
+    {
+        let end = end_of_messages(&metadata)?;
+        let mut scratch = Vec::new(alloc);
+        let dictionaries = read_file_dictionaries(alloc, &mut writer, &metadata, &mut scratch)?;
+        let file = progress_of_file(alloc, &metadata, dictionaries, end)?;
+        stand_behind(&mut writer, end, file.place - end)?;
+        Ok(FileWriter {
+            writer,
+            schema: metadata.schema,
+            ids: metadata.ipc_schema.fields,
+            options,
+            state: State::Started(file),
+            encoded: EncodedData::new(alloc),
+        })
     }
 }

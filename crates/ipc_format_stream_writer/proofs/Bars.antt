@@ -4,26 +4,26 @@ use Rattle.std.specs.Prelude.{Option, Some, None, nat_lt, if◌then◌else◌}
 use Rattle.std.specs.List.{list_all}
 use Rattle.std.proofs.lemmas.Bool.{and_cases, and_from, and_left, and_parts, and_right, both_ways, false_from_ne_true, false≢true}
 use Rattle.std.proofs.lemmas.List.Folds.{list_all-append}
-use Rattle.ipc_format_stream_reader.specs.chunk_writing.columnar_memory.declared.Schema.{Schema}
-use Rattle.ipc_format_stream_reader.specs.chunk_writing.columnar_memory.Equality.{same_type}
-use Rattle.ipc_format_stream_reader.specs.chunk_writing.columnar_memory.declared.Field.{Field}
-use Rattle.ipc_format_stream_reader.specs.chunk_writing.columns.SoundColumns.{is_sound}
-use Rattle.ipc_format_stream_reader.specs.chunk_writing.columns.StoredColumns.{Column, column_len, column_type}
-use Rattle.ipc_format_stream_reader.specs.chunk_writing.grammar.Encoding.{Encoded, joined}
-use Rattle.ipc_format_stream_reader.specs.chunk_writing.grammar.GivenDictionaries.{Given, to_write, last_under, stands_for}
-use Rattle.ipc_format_stream_reader.specs.chunk_writing.grammar.Limits.{length_limit}
-use Rattle.ipc_format_stream_reader.specs.chunk_writing.grammar.Schemas.{IdsList}
-use Rattle.ipc_format_stream_reader.specs.chunk_writing.grammar.Tables.{Form}
-use Rattle.ipc_format_stream_reader.specs.chunk_writing.grammar.Writable.{normalised_type}
-use Rattle.ipc_format_stream_reader.specs.chunk_writing.grammar.WriterRuns.{WriteBar, another_schema, another_dictionary, long_message, may_tell}
-use Rattle.ipc_format_stream_reader.specs.chunk_writing.grammar.WriterRuns.{write_bar}
-use Rattle.ipc_format_stream_reader.specs.chunk_writing.grammar.WrittenMessages.{Written, dictionary_message, record_message, fits_limit}
-use Rattle.ipc_format_stream_reader.specs.chunk_writing.grammar.WrittenStreams.{Batch, batch_messages, batch_of_stored, belongs, has_nodes_in_room}
-use Rattle.ipc_format_stream_reader.specs.chunk_writing.grammar.WrittenStreams.{is_column_of, is_in_room, stored_columns}
-use Rattle.ipc_format_stream_reader.specs.chunk_writing.grammar.WrittenStreams.{pass_each, are_equal}
-use Rattle.ipc_format_stream_reader.specs.chunk_writing.EncodedChunks.{is_batch_within, is_given_within}
-use Rattle.ipc_format_stream_reader.specs.chunk_writing.Placing.{is_within}
-use Rattle.ipc_format_stream_reader.proofs.chunk_lemmas.Told.{by_answer}
+use Rattle.ipc_format_readers.specs.chunk_writing.columnar_memory.declared.Schema.{Schema}
+use Rattle.ipc_format_readers.specs.chunk_writing.columnar_memory.Equality.{same_type}
+use Rattle.ipc_format_readers.specs.chunk_writing.columnar_memory.declared.Field.{Field}
+use Rattle.ipc_format_readers.specs.chunk_writing.columns.SoundColumns.{is_sound}
+use Rattle.ipc_format_readers.specs.chunk_writing.columns.StoredColumns.{Column, column_len, column_type}
+use Rattle.ipc_format_readers.specs.chunk_writing.grammar.Encoding.{Encoded, joined}
+use Rattle.ipc_format_readers.specs.chunk_writing.grammar.GivenDictionaries.{Given, to_write, last_under, stands_for}
+use Rattle.ipc_format_readers.specs.chunk_writing.grammar.Limits.{length_limit}
+use Rattle.ipc_format_readers.specs.chunk_writing.grammar.Schemas.{IdsList}
+use Rattle.ipc_format_readers.specs.chunk_writing.grammar.Tables.{Form}
+use Rattle.ipc_format_readers.specs.chunk_writing.grammar.Writable.{normalised_type}
+use Rattle.ipc_format_readers.specs.chunk_writing.grammar.WriterRuns.{WriteBar, another_schema, another_dictionary, long_message, may_tell}
+use Rattle.ipc_format_readers.specs.chunk_writing.grammar.WriterRuns.{write_bar}
+use Rattle.ipc_format_readers.specs.chunk_writing.grammar.WrittenMessages.{Written, dictionary_message, record_message, fits_limit}
+use Rattle.ipc_format_readers.specs.chunk_writing.grammar.WrittenStreams.{Batch, batch_messages, batch_of_stored, belongs, has_nodes_in_room}
+use Rattle.ipc_format_readers.specs.chunk_writing.grammar.WrittenStreams.{is_column_of, is_in_room, stored_columns}
+use Rattle.ipc_format_readers.specs.chunk_writing.grammar.WrittenStreams.{pass_each, are_equal}
+use Rattle.ipc_format_readers.specs.chunk_writing.EncodedChunks.{is_batch_within, is_given_within}
+use Rattle.ipc_format_readers.specs.chunk_writing.Placing.{is_within}
+use Rattle.ipc_format_readers.proofs.chunk_lemmas.Told.{by_answer}
 use Rattle.ipc_format_stream_writer.specs.Streams.{have_forms}
 
 -- ---- limits

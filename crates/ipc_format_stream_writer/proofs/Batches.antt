@@ -3,22 +3,22 @@ use Rattle.std.proofs.Common.{◌≡◌, ◌∙◌, ℕ, suc, Bool, true, false,
 use Rattle.std.specs.Prelude.{ℤ, ◌⊎◌, ◌==◌, Some, Result, Ok, Err, slice_get}
 use Rattle.std.specs.List.{list_all}
 use Rattle.std.proofs.lemmas.Bool.{and_from, and_parts, eq-eqb}
-use Rattle.ipc_format_stream_reader.specs.chunk_writing.EncodedChunks.{Encodes, IsBarred, IsEncoded, is_batch_within}
-use Rattle.ipc_format_stream_reader.specs.chunk_writing.Tracking.{Tells, form_by, told_by}
-use Rattle.ipc_format_stream_reader.specs.chunk_writing.chunks.Chunks.{AreAsLong, HaveLength, rows_of}
-use Rattle.ipc_format_stream_reader.specs.chunk_writing.columnar_memory.declared.Error.{Error}
-use Rattle.ipc_format_stream_reader.specs.chunk_writing.columnar_memory.declared.Error.TheVariants as errors
-use Rattle.ipc_format_stream_reader.specs.chunk_writing.columnar_memory.declared.Schema.{Schema}
-use Rattle.ipc_format_stream_reader.specs.chunk_writing.columns.SoundColumns.{is_sound}
-use Rattle.ipc_format_stream_reader.specs.chunk_writing.columns.StoredColumns.{Column, column_len, in_columns}
-use Rattle.ipc_format_stream_reader.specs.chunk_writing.grammar.GivenDictionaries.{Given}
-use Rattle.ipc_format_stream_reader.specs.chunk_writing.grammar.Ids.{ids_fit_fields}
-use Rattle.ipc_format_stream_reader.specs.chunk_writing.grammar.Schemas.{IdsList}
-use Rattle.ipc_format_stream_reader.specs.chunk_writing.grammar.Tables.{Form}
-use Rattle.ipc_format_stream_reader.specs.chunk_writing.grammar.WrittenMessages.{Written, fits_limit}
-use Rattle.ipc_format_stream_reader.specs.chunk_writing.grammar.WrittenStreams.{are_columns_of, are_equal, batch_messages, batch_of}
-use Rattle.ipc_format_stream_reader.specs.chunk_writing.grammar.WrittenStreams.{batch_of_stored, belongs}
-use Rattle.ipc_format_stream_reader.specs.chunk_writing.grammar.WrittenStreams.{chunk_lengths, is_in_room, stored_columns}
+use Rattle.ipc_format_readers.specs.chunk_writing.EncodedChunks.{Encodes, IsBarred, IsEncoded, is_batch_within}
+use Rattle.ipc_format_readers.specs.chunk_writing.Tracking.{Tells, form_by, told_by}
+use Rattle.ipc_format_readers.specs.chunk_writing.chunks.Chunks.{AreAsLong, HaveLength, rows_of}
+use Rattle.ipc_format_readers.specs.chunk_writing.columnar_memory.declared.Error.{Error}
+use Rattle.ipc_format_readers.specs.chunk_writing.columnar_memory.declared.Error.TheVariants as errors
+use Rattle.ipc_format_readers.specs.chunk_writing.columnar_memory.declared.Schema.{Schema}
+use Rattle.ipc_format_readers.specs.chunk_writing.columns.SoundColumns.{is_sound}
+use Rattle.ipc_format_readers.specs.chunk_writing.columns.StoredColumns.{Column, column_len, in_columns}
+use Rattle.ipc_format_readers.specs.chunk_writing.grammar.GivenDictionaries.{Given}
+use Rattle.ipc_format_readers.specs.chunk_writing.grammar.Ids.{ids_fit_fields}
+use Rattle.ipc_format_readers.specs.chunk_writing.grammar.Schemas.{IdsList}
+use Rattle.ipc_format_readers.specs.chunk_writing.grammar.Tables.{Form}
+use Rattle.ipc_format_readers.specs.chunk_writing.grammar.WrittenMessages.{Written, fits_limit}
+use Rattle.ipc_format_readers.specs.chunk_writing.grammar.WrittenStreams.{are_columns_of, are_equal, batch_messages, batch_of}
+use Rattle.ipc_format_readers.specs.chunk_writing.grammar.WrittenStreams.{batch_of_stored, belongs}
+use Rattle.ipc_format_readers.specs.chunk_writing.grammar.WrittenStreams.{chunk_lengths, is_in_room, stored_columns}
 use Rattle.ipc_format_stream_writer.specs.Objections.{IsNotWritten, Objection, long_array, other_dictionary, other_ids, other_schema}
 use Rattle.ipc_format_stream_writer.specs.Room.{are_short, is_short}
 use Rattle.ipc_format_stream_writer.specs.Streams.{Admits, EncodesBatch, EncodesIn, IsEncodedIn, IsOther, have_forms}

@@ -1,7 +1,8 @@
 pub mod Bars
 pub mod Batches
 pub mod Room
+pub mod Runs
 pub mod Writes
 pub mod Opened
 pub mod PutMessages
-pub use Rattle.ipc_format_stream_reader.proofs as reader_lemmas
+pub use Rattle.ipc_format_readers.proofs as reader_lemmas

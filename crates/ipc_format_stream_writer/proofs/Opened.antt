@@ -1,12 +1,12 @@
 -- A stream that begins with its schema.
 use Rattle.std.proofs.Common.{◌≡◌, ℕ, true, List, []}
 use Rattle.std.proofs.lemmas.Bool.{and_from}
-use Rattle.ipc_format_stream_reader.specs.chunk_writing.columnar_memory.declared.Schema.{Schema}
-use Rattle.ipc_format_stream_reader.specs.chunk_writing.grammar.Ids.{all_are_ids}
-use Rattle.ipc_format_stream_reader.specs.chunk_writing.grammar.Schemas.{IdsList}
-use Rattle.ipc_format_stream_reader.specs.chunk_writing.grammar.WrittenMessages.{Written, schema_written}
-use Rattle.ipc_format_stream_reader.specs.chunk_writing.grammar.WrittenStreams.{is_written_with}
-use Rattle.ipc_format_stream_reader.specs.streams.owned.writing.Writing.{may_write}
+use Rattle.ipc_format_readers.specs.chunk_writing.columnar_memory.declared.Schema.{Schema}
+use Rattle.ipc_format_readers.specs.chunk_writing.grammar.Ids.{all_are_ids}
+use Rattle.ipc_format_readers.specs.chunk_writing.grammar.Schemas.{IdsList}
+use Rattle.ipc_format_readers.specs.chunk_writing.grammar.WrittenMessages.{Written, schema_written}
+use Rattle.ipc_format_readers.specs.chunk_writing.grammar.WrittenStreams.{is_written_with}
+use Rattle.ipc_format_readers.specs.streams.owned.writing.Writing.{may_write}
 
 pub written_with : (schema : Schema) (ids : IdsList) → may_write schema ids ≡ true → all_are_ids ids ≡ true → is_written_with schema ids ≡ true
 written_with schema ids may are = and_from (may_write schema ids) (all_are_ids ids) may are

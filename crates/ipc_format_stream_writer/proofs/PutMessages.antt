@@ -8,12 +8,12 @@ use Rattle.std.proofs.lemmas.Grind.{flat_map-append, take_at_read}
 use Rattle.std.proofs.lemmas.List.{append-nil, map-append, take-append-drop}
 use Rattle.std.proofs.lemmas.List.Folds.{list_all-append}
 use Rattle.columnar_memory_types.specs.Error.{IsIo}
-use Rattle.ipc_format_stream_reader.specs.chunk_writing.columnar_memory.declared.Error.{Error}
-use Rattle.ipc_format_stream_reader.specs.chunk_writing.grammar.WrittenMessages.{Written, body_limit, fits_limit, message_bytes, most_metadata}
-use Rattle.ipc_format_stream_reader.specs.chunk_writing.grammar.WrittenMessages.{prefix_size}
-use Rattle.ipc_format_stream_reader.specs.chunk_writing.grammar.WrittenStreams.{bytes_of_messages}
-use Rattle.ipc_format_stream_reader.specs.streams.Devices.{AppendsBeginning, Puts}
-use Rattle.ipc_format_stream_reader.proofs.chunk_lemmas.Appending.{appends_both, begins_behind, begins_first, begins_same, puts_behind, puts_first}
+use Rattle.ipc_format_readers.specs.chunk_writing.columnar_memory.declared.Error.{Error}
+use Rattle.ipc_format_readers.specs.chunk_writing.grammar.WrittenMessages.{Written, body_limit, fits_limit, message_bytes, most_metadata}
+use Rattle.ipc_format_readers.specs.chunk_writing.grammar.WrittenMessages.{prefix_size}
+use Rattle.ipc_format_readers.specs.chunk_writing.grammar.WrittenStreams.{bytes_of_messages}
+use Rattle.ipc_format_readers.specs.streams.Devices.{AppendsBeginning, Puts}
+use Rattle.ipc_format_readers.proofs.chunk_lemmas.Appending.{appends_both, begins_behind, begins_first, begins_same, puts_behind, puts_first}
 
 -- ---- one message
 

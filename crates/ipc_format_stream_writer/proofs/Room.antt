@@ -8,31 +8,31 @@ use Rattle.std.proofs.lemmas.List.{length-take}
 use Rattle.std.proofs.lemmas.List.Folds.{list_all-append}
 use Rattle.std.proofs.lemmas.List.Sums.{count_by-le-length}
 use Rattle.std.proofs.Math.Nat.{mul-le-mul_left}
-use Rattle.ipc_format_stream_reader.proofs.chunk_lemmas.ColumnSizes.{slots_lengths}
-use Rattle.ipc_format_stream_reader.proofs.chunk_lemmas.Conditions.{parts_of_3, parts_of_4, parts_of_5}
-use Rattle.ipc_format_stream_reader.specs.chunk_writing.columnar_memory.Layouts.{physical_type}
-use Rattle.ipc_format_stream_reader.specs.chunk_writing.columnar_memory.declared.DataType.{DataType}
-use Rattle.ipc_format_stream_reader.specs.chunk_writing.columns.Kinds.{most_offset, is_signed}
-use Rattle.ipc_format_stream_reader.specs.chunk_writing.columns.SoundColumns.{are_offsets, are_pieces, are_sound, column_lens, has_child_at}
-use Rattle.ipc_format_stream_reader.specs.chunk_writing.columns.SoundColumns.{has_child_types, has_field_types}
-use Rattle.ipc_format_stream_reader.specs.chunk_writing.columns.SoundColumns.{has_fixed_item_type, has_item_type, has_places, has_value_at}
-use Rattle.ipc_format_stream_reader.specs.chunk_writing.columns.SoundColumns.{has_value_type, have_len, holds_below}
-use Rattle.ipc_format_stream_reader.specs.chunk_writing.columns.SoundColumns.{is_sound, mask_fits, rises_at}
-use Rattle.ipc_format_stream_reader.specs.chunk_writing.columns.StoredColumns.{Column, Columns, nulls, flat, lists, fixed_lists, records, unions}
-use Rattle.ipc_format_stream_reader.specs.chunk_writing.columns.StoredColumns.{dictionary, no_column}
-use Rattle.ipc_format_stream_reader.specs.chunk_writing.columns.StoredColumns.{column_then, column_len, in_columns, column_type, cut_list, cut_mask}
-use Rattle.ipc_format_stream_reader.specs.chunk_writing.columns.StoredColumns.{slots, type_layer}
-use Rattle.ipc_format_stream_reader.specs.chunk_writing.grammar.Columns.{first_ids, other_ids, ids_below, own_id}
-use Rattle.ipc_format_stream_reader.specs.chunk_writing.grammar.Encoding.{Encoded, joined}
-use Rattle.ipc_format_stream_reader.specs.chunk_writing.grammar.GivenDictionaries.{Given, given_each, given_stored, id_or_0}
-use Rattle.ipc_format_stream_reader.specs.chunk_writing.grammar.Limits.{length_limit}
-use Rattle.ipc_format_stream_reader.specs.chunk_writing.grammar.Schemas.{Ids, IdsList, ids}
-use Rattle.ipc_format_stream_reader.specs.chunk_writing.grammar.StoredEncoding.{encode_range, encode_ranges, encode_stored, encode_wholes}
-use Rattle.ipc_format_stream_reader.specs.chunk_writing.grammar.StoredEncoding.{last_offset, mask_nulls, node_over}
-use Rattle.ipc_format_stream_reader.specs.chunk_writing.grammar.WrittenStreams.{Batch, batch_of_stored, given_of_stored, has_nodes_in_room}
-use Rattle.ipc_format_stream_reader.specs.chunk_writing.grammar.WrittenStreams.{is_in_room, is_node, rows_of_stored}
-use Rattle.ipc_format_stream_reader.specs.chunk_writing.nested_arrays.Childless.{is_childless}
-use Rattle.ipc_format_stream_reader.proofs.chunk_lemmas.Bare.{IsBare, bare}
+use Rattle.ipc_format_readers.proofs.chunk_lemmas.ColumnSizes.{slots_lengths}
+use Rattle.ipc_format_readers.proofs.chunk_lemmas.Conditions.{parts_of_3, parts_of_4, parts_of_5}
+use Rattle.ipc_format_readers.specs.chunk_writing.columnar_memory.Layouts.{physical_type}
+use Rattle.ipc_format_readers.specs.chunk_writing.columnar_memory.declared.DataType.{DataType}
+use Rattle.ipc_format_readers.specs.chunk_writing.columns.Kinds.{most_offset, is_signed}
+use Rattle.ipc_format_readers.specs.chunk_writing.columns.SoundColumns.{are_offsets, are_pieces, are_sound, column_lens, has_child_at}
+use Rattle.ipc_format_readers.specs.chunk_writing.columns.SoundColumns.{has_child_types, has_field_types}
+use Rattle.ipc_format_readers.specs.chunk_writing.columns.SoundColumns.{has_fixed_item_type, has_item_type, has_places, has_value_at}
+use Rattle.ipc_format_readers.specs.chunk_writing.columns.SoundColumns.{has_value_type, have_len, holds_below}
+use Rattle.ipc_format_readers.specs.chunk_writing.columns.SoundColumns.{is_sound, mask_fits, rises_at}
+use Rattle.ipc_format_readers.specs.chunk_writing.columns.StoredColumns.{Column, Columns, nulls, flat, lists, fixed_lists, records, unions}
+use Rattle.ipc_format_readers.specs.chunk_writing.columns.StoredColumns.{dictionary, no_column}
+use Rattle.ipc_format_readers.specs.chunk_writing.columns.StoredColumns.{column_then, column_len, in_columns, column_type, cut_list, cut_mask}
+use Rattle.ipc_format_readers.specs.chunk_writing.columns.StoredColumns.{slots, type_layer}
+use Rattle.ipc_format_readers.specs.chunk_writing.grammar.Columns.{first_ids, other_ids, ids_below, own_id}
+use Rattle.ipc_format_readers.specs.chunk_writing.grammar.Encoding.{Encoded, joined}
+use Rattle.ipc_format_readers.specs.chunk_writing.grammar.GivenDictionaries.{Given, given_each, given_stored, id_or_0}
+use Rattle.ipc_format_readers.specs.chunk_writing.grammar.Limits.{length_limit}
+use Rattle.ipc_format_readers.specs.chunk_writing.grammar.Schemas.{Ids, IdsList, ids}
+use Rattle.ipc_format_readers.specs.chunk_writing.grammar.StoredEncoding.{encode_range, encode_ranges, encode_stored, encode_wholes}
+use Rattle.ipc_format_readers.specs.chunk_writing.grammar.StoredEncoding.{last_offset, mask_nulls, node_over}
+use Rattle.ipc_format_readers.specs.chunk_writing.grammar.WrittenStreams.{Batch, batch_of_stored, given_of_stored, has_nodes_in_room}
+use Rattle.ipc_format_readers.specs.chunk_writing.grammar.WrittenStreams.{is_in_room, is_node, rows_of_stored}
+use Rattle.ipc_format_readers.specs.chunk_writing.nested_arrays.Childless.{is_childless}
+use Rattle.ipc_format_readers.proofs.chunk_lemmas.Bare.{IsBare, bare}
 use Rattle.ipc_format_stream_writer.specs.Room.{are_short, is_short}
 
 -- ---- lists

@@ -2,8 +2,9 @@ pub mod Objections
 pub mod Opening
 pub mod Phases
 pub mod Room
+pub mod Runs
 pub mod Sending
 pub mod Streams
 pub mod WriterCodes
 pub mod Writing
-pub use Rattle.ipc_format_stream_reader.specs as reader
+pub use Rattle.ipc_format_readers.specs as reader

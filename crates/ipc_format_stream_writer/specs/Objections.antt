@@ -1,17 +1,17 @@
 -- Why a schema or a batch is not written.
 use Rattle.std.specs.Prelude.{◌≡◌, true, false, List, Some}
-use Rattle.ipc_format_stream_reader.specs.chunk_writing.columnar_memory.declared.Error.{Error}
-use Rattle.ipc_format_stream_reader.specs.chunk_writing.columnar_memory.declared.Error.TheVariants as errors
-use Rattle.ipc_format_stream_reader.specs.chunk_writing.columnar_memory.declared.Schema.{Schema}
-use Rattle.ipc_format_stream_reader.specs.chunk_writing.columns.StoredColumns.{Column, in_columns}
-use Rattle.ipc_format_stream_reader.specs.chunk_writing.grammar.GivenDictionaries.{Given}
-use Rattle.ipc_format_stream_reader.specs.chunk_writing.grammar.Ids.{ids_fit_fields}
-use Rattle.ipc_format_stream_reader.specs.chunk_writing.grammar.Schemas.{IdsList}
-use Rattle.ipc_format_stream_reader.specs.chunk_writing.grammar.Tables.{Form}
-use Rattle.ipc_format_stream_reader.specs.chunk_writing.grammar.WriterRuns.{another_dictionary, another_schema, long_message, write_bar}
-use Rattle.ipc_format_stream_reader.specs.chunk_writing.grammar.WrittenStreams.{is_written_with, stored_columns}
-use Rattle.ipc_format_stream_reader.specs.chunk_writing.grammar.WrittenMessages.{fits_limit, schema_written}
-use Rattle.ipc_format_stream_reader.specs.streams.owned.writing.Floats.{has_float}
+use Rattle.ipc_format_readers.specs.chunk_writing.columnar_memory.declared.Error.{Error}
+use Rattle.ipc_format_readers.specs.chunk_writing.columnar_memory.declared.Error.TheVariants as errors
+use Rattle.ipc_format_readers.specs.chunk_writing.columnar_memory.declared.Schema.{Schema}
+use Rattle.ipc_format_readers.specs.chunk_writing.columns.StoredColumns.{Column, in_columns}
+use Rattle.ipc_format_readers.specs.chunk_writing.grammar.GivenDictionaries.{Given}
+use Rattle.ipc_format_readers.specs.chunk_writing.grammar.Ids.{ids_fit_fields}
+use Rattle.ipc_format_readers.specs.chunk_writing.grammar.Schemas.{IdsList}
+use Rattle.ipc_format_readers.specs.chunk_writing.grammar.Tables.{Form}
+use Rattle.ipc_format_readers.specs.chunk_writing.grammar.WriterRuns.{another_dictionary, another_schema, long_message, write_bar}
+use Rattle.ipc_format_readers.specs.chunk_writing.grammar.WrittenStreams.{is_written_with, stored_columns}
+use Rattle.ipc_format_readers.specs.chunk_writing.grammar.WrittenMessages.{fits_limit, schema_written}
+use Rattle.ipc_format_readers.specs.streams.owned.writing.Floats.{has_float}
 use Rattle.ipc_format_stream_writer.specs.Room.{are_short}
 
 -- Why a batch of a stream or a file is an invalid argument with some ids: these are none of the schema, the batch doesn't belong to it, or two of

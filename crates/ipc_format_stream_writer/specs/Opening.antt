@@ -2,16 +2,16 @@
 use Rattle.std.specs.Prelude.{◌≡◌, true, false, List, [], Option, Some, None, Result, Ok, Err}
 use Rattle.std.specs.declared.alloc.Global.{Global}
 use Rattle.std.specs.declared.vec.Vec.{Vec}
-use Rattle.ipc_format_stream_reader.specs.chunk_writing.EncodedChunks.{message_in}
-use Rattle.ipc_format_stream_reader.specs.chunk_writing.columnar_memory.declared.Error.{Error}
-use Rattle.ipc_format_stream_reader.specs.chunk_writing.columnar_memory.declared.Schema.{Schema}
-use Rattle.ipc_format_stream_reader.specs.chunk_writing.grammar.Ids.{default_ids}
-use Rattle.ipc_format_stream_reader.specs.chunk_writing.grammar.Schemas.{IdsList}
-use Rattle.ipc_format_stream_reader.specs.chunk_writing.grammar.WrittenMessages.{fits_limit, schema_written}
-use Rattle.ipc_format_stream_reader.specs.chunk_writing.grammar.WrittenStreams.{is_written_with}
-use Rattle.ipc_format_stream_reader.specs.chunk_writing.metadata.Views.{ids_views}
-use Rattle.ipc_format_stream_reader.specs.chunk_writing.metadata.declared.ipc_schema.IpcField.{IpcField}
-use Rattle.ipc_format_stream_reader.specs.streams.declared.EncodedData.{EncodedData}
+use Rattle.ipc_format_readers.specs.chunk_writing.EncodedChunks.{message_in}
+use Rattle.ipc_format_readers.specs.chunk_writing.columnar_memory.declared.Error.{Error}
+use Rattle.ipc_format_readers.specs.chunk_writing.columnar_memory.declared.Schema.{Schema}
+use Rattle.ipc_format_readers.specs.chunk_writing.grammar.Ids.{default_ids}
+use Rattle.ipc_format_readers.specs.chunk_writing.grammar.Schemas.{IdsList}
+use Rattle.ipc_format_readers.specs.chunk_writing.grammar.WrittenMessages.{fits_limit, schema_written}
+use Rattle.ipc_format_readers.specs.chunk_writing.grammar.WrittenStreams.{is_written_with}
+use Rattle.ipc_format_readers.specs.chunk_writing.metadata.Views.{ids_views}
+use Rattle.ipc_format_readers.specs.chunk_writing.metadata.declared.ipc_schema.IpcField.{IpcField}
+use Rattle.ipc_format_readers.specs.streams.declared.EncodedData.{EncodedData}
 use Rattle.ipc_format_stream_writer.specs.Objections.{IsNotStarted}
 use Rattle.ipc_format_stream_writer.specs.declared.state.Stream.{Stream}
 

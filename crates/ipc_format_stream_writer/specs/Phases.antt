@@ -1,9 +1,9 @@
 -- A writer of a stream as callers see it: its device, and how far the stream is (Arrow IPC, "IPC Streaming Format").
 use Rattle.std.specs.Prelude.{ℤ, Bool, true, false, List, Option}
-use Rattle.ipc_format_stream_reader.specs.chunk_writing.columnar_memory.declared.Schema.{Schema}
-use Rattle.ipc_format_stream_reader.specs.chunk_writing.columns.StoredColumns.{Column}
-use Rattle.ipc_format_stream_reader.specs.chunk_writing.declared.Compression.{Compression}
-use Rattle.ipc_format_stream_reader.specs.chunk_writing.metadata.declared.ipc_schema.IpcField.{IpcField}
+use Rattle.ipc_format_readers.specs.chunk_writing.columnar_memory.declared.Schema.{Schema}
+use Rattle.ipc_format_readers.specs.chunk_writing.columns.StoredColumns.{Column}
+use Rattle.ipc_format_readers.specs.chunk_writing.declared.Compression.{Compression}
+use Rattle.ipc_format_readers.specs.chunk_writing.metadata.declared.ipc_schema.IpcField.{IpcField}
 use Rattle.ipc_format_stream_writer.specs.declared.state.State.{State}
 use Rattle.ipc_format_stream_writer.specs.declared.state.State.TheVariants as states
 

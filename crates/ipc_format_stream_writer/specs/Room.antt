@@ -1,9 +1,9 @@
 -- Columns whose lengths are within those of arrays (docs/FORMAT.md, "Limits").
 use Rattle.std.specs.Prelude.{Bool, ◌&&◌, nat_lt, true, length}
-use Rattle.ipc_format_stream_reader.specs.chunk_writing.grammar.Limits.{length_limit}
-use Rattle.ipc_format_stream_reader.specs.chunk_writing.columns.StoredColumns.{Column, Columns, nulls, flat, lists, fixed_lists, records, unions}
-use Rattle.ipc_format_stream_reader.specs.chunk_writing.columns.StoredColumns.{dictionary}
-use Rattle.ipc_format_stream_reader.specs.chunk_writing.columns.StoredColumns.{no_column, column_then, column_len}
+use Rattle.ipc_format_readers.specs.chunk_writing.grammar.Limits.{length_limit}
+use Rattle.ipc_format_readers.specs.chunk_writing.columns.StoredColumns.{Column, Columns, nulls, flat, lists, fixed_lists, records, unions}
+use Rattle.ipc_format_readers.specs.chunk_writing.columns.StoredColumns.{dictionary}
+use Rattle.ipc_format_readers.specs.chunk_writing.columns.StoredColumns.{no_column, column_then, column_len}
 
 -- a column, and each column below it, has at most 2^63 - 1 slots
 abbrev mutual

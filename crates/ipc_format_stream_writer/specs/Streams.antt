@@ -1,20 +1,20 @@
 -- A schema that is written, and the batches that are encoded behind it, in a stream or a file.
 use Rattle.std.specs.Prelude.{◌≡◌, ◌⊎◌, ℤ, Bool, true, false, List, [], ◌∷◌, ◌++◌, None, Result, Ok, Err}
 use Rattle.std.specs.List.{list_all}
-use Rattle.ipc_format_stream_reader.specs.chunk_writing.columnar_memory.declared.Error.{Error}
-use Rattle.ipc_format_stream_reader.specs.chunk_writing.columnar_memory.declared.Error.TheVariants as errors
-use Rattle.ipc_format_stream_reader.specs.chunk_writing.columnar_memory.declared.Schema.{Schema}
-use Rattle.ipc_format_stream_reader.specs.chunk_writing.columnar_memory.declared.Field.{Field}
-use Rattle.ipc_format_stream_reader.specs.chunk_writing.columns.StoredColumns.{Column, column_type, in_columns}
-use Rattle.ipc_format_stream_reader.specs.chunk_writing.grammar.GivenDictionaries.{Given, written_after}
-use Rattle.ipc_format_stream_reader.specs.chunk_writing.grammar.Ids.{ids_fit_fields}
-use Rattle.ipc_format_stream_reader.specs.chunk_writing.grammar.Schemas.{IdsList}
-use Rattle.ipc_format_stream_reader.specs.chunk_writing.grammar.Tables.{Form}
-use Rattle.ipc_format_stream_reader.specs.chunk_writing.grammar.WriterRuns.{write_bar}
-use Rattle.ipc_format_stream_reader.specs.chunk_writing.grammar.WrittenMessages.{Written, fits_limit}
-use Rattle.ipc_format_stream_reader.specs.chunk_writing.grammar.WrittenStreams.{batch_messages, batch_of_stored, belongs, pass_each, stored_columns}
-use Rattle.ipc_format_stream_reader.specs.chunk_writing.Tracking.{Tells, form_by}
-use Rattle.ipc_format_stream_reader.specs.chunk_writing.Types.{have_one_form}
+use Rattle.ipc_format_readers.specs.chunk_writing.columnar_memory.declared.Error.{Error}
+use Rattle.ipc_format_readers.specs.chunk_writing.columnar_memory.declared.Error.TheVariants as errors
+use Rattle.ipc_format_readers.specs.chunk_writing.columnar_memory.declared.Schema.{Schema}
+use Rattle.ipc_format_readers.specs.chunk_writing.columnar_memory.declared.Field.{Field}
+use Rattle.ipc_format_readers.specs.chunk_writing.columns.StoredColumns.{Column, column_type, in_columns}
+use Rattle.ipc_format_readers.specs.chunk_writing.grammar.GivenDictionaries.{Given, written_after}
+use Rattle.ipc_format_readers.specs.chunk_writing.grammar.Ids.{ids_fit_fields}
+use Rattle.ipc_format_readers.specs.chunk_writing.grammar.Schemas.{IdsList}
+use Rattle.ipc_format_readers.specs.chunk_writing.grammar.Tables.{Form}
+use Rattle.ipc_format_readers.specs.chunk_writing.grammar.WriterRuns.{write_bar}
+use Rattle.ipc_format_readers.specs.chunk_writing.grammar.WrittenMessages.{Written, fits_limit}
+use Rattle.ipc_format_readers.specs.chunk_writing.grammar.WrittenStreams.{batch_messages, batch_of_stored, belongs, pass_each, stored_columns}
+use Rattle.ipc_format_readers.specs.chunk_writing.Tracking.{Tells, form_by}
+use Rattle.ipc_format_readers.specs.chunk_writing.Types.{have_one_form}
 use Rattle.ipc_format_stream_writer.specs.Objections.{IsNotWritten}
 use Rattle.ipc_format_stream_writer.specs.Room.{are_short}
 

@@ -3,13 +3,13 @@ use Rattle.std.specs.Prelude.{ℕ, zero, suc, ℤ, List, Option, Some, None}
 use Rattle.std.proofs.Common.{◌≡◌, refl}
 use Rattle.std.specs.Coded.{Coded, code_by, coded×, coded_list, coded_option, coded_ℕ, coded_ℤ}
 use Rattle.columnar_memory_types.specs.contracts.schema.Schema as schema_row
-use Rattle.ipc_format_stream_reader.specs.chunk_writing.columnar_memory.declared.Schema.{Schema}
-use Rattle.ipc_format_stream_reader.specs.chunk_writing.columns.ColumnCodes.{column_code}
-use Rattle.ipc_format_stream_reader.specs.chunk_writing.columns.StoredColumns.{Column}
-use Rattle.ipc_format_stream_reader.specs.chunk_writing.declared.Compression.{Compression}
-use Rattle.ipc_format_stream_reader.specs.chunk_writing.declared.Compression.TheVariants as compressions
-use Rattle.ipc_format_stream_reader.specs.chunk_writing.metadata.contracts.ipc_schema.IpcField as field_row
-use Rattle.ipc_format_stream_reader.specs.chunk_writing.metadata.declared.ipc_schema.IpcField.{IpcField}
+use Rattle.ipc_format_readers.specs.chunk_writing.columnar_memory.declared.Schema.{Schema}
+use Rattle.ipc_format_readers.specs.chunk_writing.columns.ColumnCodes.{column_code}
+use Rattle.ipc_format_readers.specs.chunk_writing.columns.StoredColumns.{Column}
+use Rattle.ipc_format_readers.specs.chunk_writing.declared.Compression.{Compression}
+use Rattle.ipc_format_readers.specs.chunk_writing.declared.Compression.TheVariants as compressions
+use Rattle.ipc_format_readers.specs.chunk_writing.metadata.contracts.ipc_schema.IpcField as field_row
+use Rattle.ipc_format_readers.specs.chunk_writing.metadata.declared.ipc_schema.IpcField.{IpcField}
 use Rattle.ipc_format_stream_writer.specs.Phases.{Phase, fresh, started, finished, broken, Writer}
 
 abbrev pub PhaseParts : Type 0

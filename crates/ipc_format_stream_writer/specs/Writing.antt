@@ -1,24 +1,24 @@
 -- What a writer's calls answer, and what they leave (Arrow IPC, "IPC Streaming Format").
 use Rattle.std.specs.Prelude.{◌≡◌, ◌⊎◌, ℕ, ℤ, true, false, List, [], Option, Some, None, Result, Ok, Err}
 use Rattle.std.specs.Io.KnownBytes.{Appends}
-use Rattle.ipc_format_stream_reader.specs.chunk_writing.columnar_memory.declared.Error.{Error}
-use Rattle.ipc_format_stream_reader.specs.chunk_writing.columnar_memory.declared.Error.TheVariants as errors
-use Rattle.ipc_format_stream_reader.specs.chunk_writing.columnar_memory.declared.Schema.{Schema}
-use Rattle.ipc_format_stream_reader.specs.chunk_writing.columns.StoredColumns.{Column, in_columns}
-use Rattle.ipc_format_stream_reader.specs.chunk_writing.declared.Compression.{Compression}
-use Rattle.ipc_format_stream_reader.specs.chunk_writing.grammar.GivenDictionaries.{Given, written_after}
-use Rattle.ipc_format_stream_reader.specs.chunk_writing.grammar.Ids.{default_ids, ids_fit_fields}
-use Rattle.ipc_format_stream_reader.specs.chunk_writing.grammar.Schemas.{IdsList}
-use Rattle.ipc_format_stream_reader.specs.chunk_writing.grammar.Tables.{stream}
-use Rattle.ipc_format_stream_reader.specs.chunk_writing.grammar.WriterRuns.{another_dictionary, another_schema, long_message, write_bar}
-use Rattle.ipc_format_stream_reader.specs.chunk_writing.grammar.WrittenMessages.{end_mark, fits_limit, message_bytes, schema_written}
-use Rattle.ipc_format_stream_reader.specs.chunk_writing.grammar.WrittenStreams.{batch_messages, batch_of_stored, bytes_of_messages}
-use Rattle.ipc_format_stream_reader.specs.chunk_writing.grammar.WrittenStreams.{is_written_with, stored_columns}
-use Rattle.ipc_format_stream_reader.specs.chunk_writing.metadata.Views.{ids_views}
-use Rattle.ipc_format_stream_reader.specs.chunk_writing.metadata.declared.ipc_schema.IpcField.{IpcField}
-use Rattle.ipc_format_stream_reader.specs.streams.Devices.{AppendsBeginning}
-use Rattle.ipc_format_stream_reader.specs.streams.EncodedMessages.{IsRefusedWrite}
-use Rattle.ipc_format_stream_reader.specs.chunk_writing.Tracking.{Tells}
+use Rattle.ipc_format_readers.specs.chunk_writing.columnar_memory.declared.Error.{Error}
+use Rattle.ipc_format_readers.specs.chunk_writing.columnar_memory.declared.Error.TheVariants as errors
+use Rattle.ipc_format_readers.specs.chunk_writing.columnar_memory.declared.Schema.{Schema}
+use Rattle.ipc_format_readers.specs.chunk_writing.columns.StoredColumns.{Column, in_columns}
+use Rattle.ipc_format_readers.specs.chunk_writing.declared.Compression.{Compression}
+use Rattle.ipc_format_readers.specs.chunk_writing.grammar.GivenDictionaries.{Given, written_after}
+use Rattle.ipc_format_readers.specs.chunk_writing.grammar.Ids.{default_ids, ids_fit_fields}
+use Rattle.ipc_format_readers.specs.chunk_writing.grammar.Schemas.{IdsList}
+use Rattle.ipc_format_readers.specs.chunk_writing.grammar.Tables.{stream}
+use Rattle.ipc_format_readers.specs.chunk_writing.grammar.WriterRuns.{another_dictionary, another_schema, long_message, write_bar}
+use Rattle.ipc_format_readers.specs.chunk_writing.grammar.WrittenMessages.{end_mark, fits_limit, message_bytes, schema_written}
+use Rattle.ipc_format_readers.specs.chunk_writing.grammar.WrittenStreams.{batch_messages, batch_of_stored, bytes_of_messages}
+use Rattle.ipc_format_readers.specs.chunk_writing.grammar.WrittenStreams.{is_written_with, stored_columns}
+use Rattle.ipc_format_readers.specs.chunk_writing.metadata.Views.{ids_views}
+use Rattle.ipc_format_readers.specs.chunk_writing.metadata.declared.ipc_schema.IpcField.{IpcField}
+use Rattle.ipc_format_readers.specs.streams.Devices.{AppendsBeginning}
+use Rattle.ipc_format_readers.specs.streams.EncodedMessages.{IsRefusedWrite}
+use Rattle.ipc_format_readers.specs.chunk_writing.Tracking.{Tells}
 use Rattle.ipc_format_stream_writer.specs.Objections.{IsNotStarted, IsNotWritten}
 use Rattle.ipc_format_stream_writer.specs.Opening.{fields_or}
 use Rattle.ipc_format_stream_writer.specs.Phases.{Phase, fresh, started, finished, broken, Writer}

@@ -1,15 +1,15 @@
 //! Messages written to a device, one behind the other (Arrow IPC, "Encapsulated message format").
 ghost use Rattle.std.specs.Prelude.{◌≡◌, ◌+◌, ◌≤◌, ◌++◌, ◌∷◌, [], length, true};
 ghost use Rattle.std.specs.List.{list_all};
-ghost use Rattle.ipc_format_stream_reader.specs.chunk_writing.EncodedChunks.{message_in, messages_in};
-ghost use Rattle.ipc_format_stream_reader.specs.chunk_writing.grammar.WrittenMessages.{fits_limit, framed, most_metadata, prefix_size};
-ghost use Rattle.ipc_format_stream_reader.specs.chunk_writing.grammar.WrittenStreams.{bytes_of_messages};
-ghost use Rattle.ipc_format_stream_reader.specs.streams.Devices.{Puts};
-ghost use Rattle.ipc_format_stream_reader.specs.streams.EncodedMessages.{prefix_bytes};
+ghost use Rattle.ipc_format_readers.specs.chunk_writing.EncodedChunks.{message_in, messages_in};
+ghost use Rattle.ipc_format_readers.specs.chunk_writing.grammar.WrittenMessages.{fits_limit, framed, most_metadata, prefix_size};
+ghost use Rattle.ipc_format_readers.specs.chunk_writing.grammar.WrittenStreams.{bytes_of_messages};
+ghost use Rattle.ipc_format_readers.specs.streams.Devices.{Puts};
+ghost use Rattle.ipc_format_readers.specs.streams.EncodedMessages.{prefix_bytes};
 ghost use Rattle.ipc_format_stream_writer.specs.Sending.{Delivers};
 
-use ipc_format_stream_reader::chunk_writing::columnar_memory::Result;
-use ipc_format_stream_reader::streams::{EncodedData, Faults, put, refusal};
+use ipc_format_readers::chunk_writing::columnar_memory::Result;
+use ipc_format_readers::streams::{EncodedData, Faults, put, refusal};
 use std::io::Write;
 
 /// Before each message's length.

@@ -1,9 +1,9 @@
 //! Arrays whose lengths are within those that arrays may have.
 ghost use Rattle.std.specs.Prelude.{◌≡◌};
-ghost use Rattle.ipc_format_stream_reader.specs.chunk_writing.columns.StoredColumns.{in_columns};
+ghost use Rattle.ipc_format_readers.specs.chunk_writing.columns.StoredColumns.{in_columns};
 ghost use Rattle.ipc_format_stream_writer.specs.Room.{are_short, is_short};
 
-use ipc_format_stream_reader::chunk_writing::nested_arrays::{AnyArray, Node};
+use ipc_format_readers::chunk_writing::nested_arrays::{AnyArray, Node};
 
 /// The most slots of an array.
 const MOST_SLOTS: usize = 9_223_372_036_854_775_807;

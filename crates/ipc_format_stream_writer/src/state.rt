@@ -1,9 +1,9 @@
 //! How far a stream is, and what is kept of it.
 ghost use Rattle.std.specs.Prelude.{◌≡◌, false};
 
-use ipc_format_stream_reader::chunk_writing::DictionaryTracker;
-use ipc_format_stream_reader::chunk_writing::columnar_memory::{Items, Schema};
-use ipc_format_stream_reader::streams::metadata::IpcField;
+use ipc_format_readers::chunk_writing::DictionaryTracker;
+use ipc_format_readers::chunk_writing::columnar_memory::{Items, Schema};
+use ipc_format_readers::streams::metadata::IpcField;
 
 /// A stream whose schema is written.
 #[derive(Drop)]

@@ -1,27 +1,25 @@
 //! What is encoded of a stream: its schema, and batches behind it.
 ghost use Rattle.std.specs.Prelude.{◌≡◌, false, true, MatchResult};
 ghost use Rattle.std.specs.List.{list_all};
-ghost use Rattle.ipc_format_stream_reader.specs.chunk_writing.EncodedChunks.{dictionaries_in, message_in};
-ghost use Rattle.ipc_format_stream_reader.specs.chunk_writing.Tracking.{tracked};
-ghost use Rattle.ipc_format_stream_reader.specs.chunk_writing.columnar_memory.Error.{IsOutOfMemory};
-ghost use Rattle.ipc_format_stream_reader.specs.chunk_writing.columns.SoundColumns.{is_sound};
-ghost use Rattle.ipc_format_stream_reader.specs.chunk_writing.grammar.Ids.{all_are_ids, are_ids, is_id};
-ghost use Rattle.ipc_format_stream_reader.specs.chunk_writing.metadata.Views.{ids_view, ids_views};
+ghost use Rattle.ipc_format_readers.specs.chunk_writing.EncodedChunks.{dictionaries_in, message_in};
+ghost use Rattle.ipc_format_readers.specs.chunk_writing.Tracking.{tracked};
+ghost use Rattle.ipc_format_readers.specs.chunk_writing.columnar_memory.Error.{IsOutOfMemory};
+ghost use Rattle.ipc_format_readers.specs.chunk_writing.columns.SoundColumns.{is_sound};
+ghost use Rattle.ipc_format_readers.specs.chunk_writing.grammar.Ids.{all_are_ids, are_ids, is_id};
+ghost use Rattle.ipc_format_readers.specs.chunk_writing.metadata.Views.{ids_view, ids_views};
 ghost use Rattle.ipc_format_stream_writer.specs.Opening.{Opens, ids_given};
 ghost use Rattle.ipc_format_stream_writer.specs.Streams.{Admits, EncodesBatch, have_forms};
 
 use crate::short::are_short;
 use crate::state::Stream;
-use ipc_format_stream_reader::chunk_writing::columnar_memory::{
-    Error, Field, Items, Result, Schema,
-};
-use ipc_format_stream_reader::chunk_writing::nested_arrays::AnyArray;
-use ipc_format_stream_reader::chunk_writing::{
+use ipc_format_readers::chunk_writing::columnar_memory::{Error, Field, Items, Result, Schema};
+use ipc_format_readers::chunk_writing::nested_arrays::AnyArray;
+use ipc_format_readers::chunk_writing::{
     Chunk, DictionaryTracker, encode_batch, have_one_form, ids_fit,
 };
-use ipc_format_stream_reader::streams::EncodedData;
-use ipc_format_stream_reader::streams::metadata::IpcField;
-use ipc_format_stream_reader::streams::owned::writing::{default_ipc_fields, schema_to_bytes};
+use ipc_format_readers::streams::EncodedData;
+use ipc_format_readers::streams::metadata::IpcField;
+use ipc_format_readers::streams::owned::writing::{default_ipc_fields, schema_to_bytes};
 use std::alloc::Global;
 
 /// The ids that are given, or numbers from 0 on.

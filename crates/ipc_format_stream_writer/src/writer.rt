@@ -1,7 +1,7 @@
 //! The writer of a stream.
 ghost use Rattle.std.specs.Prelude.{◌≡◌};
 ghost use Rattle.std.specs.Option.{option_copied};
-ghost use Rattle.ipc_format_stream_reader.specs.chunk_writing.columnar_memory.Error.{IsOutOfSpec};
+ghost use Rattle.ipc_format_readers.specs.chunk_writing.columnar_memory.Error.{IsOutOfSpec};
 ghost use Rattle.ipc_format_stream_writer.specs.Opening.{fields_or, ids_given};
 ghost use Rattle.ipc_format_stream_writer.specs.Phases.{fresh};
 ghost use Rattle.ipc_format_stream_writer.specs.Writing.{Finishes, Starts, WritesChunk};
@@ -10,11 +10,11 @@ use crate::phases::{is_fresh, is_started};
 use crate::sending::send;
 use crate::state::State;
 use crate::streams::{encode, open};
-use ipc_format_stream_reader::chunk_writing::columnar_memory::{Error, Result, Schema};
-use ipc_format_stream_reader::chunk_writing::nested_arrays::AnyArray;
-use ipc_format_stream_reader::chunk_writing::{Chunk, WriteOptions};
-use ipc_format_stream_reader::streams::metadata::IpcField;
-use ipc_format_stream_reader::streams::{EncodedData, Faults, write_continuation};
+use ipc_format_readers::chunk_writing::columnar_memory::{Error, Result, Schema};
+use ipc_format_readers::chunk_writing::nested_arrays::AnyArray;
+use ipc_format_readers::chunk_writing::{Chunk, WriteOptions};
+use ipc_format_readers::streams::metadata::IpcField;
+use ipc_format_readers::streams::{EncodedData, Faults, write_continuation};
 use std::alloc::Global;
 use std::io::Write;
 use std::marker::Model;

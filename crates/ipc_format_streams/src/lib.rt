@@ -53,9 +53,9 @@ pub mod metadata {
 /// What `ipc_format_values` has, as far as packages above use it.
 pub mod owned {
     pub use ipc_format_values::{
-        DictionaryEncoding, Field, Footer, Int, Message, MessageHeader, Type_, dictionary_batch_of,
-        field_of, footer_of, key_value_of, message_header_of, message_of, record_batch_of,
-        schema_of, serialize_schema, type_of,
+        DictionaryBatch, DictionaryEncoding, Field, Footer, Int, KeyValue, Message, MessageHeader,
+        RecordBatch, Schema, Type_, dictionary_batch_of, field_of, footer_of, key_value_of,
+        message_header_of, message_of, record_batch_of, schema_of, serialize_schema, type_of,
     };
 
     /// Of `writing`.

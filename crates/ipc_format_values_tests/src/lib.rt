@@ -1,8 +1,21 @@
-//! Tests of the packages of the metadata's values: worked values, each call once. They stand here since a crate with tests is proved twice.
+//! Tests of the packages of the metadata's values, and of files that are written and read: worked values, each call once. They stand here
+//! since a crate with tests is proved twice.
 #![tactic(auto)]
 
+#[cfg(test)]
+mod answers;
+#[cfg(test)]
+mod appended;
 mod calling;
 mod calling_owned;
+#[cfg(test)]
+mod cases;
+#[cfg(test)]
+mod file_reader;
+#[cfg(test)]
+mod file_writer;
+#[cfg(test)]
+mod samples;
 #[cfg(test)]
 mod schemas;
 #[cfg(test)]

@@ -15,7 +15,7 @@ use Rattle.tables_rows.specs.chunks.declared.fault.Fault.TheVariants as faults
 use Rattle.tables_rows.specs.chunks.ipc_format.FileEntries.{entries_view}
 use Rattle.tables_rows.specs.chunks.ipc_format.FileReads.{IsUnreadFile}
 use Rattle.tables_rows.specs.chunks.ipc_format.FileStarts as files
-use Rattle.tables_rows.specs.chunks.ipc_format.files.declared.entries.Entry as declared
+use Rattle.tables_rows.specs.chunks.ipc_format.readers.declared.entries.Entry as declared
 use Rattle.tables_rows.specs.chunks.ipc_format.Dictionaries.{Entry}
 use Rattle.tables_rows.specs.chunks.ipc_format.Framing.{Framed, later_messages}
 use Rattle.tables_rows.specs.chunks.ipc_format.Messages.{Version}
@@ -33,7 +33,7 @@ use Rattle.tables_rows.specs.chunks.ipc_format.grammar.Tables.{Contents, Form, s
 use Rattle.tables_rows.specs.chunks.ipc_format.grammar.Tables.{stream_entry}
 use Rattle.tables_rows.specs.chunks.ipc_format.metadata.Reading.{Refuses}
 use Rattle.tables_rows.specs.chunks.ipc_format.streams.Starts as streams
-use Rattle.tables_rows.proofs.chunk_lemmas.FileBatches.{unread_start}
+use Rattle.tables_rows.proofs.chunk_lemmas.ipc_format_lemmas.WholeFiles.{unread_start}
 use Rattle.tables_rows.proofs.chunk_lemmas.ipc_format_lemmas.FileStarts.{unread_in_file}
 use Rattle.tables_rows.proofs.chunk_lemmas.ipc_format_lemmas.Binding.{same_some}
 use Rattle.tables_rows.proofs.chunk_lemmas.ipc_format_lemmas.StreamParts.{fitting, fits, stream_from, too_many, unread_in_stream}

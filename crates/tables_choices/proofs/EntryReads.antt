@@ -6,7 +6,7 @@ use Rattle.tables_rows.specs.chunks.Choices.{are_below}
 use Rattle.tables_rows.specs.chunks.Messages.{AreOfFields, TakesDictionary, type_of}
 use Rattle.tables_rows.specs.chunks.ipc_format.FileEntries.{entry_view}
 use Rattle.tables_rows.specs.chunks.ipc_format.BlockMessages.{dictionary_by}
-use Rattle.tables_rows.specs.chunks.ipc_format.files.declared.entries.Entry as code
+use Rattle.tables_rows.specs.chunks.ipc_format.readers.declared.entries.Entry as code
 use Rattle.tables_rows.specs.chunks.ipc_format.BatchReads.{chosen_record_arrays, entry_in, sized}
 use Rattle.tables_rows.specs.chunks.ipc_format.Chunks.{AreAsLong}
 use Rattle.tables_rows.specs.chunks.ipc_format.Columns.{Dictionary}

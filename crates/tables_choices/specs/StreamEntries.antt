@@ -6,7 +6,7 @@ use Rattle.std.specs.declared.vec.Vec.{Vec}
 use Rattle.tables_rows.specs.chunks.declared.fault.Fault.{Fault}
 use Rattle.tables_rows.specs.chunks.declared.fault.Fault.TheVariants as faults
 use Rattle.tables_rows.specs.chunks.ipc_format.FileEntries.{entries_view}
-use Rattle.tables_rows.specs.chunks.ipc_format.files.declared.entries.Entry.{Entry}
+use Rattle.tables_rows.specs.chunks.ipc_format.readers.declared.entries.Entry.{Entry}
 use Rattle.tables_rows.specs.chunks.ipc_format.Behind.{IsOutOfTurn}
 use Rattle.tables_rows.specs.chunks.ipc_format.Dictionaries as format
 use Rattle.tables_rows.specs.chunks.ipc_format.Framing.{Framed, nothing_whole, at_end, message_then, next_at}

@@ -6,7 +6,6 @@ pub mod Chunks
 pub mod ColumnsOfRows
 pub mod CutBatches
 pub mod CutSteps
-pub mod FileBatches
 pub mod FileRefused
 pub mod FileTables
 pub mod FilesRead

@@ -18,7 +18,7 @@ use Rattle.tables_chunks.specs.TableSchemas.{IsTableSchema}
 use Rattle.ipc_format.proofs.StoredTablesNormal.{normal_again}
 use Rattle.ipc_format.proofs.NormalForms.{keeps_writable}
 use Rattle.ipc_format.proofs.Binding.{came_of, same_some}
-use Rattle.tables_chunks.proofs.FileBatches.{schema_written}
+use Rattle.ipc_format.proofs.WholeFiles.{schema_written}
 
 -- a message's schema has arrays
 found_has_arrays : (framed : Framed) (header : Header) (found : SchemaIn) → SchemasHaveArrays → schema_of framed header ≡ Some found

@@ -3,7 +3,6 @@ pub mod Choices
 pub mod Faults
 pub mod Messages
 pub mod PutMessages
-pub mod ReadFiles
 pub mod ReadTables
 pub mod Reading
 pub mod Refusals

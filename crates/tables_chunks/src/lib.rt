@@ -9,7 +9,6 @@ mod batches;
 mod choices;
 mod cuts;
 mod fault;
-mod file;
 mod growing;
 mod joins;
 mod laws;
@@ -26,7 +25,6 @@ mod writing;
 pub use batches::{fits_schema, is_table_schema};
 pub use choices::{are_all_below, choose_fields, choose_of, distinct};
 pub use fault::{Fault, SealBar};
-pub use file::metadata_of_file;
 pub use growing::GrowingTable;
 pub use ipc_format::messages::{
     DictionaryBatchRef, MessageHeaderRef, MetadataVersion, RecordBatchRef,
@@ -38,8 +36,8 @@ pub use ipc_format::reading_laws::{
 pub use ipc_format::streams::{NextMessage, next_at};
 pub use ipc_format::{
     Chunk, Dictionaries, Entry, Faults, InMemory, can_write, columnar_memory, file_entries,
-    look_ups_are_enough, nested_arrays, normalised, put, read_dictionary, read_record_batch,
-    schemas_have_arrays, stream_start,
+    look_ups_are_enough, metadata_of_file, nested_arrays, normalised, put, read_dictionary,
+    read_record_batch, schemas_have_arrays, stream_start,
 };
 pub use laws::{
     choices_have_columns, cuts_and_choices_commute, cuts_have_parts, joins_have_both,

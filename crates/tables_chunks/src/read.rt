@@ -3,9 +3,9 @@ ghost use Rattle.tables_chunks.specs.ReadTables.{ReadsTable};
 
 use crate::batches::are_batches;
 use crate::fault::Fault;
-use crate::file::read_file;
 use crate::reading::read_stream;
 use crate::table::Table;
+use ipc_format::read_file;
 use std::alloc::Global;
 
 /// The two forms of Arrow's bytes (Arrow IPC, "IPC File Format", "IPC Streaming Format").

@@ -1,6 +1,6 @@
 -- A batch is encoded behind what a copy tells, and placed.
 use Rattle.std.proofs.Common.{rules, ◌≡◌, ◌∙◌, true, List, [], ◌∷◌, ◌++◌, ap}
-use Rattle.std.specs.Prelude.{Ok}
+use Rattle.std.specs.Prelude.{Ok, Err}
 use Rattle.std.specs.List.{list_all}
 use Rattle.ipc_format_stream_writer.specs.reader.chunk_writing.EncodedChunks.{message_in, messages_in}
 use Rattle.ipc_format_stream_writer.specs.reader.chunk_writing.Tracking.{tracked}
@@ -10,7 +10,7 @@ use Rattle.ipc_format_stream_writer.specs.reader.streams.declared.EncodedData.{E
 use Rattle.ipc_format_stream_writer.proofs.Batches.{kind_stays, limits_hold}
 use Rattle.ipc_format_files.specs.Phases.{progress_of}
 use Rattle.ipc_format_files.specs.Placing.{PlacesBatch}
-use Rattle.ipc_format_files.proofs.Added.{batch_added, not_encoded}
+use Rattle.ipc_format_files.proofs.Added.{batch_added, not_encoded, not_placed}
 use Rattle.ipc_format_files.proofs.batches.add_batch.Goals as goal
 
 pub returns-in_err-dictionaries : goal.returns-in_err-dictionaries
@@ -19,6 +19,19 @@ returns-in_err-dictionaries c =
     let was : tracked c.in_ok-told.told ≡ (old.told, true) = search rules in
     let whole = not_encoded c.args.schema.now old (tracked c.in_ok-told.told) (tracked c.encode.new.tracker) (ids_views c.args.ids.now)
     c.args.columns.now c.in_err-dictionaries.field-0.0 (message_in c.encode.new.encoded) was c.in_err-dictionaries.ensures in
+    search (rules, whole)
+
+pub returns-in_err-place_batch : goal.returns-in_err-place_batch
+returns-in_err-place_batch c =
+    let old = progress_of c.args.file.now in
+    let new = progress_of c.place_batch.new.self in
+    let messages = messages_in c.in_ok-dictionaries.dictionaries.items in
+    let own = message_in c.encode.new.encoded in
+    let error = c.in_err-place_batch.field-0.0 in
+    let was : tracked c.in_ok-told.told ≡ (old.told, true) = search rules in
+    let placed : PlacesBatch old new messages own (Err error) = search rules in
+    let whole = not_placed c.args.schema.now old new (tracked c.in_ok-told.told) (tracked c.encode.new.tracker) (ids_views c.args.ids.now)
+    c.args.columns.now messages own error was c.in_ok-dictionaries.ensures placed in
     search (rules, whole)
 
 pub place_batch-requires : goal.place_batch-requires

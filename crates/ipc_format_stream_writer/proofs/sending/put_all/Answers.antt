@@ -1,10 +1,10 @@
 -- The messages, and the last one behind them.
 use Rattle.std.proofs.Common.{rules, ℕ, List, ap₂, subst}
-use Rattle.ipc_format_stream_reader.specs.chunk_writing.EncodedChunks.{message_in, messages_in}
-use Rattle.ipc_format_stream_reader.specs.chunk_writing.grammar.WrittenMessages.{framed, message_bytes}
-use Rattle.ipc_format_stream_reader.specs.chunk_writing.grammar.WrittenStreams.{bytes_of_messages}
-use Rattle.ipc_format_stream_reader.specs.streams.Devices.{Puts}
-use Rattle.ipc_format_stream_reader.proofs.chunk_lemmas.Appending.{puts_behind, puts_first, puts_same, refused_same}
+use Rattle.ipc_format_readers.specs.chunk_writing.EncodedChunks.{message_in, messages_in}
+use Rattle.ipc_format_readers.specs.chunk_writing.grammar.WrittenMessages.{framed, message_bytes}
+use Rattle.ipc_format_readers.specs.chunk_writing.grammar.WrittenStreams.{bytes_of_messages}
+use Rattle.ipc_format_readers.specs.streams.Devices.{Puts}
+use Rattle.ipc_format_readers.proofs.chunk_lemmas.Appending.{puts_behind, puts_first, puts_same, refused_same}
 use Rattle.ipc_format_stream_writer.proofs.PutMessages.{bytes_behind, parts_fit, prefix_fits}
 use Rattle.ipc_format_stream_writer.proofs.sending.put_all.Goals as goal
 

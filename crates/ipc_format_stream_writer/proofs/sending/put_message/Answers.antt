@@ -1,8 +1,8 @@
 -- Prefix, metadata and body behind one another.
 use Rattle.std.proofs.Common.{rules, ℕ, List, ◌++◌, length}
-use Rattle.ipc_format_stream_reader.proofs.chunk_lemmas.Appending.{appends_both, puts_behind}
-use Rattle.ipc_format_stream_reader.proofs.chunk_lemmas.Appending.{puts_between, puts_first}
-use Rattle.ipc_format_stream_reader.specs.streams.EncodedMessages.{prefix_bytes}
+use Rattle.ipc_format_readers.proofs.chunk_lemmas.Appending.{appends_both, puts_behind}
+use Rattle.ipc_format_readers.proofs.chunk_lemmas.Appending.{puts_between, puts_first}
+use Rattle.ipc_format_readers.specs.streams.EncodedMessages.{prefix_bytes}
 use Rattle.ipc_format_stream_writer.proofs.sending.put_message.Goals as goal
 
 pub returns-in_err-put_prefix : goal.returns-in_err-put_prefix

@@ -2,9 +2,9 @@
 use Rattle.std.proofs.Common.{rules, ◌≡◌, ◌<◌, ℕ, List, ap₂, length, get_or, subst}
 use Rattle.std.specs.Io.KnownBytes.{Appends}
 use Rattle.columnar_memory_types.specs.Error.{IsIo}
-use Rattle.ipc_format_stream_reader.specs.chunk_writing.grammar.WrittenMessages.{framed}
-use Rattle.ipc_format_stream_reader.specs.chunk_writing.EncodedChunks.{message_in}
-use Rattle.ipc_format_stream_reader.specs.streams.Devices.{AppendsBeginning}
+use Rattle.ipc_format_readers.specs.chunk_writing.grammar.WrittenMessages.{framed}
+use Rattle.ipc_format_readers.specs.chunk_writing.EncodedChunks.{message_in}
+use Rattle.ipc_format_readers.specs.streams.Devices.{AppendsBeginning}
 use Rattle.ipc_format_stream_writer.proofs.PutMessages.{message_fits, message_more, message_refused, prefix_fits}
 use Rattle.ipc_format_stream_writer.proofs.sending.put_messages.Goals as goal
 

@@ -1,7 +1,7 @@
 -- The messages before the place are written.
 use Rattle.std.specs.Io.KnownBytes.{Appends}
-use Rattle.ipc_format_stream_reader.specs.chunk_writing.grammar.WrittenStreams.{bytes_of_messages}
-use Rattle.ipc_format_stream_reader.specs.chunk_writing.EncodedChunks.{message_in}
+use Rattle.ipc_format_readers.specs.chunk_writing.grammar.WrittenStreams.{bytes_of_messages}
+use Rattle.ipc_format_readers.specs.chunk_writing.EncodedChunks.{message_in}
 use Rattle.ipc_format_stream_writer.proofs.PutMessages.{FirstMessages}
 use Rattle.ipc_format_stream_writer.proofs.sending.put_messages.Given as goal
 

@@ -1,7 +1,7 @@
 -- The marker and the length behind one another.
 use Rattle.std.proofs.Common.{rules, replicate}
 use Rattle.std.specs.Int.{w32, to_le_bytes}
-use Rattle.ipc_format_stream_reader.proofs.chunk_lemmas.Appending.{puts_behind, puts_first, puts_same}
+use Rattle.ipc_format_readers.proofs.chunk_lemmas.Appending.{puts_behind, puts_first, puts_same}
 use Rattle.ipc_format_stream_writer.proofs.sending.put_prefix.Goals as goal
 
 pub returns-in_err-put : goal.returns-in_err-put

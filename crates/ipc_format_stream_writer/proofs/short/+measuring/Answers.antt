@@ -1,12 +1,12 @@
 -- A column's own length, and those below it.
 use Rattle.std.proofs.Common.{rules, ◌≡◌, ◌∙◌, ◌∷◌, ◌+◌, ◌<◌, ◌≤◌, true, List, ap, arith, subst, sym}
 use Rattle.std.proofs.lemmas.Bool.{lt-ltb}
-use Rattle.ipc_format_stream_reader.proofs.chunk_lemmas.ColumnSizes.{sizes_count}
-use Rattle.ipc_format_stream_reader.specs.chunk_writing.columnar_memory.Layouts.{physical_type}
-use Rattle.ipc_format_stream_reader.specs.chunk_writing.columns.StoredColumns.{Column, column_len, column_size, column_type, columns_size, in_columns}
-use Rattle.ipc_format_stream_reader.specs.chunk_writing.grammar.Limits.{length_limit}
-use Rattle.ipc_format_stream_reader.specs.chunk_writing.nested_arrays.AnyColumns.{column_of}
-use Rattle.ipc_format_stream_reader.specs.chunk_writing.nested_arrays.Childless.{is_childless}
+use Rattle.ipc_format_readers.proofs.chunk_lemmas.ColumnSizes.{sizes_count}
+use Rattle.ipc_format_readers.specs.chunk_writing.columnar_memory.Layouts.{physical_type}
+use Rattle.ipc_format_readers.specs.chunk_writing.columns.StoredColumns.{Column, column_len, column_size, column_type, columns_size, in_columns}
+use Rattle.ipc_format_readers.specs.chunk_writing.grammar.Limits.{length_limit}
+use Rattle.ipc_format_readers.specs.chunk_writing.nested_arrays.AnyColumns.{column_of}
+use Rattle.ipc_format_readers.specs.chunk_writing.nested_arrays.Childless.{is_childless}
 use Rattle.ipc_format_stream_writer.proofs.Room.{alone_short, long_alone}
 use Rattle.ipc_format_stream_writer.proofs.short.+measuring.Goals as goal
 

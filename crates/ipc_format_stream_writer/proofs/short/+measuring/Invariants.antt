@@ -1,5 +1,5 @@
 use Rattle.std.proofs.Common.{◌+◌, ◌*◌}
-use Rattle.ipc_format_stream_reader.specs.chunk_writing.columns.StoredColumns.{column_size, columns_size, in_columns}
+use Rattle.ipc_format_readers.specs.chunk_writing.columns.StoredColumns.{column_size, columns_size, in_columns}
 use Rattle.ipc_format_stream_writer.proofs.short.+measuring.Given as goal
 
 abbrev pub decreases-is_short : goal.decreases-is_short

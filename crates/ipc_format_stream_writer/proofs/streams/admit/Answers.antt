@@ -1,11 +1,11 @@
 -- The ids, the lengths and the types decide.
 use Rattle.std.proofs.Common.{rules, ◌≡◌, Bool, true, false, inl, inr}
 use Rattle.std.specs.List.{list_all}
-use Rattle.ipc_format_stream_reader.specs.chunk_writing.chunks.Chunks.{AreAsLong}
-use Rattle.ipc_format_stream_reader.specs.chunk_writing.columns.SoundColumns.{is_sound}
-use Rattle.ipc_format_stream_reader.specs.chunk_writing.columns.StoredColumns.{Column, in_columns}
-use Rattle.ipc_format_stream_reader.specs.chunk_writing.grammar.Ids.{ids_fit_fields}
-use Rattle.ipc_format_stream_reader.specs.chunk_writing.metadata.Views.{ids_views}
+use Rattle.ipc_format_readers.specs.chunk_writing.chunks.Chunks.{AreAsLong}
+use Rattle.ipc_format_readers.specs.chunk_writing.columns.SoundColumns.{is_sound}
+use Rattle.ipc_format_readers.specs.chunk_writing.columns.StoredColumns.{Column, in_columns}
+use Rattle.ipc_format_readers.specs.chunk_writing.grammar.Ids.{ids_fit_fields}
+use Rattle.ipc_format_readers.specs.chunk_writing.metadata.Views.{ids_views}
 use Rattle.ipc_format_stream_writer.specs.Room.{are_short}
 use Rattle.ipc_format_stream_writer.specs.Streams.{have_forms}
 use Rattle.ipc_format_stream_writer.proofs.Batches.{admitted, other_forms}

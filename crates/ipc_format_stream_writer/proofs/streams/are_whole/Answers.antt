@@ -2,7 +2,7 @@
 use Rattle.std.proofs.Common.{◌∙◌, ◌≤◌, length, ap, sym, arith}
 use Rattle.std.specs.List.{list_all}
 use Rattle.std.proofs.lemmas.List.{take_all}
-use Rattle.ipc_format_stream_reader.specs.chunk_writing.columns.SoundColumns.{is_sound}
+use Rattle.ipc_format_readers.specs.chunk_writing.columns.SoundColumns.{is_sound}
 use Rattle.ipc_format_stream_writer.proofs.streams.are_whole.Goals as goal
 
 pub returns : goal.returns

@@ -1,7 +1,7 @@
 -- The arrays so far are sound.
 use Rattle.std.proofs.Common.{◌≡◌, true, take}
 use Rattle.std.specs.List.{list_all}
-use Rattle.ipc_format_stream_reader.specs.chunk_writing.columns.SoundColumns.{is_sound}
+use Rattle.ipc_format_readers.specs.chunk_writing.columns.SoundColumns.{is_sound}
 use Rattle.ipc_format_stream_writer.proofs.streams.are_whole.Given as goal
 
 abbrev pub invariant-loop-array : goal.invariant-loop-array

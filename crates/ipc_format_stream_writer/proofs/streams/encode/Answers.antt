@@ -1,8 +1,8 @@
 -- A batch that is admitted is encoded, or is not written.
 use Rattle.std.proofs.Common.{rules, refl}
-use Rattle.ipc_format_stream_reader.specs.chunk_writing.EncodedChunks.{dictionaries_in, message_in}
-use Rattle.ipc_format_stream_reader.specs.chunk_writing.Tracking.{tracked}
-use Rattle.ipc_format_stream_reader.specs.chunk_writing.metadata.Views.{ids_views}
+use Rattle.ipc_format_readers.specs.chunk_writing.EncodedChunks.{dictionaries_in, message_in}
+use Rattle.ipc_format_readers.specs.chunk_writing.Tracking.{tracked}
+use Rattle.ipc_format_readers.specs.chunk_writing.metadata.Views.{ids_views}
 use Rattle.ipc_format_stream_writer.proofs.Batches.{encoded_by, not_admitted}
 use Rattle.ipc_format_stream_writer.proofs.streams.encode.Goals as goal
 

@@ -1,9 +1,9 @@
 -- The schema and its ids may be written, and its message is made.
 use Rattle.std.proofs.Common.{rules, ◌≡◌, ◌∙◌, ℕ, true, List, [], ap}
-use Rattle.ipc_format_stream_reader.specs.chunk_writing.grammar.Ids.{all_are_ids}
-use Rattle.ipc_format_stream_reader.specs.chunk_writing.grammar.WrittenMessages.{fits_limit, schema_written}
-use Rattle.ipc_format_stream_reader.specs.chunk_writing.metadata.Views.{ids_views}
-use Rattle.ipc_format_stream_reader.specs.streams.owned.writing.Writing.{may_write}
+use Rattle.ipc_format_readers.specs.chunk_writing.grammar.Ids.{all_are_ids}
+use Rattle.ipc_format_readers.specs.chunk_writing.grammar.WrittenMessages.{fits_limit, schema_written}
+use Rattle.ipc_format_readers.specs.chunk_writing.metadata.Views.{ids_views}
+use Rattle.ipc_format_readers.specs.streams.owned.writing.Writing.{may_write}
 use Rattle.ipc_format_stream_writer.specs.Opening.{ids_given}
 use Rattle.ipc_format_stream_writer.proofs.Opened.{schema_message, written_with}
 use Rattle.ipc_format_stream_writer.proofs.streams.open.Goals as goal

@@ -14,7 +14,7 @@ use Rattle.tables_rows.specs.chunks.ipc_format.columnar_memory.declared.Schema.{
 use Rattle.tables_rows.specs.chunks.ipc_format.grammar.Files.{file_entries}
 use Rattle.tables_rows.specs.chunks.ipc_format.grammar.Tables.{file}
 use Rattle.tables_rows.specs.chunks.ipc_format.metadata.Reading.{Refuses}
-use Rattle.tables_rows.proofs.chunk_lemmas.FileBatches.{HasOneForm, start_form, start_has_arrays}
+use Rattle.tables_rows.proofs.chunk_lemmas.ipc_format_lemmas.WholeFiles.{HasOneForm, start_form, start_has_arrays}
 use Rattle.tables_choices.specs.Gathered.{GathersTable}
 use Rattle.tables_choices.proofs.ChoicesRead.{ReadsStored, file_entries_found, file_entries_refused, file_start_refused, held_read, memory_refused}
 use Rattle.tables_choices.proofs.read_choice.choice_of_file.Goals as goal

@@ -4,13 +4,13 @@ use Rattle.std.specs.Prelude.{None, Ok, Err}
 use Rattle.std.specs.List.{list_all}
 use Rattle.std.specs.Option.{option_copied}
 use Rattle.std.specs.Io.KnownBytes.{Appends}
-use Rattle.ipc_format_stream_reader.specs.chunk_writing.EncodedChunks.{message_in, messages_in}
-use Rattle.ipc_format_stream_reader.specs.chunk_writing.Tracking.{tracked}
-use Rattle.ipc_format_stream_reader.specs.chunk_writing.grammar.WrittenMessages.{fits_limit}
-use Rattle.ipc_format_stream_reader.specs.chunk_writing.grammar.WrittenStreams.{bytes_of_messages}
-use Rattle.ipc_format_stream_reader.specs.chunk_writing.metadata.Views.{ids_views}
-use Rattle.ipc_format_stream_reader.specs.chunk_writing.metadata.declared.ipc_schema.IpcField.{IpcField}
-use Rattle.ipc_format_stream_reader.specs.streams.declared.EncodedData.{EncodedData}
+use Rattle.ipc_format_readers.specs.chunk_writing.EncodedChunks.{message_in, messages_in}
+use Rattle.ipc_format_readers.specs.chunk_writing.Tracking.{tracked}
+use Rattle.ipc_format_readers.specs.chunk_writing.grammar.WrittenMessages.{fits_limit}
+use Rattle.ipc_format_readers.specs.chunk_writing.grammar.WrittenStreams.{bytes_of_messages}
+use Rattle.ipc_format_readers.specs.chunk_writing.metadata.Views.{ids_views}
+use Rattle.ipc_format_readers.specs.chunk_writing.metadata.declared.ipc_schema.IpcField.{IpcField}
+use Rattle.ipc_format_readers.specs.streams.declared.EncodedData.{EncodedData}
 use Rattle.ipc_format_stream_writer.specs.Opening.{fields_or}
 use Rattle.ipc_format_stream_writer.specs.Phases.{started}
 use Rattle.ipc_format_stream_writer.specs.Streams.{EncodesBatch}

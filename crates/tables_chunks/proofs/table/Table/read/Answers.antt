@@ -1,7 +1,7 @@
 -- The batches that were read have the types of the fields.
 use Rattle.std.proofs.Common.{rules, All}
 use Rattle.std.specs.Prelude.{Ok, Err}
-use Rattle.tables_chunks.specs.ReadFiles.{ReadsFile}
+use Rattle.ipc_format.specs.ReadFiles.{ReadsFile}
 use Rattle.tables_chunks.specs.Faults.{fault_of}
 use Rattle.tables_chunks.specs.Messages.{AreOfFields}
 use Rattle.tables_chunks.specs.ReadTables.{ReadsFileTable}

@@ -1,8 +1,0 @@
--- The blocks that were read, and those that are left, are all.
-use Rattle.ipc_format_stream_writer.specs.reader.chunk_writing.flatbuffers.Views.{vector_of}
-use Rattle.ipc_format_files.specs.FileStarts.{blocks_view}
-use Rattle.ipc_format_files.proofs.BlockLists.{AreLeft}
-use Rattle.ipc_format_files.proofs.footer.blocks_of.Given as goal
-
-abbrev pub invariant-loop-k : goal.invariant-loop-k
-invariant-loop-k l = AreLeft l.footer (vector_of l.vector) (blocks_view l.blocks) l.k

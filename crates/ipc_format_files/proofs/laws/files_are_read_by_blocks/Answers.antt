@@ -1,6 +1,0 @@
--- There are arrays of each type of a schema that is read.
-use Rattle.ipc_format_files.proofs.BlockRuns as runs
-use Rattle.ipc_format_files.proofs.laws.files_are_read_by_blocks.Goals as goal
-
-pub returns : goal.returns
-returns c = runs.files_are_read_by_blocks c.schemas_have_arrays.ensures

@@ -1,0 +1,61 @@
+-- What a run of calls of a writer stands for whose writes have the writer's own ids: a whole file of batches of columns (Arrow IPC, "IPC File
+-- Format").
+use Rattle.std.specs.Prelude.{◌≡◌, ℕ, List, [], ◌∷◌, ◌++◌, Option, Some, Ok}
+use Rattle.std.specs.Io.KnownBytes.{Appends}
+use Rattle.ipc_format_stream_writer.specs.Runs.{AreSameIds, IsRunOf}
+use Rattle.ipc_format_stream_writer.specs.reader.chunk_writing.columnar_memory.declared.Schema.{Schema}
+use Rattle.ipc_format_stream_writer.specs.reader.chunk_writing.columns.StoredColumns.{Column}
+use Rattle.ipc_format_stream_writer.specs.reader.chunk_writing.grammar.Schemas.{IdsList}
+use Rattle.ipc_format_stream_writer.specs.reader.chunk_writing.grammar.Tables.{file}
+use Rattle.ipc_format_stream_writer.specs.reader.chunk_writing.grammar.WriterRuns.{Run}
+use Rattle.ipc_format_stream_writer.specs.reader.chunk_writing.grammar.WrittenFiles.{file_start, written_file}
+use Rattle.ipc_format_stream_writer.specs.reader.chunk_writing.grammar.WrittenStreams.{Batch, batches_written, bytes_of_messages}
+use Rattle.ipc_format_stream_writer.specs.reader.chunk_writing.metadata.Views.{ids_views}
+use Rattle.ipc_format_stream_writer.specs.reader.chunk_writing.metadata.declared.ipc_schema.IpcField.{IpcField}
+use Rattle.ipc_format_stream_writer.specs.reader.reading_laws.StoredTables.{stored_chunks}
+use Rattle.ipc_format_files.specs.Phases.{Writer, finished}
+use Rattle.ipc_format_files.specs.Runs.{HasWritten, bytes_so_far, told_with}
+use Rattle.ipc_format_files.specs.Writing.{Finishes, Starts, WritesChunk}
+
+-- batches of columns as they are written under a schema with some ids
+abbrev pub batches_of : Schema → IdsList → List (List Column) → List Batch
+batches_of schema ids batches = batches_written schema ids (stored_chunks batches)
+
+-- What a device shows of its bytes, where they are known, and how often it has failed
+module _ {W : Type 0} (contents : W → Option (List ℕ)) (failures : W → ℕ) where
+  -- A writer was started, and has written batches with its own ids since: those of this run, which tells the dictionaries that the file does, and
+  -- whose messages are the file's.
+  pub record HasWrittenBatches (old now : Writer W) (batches : List (List Column)) : Type 0 where
+    pub written : HasWritten contents failures old now (batches_of old.schema (ids_views old.ids) batches)
+    pub run : Run
+    pub is : IsRunOf file run old.schema (ids_views old.ids) batches
+    pub told : run.told ≡ told_with [] (batches_of old.schema (ids_views old.ids) batches)
+    pub bytes : file_start ++ bytes_of_messages run.messages
+        ≡ bytes_so_far old.schema (ids_views old.ids) (batches_of old.schema (ids_views old.ids) batches)
+
+  -- a whole file of batches was written under the schema and the ids of a writer, which has ended
+  pub record HasFinished (old new : Writer W) (batches : List (List Column)) : Type 0 where
+    pub bytes : List ℕ
+    pub is : written_file old.schema (ids_views old.ids) (stored_chunks batches) ≡ Some bytes
+    pub device : Appends (contents old.device) (contents new.device) bytes
+    pub phase : new.phase ≡ finished
+
+  -- after a start no batch is written
+  abbrev pub StartsNoBatch : Type 0
+  StartsNoBatch = (old new : Writer W) → Starts contents failures old new (Ok tt) → HasWrittenBatches old new []
+
+  -- after a write with the writer's ids one batch more is
+  abbrev pub WritesOneMore : Type 0
+  WritesOneMore = (old now new : Writer W) (batches : List (List Column)) (fields : Option (List IpcField)) (columns : List Column)
+      → HasWrittenBatches old now batches → AreSameIds (ids_views old.ids) fields → WritesChunk contents failures now new fields columns (Ok tt)
+      → HasWrittenBatches old new (batches ++ columns ∷ [])
+
+  -- after the finish the whole file of the batches is
+  abbrev pub FinishesWhole : Type 0
+  FinishesWhole = (old now new : Writer W) (batches : List (List Column)) → HasWrittenBatches old now batches
+      → Finishes contents failures now new (Ok tt) → HasFinished old new batches
+
+  -- What a run of a start, writes with the writer's ids and a finish has written, leaving out the writes that were refused, is a whole file of the
+  -- schema and the batches.
+  abbrev pub RunsAreFiles : Type 0
+  RunsAreFiles = StartsNoBatch × WritesOneMore × FinishesWhole

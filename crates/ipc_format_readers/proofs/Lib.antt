@@ -1,0 +1,37 @@
+pub mod Binding
+pub mod Rows
+pub mod Steps
+pub mod Places
+pub mod Progress
+pub mod StreamParts
+pub mod Passed
+pub mod Dropped
+pub mod TurnLaws
+pub mod Headers
+pub mod Alike
+pub mod Heard
+pub mod Turning
+pub mod AskedPlaces
+pub mod AskedTurns
+pub mod Asks
+pub mod Nexts
+pub mod AskedBatches
+pub mod BlockEntries
+pub mod BlockLists
+pub mod BlockRuns
+pub mod BlocksRead
+pub mod EntryLists
+pub mod FooterTaken
+pub mod Lists
+pub mod MessageReads
+pub mod MetadataRead
+pub mod MetadataTaken
+pub mod NextBatches
+pub mod Parts
+pub mod PushedEntries
+pub mod RoomReads
+pub mod Rooms
+pub mod Starts
+pub mod Unread
+pub use Rattle.ipc_format_chunk_writing.proofs as chunk_lemmas
+pub use Rattle.ipc_format_reading_laws.proofs as reading_laws_lemmas

@@ -1,0 +1,22 @@
+-- The message at the block is the one that its metadata carry.
+use Rattle.std.proofs.Common.{rules, ◌≡◌}
+use Rattle.std.specs.Prelude.{Some, None}
+use Rattle.ipc_format_chunk_writing.specs.grammar.Files.{entry_at, is_dictionary}
+use Rattle.ipc_format_readers.specs.BlockMessages.{metadata_at}
+use Rattle.ipc_format_readers.specs.FileStarts.{block_view}
+use Rattle.ipc_format_readers.proofs.BlockEntries.{dictionary_stands, no_metadata}
+use Rattle.ipc_format_readers.proofs.block_messages.dictionary_at.Goals as goal
+
+pub returns-in_err-metadata : goal.returns-in_err-metadata
+returns-in_err-metadata c =
+    let none : metadata_at c.args.bytes.now c.args.block.now.offset ≡ None = search rules in
+    let lacking : entry_at is_dictionary c.args.bytes.now (block_view c.args.block.now) ≡ None =
+    no_metadata is_dictionary c.args.bytes.now (block_view c.args.block.now) none in
+    search (rules, lacking)
+
+pub returns : goal.returns
+returns c =
+    let metadata = c.in_ok-metadata.metadata.now in
+    let there : metadata_at c.args.bytes.now c.args.block.now.offset ≡ Some metadata = search rules in
+    dictionary_stands c.args.bytes.now metadata (block_view c.args.block.now) c.dictionary_in.result there c.dictionary_in.ensures.value
+    c.dictionary_in.ensures.stands

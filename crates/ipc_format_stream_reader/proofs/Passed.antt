@@ -1,2 +1,0 @@
--- Definitions of the packages below that attributes name.
-unfoldable pub use Rattle.ipc_format_chunk_writing.specs.grammar.Framing.{first_of}

@@ -1,0 +1,77 @@
+//! Columns, batches and schemas of files.
+use ipc_format::Chunk;
+use ipc_format::columnar_memory::{
+    Bitmap, Boxed, DataType, Error, Field, IntegerType, Items, Schema, Text,
+};
+use ipc_format::nested_arrays::flat_arrays::{PrimitiveArray, Utf8Array};
+use ipc_format::nested_arrays::{AnyArray, AnyPrimitive, DictionaryArray, FlatArray, ToBoxed};
+use std::alloc::Global;
+
+/// A column of numbers of four bytes.
+pub(crate) fn column(alloc: Global, values: &[i32]) -> Result<AnyArray, Error> {
+    let array: PrimitiveArray<i32> = PrimitiveArray::from_slice(alloc, values)?;
+    Ok(AnyArray::from(FlatArray::from(AnyPrimitive::from_array(array))))
+}
+
+/// The number 7 and a null.
+pub(crate) fn numbers(alloc: Global) -> Result<AnyArray, Error> {
+    let mut array: PrimitiveArray<i32> = PrimitiveArray::from_slice(alloc, &[7, 0])?;
+    array.set_validity(Some(Bitmap::from_u8_slice(alloc, &[0b01], 2)?));
+    Ok(AnyArray::from(FlatArray::from(AnyPrimitive::from_array(array))))
+}
+
+/// Keys of eight bits into texts.
+fn keyed_texts(alloc: Global) -> Result<DataType, Error> {
+    Ok(DataType::Dictionary(IntegerType::Int8, Boxed::new(alloc, DataType::Utf8)?, false))
+}
+
+/// The keys 0, 1 and 0 into two texts.
+pub(crate) fn letters(alloc: Global, texts: &[&'static str]) -> Result<AnyArray, Error> {
+    let values: Utf8Array<i32> = Utf8Array::from_slice(alloc, texts)?;
+    let values = Box::new(alloc, AnyArray::from(FlatArray::from(values)))?;
+    let keys: PrimitiveArray<i8> = PrimitiveArray::from_slice(alloc, &[0, 1, 0])?;
+    Ok(DictionaryArray::try_new(keyed_texts(alloc)?, keys, values)?.into_any())
+}
+
+/// A batch of one column.
+pub(crate) fn of_one(alloc: Global, array: AnyArray) -> Result<Chunk<AnyArray>, Error> {
+    let mut arrays = Vec::new(alloc);
+    arrays.push(array)?;
+    Chunk::try_new(arrays)
+}
+
+/// A batch of two columns.
+pub(crate) fn of_two(
+    alloc: Global,
+    first: AnyArray,
+    second: AnyArray,
+) -> Result<Chunk<AnyArray>, Error> {
+    let mut arrays = Vec::new(alloc);
+    arrays.push(first)?;
+    arrays.push(second)?;
+    Chunk::try_new(arrays)
+}
+
+/// A field of a type.
+pub(crate) fn field(
+    alloc: Global,
+    name: &str,
+    data_type: DataType,
+    is_nullable: bool,
+) -> Result<Field, Error> {
+    Ok(Field::new(alloc, Text::from_str(alloc, name)?, data_type, is_nullable))
+}
+
+/// The schema of x, 32-bit numbers and nulls.
+pub(crate) fn numbers_schema(alloc: Global) -> Result<Schema, Error> {
+    let mut fields = Items::new(alloc);
+    fields.push(field(alloc, "x", DataType::Int32, true)?)?;
+    Ok(Schema::from_fields(fields))
+}
+
+/// The schema of x, texts by key and nulls.
+pub(crate) fn letters_schema(alloc: Global) -> Result<Schema, Error> {
+    let mut fields = Items::new(alloc);
+    fields.push(field(alloc, "x", keyed_texts(alloc)?, true)?)?;
+    Ok(Schema::from_fields(fields))
+}
