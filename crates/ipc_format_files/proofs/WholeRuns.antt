@@ -28,7 +28,7 @@ use Rattle.ipc_format_stream_writer.proofs.reader_lemmas.reading_laws_lemmas.law
 use Rattle.ipc_format_files.specs.Ends.{end_with, has_room}
 use Rattle.ipc_format_files.specs.Phases.{Phase, Progress, Writer, broken, finished, fresh, started}
 use Rattle.ipc_format_files.specs.Runs.{HasWritten, bytes_so_far, told_with}
-use Rattle.ipc_format_files.specs.WholeRuns.{FinishesWhole, RunsAreFiles, StartsNoBatch, WritesOneMore, batches_of}
+use Rattle.ipc_format_files.specs.WholeRuns.{FinishesWhole, RunsAreFiles, StartsNoBatch, WritesOneMore, batches_with}
 use Rattle.ipc_format_files.specs.Writing.{FinishesIn, IsStarted, StartsIn, WritesIn, WritesUnder}
 use Rattle.ipc_format_files.proofs.RunBytes.{bytes_more, file_whole, footer_is, told_more}
 use Rattle.ipc_format_files.proofs.Runs.{files_are_written}
@@ -36,47 +36,47 @@ use Rattle.ipc_format_files.proofs.Runs.{files_are_written}
 -- ---- one batch more
 
 batches_more : (schema : Schema) (ids : IdsList) (batches : List (List Column)) (columns : List Column)
-    → batches_of schema ids (batches ++ columns ∷ []) ≡ batches_of schema ids batches ++ batch_of_stored ids columns ∷ []
+    → batches_with schema ids (batches ++ columns ∷ []) ≡ batches_with schema ids batches ++ batch_of_stored ids columns ∷ []
 batches_more schema ids batches columns =
     ap (batches_written schema ids) (chunks_more batches columns)
     ∙ map-append (batch_of schema.fields ids) (stored_chunks batches) (stored_columns columns ∷ [])
 
 tells_more : (schema : Schema) (ids : IdsList) (run : Run) (batches : List (List Column)) (columns : List Column)
-    → run.told ≡ told_with [] (batches_of schema ids batches)
-    → written_after run.told (batch_of_stored ids columns).given ≡ told_with [] (batches_of schema ids (batches ++ columns ∷ []))
+    → run.told ≡ told_with [] (batches_with schema ids batches)
+    → written_after run.told (batch_of_stored ids columns).given ≡ told_with [] (batches_with schema ids (batches ++ columns ∷ []))
 tells_more schema ids run batches columns told =
     let batch = batch_of_stored ids columns in
     ap (λ (its : List Given). written_after its batch.given) told
-    ∙ sym (told_more [] (batches_of schema ids batches) batch)
+    ∙ sym (told_more [] (batches_with schema ids batches) batch)
     ∙ ap (told_with []) (sym (batches_more schema ids batches columns))
 
 stands_more : (schema : Schema) (ids : IdsList) (run : Run) (batches : List (List Column)) (columns : List Column)
-    → run.told ≡ told_with [] (batches_of schema ids batches)
-    → file_start ++ bytes_of_messages run.messages ≡ bytes_so_far schema ids (batches_of schema ids batches)
+    → run.told ≡ told_with [] (batches_with schema ids batches)
+    → file_start ++ bytes_of_messages run.messages ≡ bytes_so_far schema ids (batches_with schema ids batches)
     → file_start ++ bytes_of_messages (run.messages ++ batch_messages run.told (batch_of_stored ids columns))
-    ≡ bytes_so_far schema ids (batches_of schema ids (batches ++ columns ∷ []))
+    ≡ bytes_so_far schema ids (batches_with schema ids (batches ++ columns ∷ []))
 stands_more schema ids run batches columns told bytes =
     let batch = batch_of_stored ids columns in
     let next = batch_messages run.told batch in
     ap (λ (it : List ℕ). file_start ++ it) (flat_map-append message_bytes run.messages next)
     ∙ sym (append_assoc file_start (bytes_of_messages run.messages) (bytes_of_messages next))
     ∙ (λ j. bytes j ++ bytes_of_messages (batch_messages (told j) batch))
-    ∙ sym (bytes_more schema ids (batches_of schema ids batches) batch)
+    ∙ sym (bytes_more schema ids (batches_with schema ids batches) batch)
     ∙ ap (bytes_so_far schema ids) (sym (batches_more schema ids batches columns))
 
 -- ---- the whole file
 
 -- the file that a run stands for is that of its batches
 run_is_file : (schema : Schema) (ids : IdsList) (run : Run) (batches : List (List Column)) → run.chunks ≡ stored_chunks batches
-    → file_start ++ bytes_of_messages run.messages ≡ bytes_so_far schema ids (batches_of schema ids batches)
-    → run_file schema ids run ≡ file_bytes schema ids (batches_of schema ids batches)
+    → file_start ++ bytes_of_messages run.messages ≡ bytes_so_far schema ids (batches_with schema ids batches)
+    → run_file schema ids run ≡ file_bytes schema ids (batches_with schema ids batches)
 run_is_file schema ids run batches all bytes =
     let footer = λ (chunks : List Chunk). file_end (footer_bytes schema ids (batches_written schema ids chunks)) in
-    let so_far = bytes_so_far schema ids (batches_of schema ids batches) in
+    let so_far = bytes_so_far schema ids (batches_with schema ids batches) in
     ap (λ (it : List ℕ). it ++ footer run.chunks) (sym (append_assoc file_start (bytes_of_messages run.messages) end_mark))
     ∙ (λ j. bytes j ++ end_mark ++ footer (all j))
     ∙ append_assoc so_far end_mark (footer (stored_chunks batches))
-    ∙ file_whole schema ids (batches_of schema ids batches)
+    ∙ file_whole schema ids (batches_with schema ids batches)
 
 -- it is within its limit where there is room for the footer behind what is written
 file_fits : (schema : Schema) (ids : IdsList) (batches : List Batch) (place : ℕ) → place ≡ length (bytes_so_far schema ids batches)
@@ -90,10 +90,10 @@ file_fits schema ids batches place at room =
     ∙ room
 
 whole_file : (schema : Schema) (ids : IdsList) (run : Run) (batches : List (List Column)) → IsRunOf file run schema ids batches
-    → file_start ++ bytes_of_messages run.messages ≡ bytes_so_far schema ids (batches_of schema ids batches)
-    → is_footer (footer_bytes schema ids (batches_of schema ids batches)) ≡ true
-    → fits_file_limit (file_bytes schema ids (batches_of schema ids batches)) ≡ true
-    → written_file schema ids (stored_chunks batches) ≡ Some (file_bytes schema ids (batches_of schema ids batches))
+    → file_start ++ bytes_of_messages run.messages ≡ bytes_so_far schema ids (batches_with schema ids batches)
+    → is_footer (footer_bytes schema ids (batches_with schema ids batches)) ≡ true
+    → fits_file_limit (file_bytes schema ids (batches_with schema ids batches)) ≡ true
+    → written_file schema ids (stored_chunks batches) ≡ Some (file_bytes schema ids (batches_with schema ids batches))
 whole_file schema ids run batches is bytes footer fits =
     let chunks = ap (λ (it : Run). it.chunks) is.writes ∙ is.all in
     let same = ap (run_file schema ids) is.writes ∙ run_is_file schema ids run batches is.all bytes in
@@ -137,7 +137,7 @@ module _ {W : Type 0} (contents : W → Option (List ℕ)) (failures : W → ℕ
       let schema = old.schema in
       let ids = ids_views old.ids in
       let had = before.written in
-      let its = batches_of schema ids batches in
+      let its = batches_with schema ids batches in
       let given = given_ids now.ids ids fields (ap ids_views had.ids) same in
       let under = subst (λ (phase : Phase). WritesIn contents failures phase now new fields columns (Ok tt)) had.phase does in
       let bar = bar_under now.compression now new had.progress (ids_views (fields_or now.ids fields)) columns under (told_with [] its) had.tells in
@@ -159,7 +159,7 @@ module _ {W : Type 0} (contents : W → Option (List ℕ)) (failures : W → ℕ
       let schema = old.schema in
       let ids = ids_views old.ids in
       let had = before.written in
-      let its = batches_of schema ids batches in
+      let its = batches_with schema ids batches in
       let here = subst (λ (phase : Phase). FinishesIn contents failures phase now new (Ok tt)) had.phase does in
       let same : here.footer ≡ footer_bytes schema ids its =
       here.is.same ∙ (λ j. laid (footer_object (had.schema j) (ids_views (had.ids j)) (had.blocks j))) ∙ footer_is schema ids its in

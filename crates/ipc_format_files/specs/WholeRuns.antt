@@ -18,20 +18,20 @@ use Rattle.ipc_format_files.specs.Runs.{HasWritten, bytes_so_far, told_with}
 use Rattle.ipc_format_files.specs.Writing.{Finishes, Starts, WritesChunk}
 
 -- batches of columns as they are written under a schema with some ids
-abbrev pub batches_of : Schema → IdsList → List (List Column) → List Batch
-batches_of schema ids batches = batches_written schema ids (stored_chunks batches)
+abbrev pub batches_with : Schema → IdsList → List (List Column) → List Batch
+batches_with schema ids batches = batches_written schema ids (stored_chunks batches)
 
 -- What a device shows of its bytes, where they are known, and how often it has failed
 module _ {W : Type 0} (contents : W → Option (List ℕ)) (failures : W → ℕ) where
   -- A writer was started, and has written batches with its own ids since: those of this run, which tells the dictionaries that the file does, and
   -- whose messages are the file's.
   pub record HasWrittenBatches (old now : Writer W) (batches : List (List Column)) : Type 0 where
-    pub written : HasWritten contents failures old now (batches_of old.schema (ids_views old.ids) batches)
+    pub written : HasWritten contents failures old now (batches_with old.schema (ids_views old.ids) batches)
     pub run : Run
     pub is : IsRunOf file run old.schema (ids_views old.ids) batches
-    pub told : run.told ≡ told_with [] (batches_of old.schema (ids_views old.ids) batches)
+    pub told : run.told ≡ told_with [] (batches_with old.schema (ids_views old.ids) batches)
     pub bytes : file_start ++ bytes_of_messages run.messages
-        ≡ bytes_so_far old.schema (ids_views old.ids) (batches_of old.schema (ids_views old.ids) batches)
+        ≡ bytes_so_far old.schema (ids_views old.ids) (batches_with old.schema (ids_views old.ids) batches)
 
   -- a whole file of batches was written under the schema and the ids of a writer, which has ended
   pub record HasFinished (old new : Writer W) (batches : List (List Column)) : Type 0 where

@@ -34,7 +34,7 @@ unfolding source_in
 source_of is_little_endian entry table None e is = absurd cc
 source_of is_little_endian entry table (Some batch) e is = rw (e, is) refl
 
-compressed_source : (is_little_endian : Bool) (entry : Entry) (table : Table) → is_compressed entry.metadata table ≡ true
+pub compressed_source : (is_little_endian : Bool) (entry : Entry) (table : Table) → is_compressed entry.metadata table ≡ true
     → source_in is_little_endian entry table ≡ None
 compressed_source is_little_endian entry table is =
     source_of is_little_endian entry table (record_batch_in entry.metadata table) refl is

@@ -75,7 +75,7 @@ fn a_column_is_read_and_written(rt: HostRuntime) -> Result<(), Fail> {
         (body.nodes.len(), body.buffers.len(), body.offset),
         (1, 2, 64)
     );
-    assert_eq!(rt; &body.bytes[..4], &[0, 0, 0, 7][..]);
+    assert!(rt; body.bytes.as_slice().starts_with(&[0, 0, 0, 7]));
     Ok(())
 }
 

@@ -78,80 +78,108 @@ fn with_one_on_device(alloc: Global, file: Vec<u8>, array: AnyArray) -> Result<V
     Ok(writer.into_inner().into_inner())
 }
 
-/// Whether a file holds two batches of a column, one after another, and nothing more.
-fn holds(alloc: Global, bytes: &[u8], wanted: &[AnyArray]) -> Result<bool, Error> {
+/// What a reader answers next, beside some columns.
+fn next_of(reader: &mut FileReader<InMemory<'_>>, wanted: &[AnyArray]) -> Short {
+    match reader.next() {
+        None => Short::Nothing,
+        Some(Ok(chunk)) if chunk.arrays() == wanted => Short::Expected,
+        Some(answer) => told(answer),
+    }
+}
+
+/// What a reader of a file answers to three calls, beside some columns.
+fn three_of(alloc: Global, bytes: &[u8], wanted: &[AnyArray]) -> Result<[Short; 3], Error> {
     let mut room = InMemory { bytes };
     let metadata = read_file_metadata(alloc, &mut room)?;
     let mut reader = FileReader::new(alloc, room, metadata, None, None)?;
-    for array in wanted {
-        match reader.next() {
-            None => return Ok(false),
-            Some(Err(error)) => return Err(error),
-            Some(Ok(chunk)) => {
-                if chunk.arrays().first() != Some(array) {
-                    return Ok(false);
-                }
-            }
-        }
-    }
-    Ok(matches!(reader.next(), None))
+    Ok([
+        next_of(&mut reader, wanted),
+        next_of(&mut reader, wanted),
+        next_of(&mut reader, wanted),
+    ])
 }
 
 #[test]
 fn a_batch_is_appended(rt: HostRuntime) -> Result<(), Fail> {
     let alloc = rt.alloc();
-    let wanted = [truths(alloc)?, truths(alloc)?];
+    let wanted = [truths(alloc)?];
     let bytes = with_one(alloc, truths_file(alloc)?, truths(alloc)?)?;
     let same = with_one_on_device(alloc, truths_file(alloc)?, truths(alloc)?)?;
-    let is_read = holds(alloc, &bytes, &wanted)?;
+    let found = three_of(alloc, &bytes, &wanted)?;
     let is_same = bytes == same;
-    drop((wanted, bytes, same));
-    assert_eq!(rt; (is_read, is_same), (true, true));
+    drop(wanted);
+    drop(bytes);
+    drop(same);
+    assert_eq!(rt; found, [Short::Expected, Short::Expected, Short::Nothing]);
+    assert_eq!(rt; is_same, true);
     Ok(())
 }
 
-/// A file with so many bytes more in its footer, which stand for what a footer may hold beside schema and blocks.
-fn with_longer_footer(alloc: Global, file: &[u8], more: usize) -> Result<Vec<u8>, Error> {
+/// Where the body of a block ends.
+fn end_of(block: &MessageBlock) -> Option<usize> {
+    let body = usize::try_from(block.body_length).ok()?;
+    block
+        .offset
+        .checked_add(block.metadata_length)?
+        .checked_add(body)
+}
+
+/// A file with 4,096 bytes more behind its last batch, which stand for an old footer that held more than a new one does.
+fn with_longer_tail(alloc: Global, file: &[u8]) -> Result<Vec<u8>, Error> {
+    let mut room = InMemory { bytes: file };
+    let metadata = read_file_metadata(alloc, &mut room)?;
     let mut bytes = Vec::new(alloc);
-    let Some(end) = file.len().checked_sub(10) else {
+    let Some(block) = metadata.blocks.first() else {
         return Ok(bytes);
     };
-    bytes.extend_from_slice(&file[..end])?;
-    for _ in 0..more {
+    let Some(end) = end_of(block) else {
+        return Ok(bytes);
+    };
+    let (Some(head), Some(tail)) = (file.get(..end), file.get(end..)) else {
+        return Ok(bytes);
+    };
+    bytes.extend_from_slice(head)?;
+    for _ in 0..4096 {
         bytes.push(1)?;
     }
-    let stated = [file[end], file[end + 1], file[end + 2], file[end + 3]];
-    let length = u32::from_le_bytes(stated).wrapping_add(more as u32);
-    bytes.extend_from_slice(&length.to_le_bytes())?;
-    bytes.extend_from_slice(b"ARROW1")?;
+    bytes.extend_from_slice(tail)?;
     Ok(bytes)
 }
 
 #[test]
 fn a_file_gets_no_shorter(rt: HostRuntime) -> Result<(), Fail> {
     let alloc = rt.alloc();
-    let wanted = [truths(alloc)?, truths(alloc)?];
+    let wanted = [truths(alloc)?];
     let short = truths_file(alloc)?;
-    let long = with_longer_footer(alloc, &short, 4096)?;
+    let long = with_longer_tail(alloc, &short)?;
+    let again = with_longer_tail(alloc, &short)?;
     let length = long.len();
     let bytes = with_one(alloc, long, truths(alloc)?)?;
-    let is_read = holds(alloc, &bytes, &wanted)?;
-    let is_as_long = bytes.len() == length;
-    let again = with_longer_footer(alloc, &short, 4096)?;
     let same = with_one_on_device(alloc, again, truths(alloc)?)?;
-    let is_same = bytes == same;
-    drop((wanted, short, bytes, same));
-    assert_eq!(rt; (is_read, is_as_long, is_same), (true, true, true));
+    let found = three_of(alloc, &bytes, &wanted)?;
+    let (is_as_long, is_same) = (bytes.len() == length, bytes == same);
+    drop(wanted);
+    drop(short);
+    drop(bytes);
+    drop(same);
+    assert_eq!(rt; found, [Short::Expected, Short::Expected, Short::Nothing]);
+    assert_eq!(rt; (is_as_long, is_same), (true, true));
     Ok(())
 }
 
 /// A block of a message of which another one tells the lengths.
-fn block_like(other: &MessageBlock, place: usize) -> Block {
-    Block {
-        offset: (place as u64).cast_signed(),
-        meta_data_length: (other.metadata_length as u32).cast_signed(),
+fn block_like(other: &MessageBlock, place: usize) -> Result<Block, Error> {
+    let (Ok(offset), Ok(meta_data_length)) = (
+        i64::try_from(place),
+        i32::try_from(other.metadata_length),
+    ) else {
+        return Err(Error::Overflow);
+    };
+    Ok(Block {
+        offset,
+        meta_data_length,
         body_length: other.body_length,
-    }
+    })
 }
 
 /// Puts the end of a file behind its messages, the dictionary's and the batch's.
@@ -159,9 +187,9 @@ fn put_footer(
     alloc: Global,
     bytes: &mut Vec<u8>,
     metadata: &FileMetadata,
-    blocks: [Block; 2],
+    dictionary: Block,
+    batch: Block,
 ) -> Result<(), Error> {
-    let [dictionary, batch] = blocks;
     let footer = footer_to_bytes(
         alloc,
         &metadata.schema,
@@ -169,62 +197,71 @@ fn put_footer(
         &[dictionary],
         &[batch],
     )?;
+    let Ok(length) = u32::try_from(footer.len()) else {
+        return Err(Error::Overflow);
+    };
     bytes.extend_from_slice(&END)?;
     bytes.extend_from_slice(&footer)?;
-    bytes.extend_from_slice(&(footer.len() as u32).to_le_bytes())?;
+    bytes.extend_from_slice(&length.to_le_bytes())?;
     bytes.extend_from_slice(b"ARROW1")?;
     Ok(())
 }
 
-/// A file of letters whose dictionary stands behind its batch.
-fn dictionary_last(alloc: Global) -> Result<Vec<u8>, Error> {
-    let chunks = chunks_of(alloc, letters(alloc, &["a", "b"])?)?;
-    let file = file_of(alloc, letters_schema(alloc)?, &chunks)?;
-    let mut room = InMemory { bytes: &file };
+/// A file whose dictionary stands behind its batch, made of one where it stands before it.
+fn dictionary_last(alloc: Global, file: &[u8]) -> Result<Vec<u8>, Error> {
+    let mut room = InMemory { bytes: file };
     let metadata = read_file_metadata(alloc, &mut room)?;
     let mut bytes = Vec::new(alloc);
-    let (Some(dictionary), Some(batch)) = (metadata.dictionaries.first(), metadata.blocks.first())
-    else {
+    let Some(dictionary) = metadata.dictionaries.first() else {
         return Ok(bytes);
     };
-    let (first, second) = (dictionary.offset, batch.offset);
-    let end = second + batch.metadata_length + batch.body_length as usize;
-    let parts = (
-        file.get(..first),
-        file.get(second..end),
-        file.get(first..second),
-    );
-    let (Some(head), Some(rows), Some(values)) = parts else {
+    let Some(batch) = metadata.blocks.first() else {
         return Ok(bytes);
     };
-    bytes.extend_from_slice(head)?;
-    bytes.extend_from_slice(rows)?;
-    bytes.extend_from_slice(values)?;
-    let blocks = [
-        block_like(dictionary, head.len() + rows.len()),
-        block_like(batch, head.len()),
-    ];
-    put_footer(alloc, &mut bytes, &metadata, blocks)?;
+    let Some(end) = end_of(batch) else {
+        return Ok(bytes);
+    };
+    if let Some(head) = file.get(..dictionary.offset) {
+        bytes.extend_from_slice(head)?;
+    }
+    let batch_block = block_like(batch, bytes.len())?;
+    if let Some(rows) = file.get(batch.offset..end) {
+        bytes.extend_from_slice(rows)?;
+    }
+    let dictionary_block = block_like(dictionary, bytes.len())?;
+    if let Some(values) = file.get(dictionary.offset..batch.offset) {
+        bytes.extend_from_slice(values)?;
+    }
+    put_footer(alloc, &mut bytes, &metadata, dictionary_block, batch_block)?;
     Ok(bytes)
+}
+
+/// The file of one batch of letters.
+fn letters_file(alloc: Global) -> Result<Vec<u8>, Error> {
+    let chunks = chunks_of(alloc, letters(alloc, &["a", "b"])?)?;
+    file_of(alloc, letters_schema(alloc)?, &chunks)
 }
 
 #[test]
 fn batches_stand_behind_the_last_dictionary(rt: HostRuntime) -> Result<(), Fail> {
     let alloc = rt.alloc();
-    let wanted = [letters(alloc, &["a", "b"])?, letters(alloc, &["a", "b"])?];
-    let file = dictionary_last(alloc)?;
-    let was_read = holds(alloc, &file, &wanted[..1])?;
+    let wanted = [letters(alloc, &["a", "b"])?];
+    let plain = letters_file(alloc)?;
+    let file = dictionary_last(alloc, &plain)?;
+    let was = three_of(alloc, &file, &wanted)?;
     let bytes = with_one(alloc, file, letters(alloc, &["a", "b"])?)?;
-    let is_read = holds(alloc, &bytes, &wanted)?;
-    drop((wanted, bytes));
-    assert_eq!(rt; (was_read, is_read), (true, true));
+    let found = three_of(alloc, &bytes, &wanted)?;
+    drop(wanted);
+    drop(plain);
+    drop(bytes);
+    assert_eq!(rt; was, [Short::Expected, Short::Nothing, Short::Nothing]);
+    assert_eq!(rt; found, [Short::Expected, Short::Expected, Short::Nothing]);
     Ok(())
 }
 
 /// What an append to a file of letters answers.
 fn refused_letters(alloc: Global, array: AnyArray) -> Result<Short, Error> {
-    let chunks = chunks_of(alloc, letters(alloc, &["a", "b"])?)?;
-    let file = file_of(alloc, letters_schema(alloc)?, &chunks)?;
+    let file = letters_file(alloc)?;
     Ok(told(with_one(alloc, file, array)))
 }
 

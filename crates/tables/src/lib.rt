@@ -13,7 +13,7 @@ pub use memory_places::MemoryPlaces;
 pub use places::{FilePlaces, Places};
 pub use program::{Failure, Outcome, run};
 pub use tables_choices::tables_chunks::{
-    Chunk, Fault, Faults, Form, GrowingTable, SealBar, Table, choices_have_columns,
+    Chunk, Counting, Fault, Faults, Form, GrowingTable, SealBar, Table, choices_have_columns,
     columnar_memory, cuts_and_choices_commute, cuts_have_parts, distinct, fits_schema,
     is_table_schema, joins_have_both, nested_arrays, rows_are_columns,
 };

@@ -33,6 +33,7 @@ use Rattle.tables_rows.specs.chunks.ipc_format.grammar.Tables.{Contents, Form, s
 use Rattle.tables_rows.specs.chunks.ipc_format.grammar.Tables.{stream_entry}
 use Rattle.tables_rows.specs.chunks.ipc_format.metadata.Reading.{Refuses}
 use Rattle.tables_rows.specs.chunks.ipc_format.streams.Starts as streams
+use Rattle.tables_rows.proofs.chunk_lemmas.Starting.{stream_without}
 use Rattle.tables_rows.proofs.chunk_lemmas.ipc_format_lemmas.WholeFiles.{unread_start}
 use Rattle.tables_rows.proofs.chunk_lemmas.ipc_format_lemmas.FileStarts.{unread_in_file}
 use Rattle.tables_rows.proofs.chunk_lemmas.ipc_format_lemmas.Binding.{same_some}
@@ -44,7 +45,7 @@ use Rattle.tables_choices.proofs.EarlyEnds.{ends_early, ends_in_later, never_ear
 use Rattle.tables_choices.proofs.FileMessages.{file_holds, file_without, unread_blocks}
 use Rattle.tables_choices.proofs.GatheredTables.{of_value, picked_of, with_value}
 use Rattle.tables_choices.proofs.KeptRows.{rows_kept}
-use Rattle.tables_choices.proofs.StreamMessages.{none_to_end, stream_holds, stream_without, unread_from, whole_to_end}
+use Rattle.tables_choices.proofs.StreamMessages.{none_to_end, stream_holds, unread_from, whole_to_end}
 
 -- what is read as a table
 abbrev pub ReadsStored : Form → List ℕ → List ℕ → Option ℕ → Result Stored Fault → Type 0
@@ -70,11 +71,10 @@ choice_is : (form : Form) (bytes columns : List ℕ) (limit : Option ℕ)
 unfolding choice_of
 choice_is form bytes columns limit = refl
 
--- without contents there is no choice
-no_choice : (form : Form) (bytes columns : List ℕ) (limit : Option ℕ) → contents_of form bytes ≡ None
-    → choice_of form bytes columns limit ≡ None
-no_choice form bytes columns limit none =
-    choice_is form bytes columns limit ∙ ap (λ (held : Option Contents). held >>= choice_held columns limit) none
+-- without contents there are no chosen batches
+no_chosen : (form : Form) (bytes columns : List ℕ) (limit : Option ℕ) → contents_of form bytes ≡ None
+    → choice_batches form bytes columns limit ≡ None
+no_chosen form bytes columns limit none = ap (λ (held : Option Contents). held >>= batches_held columns limit) none
 
 chooses : (form : Form) (bytes columns : List ℕ) (limit : Option ℕ) (found : SchemaIn) (entries : List Entry) (given : Option Batches)
     → contents_of form bytes ≡ Some (record { schema = found; entries = entries }) → HasColumns found columns
@@ -135,12 +135,12 @@ held_read form bytes columns limit found entries (Ok table) held below gathered 
     )
 held_read form bytes columns limit found entries (Err faults.Memory) held below gathered = tt
 held_read form bytes columns limit found entries (Err (faults.Ipc (errors.OutOfSpec what))) held below gathered = (
-  chooses form bytes columns limit found entries None held.contents below gathered,
+  batches_are form bytes columns limit found entries None held.contents gathered,
   never_lacks form bytes columns found held.schema below,
   held.whole,
 )
 held_read form bytes columns limit found entries (Err (faults.Ipc (errors.NotYetImplemented what))) held below gathered = (
-  chooses form bytes columns limit found entries None held.contents below gathered.0,
+  batches_are form bytes columns limit found entries None held.contents gathered.0,
   never_lacks form bytes columns found held.schema below,
   held.unread gathered.1,
 )
@@ -186,9 +186,9 @@ pub refused_read : {A : Type 0} (error : Error) (form : Form) (bytes columns : L
     → Refuses Unread error given → ReadsStored form bytes columns limit (Err (fault_of error))
 refused_read errors.OutOfMemory form bytes columns limit Unread given nothing lacks early unread refused = tt
 refused_read (errors.OutOfSpec what) form bytes columns limit Unread given nothing lacks early unread refused =
-    (no_choice form bytes columns limit (nothing refused), lacks refused, early refused)
+    (no_chosen form bytes columns limit (nothing refused), lacks refused, early refused)
 refused_read (errors.NotYetImplemented what) form bytes columns limit Unread given nothing lacks early unread refused =
-    (no_choice form bytes columns limit (nothing refused.0), lacks refused.0, unread refused.1)
+    (no_chosen form bytes columns limit (nothing refused.0), lacks refused.0, unread refused.1)
 refused_read (errors.External from what) form bytes columns limit Unread given nothing lacks early unread refused = absurd refused
 refused_read (errors.Io what) form bytes columns limit Unread given nothing lacks early unread refused = absurd refused
 refused_read (errors.InvalidArgumentError what) form bytes columns limit Unread given nothing lacks early unread refused = absurd refused
@@ -218,12 +218,12 @@ pub stream_entries_refused : (fault : Fault) (bytes columns : List ℕ) (limit :
 stream_entries_refused faults.Memory bytes columns limit start place version e below refused = tt
 stream_entries_refused faults.Unfinished bytes columns limit start place version e below refused =
     let none = none_to_end bytes place (later_messages (length bytes) bytes place 0) refl refused in (
-      no_choice stream bytes columns limit (stream_holds bytes start place None e none),
+      no_chosen stream bytes columns limit (stream_holds bytes start place None e none),
       never_lacks stream bytes columns start.schema (stream_has_schema bytes start place e) below,
       ends_early bytes (subst IsSome (sym e) refl) ((stream_from bytes start place e).cut ∙ refused),
     )
 stream_entries_refused (faults.Ipc (errors.OutOfSpec what)) bytes columns limit start place version e below refused = (
-  no_choice stream bytes columns limit (stream_holds bytes start place None e refused.0),
+  no_chosen stream bytes columns limit (stream_holds bytes start place None e refused.0),
   never_lacks stream bytes columns start.schema (stream_has_schema bytes start place e) below,
   λ early. not_cut (sym refused.1 ∙ sym ((stream_from bytes start place e).cut) ∙ ends_in_later bytes early),
 )

@@ -41,32 +41,6 @@ stream_holds bytes start place given e later =
     held_by bytes a.0 b.0 c.0 given a.1 (ap (λ (p : Start × ℕ). later_messages (length bytes) bytes p.1 0) pair ∙ later) b.1 c.1
     ∙ ap (λ (p : Start × ℕ). option_map (contents_by p.0) given) pair
 
--- the start that the parts of the first message give
-abbrev start_by : ℕ → Option Version → Option SchemaIn → Option (Start × ℕ)
-start_by place version found = version >>= (λ v. found >>= (λ s. Some (record { version = v; schema = s }, place)))
-
-nothing_by : (bytes : List ℕ) (first : Framed × ℕ) (given : Option (List Framed)) (version : Option Version) (found : Option SchemaIn)
-    → first_of bytes ≡ Some first → later_messages (length bytes) bytes first.1 0 ≡ given → version_in first.0.metadata ≡ version
-    → schema_of first.0 first.0.header ≡ found → start_by first.1 version found ≡ None → contents_of stream bytes ≡ None
-unfolding contents_of messages_of
-nothing_by bytes first None version found begins later v s none = rw (begins, later) refl
-nothing_by bytes first (Some more) None found begins later v s none = rw (begins, later, v) refl
-nothing_by bytes first (Some more) (Some version) None begins later v s none = rw (begins, later, v, s) refl
-nothing_by bytes first (Some more) (Some version) (Some found) begins later v s none = absurd cc
-
-nothing_held : (bytes : List ℕ) (given : Option (Framed × ℕ)) → first_of bytes ≡ given
-    → (given >>= (λ first. start_by first.1 (version_in first.0.metadata) (schema_of first.0 first.0.header))) ≡ None
-    → contents_of stream bytes ≡ None
-unfolding contents_of messages_of
-nothing_held bytes None begins none = rw begins refl
-nothing_held bytes (Some first) begins none =
-    nothing_by bytes first (later_messages (length bytes) bytes first.1 0) (version_in first.0.metadata) (schema_of first.0 first.0.header)
-    begins refl refl refl none
-
--- where nothing begins, nothing is held
-pub stream_without : (bytes : List ℕ) → start_in bytes ≡ None → contents_of stream bytes ≡ None
-stream_without bytes none = nothing_held bytes (first_of bytes) refl none
-
 -- ---- streams that end early
 
 -- what the messages behind one are, and whether they end early

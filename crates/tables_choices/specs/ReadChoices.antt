@@ -46,20 +46,21 @@ choice_batches form bytes columns limit = do
   chosen_batches (layout_of contents.schema) columns [] limit contents.entries
 
 -- What is read is the choice that the format gives, in its batches that have a row. A column isn't there exactly where the schema that is found
--- hasn't so many; what else is refused says that all are there. What is refused as out of specification the format doesn't give, and it is no
--- stream that ends early. In what isn't implemented stands the mark of Feather in a file, a float field, a compressed batch, or a dictionary that
--- adds to an earlier one. For too many rows the chosen batches have them. Memory may run out anywhere.
+-- hasn't so many; what else is refused says that all are there. Of what is refused as out of specification the format gives no chosen batches, and
+-- it is no stream that ends early. Nor does it of what isn't implemented, in which stands the mark of Feather in a file, a float field, a compressed
+-- batch, or a dictionary that adds to an earlier one, nor of a stream that ends early. For too many rows the chosen batches have them. Memory may run
+-- out anywhere.
 abbrev pub ReadsChoice : {A : Type 0} → (A → Stored) → Form → List ℕ → List ℕ → Option ℕ → Result A Fault → Type 0
 ReadsChoice content form bytes columns limit (Ok table) = (choice_of form bytes columns limit ≡ Some (as_table (content table)))
     × IsSomeAnd (choice_batches form bytes columns limit) (λ batches. kept batches ≡ slots_of_batches (content table).batches)
 ReadsChoice content form bytes columns limit (Err faults.Memory) = Unit {0}
 ReadsChoice content form bytes columns limit (Err faults.NoSuchColumn) = LacksColumn form bytes columns
 ReadsChoice content form bytes columns limit (Err (faults.Ipc (errors.OutOfSpec what))) =
-    (choice_of form bytes columns limit ≡ None) × ¬ LacksColumn form bytes columns × ¬ EndsEarly form bytes
+    (choice_batches form bytes columns limit ≡ None) × ¬ LacksColumn form bytes columns × ¬ EndsEarly form bytes
 ReadsChoice content form bytes columns limit (Err (faults.Ipc (errors.NotYetImplemented what))) =
-    (choice_of form bytes columns limit ≡ None) × ¬ LacksColumn form bytes columns × HasUnimplemented form bytes
+    (choice_batches form bytes columns limit ≡ None) × ¬ LacksColumn form bytes columns × HasUnimplemented form bytes
 ReadsChoice content form bytes columns limit (Err faults.Unfinished) =
-    (choice_of form bytes columns limit ≡ None) × ¬ LacksColumn form bytes columns × EndsEarly form bytes
+    (choice_batches form bytes columns limit ≡ None) × ¬ LacksColumn form bytes columns × EndsEarly form bytes
 ReadsChoice content form bytes columns limit (Err faults.TooManyRows) =
     (choice_of form bytes columns limit ≡ None) × ¬ LacksColumn form bytes columns
     × IsSomeAnd (choice_batches form bytes columns limit) (λ batches. 2 ^ 64 ≤ length (rows_of_batches batches))

@@ -69,10 +69,11 @@ columns_are width (batch ∷ batches) k are inside =
 
 -- ---- rows of one width
 
-abbrev are_wide : ℕ → List (List Slot) → Bool
+abbrev pub are_wide : ℕ → List (List Slot) → Bool
 are_wide width rows = list_all (λ (row : List Slot). length row == width) rows
 
-rows_wide : (width : ℕ) (batches : List (List Column)) → AreBatches width batches → are_wide width (stored_rows batches) ≡ true
+-- each row has a value a column
+pub rows_wide : (width : ℕ) (batches : List (List Column)) → AreBatches width batches → are_wide width (stored_rows batches) ≡ true
 rows_wide width [] are = refl
 rows_wide width (batch ∷ batches) are =
     let parts = are_parts width batch batches are in

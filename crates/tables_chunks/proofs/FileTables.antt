@@ -1,5 +1,5 @@
 -- The table of the batches that were read of a file.
-use Rattle.std.proofs.Common.{◌≡◌, ◌∙◌, ℕ, ◌<◌, ◌≤◌, ◌^◌, List, [], length, refl, sym, ap, subst, arith}
+use Rattle.std.proofs.Common.{◌≡◌, ◌∙◌, ℕ, ◌<◌, ◌≤◌, ◌^◌, List, [], length, sym, ap, subst, arith}
 use Rattle.std.proofs.lemmas.List.{take_all}
 use Rattle.std.specs.Prelude.{Option, Some, None, IsSomeAnd, Result, Ok, Err}
 use Rattle.ipc_format.specs.Refusals.{HasTooManyRows, first_batches}
@@ -31,16 +31,6 @@ Batches = List (List (List Slot))
 
 abbrev held : Contents → Option Batches
 held contents = batches_of (layout_of contents.schema) [] contents.entries
-
--- where no batches are held, there is no table
-no_table_of : (given : Option Contents) → (given >>= held) ≡ None
-    → (given >>= (λ contents. fitting (normalised contents.schema.schema) (held contents))) ≡ None
-no_table_of None e = refl
-no_table_of (Some contents) e = ap (fitting (normalised contents.schema.schema)) e
-
-no_file_table : (bytes : List ℕ) → batches_in file bytes ≡ None → table_of file bytes ≡ None
-unfolding batches_in table_of
-no_file_table bytes e = no_table_of (contents_of file bytes) e
 
 -- where batches are held, the table has their rows under the schema, where these fit 64 bits
 its_table : (schema : Schema) (batches : Batches) (given : Option Contents) → IsSomeAnd given (λ found. schema ≡ normalised found.schema.schema)
@@ -85,8 +75,8 @@ many_in_file bytes batches e many =
 
 pub file_fault : (error : Error) (bytes : List ℕ) → ReadsFile (Err error) bytes → ReadsFileTable (Err (fault_of error)) bytes
 file_fault errors.OutOfMemory bytes refused = tt
-file_fault (errors.OutOfSpec what) bytes refused = no_file_table bytes refused
-file_fault (errors.NotYetImplemented what) bytes refused = (no_file_table bytes refused.0, refused.1)
+file_fault (errors.OutOfSpec what) bytes refused = refused
+file_fault (errors.NotYetImplemented what) bytes refused = refused
 file_fault (errors.External from what) bytes refused = absurd refused
 file_fault (errors.Io what) bytes refused = absurd refused
 file_fault (errors.InvalidArgumentError what) bytes refused = absurd refused

@@ -7,6 +7,7 @@ pub mod ColumnsOfRows
 pub mod CutBatches
 pub mod CutSteps
 pub mod FileRefused
+pub mod FileStreams
 pub mod FileTables
 pub mod FilesRead
 pub mod JoinedBatches
@@ -32,6 +33,7 @@ pub mod TableBatches
 pub mod TableColumns
 pub mod TableForms
 pub mod TellingTables
+pub mod TextTables
 pub mod Unread
 pub mod WithinLimits
 pub mod WrittenIds

@@ -16,16 +16,16 @@ ReadsStreamTable (Ok table) bytes =
     (table_of stream bytes ≡ Some (as_table table)) × (batches_in stream bytes ≡ Some (slots_of_batches table.batches))
 ReadsStreamTable (Err fault) bytes = ReadsStream (Err fault) bytes
 
--- The table that the format gives of a file, batch by batch. What is refused as out of specification the format doesn't give. In what isn't
--- implemented stands the mark of Feather, a float field, a compressed batch, or a dictionary that adds to an earlier one. For too many rows its
--- first batches have them. Memory may run out anywhere.
+-- The table that the format gives of a file, batch by batch. Of what is refused as out of specification the format gives no batches. Nor does it of
+-- what isn't implemented, in which stands the mark of Feather, a float field, a compressed batch, or a dictionary that adds to an earlier one. For
+-- too many rows its first batches have them. Memory may run out anywhere.
 abbrev pub ReadsFileTable : Result Stored Fault → List ℕ → Type 0
 ReadsFileTable (Ok table) bytes =
     (table_of file bytes ≡ Some (as_table table)) × (batches_in file bytes ≡ Some (slots_of_batches table.batches))
 ReadsFileTable (Err faults.Memory) bytes = Unit {0}
-ReadsFileTable (Err (faults.Ipc (errors.OutOfSpec what))) bytes = table_of file bytes ≡ None
+ReadsFileTable (Err (faults.Ipc (errors.OutOfSpec what))) bytes = batches_in file bytes ≡ None
 ReadsFileTable (Err (faults.Ipc (errors.NotYetImplemented what))) bytes =
-    (table_of file bytes ≡ None) × HasUnimplemented file bytes
+    (batches_in file bytes ≡ None) × HasUnimplemented file bytes
 ReadsFileTable (Err faults.TooManyRows) bytes = (table_of file bytes ≡ None) × HasTooManyRows file bytes
 ReadsFileTable (Err _) bytes = ⊥
 

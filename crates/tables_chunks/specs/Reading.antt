@@ -46,19 +46,19 @@ ReadsBatches schema layout version bytes place (Err _) = ⊥
 -- ---- the whole
 
 -- What is read is the table that the format gives, batch by batch: its normalised schema, which is that of a table, arrays of the types of its
--- fields, and the number of its rows. What is refused as out of specification the format doesn't give, and its messages don't all keep their turn
--- and read up to where the stream ends within the first four bytes of another one. In what isn't implemented stands a float field, a compressed
--- batch, or a dictionary that adds to an earlier one. An unfinished stream ends within the first four bytes of a later message. For too many rows
--- its first batches have them. Memory may run out anywhere.
+-- fields, and the number of its rows. Of what is refused as out of specification the format gives no batches, and its messages don't all keep their
+-- turn and read up to where the stream ends within the first four bytes of another one. Nor does it give any of what isn't implemented, in which
+-- stands a float field, a compressed batch, or a dictionary that adds to an earlier one, nor of an unfinished stream, which ends within the first
+-- four bytes of a later message. For too many rows its first batches have them. Memory may run out anywhere.
 abbrev pub ReadsStream : Result StreamBatches Fault → List ℕ → Type 0
 ReadsStream (Ok read) bytes = (table_of stream bytes ≡ Some (table_read read))
     × (batches_in stream bytes ≡ Some (slots_of_batches read.chunks.items))
     × (read.rows ≡ length (table_read read).rows) × All (AreOfFields read.schema.fields) read.chunks.items × IsTableSchema read.schema
 ReadsStream (Err faults.Memory) bytes = Unit {0}
 ReadsStream (Err (faults.Ipc (errors.OutOfSpec what))) bytes =
-    (table_of stream bytes ≡ None) × ¬ (IsUnfinished bytes × EndsInLaterMessage bytes)
+    (batches_in stream bytes ≡ None) × ¬ (IsUnfinished bytes × EndsInLaterMessage bytes)
 ReadsStream (Err (faults.Ipc (errors.NotYetImplemented what))) bytes =
-    (table_of stream bytes ≡ None) × (HasFloat stream bytes ⊎ (HasCompression stream bytes ⊎ HasDelta stream bytes))
-ReadsStream (Err faults.Unfinished) bytes = (table_of stream bytes ≡ None) × EndsInLaterMessage bytes
+    (batches_in stream bytes ≡ None) × (HasFloat stream bytes ⊎ (HasCompression stream bytes ⊎ HasDelta stream bytes))
+ReadsStream (Err faults.Unfinished) bytes = (batches_in stream bytes ≡ None) × EndsInLaterMessage bytes
 ReadsStream (Err faults.TooManyRows) bytes = (table_of stream bytes ≡ None) × HasTooManyRows stream bytes
 ReadsStream (Err _) bytes = ⊥

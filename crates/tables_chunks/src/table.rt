@@ -1,6 +1,7 @@
 //! Tables: a schema, and rows batch by batch.
 ghost use Rattle.std.specs.Prelude.{◌≡◌, ◌+◌, ◌≤◌, ◌<◌, ◌^◌, ◌↔◌, IsTrue, length, true};
 ghost use Rattle.std.specs.List.{list_all};
+ghost use Rattle.ipc_format.specs.reading_laws.SealLaws.{IsTableOfTexts};
 ghost use Rattle.tables_chunks.specs.Batches.{stored_rows};
 ghost use Rattle.tables_chunks.specs.StoredTables.{AddsBatch, IsTable, MakesTable, as_table, is_of_fields, row_count};
 ghost use Rattle.tables_chunks.specs.TableSchemas.{IsTableSchema};
@@ -84,12 +85,15 @@ impl Table {
         offset <= self.rows && length <= self.rows - offset
     }
 
-    /// Hands to a proof that each batch fits the schema, and that the rows fit 64 bits.
+    /// Hands to a proof that each batch fits the schema, that the rows fit 64 bits, and that each row has a value a field, where names and metadata
+    /// are texts, as the laws of seals want it.
     pub fn whole(&self)
         ensures batches { IsTable self.now.schema self.now.batches }
         ensures rows { row_count self.now < 2 ^ 64 }
+        ensures texts { IsTableOfTexts (as_table self.now) }
     {
         let _rows = self.rows;
+        self.schema.whole();
     }
 
     /// The table of some batches that fit the schema, whose rows are counted.

@@ -1,5 +1,5 @@
 //! Tables written as files: the start and the schema's message, the messages of the batches, which a footer places, and the footer.
-ghost use Rattle.std.specs.Prelude.{◌≡◌, ◌+◌, ◌≤◌, ◌<◌, ◌^◌, ◌++◌, ◌∷◌, [], IfOk, length, true};
+ghost use Rattle.std.specs.Prelude.{◌≡◌, ◌+◌, ◌≤◌, ◌<◌, ◌^◌, ◌++◌, ◌∷◌, [], IfOk, drop, length, true};
 ghost use Rattle.std.specs.List.{list_all};
 ghost use Rattle.ipc_format.specs.reading_laws.laws.Schemas.{HasTexts};
 ghost use Rattle.ipc_format.specs.BlockPlacing.{StandAt, StandsAt};
@@ -13,7 +13,7 @@ ghost use Rattle.ipc_format.specs.metadata.Views.{ids_views};
 ghost use Rattle.ipc_format.specs.streams.Devices.{Puts};
 ghost use Rattle.tables_chunks.specs.Batches.{stored_rows};
 ghost use Rattle.tables_chunks.specs.StoredTables.{IsTable};
-ghost use Rattle.tables_chunks.specs.WrittenTables.{table_ids};
+ghost use Rattle.tables_chunks.specs.WrittenTables.{ReadAsTable, table_ids};
 ghost use Rattle.tables_chunks.specs.WrittenFiles.{GivesTableFooter, PlacesMessages, PutsFile, PutsFileBatch, PutsFileBatches, PutsFileStart};
 ghost use Rattle.tables_chunks.specs.WrittenFiles.{ReadAsTableFile, WritesFile, WritesWhole, places_of, table_file};
 
@@ -279,7 +279,8 @@ fn write_whole<W: Write + Faults>(
     }
 }
 
-/// Writes a schema and batches as a file, with the faults of tables. What is written reads as these batches.
+/// Writes a schema and batches as a file, with the faults of tables. What is written reads as these batches, also as a stream without its first eight
+/// bytes.
 fn write_batches<W: Write + Faults>(
     alloc: Global,
     writer: &mut W,
@@ -291,6 +292,8 @@ fn write_batches<W: Write + Faults>(
         (W.contents writer.old) (W.contents writer.new) }
     ensures reads_back { IfOk result (λ _. HasTexts schema.now → length (stored_rows batches.now) < 2 ^ 64
         → ReadAsTableFile (table_file schema.now batches.now) schema.now batches.now) }
+    ensures reads_as_stream { IfOk result (λ _. HasTexts schema.now → length (stored_rows batches.now) < 2 ^ 64
+        → ReadAsTable (drop 8 (table_file schema.now batches.now)) schema.now batches.now) }
 {
     Ok(write_whole(alloc, writer, schema, batches)?)
 }
@@ -298,7 +301,8 @@ fn write_batches<W: Write + Faults>(
 impl Table {
     /// Writes the table as an Arrow file (Arrow IPC, "IPC File Format"; File.fbs): its mark; the message of its schema, with the ids of dictionaries
     /// from 0 on in pre-order; for each batch the dictionaries that no batch before it brought, and a record batch message; the end mark; and the
-    /// footer, which places the messages. What is written reads, in the form of a file, as this very table, batch by batch.
+    /// footer, which places the messages. What is written reads, in the form of a file, as this very table, batch by batch, and without its first
+    /// eight bytes as a stream of it.
     ///
     /// # Errors
     /// - `Ipc(Overflow)`: a message, or a node in it, is past its limit, or the file would have 2^63 bytes or more, or the footer 2^31 or more.
@@ -315,6 +319,8 @@ impl Table {
             (W.contents writer.old) (W.contents writer.new) }
         ensures reads_back { IfOk result (λ done.
             ReadAsTableFile (table_file self.now.schema self.now.batches) self.now.schema self.now.batches) }
+        ensures reads_as_stream { IfOk result (λ done.
+            ReadAsTable (drop 8 (table_file self.now.schema self.now.batches)) self.now.schema self.now.batches) }
     {
         self.whole();
         self.schema().whole();

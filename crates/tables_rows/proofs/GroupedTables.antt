@@ -15,13 +15,14 @@ use Rattle.tables_chunks.specs.ipc_format.columns.StoredColumns.{Column}
 use Rattle.tables_chunks.specs.ipc_format.Seals.{groups_of, groups_fit, is_batch_size, is_sealable}
 use Rattle.tables_chunks.specs.Batches.{stored_rows}
 use Rattle.tables_chunks.specs.StoredTables.{Stored, IsTable, MakesTable, is_of_fields}
+use Rattle.tables_chunks.proofs.ColumnsOfRows.{rows_wide}
 use Rattle.tables_rows.specs.Bars.{bar_of, name_of}
 use Rattle.tables_rows.specs.Grouping.{after_rows, all_batches, no_rows, rows_fit, IsNotTaken}
 use Rattle.tables_rows.specs.Seals.{GroupsTable}
 use Rattle.tables_rows.proofs.FreshBatches.{groups_typed}
 use Rattle.tables_rows.proofs.GroupedRows.{batches_are_groups, rows_fit_as_groups}
 use Rattle.tables_rows.proofs.PushedSlots.{weaker}
-use Rattle.tables_rows.proofs.RowCounts.{rows_of_fields, rows_wide, seal_count}
+use Rattle.tables_rows.proofs.RowCounts.{rows_of_fields, seal_count}
 
 -- a batch has a row at least
 pub some_rows : (n : ℕ) → is_batch_size n ≡ true → 0 < n

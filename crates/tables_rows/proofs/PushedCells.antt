@@ -1,23 +1,23 @@
 -- Slots that are pushed to several columns, one to each.
 use Rattle.std.proofs.Common.{◌≡◌, ◌∙◌, ℕ, zero, suc, ◌+◌, ◌<◌, ◌≤◌, List, [], ◌∷◌, length, map, take, get_or, Bool, true, false, refl, sym, ap}
-use Rattle.std.proofs.Common.{inl, inr, arith, add-one, subst, ◌&&◌}
+use Rattle.std.proofs.Common.{inl, inr, arith, add-one, subst, ◌&&◌, ◌||◌, ◌++◌, not}
 use Rattle.std.specs.Prelude.{slice_set}
 use Rattle.std.specs.List.{list_all}
-use Rattle.std.proofs.lemmas.Bool.{and_from}
+use Rattle.std.proofs.lemmas.Bool.{and_from, and_parts}
 use Rattle.std.proofs.lemmas.List.{length_push, take_all}
-use Rattle.std.proofs.lemmas.List.Folds.{list_all_at}
 use borrow.Author.Count.{below_more}
 use Rattle.columnar_memory_types.specs.declared.data_type.DataType.TheVariants as types
 use Rattle.columnar_memory_types.specs.declared.error.Error.{Error}
 use Rattle.columnar_memory_types.specs.declared.error.Error.TheVariants as errors
 use Rattle.tables_chunks.specs.declared.fault.Fault.{Fault}
 use Rattle.tables_chunks.specs.declared.fault.Fault.TheVariants as faults
+use Rattle.tables_chunks.specs.ipc_format.columnar_memory.declared.DataType.{DataType}
 use Rattle.tables_chunks.specs.ipc_format.columns.Cells.{fits_cell}
+use Rattle.tables_chunks.specs.ipc_format.columns.OpenBatch.{is_within}
 use Rattle.tables_chunks.specs.ipc_format.columns.Slots.{Slot, null}
 use Rattle.tables_chunks.specs.ipc_format.nested_arrays.builders.cells.parts.Open.{Open, opened, with_slot, IsRefusal}
-use Rattle.tables_rows.specs.Columns.{are_taken, is_fitting, lowered, with_each, AreLong, IsRefused, IsShort}
+use Rattle.tables_rows.specs.Columns.{are_taken, is_fitting, lowered, slots_overflow, with_each, AreLong, IsRefused, IsShort}
 use Rattle.tables_rows.proofs.CutBack.{none_each}
-use Rattle.tables_rows.proofs.OpenRows.{each_count}
 
 -- some column
 abbrev pub any_column : Open
@@ -66,15 +66,51 @@ not_taken (column ∷ columns) (slot ∷ slots) (suc k) d inside many other =
     never true = refl
     never false = refl
 
+-- a slot that fits behind others fits its type
+last_fits : (data_type : DataType) (slots : List Slot) (slot : Slot) → list_all (fits_cell data_type) (slots ++ slot ∷ []) ≡ true
+    → fits_cell data_type slot ≡ true
+last_fits data_type [] slot fit = (and_parts (fits_cell data_type slot) true fit).0
+last_fits data_type (first ∷ slots) slot fit =
+    last_fits data_type slots slot (and_parts (fits_cell data_type first) (list_all (fits_cell data_type) (slots ++ slot ∷ [])) fit).1
+
+its_slot_fits : (column : Open) (slot : Slot) → is_fitting (with_slot column slot) ≡ true → fits_cell column.data_type slot ≡ true
+its_slot_fits column slot fit =
+    let all = list_all (fits_cell column.data_type) (column.slots ++ slot ∷ []) in
+    last_fits column.data_type column.slots slot (and_parts all (is_within column.data_type (column.slots ++ slot ∷ [])) fit).0
+
+-- the slots before a place fit behind those of their columns
+abbrev FitBefore : List Open → List Slot → ℕ → Type 0
+FitBefore columns slots k = (j : ℕ) (d : Open) → j < k → is_fitting (get_or (with_each columns slots) j d) ≡ true
+
+-- so those of all overflow where the slot at the place fits its type, and its column doesn't fit with it
+overflow_at : (columns : List Open) (slots : List Slot) (k : ℕ) (d : Open) → k < length columns → k < length slots → FitBefore columns slots k
+    → fits_cell (get_or columns k d).data_type (get_or slots k null) ≡ true
+    → is_fitting (with_slot (get_or columns k d) (get_or slots k null)) ≡ false → slots_overflow columns slots ≡ true
+overflow_at [] slots k d inside many before fit over = absurd (omega arith)
+overflow_at (column ∷ columns) [] k d inside many before fit over = absurd (omega arith)
+overflow_at (column ∷ columns) (slot ∷ slots) zero d inside many before fit over =
+    and_from (fits_cell column.data_type slot) (not (is_fitting (with_slot column slot)) || slots_overflow columns slots) fit
+    (ap (λ b. not b || slots_overflow columns slots) over)
+overflow_at (column ∷ columns) (slot ∷ slots) (suc k) d inside many before fit over =
+    and_from (fits_cell column.data_type slot) (not (is_fitting (with_slot column slot)) || slots_overflow columns slots)
+    (its_slot_fits column slot (before 0 d (omega arith)))
+    (ap (λ b. not (is_fitting (with_slot column slot)) || b)
+    (overflow_at columns slots k d (omega arith) (omega arith) (λ j d less. before (suc j) d (omega arith)) fit over)
+    ∙ always (not (is_fitting (with_slot column slot))))
+  where
+    always : (b : Bool) → (b || true) ≡ true
+    always true = refl
+    always false = refl
+
 -- why the slot of a column is not taken is why those of all are not
-short_of : (columns : List Open) (slots : List Slot) (k : ℕ) (d : Open) → k < length columns → k < length slots → (fault : Fault)
-    → IsRefused (get_or columns k d) (get_or slots k null) fault → IsShort columns slots fault
-short_of columns slots k d inside many faults.Memory refused = tt
-short_of columns slots k d inside many (faults.Lower (errors.InvalidArgumentError what)) refused = not_taken columns slots k d inside many refused
-short_of columns slots k d inside many (faults.Lower errors.Overflow) refused =
-    list_all_at is_fitting (with_each columns slots) k d (omega (arith, inside, each_count columns slots))
-    (ap is_fitting (each_at columns slots k d inside many) ∙ refused)
-short_of columns slots k d inside many _ refused = absurd refused
+short_of : (columns : List Open) (slots : List Slot) (k : ℕ) (d : Open) → k < length columns → k < length slots → FitBefore columns slots k
+    → (fault : Fault) → IsRefused (get_or columns k d) (get_or slots k null) fault → IsShort columns slots fault
+short_of columns slots k d inside many before faults.Memory refused = tt
+short_of columns slots k d inside many before (faults.Lower (errors.InvalidArgumentError what)) refused =
+    not_taken columns slots k d inside many refused
+short_of columns slots k d inside many before (faults.Lower errors.Overflow) refused =
+    overflow_at columns slots k d inside many before refused.0 refused.1
+short_of columns slots k d inside many before _ refused = absurd refused
 
 -- what a column refuses, as a fault
 pub refused_as : (column : Open) (slot : Slot) (error : Error) → IsRefusal column slot error → IsRefused column slot (lowered error)
@@ -84,7 +120,7 @@ refused_as column slot (errors.InvalidArgumentError what) (inr (inl other)) = ot
 refused_as column slot (errors.InvalidArgumentError what) (inr (inr over)) = absurd over.0
 refused_as column slot errors.Overflow (inl out) = absurd out
 refused_as column slot errors.Overflow (inr (inl other)) = absurd other.0
-refused_as column slot errors.Overflow (inr (inr over)) = over.2
+refused_as column slot errors.Overflow (inr (inr over)) = (over.1, over.2)
 refused_as column slot _ (inl out) = absurd out
 refused_as column slot _ (inr (inl other)) = absurd other.0
 refused_as column slot _ (inr (inr over)) = absurd over.0
@@ -106,9 +142,9 @@ module _ (columns now : List Open) (slots : List Slot) (k : ℕ) (slot : Slot) (
       ap is_fitting (each_at columns slots k d inside (omega (arith, many, inside)))
       ∙ sym (λ j. is_fitting (with_slot (column_there d j) (is j))) ∙ fit
 
-  pub is_short : (d : Open) (fault : Fault) → IsRefused (get_or now k d) slot fault → IsShort columns slots fault
-  is_short d fault refused =
-      short_of columns slots k d inside (omega (arith, many, inside)) fault
+  pub is_short : (d : Open) (fault : Fault) → FitBefore columns slots k → IsRefused (get_or now k d) slot fault → IsShort columns slots fault
+  is_short d fault before refused =
+      short_of columns slots k d inside (omega (arith, many, inside)) before fault
       (subst (λ (s : Slot). IsRefused (get_or columns k d) s fault) is
       (subst (λ (o : Open). IsRefused o slot fault) (column_there d) refused))
 

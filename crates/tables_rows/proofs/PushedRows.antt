@@ -1,5 +1,5 @@
 -- Rows that are pushed to open columns.
-use Rattle.std.proofs.Common.{◌≡◌, ◌∙◌, ℕ, ◌+◌, ◌<◌, true, List, [], ◌∷◌, ◌++◌, length, map, refl, sym, ap, subst, arith, ◌&&◌, ◌==◌}
+use Rattle.std.proofs.Common.{◌≡◌, ◌∙◌, ℕ, ◌+◌, ◌<◌, true, List, [], ◌∷◌, ◌++◌, length, map, refl, sym, ap, subst, arith, ◌&&◌, ◌||◌, ◌==◌, not}
 use Rattle.std.specs.Prelude.{nat_lt, Result, Ok, Err}
 use Rattle.std.specs.List.{list_all}
 use Rattle.std.proofs.lemmas.Bool.{and_from, eq-eqb, lt-ltb}
@@ -10,13 +10,14 @@ use Rattle.tables_chunks.specs.StoredTables.{Stored}
 use Rattle.tables_chunks.specs.declared.fault.Fault.{Fault}
 use Rattle.tables_chunks.specs.declared.fault.Fault.TheVariants as faults
 use Rattle.tables_chunks.specs.ipc_format.columns.Cells.{fits_cell}
+use Rattle.tables_chunks.specs.ipc_format.columns.OpenBatch.{fits}
 use Rattle.tables_chunks.specs.ipc_format.columns.Rows.{Cell, cell_slot, columns_of_rows, columns_fit, is_row_of}
 use Rattle.tables_chunks.specs.ipc_format.columns.Slots.{Slot}
 use Rattle.tables_chunks.specs.ipc_format.nested_arrays.builders.cells.parts.Open.{Open}
 use Rattle.tables_rows.specs.Building.{seen}
-use Rattle.tables_rows.specs.Columns.{are_taken, field_types, is_fitting, open_count, rows_of, types_of, with_each}
+use Rattle.tables_rows.specs.Columns.{are_taken, field_types, is_fitting, open_count, rows_of, slots_of_each, slots_overflow, types_of, with_each}
 use Rattle.tables_rows.specs.Columns.{AreLong, AreOpen, IsShort, PushesEach}
-use Rattle.tables_rows.specs.Pushing.{cells_fit, IsRowFault, PushesRow}
+use Rattle.tables_rows.specs.Pushing.{cells_fit, row_overflows, IsRowFault, PushesRow}
 use Rattle.tables_rows.proofs.OpenRows.{as_many, columns_are, count_is, each_count, fitting_is, long_more, rows_more, types_more}
 
 -- the slots of cells are the slots of what they stand for
@@ -46,15 +47,21 @@ still_open fields columns new slots (Err fault) some many are pushed = subst (Ar
 
 -- ---- what fits
 
--- the columns of the rows with one more fit where the columns with one slot more do
+-- the columns of the rows with one more are those with one slot more
+more_columns : (fields : List Field) (columns : List Open) (slots : List Slot) → 0 < length columns → length slots ≡ length columns
+    → AreOpen fields columns → columns_of_rows fields (rows_of columns ++ slots ∷ []) ≡ slots_of_each (with_each columns slots)
+more_columns fields columns slots some many are =
+    let more = open_more fields columns slots some many are in
+    ap (columns_of_rows fields) (sym (rows_more columns slots some many are.long))
+    ∙ columns_are fields (with_each columns slots) (as_many fields (with_each columns slots) more.types) more.long
+
+-- so they fit where these do
 more_fits : (fields : List Field) (columns : List Open) (slots : List Slot) → 0 < length columns → length slots ≡ length columns
     → AreOpen fields columns
     → columns_fit fields (columns_of_rows fields (rows_of columns ++ slots ∷ [])) ≡ list_all is_fitting (with_each columns slots)
 more_fits fields columns slots some many are =
-    let more = open_more fields columns slots some many are in
-    ap (λ rows. columns_fit fields (columns_of_rows fields rows)) (sym (rows_more columns slots some many are.long))
-    ∙ ap (columns_fit fields) (columns_are fields (with_each columns slots) (as_many fields (with_each columns slots) more.types) more.long)
-    ∙ fitting_is fields (with_each columns slots) more.types
+    ap (columns_fit fields) (more_columns fields columns slots some many are)
+    ∙ fitting_is fields (with_each columns slots) (open_more fields columns slots some many are).types
 
 cells_taken : (fields : List Field) (columns : List Open) (row : List Cell) → types_of columns ≡ field_types fields
     → cells_fit fields row ≡ are_taken columns (map cell_slot row)
@@ -66,6 +73,19 @@ cells_taken (field ∷ fields) (column ∷ columns) (cell ∷ row) types =
     let first : field.data_type ≡ column.data_type = cc in
     let others : types_of columns ≡ field_types fields = cc in
     λ j. fits_cell (first j) (cell_slot cell) && cells_taken fields columns row others j
+
+-- the slots of cells overflow where the row does
+row_overflow : (fields : List Field) (columns : List Open) (row : List Cell) → types_of columns ≡ field_types fields
+    → row_overflows fields (slots_of_each (with_each columns (map cell_slot row))) row ≡ slots_overflow columns (map cell_slot row)
+row_overflow [] [] row types = refl
+row_overflow [] (column ∷ columns) row types = absurd cc
+row_overflow (field ∷ fields) [] row types = absurd cc
+row_overflow (field ∷ fields) (column ∷ columns) [] types = refl
+row_overflow (field ∷ fields) (column ∷ columns) (cell ∷ row) types =
+    let first : field.data_type ≡ column.data_type = cc in
+    let others : types_of columns ≡ field_types fields = cc in
+    λ j. fits_cell (first j) (cell_slot cell)
+    && (not (fits (first j) (column.slots ++ cell_slot cell ∷ [])) || row_overflow fields columns row others j)
 
 row_of : {A : Type 0} (fields : List Field) (row : List A) → 0 < length fields → length row ≡ length fields → is_row_of fields row ≡ true
 row_of fields row some many =
@@ -87,7 +107,9 @@ row_fault table columns row (faults.Lower (errors.InvalidArgumentError what)) so
 row_fault table columns row (faults.Lower errors.Overflow) some many are short =
     let count = as_many table.schema.fields columns are.types in (
       row_of table.schema.fields row (omega (arith, some, count)) (many ∙ count),
-      more_fits table.schema.fields columns (map cell_slot row) some (length-map row cell_slot ∙ many) are ∙ short,
+      ap (λ held. row_overflows table.schema.fields held row)
+          (more_columns table.schema.fields columns (map cell_slot row) some (length-map row cell_slot ∙ many) are)
+          ∙ row_overflow table.schema.fields columns row are.types ∙ short,
     )
 row_fault table columns row _ some many are short = absurd short
 

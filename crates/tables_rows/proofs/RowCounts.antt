@@ -1,11 +1,9 @@
 -- The rows of a table have a value a field, and the batches of their groups have as many.
-use Rattle.std.proofs.Common.{◌≡◌, ◌∙◌, ℕ, suc, ◌+◌, ◌<◌, Bool, true, ◌&&◌, ◌==◌, List, [], ◌∷◌, length, map}
+use Rattle.std.proofs.Common.{◌≡◌, ◌∙◌, ℕ, ◌+◌, ◌<◌, Bool, true, ◌==◌, List, [], ◌∷◌, length, map}
 use Rattle.std.proofs.Common.{refl, sym, ap, arith, length-append}
 use Rattle.std.specs.Prelude.{nat_lt}
 use Rattle.std.specs.List.{list_all}
-use Rattle.std.proofs.lemmas.Bool.{and_parts, and_from, eq-eqb, eqb-true, lt-ltb}
-use Rattle.std.proofs.lemmas.List.{length-map}
-use Rattle.std.proofs.lemmas.List.Folds.{list_all-append}
+use Rattle.std.proofs.lemmas.Bool.{and_parts, and_from, lt-ltb}
 use Rattle.tables_chunks.specs.ipc_format.columnar_memory.declared.Field.{Field}
 use Rattle.tables_chunks.specs.ipc_format.columnar_memory.declared.Schema.{Schema}
 use Rattle.tables_chunks.specs.ipc_format.columns.FreshLaws.{is_buildable, are_buildable}
@@ -15,46 +13,16 @@ use Rattle.tables_chunks.specs.ipc_format.columns.Slots.{Slot, window}
 use Rattle.tables_chunks.specs.ipc_format.columns.StoredColumns.{Column, slots}
 use Rattle.tables_chunks.specs.ipc_format.columns.Tables.{row_at, rows_of_columns, batch_rows, rows_of_batches}
 use Rattle.tables_chunks.specs.ipc_format.Seals.{groups_of, groups_fit, are_rows_of, is_batch_size, is_sealable}
-use Rattle.tables_chunks.specs.Batches.{batch_len, is_batch, stored_rows, AreBatches}
-use Rattle.tables_chunks.proofs.Lists.{list_all-window}
+use Rattle.tables_chunks.specs.Batches.{batch_len, stored_rows, AreBatches}
+use Rattle.tables_chunks.proofs.ColumnsOfRows.{are_wide, rows_wide}
 use Rattle.tables_chunks.proofs.LongColumns.{rows_count}
+use Rattle.tables_chunks.proofs.TextTables.{no_column_no_row}
 use Rattle.tables_chunks.proofs.ipc_format_lemmas.SealedRows.{rows_of_groups}
 use Rattle.tables_chunks.proofs.ipc_format_lemmas.SealedTypes.{storable}
 use Rattle.tables_chunks.proofs.ipc_format_lemmas.Windows.{length-window}
 use Rattle.tables_rows.proofs.FreshBatches.{fresh_length}
 
 -- ---- widths
-
-abbrev are_wide : ℕ → List (List Slot) → Bool
-are_wide width rows = list_all (λ (row : List Slot). length row == width) rows
-
-width_parts : (width : ℕ) (batch : List Column) (batches : List (List Column)) → AreBatches width (batch ∷ batches)
-    → (length batch ≡ width) × AreBatches width batches
-width_parts width batch batches are =
-    let parts = and_parts (is_batch batch && (length batch == width))
-    (list_all (λ (batch : List Column). is_batch batch && (length batch == width)) batches) are in
-    (eqb-true (length batch) width (and_parts (is_batch batch) (length batch == width) parts.0).1, parts.1)
-
--- each row has a value a column
-pub rows_wide : (width : ℕ) (batches : List (List Column)) → AreBatches width batches → are_wide width (stored_rows batches) ≡ true
-rows_wide width [] are = refl
-rows_wide width (batch ∷ batches) are =
-    let parts = width_parts width batch batches are in
-    let columns : List (List Slot) = map slots batch in
-    list_all-append (λ (row : List Slot). length row == width) (batch_rows columns) (stored_rows batches)
-    ∙ and_from (are_wide width (batch_rows columns)) (are_wide width (stored_rows batches))
-    (list_all-window (λ (row : List Slot). length row == width) (row_at columns) 0 (rows_of_columns columns) (λ i.
-    eq-eqb (length (row_at columns i)) width (length-map columns _ ∙ length-map batch slots ∙ parts.0)))
-    (rows_wide width batches parts.1)
-
--- without a column there is no row
-no_column_no_row : (batches : List (List Column)) → AreBatches 0 batches → stored_rows batches ≡ []
-no_column_no_row [] are = refl
-no_column_no_row ([] ∷ batches) are = no_column_no_row batches (width_parts 0 [] batches are).1
-no_column_no_row ((column ∷ columns) ∷ batches) are = absurd (some (length columns) (width_parts 0 (column ∷ columns) batches are).0)
-  where
-    some : (n : ℕ) → suc n ≡ 0 → ⊥
-    some n e = omega arith
 
 wide_rows : (us : List Field) (rows : List (List Slot)) → 0 < length us → are_wide (length us) rows ≡ true → are_rows_of us rows ≡ true
 wide_rows us [] some wide = refl

@@ -1,16 +1,18 @@
 -- What the stream of a table's groups says of its seal.
 use Rattle.std.proofs.Common.{◌≡◌, ℕ, true, map, subst}
-use Rattle.std.specs.Prelude.{Result, Ok, Err}
+use Rattle.std.specs.Prelude.{IfOk, Result, Ok, Err}
 use Rattle.std.specs.declared.alloc.Global.{Global}
 use Rattle.std.specs.declared.vec.Vec.{Vec}
 use Rattle.tables_chunks.specs.declared.fault.Fault.{Fault}
 use Rattle.tables_chunks.specs.declared.fault.Fault.TheVariants as faults
 use Rattle.tables_chunks.specs.ipc_format.columnar_memory.declared.Error.TheVariants as errors
 use Rattle.tables_chunks.specs.ipc_format.columns.Rows.{batch_of_rows}
+use Rattle.tables_chunks.specs.ipc_format.columns.Tables.{Table}
+use Rattle.tables_chunks.specs.ipc_format.reading_laws.SealLaws.{IsTableOfTexts, SealsReadBack}
 use Rattle.tables_chunks.specs.ipc_format.Seals.{groups_of, is_batch_size, is_sealable}
 use Rattle.tables_chunks.specs.Batches.{stored_rows}
 use Rattle.tables_chunks.specs.StoredTables.{Stored, IsTable, as_table}
-use Rattle.tables_rows.specs.Seals.{GroupsTable, Seals, Streams}
+use Rattle.tables_rows.specs.Seals.{GroupsTable, ReadInBatches, Seals, Streams}
 use Rattle.tables_rows.proofs.RowCounts.{rows_of_fields}
 use Rattle.tables_rows.proofs.SealedBytes.{stream_is_seal, too_long}
 
@@ -49,3 +51,9 @@ pub seal_answers : (table : Stored) (n : ℕ) (groups : Stored) (result : Result
 seal_answers table n groups result can size its grouped streams =
     answers_by table n result can size its (subst (λ (g : Stored). GroupsTable n table (Ok g)) grouped.1 grouped)
     (subst (λ (g : Stored). Streams g result) grouped.1 streams)
+
+-- where seals read back, so does the one that is answered
+pub seal_reads_back : SealsReadBack → (table : Table) (n : ℕ) (result : Result (Vec ℕ Global) Fault) → IsTableOfTexts table → Seals table n result
+    → IfOk result (λ bytes. ReadInBatches bytes.items table n)
+seal_reads_back law table n (Ok bytes) its is = λ behind. law table n bytes.items behind its is
+seal_reads_back law table n (Err fault) its is = tt

@@ -1,5 +1,6 @@
 -- Open columns, one for each field, and the rows that they hold.
-use Rattle.std.specs.Prelude.{◌≡◌, ℕ, ◌++◌, ◌&&◌, Bool, true, false, List, [], ◌∷◌, drop, length, map, take, get_or, slice_set, All, Result, Ok, Err}
+use Rattle.std.specs.Prelude.{◌≡◌, ℕ, ◌++◌, ◌&&◌, ◌||◌, not, Bool, true, false, List, [], ◌∷◌, drop, length, map, take, get_or, slice_set, All}
+use Rattle.std.specs.Prelude.{Result, Ok, Err}
 use Rattle.std.specs.List.{list_all}
 use Rattle.columnar_memory_types.specs.declared.data_type.DataType.{DataType}
 use Rattle.columnar_memory_types.specs.declared.data_type.Field.{Field}
@@ -66,6 +67,12 @@ are_taken [] slots = true
 are_taken (column ∷ columns) [] = true
 are_taken (column ∷ columns) (slot ∷ slots) = fits_cell column.data_type slot && are_taken columns slots
 
+-- whether a column with its slot doesn't fit, though the slot and those before it fit their types
+abbrev pub slots_overflow : List Open → List Slot → Bool
+slots_overflow (column ∷ columns) (slot ∷ slots) =
+    fits_cell column.data_type slot && (not (is_fitting (with_slot column slot)) || slots_overflow columns slots)
+slots_overflow _ _ = false
+
 -- what a column refused: want of memory, or what is said of the cell
 abbrev pub lowered : Error → Fault
 lowered errors.OutOfMemory = faults.Memory
@@ -79,14 +86,15 @@ cut_back count held columns = map (λ (column : Open). first_slots column held) 
 abbrev pub IsRefused : Open → Slot → Fault → Type 0
 IsRefused column slot faults.Memory = Unit {0}
 IsRefused column slot (faults.Lower (errors.InvalidArgumentError what)) = fits_cell column.data_type slot ≡ false
-IsRefused column slot (faults.Lower errors.Overflow) = is_fitting (with_slot column slot) ≡ false
+IsRefused column slot (faults.Lower errors.Overflow) = (fits_cell column.data_type slot ≡ true) × (is_fitting (with_slot column slot) ≡ false)
 IsRefused column slot _ = ⊥
 
--- why slots are not taken behind those of each of some columns: one doesn't fit its type, or one doesn't fit its column, or memory ran out
+-- Why slots are not taken behind those of each of some columns: one doesn't fit its type; or it and those before it do, and its column doesn't fit
+-- with it; or memory ran out.
 abbrev pub IsShort : List Open → List Slot → Fault → Type 0
 IsShort columns slots faults.Memory = Unit {0}
 IsShort columns slots (faults.Lower (errors.InvalidArgumentError what)) = are_taken columns slots ≡ false
-IsShort columns slots (faults.Lower errors.Overflow) = list_all is_fitting (with_each columns slots) ≡ false
+IsShort columns slots (faults.Lower errors.Overflow) = slots_overflow columns slots ≡ true
 IsShort columns slots _ = ⊥
 
 -- A slot stands behind those of the column at a place, and these fit. Or it is refused, and the columns before it have their first slots alone.

@@ -1,5 +1,5 @@
 -- What a call that seals answers (docs/FORMAT.md, "What is written").
-use Rattle.std.specs.Prelude.{◌≡◌, ℕ, true, false, List, map, Option, Some, Result, Ok, Err}
+use Rattle.std.specs.Prelude.{◌≡◌, ℕ, true, false, List, ◌++◌, map, Option, Some, Result, Ok, Err}
 use Rattle.std.specs.declared.alloc.Global.{Global}
 use Rattle.std.specs.declared.vec.Vec.{Vec}
 use Rattle.tables_chunks.specs.declared.fault.Fault.{Fault}
@@ -7,6 +7,7 @@ use Rattle.tables_chunks.specs.declared.fault.Fault.TheVariants as faults
 use Rattle.tables_chunks.specs.ipc_format.columnar_memory.declared.Error.TheVariants as errors
 use Rattle.tables_chunks.specs.ipc_format.columns.Tables.{Table}
 use Rattle.tables_chunks.specs.ipc_format.columns.Rows.{batch_of_rows}
+use Rattle.tables_chunks.specs.ipc_format.reading_laws.SealLaws.{ReadsInBatchesOf}
 use Rattle.tables_chunks.specs.ipc_format.Seals.{groups_of, is_sealable, groups_fit, messages_fit, sealed}
 use Rattle.tables_chunks.specs.Batches.{stored_rows}
 use Rattle.tables_chunks.specs.Refusals.{StopsAtTooLong}
@@ -25,6 +26,10 @@ Seals table n (Err (faults.Ipc errors.Overflow)) =
     (is_sealable table.schema ≡ true) × (groups_fit table.schema table.rows n ≡ true) × (messages_fit table.schema table.rows n ≡ false)
 Seals table n (Err faults.Memory) = Unit {0}
 Seals table n (Err _) = ⊥
+
+-- bytes read as a table, in batches of n rows, the last one shorter, whatever stands behind them
+abbrev pub ReadInBatches : List ℕ → Table → ℕ → Type 0
+ReadInBatches bytes table n = (behind : List ℕ) → ReadsInBatchesOf n (bytes ++ behind) table
 
 -- ---- the steps of a seal
 

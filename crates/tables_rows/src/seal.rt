@@ -1,15 +1,15 @@
 //! The seal of a table: its groups of rows as batches, written as a stream.
-ghost use Rattle.std.specs.Prelude.{◌≡◌, true};
+ghost use Rattle.std.specs.Prelude.{◌≡◌, IfOk, true};
 ghost use Rattle.tables_chunks.specs.StoredTables.{as_table};
 ghost use Rattle.tables_chunks.specs.ipc_format.Seals.{is_batch_size, is_sealable};
-ghost use Rattle.tables_rows.specs.Seals.{GroupsTable, Seals, Streams};
+ghost use Rattle.tables_rows.specs.Seals.{GroupsTable, ReadInBatches, Seals, Streams};
 
 use crate::bars::seal_bar;
 use crate::groups::group_rows;
 use columnar_memory_types::Error;
 use std::alloc::Global;
 use tables_chunks::nested_arrays::a_beginning_of_what_fits_fits;
-use tables_chunks::{Fault, Table};
+use tables_chunks::{Fault, Table, seals_read_back};
 
 /// The most rows that a batch of a seal may have.
 pub const MOST_BATCH_ROWS: usize = 65_536;
@@ -30,7 +30,7 @@ pub trait Seal {
 
     /// The seal in batches of n rows, the last one shorter: an Arrow stream of the rows (Arrow IPC, "IPC Streaming Format"), little-endian, each
     /// column from its slots alone, the dictionaries numbered from 0 in pre-order, their values in the order of first use. So it depends on
-    /// the schema, the rows and n alone, and tells tables apart. `is_batch_size` tests whether n may be asked for.
+    /// the schema, the rows and n alone, and tells tables apart. It reads as this very table. `is_batch_size` tests whether n may be asked for.
     ///
     /// # Errors
     /// - `NotSealable`: a map, a union, a dictionary whose keys have the order of its values or a struct without fields stands in the schema,
@@ -42,7 +42,8 @@ pub trait Seal {
     /// - `Memory`: there was no memory.
     fn seal(&self, alloc: Global, n: usize) -> Result<Vec<u8>, Fault>
         requires { is_batch_size n ≡ true }
-        ensures { Seals (content self.now) n result };
+        ensures sealed { Seals (content self.now) n result }
+        ensures reads_back { IfOk result (λ bytes. ReadInBatches bytes.items (content self.now) n) };
 }
 
 impl Seal for Table {
@@ -54,6 +55,7 @@ impl Seal for Table {
             return Err(Fault::NotSealable(bar));
         }
         let groups = group_table(alloc, self, n)?;
+        seals_read_back();
         stream_of(alloc, &groups)
     }
 }

@@ -26,7 +26,7 @@ fn numbers_and_texts(alloc: Global) -> Result<Schema, AllocError> {
 }
 
 /// A column of texts under keys of 8 bits.
-fn keyed_texts(alloc: Global) -> Result<Schema, AllocError> {
+pub fn keyed_texts(alloc: Global) -> Result<Schema, AllocError> {
     let texts = Boxed::new(alloc, DataType::Utf8)?;
     schema_of(alloc, DataType::Dictionary(IntegerType::Int8, texts, false))
 }
@@ -62,13 +62,13 @@ fn push_two(
 }
 
 /// Pushes a row of the text of a number.
-fn push_name(builder: &mut TableBuilder, alloc: Global, k: usize) -> Result<(), Fault> {
+pub fn push_name(builder: &mut TableBuilder, alloc: Global, k: usize) -> Result<(), Fault> {
     let name = Text::new(format!(in alloc; "{k}")?);
     builder.push_row(&[AnyScalar::Text(name)])
 }
 
 /// The table of a builder, which is let go where it is refused.
-fn finished(builder: TableBuilder, alloc: Global) -> Result<Table, Fault> {
+pub fn finished(builder: TableBuilder, alloc: Global) -> Result<Table, Fault> {
     match builder.finish(alloc) {
         Ok(table) => Ok(table),
         Err((fault, builder)) => {

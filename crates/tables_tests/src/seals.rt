@@ -1,8 +1,10 @@
 //! Seals of tables, beside bytes that `tools/writer` lays apart from this library.
+use crate::rows::{finished, keyed_texts, push_name};
 use crate::samples::EXAMPLE;
 use crate::streams::{NESTED, REPLACED, TWO_BATCHES};
 use std::alloc::Global;
-use tables::{Fault, Form, Seal, SealBar, Table, can_seal, is_batch_size, seal_bar};
+use tables::columnar_memory::Error;
+use tables::{Fault, Form, Seal, SealBar, Table, TableBuilder, can_seal, is_batch_size, seal_bar};
 
 /// The rows 1, 2, 3 in batches of 2 and of 1.
 const THREE_BY_TWO: [u8; 656] = [
@@ -264,5 +266,32 @@ fn unions_are_not_sealed(rt: HostRuntime) -> Result<(), Fault> {
     assert!(rt; !can_seal(table.schema()));
     assert!(rt; seal_bar(table.schema()) == Some(SealBar::Union));
     assert!(rt; is_barred_by_a_union(table.seal(alloc, 1)));
+    Ok(())
+}
+
+/// 400 rows of texts under keys of 8 bits, in batches of 100: 100 texts twice, and then 200 others.
+fn many_texts(alloc: Global) -> Result<Table, Fault> {
+    let mut builder = TableBuilder::new(alloc, keyed_texts(alloc)?)?;
+    for k in 0..400 {
+        let number = if k < 200 { k % 100 } else { k };
+        push_name(&mut builder, alloc, number)?;
+        if k % 100 == 99 {
+            builder.end_batch(alloc)?;
+        }
+    }
+    finished(builder, alloc)
+}
+
+#[test]
+fn a_group_has_as_many_values_as_its_keys_tell_apart(rt: HostRuntime) -> Result<(), Fault> {
+    let alloc = rt.alloc();
+    let table = many_texts(alloc)?;
+    assert!(rt; table.rows() == 400 && table.batches().len() == 4);
+    let refused = table.seal(alloc, 200);
+    assert!(rt; matches!(&refused, Err(Fault::Lower(Error::Overflow))));
+    let seal = table.seal(alloc, 100)?;
+    let again = read(alloc, seal.as_slice())?;
+    assert!(rt; again.batches().len() == 4 && Table::same(&table, &again)?);
+    assert!(rt; has_seal(alloc, &again, 100, seal.as_slice())?);
     Ok(())
 }

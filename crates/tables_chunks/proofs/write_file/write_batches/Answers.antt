@@ -2,6 +2,7 @@
 use Rattle.std.proofs.Common.{rules}
 use Rattle.tables_chunks.specs.WrittenFiles.{StopsAtLongFile, StopsAtReplaced}
 use Rattle.tables_chunks.proofs.FileRefused.{file_fault}
+use Rattle.tables_chunks.proofs.FileStreams.{file_reads_as_stream}
 use Rattle.tables_chunks.proofs.FilesRead.{file_reads_back}
 use Rattle.tables_chunks.proofs.write_file.write_batches.Goals as goal
 
@@ -21,3 +22,8 @@ pub returns-clause-reads_back : goal.returns-clause-reads_back
 returns-clause-reads_back g c =
     let is = c.in_ok-write_whole.ensures.0 in
     λ texts small. file_reads_back c.args.schema.now c.args.batches.now c.requires is texts small
+
+pub returns-clause-reads_as_stream : goal.returns-clause-reads_as_stream
+returns-clause-reads_as_stream g c =
+    let is = c.in_ok-write_whole.ensures.0 in
+    λ texts small. file_reads_as_stream c.args.schema.now c.args.batches.now c.requires is texts small

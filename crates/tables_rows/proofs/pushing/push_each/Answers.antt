@@ -38,7 +38,7 @@ returns-in_err-push_at c =
     told.0 in
     let short : IsShort columns slots c.in_err-push_at.field-0.0 =
     is_short columns c.loop-place.columns.items slots k (scalar_slot c.index-row-place.result) inside many c.loop-place.invariant.grown is any_column
-    c.in_err-push_at.field-0.0 told.1 in
+    c.in_err-push_at.field-0.0 c.loop-place.invariant.fitting told.1 in
     search (rules, back, short)
 
 pub loop-place-preserved : goal.loop-place-preserved
