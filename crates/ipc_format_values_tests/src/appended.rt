@@ -6,8 +6,8 @@ use ipc_format::messages::Block;
 use ipc_format::nested_arrays::flat_arrays::BooleanArray;
 use ipc_format::nested_arrays::{AnyArray, FlatArray};
 use ipc_format::{
-    Chunk, FileMetadata, FileReader, FileWriter, InMemory, MessageBlock, WriteOptions, append_file,
-    footer_to_bytes, read_file_metadata,
+    Chunk, FileMetadata, FileReader, FileWriter, InMemory, MessageBlock, Room, WriteOptions,
+    append_file, footer_to_bytes, read_file_metadata,
 };
 use std::alloc::Global;
 use std::io::Cursor;
@@ -79,7 +79,7 @@ fn with_one_on_device(alloc: Global, file: Vec<u8>, array: AnyArray) -> Result<V
 }
 
 /// What a reader answers next, beside some columns.
-fn next_of(reader: &mut FileReader<InMemory<'_>>, wanted: &[AnyArray]) -> Short {
+fn next_of<R: Room + Drop>(reader: &mut FileReader<R>, wanted: &[AnyArray]) -> Short {
     match reader.next() {
         None => Short::Nothing,
         Some(Ok(chunk)) if chunk.arrays() == wanted => Short::Expected,
@@ -88,8 +88,11 @@ fn next_of(reader: &mut FileReader<InMemory<'_>>, wanted: &[AnyArray]) -> Short 
 }
 
 /// What a reader of a file answers to three calls, beside some columns.
-fn three_of(alloc: Global, bytes: &[u8], wanted: &[AnyArray]) -> Result<[Short; 3], Error> {
-    let mut room = InMemory { bytes };
+fn three_of<R: Room + Drop>(
+    alloc: Global,
+    mut room: R,
+    wanted: &[AnyArray],
+) -> Result<[Short; 3], Error> {
     let metadata = read_file_metadata(alloc, &mut room)?;
     let mut reader = FileReader::new(alloc, room, metadata, None, None)?;
     Ok([
@@ -105,7 +108,7 @@ fn a_batch_is_appended(rt: HostRuntime) -> Result<(), Fail> {
     let wanted = [truths(alloc)?];
     let bytes = with_one(alloc, truths_file(alloc)?, truths(alloc)?)?;
     let same = with_one_on_device(alloc, truths_file(alloc)?, truths(alloc)?)?;
-    let found = three_of(alloc, &bytes, &wanted)?;
+    let found = three_of(alloc, InMemory { bytes: &bytes }, &wanted)?;
     let is_same = bytes == same;
     drop(wanted);
     drop(bytes);
@@ -156,7 +159,7 @@ fn a_file_gets_no_shorter(rt: HostRuntime) -> Result<(), Fail> {
     let length = long.len();
     let bytes = with_one(alloc, long, truths(alloc)?)?;
     let same = with_one_on_device(alloc, again, truths(alloc)?)?;
-    let found = three_of(alloc, &bytes, &wanted)?;
+    let found = three_of(alloc, InMemory { bytes: &bytes }, &wanted)?;
     let (is_as_long, is_same) = (bytes.len() == length, bytes == same);
     drop(wanted);
     drop(short);
@@ -248,9 +251,9 @@ fn batches_stand_behind_the_last_dictionary(rt: HostRuntime) -> Result<(), Fail>
     let wanted = [letters(alloc, &["a", "b"])?];
     let plain = letters_file(alloc)?;
     let file = dictionary_last(alloc, &plain)?;
-    let was = three_of(alloc, &file, &wanted)?;
+    let was = three_of(alloc, InMemory { bytes: &file }, &wanted)?;
     let bytes = with_one(alloc, file, letters(alloc, &["a", "b"])?)?;
-    let found = three_of(alloc, &bytes, &wanted)?;
+    let found = three_of(alloc, InMemory { bytes: &bytes }, &wanted)?;
     drop(wanted);
     drop(plain);
     drop(bytes);
