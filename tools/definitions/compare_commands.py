@@ -23,7 +23,7 @@ from arrow_columns import FixedLists, Flat, Keys, Lists, Nulls, Records, Strings
 from arrow_command_cases import MOST_NULLS, command_cases
 from arrow_commands import DONE, columns_of, command_of, cut, pick, run, seal
 from arrow_metadata import NOT_IMPLEMENTED, Refused, UNFINISHED
-from arrow_stored_reading import MOST_ROWS, TOO_MANY_ROWS, has_one_fault, read_stored, read_stored_file, row_count
+from arrow_stored_reading import MOST_ROWS, TOO_MANY_ROWS, features_in_file, has_one_fault, read_stored, read_stored_file, row_count
 from arrow_trees import numbered
 from arrow_types import KINDS, Table, TEXTS, kind_of, storage_of
 from compare import made_case
@@ -129,17 +129,28 @@ class Comparison:
         """The definitions refuse an input too, and find why where they tell a reason apart."""
         self.agree(self.defined.defined_table(form_of(content), content) is None, name, "the definitions read it", refused)
         if form_of(content) == "file":
-            self.counts["files refused alike"] += 1
-            return
+            return self.compare_refused_file(name, content, refused)
         if not has_one_fault(content, refused.kind == NOT_IMPLEMENTED):
             self.counts["inputs refused alike for one of several faults"] += 1
             return
         is_early = self.defined.defined_rows_before_end(content) is not None if self.defined.defined_end(content) else False
         self.agree(is_early == (refused.kind == UNFINISHED), name, "it ends early, or not", refused)
-        found = self.defined.has_float("stream", content) or self.defined.has_delta("stream", content)
-        found = found or any(self.defined.has_compression("stream", content, kind) for kind in (False, True))
-        self.agree(bool(found) == (refused.kind == NOT_IMPLEMENTED), name, "a feature is found, or not", refused)
+        self.agree(self.has_feature("stream", content) == (refused.kind == NOT_IMPLEMENTED), name, "a feature is found, or not", refused)
         self.counts["inputs refused alike: %s" % refused.kind] += 1
+
+    def compare_refused_file(self, name, content, refused):
+        """The definitions find what isn't implemented in a file exactly where it is refused for that, if it has one fault."""
+        is_feature = refused.kind == NOT_IMPLEMENTED
+        if features_in_file(content) != is_feature:
+            self.counts["files refused alike for one of several faults"] += 1
+            return
+        self.agree(self.has_feature("file", content) == is_feature, name, "a feature is found in a file, or not", refused)
+        self.counts["files refused alike: %s" % refused.kind] += 1
+
+    def has_feature(self, form, content):
+        """Whether the definitions find a float, a compression, or a dictionary that adds to an earlier one."""
+        found = self.defined.has_float(form, content) or self.defined.has_delta(form, content)
+        return bool(found or any(self.defined.has_compression(form, content, kind) for kind in (False, True)))
 
     def compare_long(self, name, content):
         """Batches of nulls alone, which no list holds: their number is compared by hand."""

@@ -6,16 +6,17 @@ from arrow_columns import Keys, Lists, Nulls, Unions, cut_batches
 from arrow_rule_cases import int32, rule_cases, same_picks, schema_cases, stream_with, texts
 from arrow_sealed import NotWritten, groups_of, stream_of
 from arrow_special import deep, field_of, missing, shared, unwritable
-from arrow_stored_reading import StoredTable, has_one_fault, read_stored, refusal_of, row_count
+from arrow_stored_reading import StoredTable, has_one_fault, read_stored, read_stored_file, refusal_of, refusal_of_file, row_count
 from arrow_stored_writing import written, written_file
 from arrow_trees import numbered
-from arrow_typed import TYPES, TypedStreams, TypedWriter
+from arrow_typed import TYPES, TypedFiles, TypedStreams, TypedWriter
 from arrow_types import Schema, holds_union
 from cases import file_cases
 from laying import usual
 
-# How many streams of each type there are, every second one damaged.
+# How many streams of each type there are, and how many files, every second one damaged.
 STREAMS_A_TYPE = 12
+FILES_A_TYPE = 12
 OUTPUT = "output.stream"
 MOST_NULLS = 2**63 - 1
 
@@ -152,6 +153,42 @@ def typed_cases(cases):
                 cases.join(own, last)
             last = own
             damaged_cases(cases, name, number + 1, streams.damaged(name, number + 1), own)
+
+
+# ---- files of each type
+
+def sound_files(cases, name, number, case):
+    """A sound file, cut, chosen from, and compared and joined with the stream of its rows."""
+    random, rows, width = Random("%s/%d/file commands" % (name, number)), len(case.table.rows), len(case.table.schema.fields)
+    own = cases.put_file("%s_%d_laid" % (name.lower(), number), case.content)
+    start = random.randint(0, rows - 1)
+    cases.cut(start, random.randint(1, rows - start), own)
+    cases.pick(random.sample(range(width), random.randint(1, width)), random.choice((None, random.randint(0, rows))), own)
+    twin = cases.put("%s_%d_laid" % (name.lower(), number), cut_apart(read_stored_file(case.content), random.randint(1, rows)))
+    cases.same(own, twin)
+    if number % 4 == 0:
+        cases.seal(random.randint(1, rows + 1), own)
+        cases.join(own, twin)
+    return own
+
+
+def damaged_files(cases, name, number, content, before):
+    """A file damaged in one way; what comes before it is sound."""
+    own = cases.put_file("%s_%d_spoiled" % (name.lower(), number), content)
+    cases.cut(0, 0 if refusal_of_file(content) else row_count(read_stored_file(content)), own)
+    if number % 4 == 1:
+        cases.pick([number // 2 % 3], None, own)
+    else:
+        cases.same(own, before)
+
+
+def typed_file_cases(cases):
+    """Files of each type, every second one damaged."""
+    files = TypedFiles()
+    for name in TYPES:
+        for number in range(0, FILES_A_TYPE, 2):
+            own = sound_files(cases, name, number, files.sound(name, number))
+            damaged_files(cases, name, number + 1, files.damaged(name, number + 1), own)
 
 
 # ---- streams written out by hand
@@ -385,6 +422,6 @@ def command_cases():
     cases = Cases()
     cases.inputs, cases.commands = file_cases()
     by_hand = integer_cases, text_cases, dictionary_cases, list_cases, null_cases, pick_cases, usual_cases, rule_cases, schema_cases, same_picks
-    for put in by_hand + (limit_cases, usage_cases, typed_cases):
+    for put in by_hand + (limit_cases, usage_cases, typed_cases, typed_file_cases):
         put(cases)
     return cases.inputs, cases.commands

@@ -9,7 +9,7 @@ from collections import namedtuple
 
 from arrow_columns import FixedLists, Flat, Keys, Lists, Nulls, Records, Strings, Unions, rows_in
 from arrow_metadata import (
-    Batch, DICTIONARY_BATCH, Footer, NOT_IMPLEMENTED, RECORD_BATCH, ReadSchema, Refused, SCHEMA, UNFINISHED, V5, ask, is_text,
+    Batch, DICTIONARY_BATCH, Footer, NOT_IMPLEMENTED, RECORD_BATCH, ReadSchema, Refused, SCHEMA, UNFINISHED, V5, ask, is_text, root_of,
 )
 from arrow_reader import Frames, MARK, NO_COLUMN, Source, bits_of, buffers_of, message_at, nodes_of
 from arrow_types import BYTES, INTEGERS, KINDS, LISTS, MOST_DICTIONARIES, TEXTS, kind_of, storage_of
@@ -17,8 +17,9 @@ from arrow_types import BYTES, INTEGERS, KINDS, LISTS, MOST_DICTIONARIES, TEXTS,
 TOO_MANY_ROWS = "too many rows"
 MOST_ROWS = 2**64 - 1
 
-# Slots of a field's tag and children and of a schema's fields, of a dictionary's values and of whether it is a delta, and of a compression.
-TAG_SLOT, CHILDREN_SLOT, FIELDS_SLOT, VALUES_SLOT, DELTA_SLOT, COMPRESSION_SLOT = 2, 5, 1, 1, 2, 3
+# Slots of a field's tag and children and of a schema's fields, of a dictionary's values and of whether it is a delta, of a compression, and of a
+# footer's schema.
+TAG_SLOT, CHILDREN_SLOT, FIELDS_SLOT, VALUES_SLOT, DELTA_SLOT, COMPRESSION_SLOT, FOOTER_SCHEMA_SLOT = 2, 5, 1, 1, 2, 3, 1
 FLOATING_POINT = 3
 
 # A normalised schema, and the batches under it, each a list of stored columns.
@@ -199,17 +200,27 @@ def read_stored(content, is_framed_first=False, columns=None, limit=None):
     return reading.table()
 
 
-def read_stored_file(content, columns=None, limit=None):
-    """The stored table of a file."""
-    ask(content.endswith(MARK) and len(content) >= 10, "no file's marks")
+def footer_bytes(content):
+    """The bytes of a file's footer."""
+    ask(content.startswith(MARK) and content.endswith(MARK) and len(content) >= 10, "no file's marks")
     length = struct.unpack_from("<i", content, len(content) - 10)[0]
     start = len(content) - 10 - length
     ask(length >= 0 and start >= 0, "a footer outside the file")
-    footer = Footer(content[start : start + length])
+    return content[start : start + length]
+
+
+def blocks_of(footer):
+    """The blocks of a file that are read, each with what its message holds; without a record batch there are none."""
+    dictionaries = footer.dictionaries if footer.records else []
+    return [(block, DICTIONARY_BATCH) for block in dictionaries] + [(block, RECORD_BATCH) for block in footer.records]
+
+
+def read_stored_file(content, columns=None, limit=None):
+    """The stored table of a file."""
+    footer = Footer(footer_bytes(content))
     reading = StoredReading(footer.schema, columns, limit)
     ask(not footer.records or len(footer.dictionaries) <= MOST_DICTIONARIES, "too many dictionary blocks")
-    blocks = [(block, DICTIONARY_BATCH) for block in footer.dictionaries if footer.records]
-    for block, tag in blocks + [(block, RECORD_BATCH) for block in footer.records]:
+    for block, tag in blocks_of(footer):
         message, origin = message_at(content, block, tag)
         reading.message(message, content, origin, message.known_version())
     return reading.table()
@@ -226,13 +237,36 @@ def features_in(content):
             return False
         found = holds_float(first.header)
         for message, _ in later_messages(frames):
-            table, is_dictionary = message.header, message.tag == DICTIONARY_BATCH
-            found = found or is_dictionary and table.truth(DELTA_SLOT)
-            batch = table.table(VALUES_SLOT) if is_dictionary else table
-            found = found or batch is not None and batch.slot(COMPRESSION_SLOT, 4) is not None
+            found = found or has_feature(message)
     except (Refused, struct.error):
         pass
     return found
+
+
+def features_in_file(content):
+    """The same of a file."""
+    found, blocks = False, []
+    try:
+        footer = footer_bytes(content)
+        found = holds_float(root_of(footer).needed_table(FOOTER_SCHEMA_SLOT, "a footer without a schema"))
+        blocks = blocks_of(Footer(footer))
+    except (Refused, struct.error):
+        pass
+    for block, tag in blocks:
+        try:
+            found = found or has_feature(message_at(content, block, tag)[0])
+        except (Refused, struct.error):
+            pass
+    return found
+
+
+def has_feature(message):
+    """Whether a compression stands in a message, or it is a dictionary that adds to an earlier one."""
+    table, is_dictionary = message.header, message.tag == DICTIONARY_BATCH
+    if is_dictionary and table.truth(DELTA_SLOT):
+        return True
+    batch = table.table(VALUES_SLOT) if is_dictionary else table
+    return batch is not None and batch.slot(COMPRESSION_SLOT, 4) is not None
 
 
 def holds_float(schema):
@@ -268,3 +302,12 @@ def has_one_fault(content, is_feature=False):
     refusals = refusal_of(content), refusal_of(content, True)
     kinds = {refusal and refusal.kind for refusal in refusals}
     return len(kinds) == 1 and features_in(content) == is_feature
+
+
+def refusal_of_file(content):
+    """A file's refusal, or None where it is read; what lacks a file's first mark is read as a stream."""
+    try:
+        read_stored_file(content) if content.startswith(MARK) else read_stored(content)
+    except Refused as refused:
+        return refused
+    return None

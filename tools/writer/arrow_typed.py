@@ -11,7 +11,7 @@ from arrow_cases import Case, Writer
 from arrow_damage import Damage, FIELD_SLOTS, NoDamage, features, things_in
 from arrow_generator import Schemas, numbers_inner_first
 from arrow_metadata import NOT_IMPLEMENTED
-from arrow_stored_reading import has_one_fault, refusal_of
+from arrow_stored_reading import features_in_file, has_one_fault, refusal_of, refusal_of_file
 from arrow_trees import DICTIONARY_BATCH, RECORD_BATCH, SCHEMA
 from arrow_types import INTEGERS, Schema
 from laying import Table
@@ -35,6 +35,7 @@ OTHER_PLACES = {
 # One way each in which a stream is damaged.
 DAMAGES = ("buffer", "count", "structs", "type", "tree", "framing", "buffer", "feature", "body", "count", "missing", "clash", "byte", "cut")
 MARKER = b"\xff\xff\xff\xff"
+FILE_MARK = b"ARROW1"
 MOST_BYTES, TRIES = 2_400, 25
 MAP_TAG = 17
 
@@ -178,38 +179,38 @@ def place_and_form(name, number):
     return PLACES[(number // 2 + 3 * at) % len(PLACES)], (number // 2 + at) % 5, ("little", "big")[(number // 2 + number // 4 + at // 5) % 2]
 
 
-class TypedStreams:
-    """Makes streams of each type; why damaged ones are refused is spread over many rules."""
+class TypedInputs:
+    """Makes inputs of each type in one form; why damaged ones are refused is spread over many rules."""
 
     def __init__(self):
         self.reasons = Counter()
 
     def sound(self, name, number):
-        """A sound stream of a type: its bytes, and the table that it holds."""
+        """A sound input of a type: its bytes, and the table that it holds."""
         place, version, order = place_and_form(name, number)
         for attempt in count():
-            random = Random("%s/%d/%d" % (name, number, attempt))
+            random = self.random_of(name, number, attempt)
             fields = TypedSchemas(random, NoDamage()).fields_with(place, name)
-            case = TypedWriter(random, fields, version, order).stream()
+            case = self.laid(TypedWriter(random, fields, version, order))
             if len(case.content) <= MOST_BYTES and len(case.table.rows) > 1:
                 return case
 
     def damaged(self, name, number):
-        """A stream of a type, damaged in one way, and in most cases refused: its bytes."""
+        """An input of a type, damaged in one way, and in most cases refused: its bytes."""
         place, version, order = place_and_form(name, number)
         first = number // 2 + 5 * TYPES.index(name)
         for attempt in count():
-            random = Random("%s/%d/%d" % (name, number, attempt))
+            random = self.random_of(name, number, attempt)
             damage = OneDamage(random, DAMAGES[(first + attempt // TRIES) % len(DAMAGES)])
             fields = TypedSchemas(random, damage).fields_with(place, name)
-            content = damage.finish(TypedWriter(random, fields, version, order, damage).stream().content)
+            content = damage.finish(self.laid(TypedWriter(random, fields, version, order, damage)).content)
             if damage.is_done() and len(content) <= MOST_BYTES and self.is_kept(content, damage, random, attempt):
                 return content
 
     def is_kept(self, content, damage, random, attempt):
-        """Whether a damaged stream has one fault, which has not come often, or sometimes none, and is not too much to be made."""
-        refusal, is_feature = refusal_of(content), damage.kinds == ["feature"]
-        if not has_one_fault(content, is_feature):
+        """Whether a damaged input has one fault, which has not come often, or sometimes none, and is not too much to be made."""
+        refusal, is_feature = self.refusal_of(content), damage.kinds == ["feature"]
+        if not self.has_one_fault(content, is_feature):
             return False
         if refusal is None:
             return random.random() < 0.05
@@ -217,3 +218,31 @@ class TypedStreams:
             return False
         self.reasons[str(refusal)] += 1
         return self.reasons[str(refusal)] <= 6 + attempt
+
+
+class TypedStreams(TypedInputs):
+    """Makes streams of each type."""
+
+    refusal_of, has_one_fault = staticmethod(refusal_of), staticmethod(has_one_fault)
+
+    def random_of(self, name, number, attempt):
+        return Random("%s/%d/%d" % (name, number, attempt))
+
+    def laid(self, writer):
+        return writer.stream()
+
+
+class TypedFiles(TypedInputs):
+    """Makes files of each type."""
+
+    refusal_of = staticmethod(refusal_of_file)
+
+    def random_of(self, name, number, attempt):
+        return Random("%s/file/%d/%d" % (name, number, attempt))
+
+    def laid(self, writer):
+        return writer.file()
+
+    def has_one_fault(self, content, is_feature):
+        """Whether it is read as a file, and refused in one way whichever of its rules are looked at first."""
+        return content.startswith(FILE_MARK) and features_in_file(content) == is_feature
