@@ -1,30 +1,15 @@
 -- Dictionaries that are found one behind the other.
-use Rattle.std.proofs.Common.{◌≡◌, ◌∙◌, List, [], ◌∷◌, ◌++◌, map, refl, sym, ap, append_assoc}
-use Rattle.std.specs.Prelude.{ℤ, pos, Option, Some, None, Result, Ok, Err, unwrap_or}
+use Rattle.std.proofs.Common.{◌≡◌, ◌∙◌, ◌≤◌, ◌<◌, ℕ, zero, suc, List, [], ◌∷◌, ◌++◌, map, length, get_or, refl, sym, ap, append_assoc, arith}
+use Rattle.std.specs.Prelude.{ℤ, pos, Option, Some, None, unwrap_or}
 use Rattle.std.proofs.lemmas.List.{append-nil, map-append}
-use Rattle.ipc_format_batch_reading.specs.columnar_memory.declared.Error.{Error}
-use Rattle.ipc_format_batch_reading.specs.columns.StoredColumns.{Column, column_then, in_columns, no_column}
+use Rattle.ipc_format_batch_reading.specs.columns.StoredColumns.{Column, column_size, columns_size, in_columns}
 use Rattle.ipc_format_batch_reading.specs.grammar.Columns.{first_ids, other_ids}
 use Rattle.ipc_format_batch_reading.specs.grammar.GivenDictionaries.{Given, given_each, given_stored, id_or_0}
-use Rattle.ipc_format_batch_reading.specs.grammar.Schemas.{Ids, IdsList}
+use Rattle.ipc_format_batch_reading.specs.grammar.Schemas.{IdsList}
 use Rattle.ipc_format_batch_reading.specs.grammar.WrittenStreams.{given_of_stored}
-use Rattle.ipc_format_chunk_writing.specs.Found.{Finds, given_in}
+use Rattle.ipc_format_chunk_writing.specs.Found.{given_in}
 use Rattle.ipc_format_chunk_writing.specs.Tracking.{given_of}
 use Rattle.ipc_format_chunk_writing.specs.declared.found.Found.{Found}
-
--- some, and others behind them
-pub found_then : (result : Result (Unit {0}) Error) (old mid new : List Found) (a b whole : List Given)
-    → map given_in mid ≡ map given_in old ++ a → Finds result mid new b → a ++ b ≡ whole → Finds result old new whole
-found_then (Ok done) old mid new a b whole first second all =
-    second ∙ ap (λ (front : List Given). front ++ b) first ∙ append_assoc (map given_in old) a b
-    ∙ ap (λ (more : List Given). map given_in old ++ more) all
-found_then (Err error) old mid new a b whole first second all = second
-
--- the same ones
-pub found_same : (result : Result (Unit {0}) Error) (old new : List Found) (a b : List Given) → a ≡ b → Finds result old new a
-    → Finds result old new b
-found_same (Ok done) old new a b same found = found ∙ ap (λ (more : List Given). map given_in old ++ more) same
-found_same (Err error) old new a b same found = found
 
 -- none
 pub found_none : (old new : List Found) (none : List Given) → new ≡ old → none ≡ [] → map given_in new ≡ map given_in old ++ none
@@ -52,7 +37,9 @@ each_is below [] = refl
 each_is below (column ∷ columns) =
     ap (λ (more : List Given). given_stored (first_ids below) column ++ more) (each_is (other_ids below) columns)
 
--- the first of some columns and the others
-pub each_of : (below : IdsList) (columns rest : List Column) (column : Column) → columns ≡ column ∷ rest
-    → given_stored (first_ids below) column ++ given_each (other_ids below) (in_columns rest) ≡ given_each below (in_columns columns)
-each_of below columns rest column is = sym (ap (λ (them : List Column). given_each below (in_columns them)) is)
+-- one of several columns is made of no more columns than all of them
+pub one_size : (columns : List Column) (k : ℕ) (d : Column) → k < length columns
+    → column_size (get_or columns k d) ≤ columns_size (in_columns columns)
+one_size [] k d small = absurd (omega arith)
+one_size (column ∷ columns) zero d small = omega arith
+one_size (column ∷ columns) (suc k) d small = omega (arith, one_size columns k d (omega arith))

@@ -75,12 +75,13 @@ fn find_each<'a>(
 ) -> Result<()>
     ensures { Finds result found.old.items found.new.items (given_each (ids_views beside.now) (in_columns arrays.now)) }
 {
-    let Some((array, arrays)) = arrays.split_first() else {
-        return Ok(());
-    };
-    let here = first_beside(beside);
-    find(array, here.own, here.below, found)?;
-    find_each(arrays, here.others, found)
+    let mut others = beside;
+    for array in arrays {
+        let here = first_beside(others);
+        find(array, here.own, here.below, found)?;
+        others = here.others;
+    }
+    Ok(())
 }
 
 /// The dictionaries of some columns in the order in which they are written.

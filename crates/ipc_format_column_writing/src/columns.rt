@@ -96,9 +96,8 @@ pub(crate) fn write_children(
     requires { HaveParts (in_columns arrays.now) part }
     ensures { Adds result (parts_of body.old) (parts_of body.new) (joined (encode_parts is_little_endian (in_columns arrays.now) part)) }
 {
-    let Some((array, arrays)) = arrays.split_first() else {
-        return Ok(());
-    };
-    write_part(array, part, body, is_little_endian)?;
-    write_children(arrays, part, body, is_little_endian)
+    for array in arrays {
+        write_part(array, part, body, is_little_endian)?;
+    }
+    Ok(())
 }

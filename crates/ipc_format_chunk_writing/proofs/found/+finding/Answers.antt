@@ -1,18 +1,17 @@
-use Rattle.std.proofs.Common.{rules, ◌≡◌, ◌∙◌, ◌∷◌, ◌++◌, ◌+◌, ap, map, refl, subst, sym, true, w64, List}
+use Rattle.std.proofs.Common.{rules, arith, ◌≡◌, ◌∙◌, ◌++◌, ap, map, refl, subst, sym, true, w64}
 use Rattle.std.specs.Prelude.{None}
 use Rattle.std.proofs.lemmas.Int.{to_z-of_z}
 use Rattle.ipc_format_batch_reading.specs.nested_arrays.AnyColumns.{column_of}
 use Rattle.ipc_format_batch_reading.specs.nested_arrays.Childless.{is_childless}
 use Rattle.ipc_format_batch_reading.specs.nested_arrays.declared.Node.TheVariants as nodes
 use Rattle.columnar_memory_types.specs.Layouts.{physical_type}
-use Rattle.ipc_format_batch_reading.specs.columns.StoredColumns.{Column, column_size, column_type, columns_size, in_columns}
+use Rattle.ipc_format_batch_reading.specs.columns.StoredColumns.{Column, column_size, column_type}
 use Rattle.ipc_format_batch_reading.specs.grammar.GivenDictionaries.{given_stored, id_or_0}
 use Rattle.ipc_format_batch_reading.specs.grammar.Schemas.{ids}
 use Rattle.ipc_format_batch_reading.specs.metadata.Views.{ids_views}
-use Rattle.ipc_format_batch_reading.proofs.ColumnSizes.{sizes_count}
 use Rattle.ipc_format_chunk_writing.specs.Found.{given_in}
 use Rattle.ipc_format_chunk_writing.proofs.Bare.{none_given}
-use Rattle.ipc_format_chunk_writing.proofs.Finding.{found_last, found_none, id_is}
+use Rattle.ipc_format_chunk_writing.proofs.Finding.{found_last, found_none, id_is, one_size}
 use Rattle.ipc_format_chunk_writing.proofs.found.+finding.Goals as goal
 
 pub find-returns-in-Flat : goal.find-returns-in-Flat
@@ -41,10 +40,8 @@ find-returns-in_ok-push-in-Dictionary t c =
     c.in_ok-push-in-Dictionary.ensures.items
     (to_z-of_z w64 c.unwrap_or.result (search rules) ∙ c.unwrap_or.ensures ∙ id_is c.args.own) second (sym (ap (given_stored here) same))
 
-pub find_each-find_each-requires : goal.find_each-find_each-requires
-find_each-find_each-requires t c =
-    let is : c.args.arrays.now ≡ c.in-Some.array.now ∷ c.in-Some.arrays.now = search rules in
-    let size : columns_size (in_columns c.args.arrays.now) ≡ column_size c.in-Some.array.now + columns_size (in_columns c.in-Some.arrays.now) =
-    ap (λ (xs : List Column). columns_size (in_columns xs)) is in
-    let some = sizes_count c.in-Some.array.now in
-    search (rules, size, some)
+pub find_each-find-requires : goal.find_each-find-requires
+find_each-find-requires t c =
+    let most = one_size c.args.arrays.now c.loop-array.array-index c.array-item.result (omega arith) in
+    let size = ap column_size c.array-item.is in
+    search (rules, most, size)

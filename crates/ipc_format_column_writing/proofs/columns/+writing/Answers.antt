@@ -1,37 +1,43 @@
-use Rattle.std.proofs.Common.{rules, ◌≡◌, ◌∷◌, ◌+◌, ap, subst, sym, List}
+use Rattle.std.proofs.Common.{rules, arith, ◌≡◌, ap, subst, sym}
+use Rattle.std.specs.Prelude.{Err}
+use Rattle.std.proofs.lemmas.List.{drop_all}
 use Rattle.ipc_format_chunks.specs.nested_arrays.AnyColumns.{column_of}
 use Rattle.ipc_format_chunks.specs.nested_arrays.Parts.{column_children}
 use Rattle.ipc_format_chunks.specs.nested_arrays.Places.{HaveRange}
-use Rattle.ipc_format_chunks.specs.nested_arrays.StoredColumns.{Column, Columns, column_size, columns_size, in_columns}
+use Rattle.ipc_format_chunks.specs.nested_arrays.StoredColumns.{Column, Columns, column_size, in_columns}
 use Rattle.ipc_format_chunks.specs.nested_arrays.declared.Node.TheVariants as nodes
 use Rattle.ipc_format_column_reading.specs.column_bytes.Bodies.{parts_of}
 use Rattle.ipc_format_column_reading.specs.column_bytes.grammar.Encoding.{joined}
 use Rattle.ipc_format_column_reading.specs.column_bytes.grammar.StoredEncoding.{encode_range, encode_ranges}
-use Rattle.ipc_format_column_reading.proofs.bytes_lemmas.Bodies.{added_then}
-use Rattle.ipc_format_column_reading.proofs.bytes_lemmas.columns_lemmas.ColumnSizes.{sizes_count}
-use Rattle.ipc_format_column_writing.specs.Parts.{HaveParts, encode_part, encode_parts, items_column}
+use Rattle.ipc_format_column_writing.specs.Parts.{HaveParts, encode_parts, items_column}
 use Rattle.ipc_format_column_writing.proofs.Begun.{range_then}
-use Rattle.ipc_format_column_writing.proofs.Children.{all_of, rest_of}
+use Rattle.ipc_format_column_writing.proofs.Children.{all_written, one_refused, one_size, one_written, part_at}
 use Rattle.ipc_format_column_writing.proofs.columns.+writing.Goals as goal
 
-pub write_children-write_children-requires : goal.write_children-write_children-requires
-write_children-write_children-requires t c =
-    let is : c.args.arrays.now ≡ c.in-Some.array.now ∷ c.in-Some.arrays.now = search rules in
-    let size : columns_size (in_columns c.args.arrays.now) ≡ column_size c.in-Some.array.now + columns_size (in_columns c.in-Some.arrays.now) =
-    ap (λ (xs : List Column). columns_size (in_columns xs)) is in
-    let some = sizes_count c.in-Some.array.now in (
-      search (rules, size, some),
-      rest_of c.args.arrays.now c.in-Some.arrays.now c.in-Some.array.now c.args.part is c.requires,
+pub write_children-write_part-requires : goal.write_children-write_part-requires
+write_children-write_part-requires t c =
+    let most = one_size c.args.arrays.now c.loop-array.array-index c.array-item.result (omega arith) in
+    let size = ap column_size c.array-item.is in (
+      search (rules, most, size),
+      part_at c.args.arrays.now c.loop-array.array-index c.array-item.result c.args.part (omega arith) c.array-item.is c.requires,
     )
 
 pub write_children-returns : goal.write_children-returns
 write_children-returns t c =
-    let is : c.args.arrays.now ≡ c.in-Some.array.now ∷ c.in-Some.arrays.now = search rules in
-    let little = c.args.is_little_endian in
-    added_then c.write_children.result c.args.body.now (parts_of c.write_part.new.body) (parts_of c.write_children.new.body)
-    (encode_part little c.in-Some.array.now c.args.part) (joined (encode_parts little (in_columns c.in-Some.arrays.now) c.args.part))
-    (joined (encode_parts little (in_columns c.args.arrays.now) c.args.part)) c.in_ok-write_part.ensures c.write_children.ensures
-    (all_of little c.args.arrays.now c.in-Some.arrays.now c.in-Some.array.now c.args.part is)
+    all_written c.args.is_little_endian c.args.part c.args.arrays.now c.args.body.now c.loop-array.body c.loop-array.array-index
+    (drop_all c.loop-array.array-index c.args.arrays.now (omega arith)) c.loop-array.invariant
+
+pub write_children-loop-array-preserved : goal.write_children-loop-array-preserved
+write_children-loop-array-preserved t c =
+    one_written c.args.is_little_endian c.args.part c.args.arrays.now c.args.body.now c.loop-array.body c.write_part.new.body
+    c.loop-array.array-index c.array-item.result (omega arith) c.array-item.is c.loop-array.invariant c.in_ok-write_part.ensures
+
+pub write_children-returns-in_err-write_part : goal.write_children-returns-in_err-write_part
+write_children-returns-in_err-write_part t c =
+    let error = c.in_err-write_part.field-0.0 in
+    let is : c.from_residual.result ≡ Err error = search rules in
+    rw is (one_refused c.args.is_little_endian c.args.part c.args.arrays.now c.args.body.now c.loop-array.body c.write_part.new.body
+    c.loop-array.array-index c.array-item.result error (omega arith) c.array-item.is c.loop-array.invariant c.in_err-write_part.ensures)
 
 pub write_range-write_children-requires : goal.write_range-write_children-requires
 write_range-write_children-requires t c =
