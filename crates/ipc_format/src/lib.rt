@@ -21,7 +21,7 @@ pub use ipc_format_files::stream_writer::reader::streams::owned::writing::{
 };
 pub use ipc_format_files::stream_writer::reader::streams::{
     Counting, EncodedData, Faults, Frame, Framed, NextMessage, StreamMetadata, columnar_memory,
-    flatbuffers, next_at, put, read_stream_metadata, refusal, write_continuation, write_message,
+    flatbuffers, next_at, outcome, put, read_stream_metadata, write_continuation, write_message,
 };
 pub use ipc_format_files::stream_writer::reader::{
     Entry, FileMetadata, FileReader, MessageBlock, StreamReader, StreamState, file_entries,
@@ -81,7 +81,7 @@ pub mod streams {
     pub use ipc_format_files::stream_writer::reader::streams::{
         BatchQueues, Counting, DictionaryValues, EncodedData, Faults, Frame, Framed, Incoming,
         NextMessage, StreamMetadata, batch_queues, deserialize_stream_metadata, dictionary_values,
-        fill, next_at, next_message, put, read_refusal, read_stream_metadata, refusal,
+        fill, next_at, next_message, outcome, put, read_outcome, read_stream_metadata,
         write_continuation, write_message,
     };
 

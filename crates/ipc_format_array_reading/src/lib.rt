@@ -46,7 +46,7 @@ pub mod column_writing {
                     BatchQueues, Counting, DictionaryValues, EncodedData, Faults, Frame, Framed,
                     Incoming, NextMessage, StreamMetadata, batch_queues, columnar_memory,
                     deserialize_stream_metadata, dictionary_values, fill, flatbuffers, next_at,
-                    next_message, put, read_refusal, read_stream_metadata, refusal,
+                    next_message, outcome, put, read_outcome, read_stream_metadata,
                     write_continuation, write_message,
                 };
 

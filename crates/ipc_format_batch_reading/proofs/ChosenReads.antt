@@ -229,7 +229,7 @@ pub one_more_chosen : (batch : Batch) (old now new : Told) (columns : List ℕ) 
 one_more_chosen batch old now new columns rest passed last others over end k behind arrays c u i array lt is its has beside skipped before read =
     let stands = next_stands batch old now columns rest others k behind arrays c lt is before in
     let gone = gone_to batch behind c rest passed others over stands.0 before.2 skipped in (
-      (read.0.0.1.0 ∙ before.0.0, omega (arith, before.0.1, read.0.0.1.1)),
+      (read.0.0.1.0 ∙ before.0.0, read.0.0.1.1 ∙ before.0.1),
       λ room told.
           before.1 room told
           ∙ ap (λ ks. given_of batch ks room >>= read_then arrays) (next_one columns k c lt is)

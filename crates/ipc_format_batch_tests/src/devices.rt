@@ -1,4 +1,5 @@
 //! Devices whose bytes come in parts, or that fail.
+use ipc_format::Faults;
 use std::io;
 use std::io::{ErrorKind, Read, Write};
 
@@ -58,6 +59,50 @@ impl Write for Full {
         self.bytes.extend_from_slice(&buffer[..count])?;
         self.room -= count;
         Ok(count)
+    }
+
+    fn flush(&mut self) -> io::Result<()> {
+        Ok(())
+    }
+}
+
+/// A device that counts a failure at each call behind its first ones, though it answers each by `Ok`.
+#[derive(Drop)]
+pub(crate) struct Silent<T> {
+    pub(crate) device: T,
+    /// How many calls were made.
+    pub(crate) calls: u64,
+    /// So many of them are no failures.
+    pub(crate) good: u64,
+}
+
+impl<T> Faults for Silent<T> {
+    ghost use Rattle.std.specs.Prelude.{false, ◌-◌};
+
+    ghost failures = { λ silent. silent.calls - silent.good };
+
+    ghost in_memory = { false };
+
+    fn faults(&self) -> u64 {
+        self.calls.saturating_sub(self.good)
+    }
+
+    fn is_memory(&self) -> bool {
+        false
+    }
+}
+
+impl Read for Silent<&[u8]> {
+    fn read(&mut self, buffer: &mut [u8]) -> io::Result<usize> {
+        self.calls = self.calls.saturating_add(1);
+        self.device.read(buffer)
+    }
+}
+
+impl Write for Silent<Vec<u8>> {
+    fn write(&mut self, buffer: &[u8]) -> io::Result<usize> {
+        self.calls = self.calls.saturating_add(1);
+        self.device.write(buffer)
     }
 
     fn flush(&mut self) -> io::Result<()> {

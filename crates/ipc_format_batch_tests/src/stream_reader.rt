@@ -1,7 +1,7 @@
 //! Batches of a stream whose dictionary is replaced between them, and chosen columns of a stream.
-use crate::answers::{Short, next_of, read_back, reader_of};
+use crate::answers::{Short, next_of, read_back, reader_of, told};
 use crate::cases::{letters, mixed_schema, of_two, other_numbers, texts_by_key};
-use crate::devices::{Failing, Pausing};
+use crate::devices::{Failing, Pausing, Silent};
 use crate::samples::STREAM;
 use crate::writers::started;
 use ipc_format::columnar_memory::Error;
@@ -123,6 +123,34 @@ fn a_device_that_fails(rt: HostRuntime) -> Result<(), Fail> {
     drop(reader);
     drop(first);
     assert_eq!(rt; found, [Short::Expected, Short::Io, Short::Nothing]);
+    Ok(())
+}
+
+/// A device of a whole stream that fails in silence behind so many reads.
+fn silent_behind(good: u64) -> Silent<&'static [u8]> {
+    Silent {
+        device: &STREAM,
+        calls: 0,
+        good,
+    }
+}
+
+#[test]
+fn a_failure_in_silence_is_no_start(rt: HostRuntime) {
+    let mut device = silent_behind(0);
+    let found = told(read_stream_metadata(rt.alloc(), &mut device));
+    assert_eq!(rt; found, Short::Io);
+}
+
+#[test]
+fn a_failure_in_silence_is_no_batch(rt: HostRuntime) -> Result<(), Fail> {
+    let first = first_column(rt.alloc())?;
+    // The schema is read by three reads, of the marker, the length and the metadata.
+    let mut reader = reader_of(rt.alloc(), silent_behind(3))?;
+    let found = [next_of(&mut reader, &first), next_of(&mut reader, &first)];
+    drop(reader);
+    drop(first);
+    assert_eq!(rt; found, [Short::Io, Short::Nothing]);
     Ok(())
 }
 

@@ -1,7 +1,7 @@
 //! Streams of which a part is refused.
 use crate::answers::{Short, told};
 use crate::cases::{id, letters, numbers, numbers_schema, of_one, of_two, other_numbers};
-use crate::devices::Full;
+use crate::devices::{Full, Silent};
 use crate::samples::EXAMPLE;
 use crate::writers::{calls, start_numbers, started, write_numbers, write_one};
 use ipc_format::columnar_memory::Error;
@@ -81,6 +81,24 @@ fn a_device_fails(rt: HostRuntime) -> Result<(), Fail> {
         assert!(rt; is_beginning, "room for {room}");
     }
     Ok(())
+}
+
+#[test]
+fn a_failure_in_silence_is_no_success(rt: HostRuntime) {
+    let alloc = rt.alloc();
+    let device = Silent {
+        device: Vec::new(alloc),
+        calls: 0,
+        good: 0,
+    };
+    let mut writer = StreamWriter::new(alloc, device, WriteOptions::new());
+    let found = calls(alloc, &mut writer);
+    let silent = writer.into_inner();
+    let is_schema = silent.device.as_slice() == &EXAMPLE[..SCHEMA];
+    drop(silent);
+    let refused = Short::OutOfSpec;
+    assert_eq!(rt; found, [Short::Io, refused, refused]);
+    assert!(rt; is_schema);
 }
 
 #[test]

@@ -103,7 +103,7 @@ nulls_same t nodes buffers little limit origin is room =
     ∙ sym (ap (λ r. r (front nodes [] true limit 0 [])) (layer_reads t))
 
 stays : (told : Told) → Stays told told
-stays told = (refl, omega arith)
+stays told = (refl, refl)
 
 pub nulls_read : (told : Told) (t : DataType) (given : Option (List Slot)) (other : List ℕ → Option (List Slot)) (m c : ℕ)
     (nodes nodes1 : List FieldNode) (buffers : List Buffer) (r any : Result Column Error) → physical_type t ≡ physical.Null

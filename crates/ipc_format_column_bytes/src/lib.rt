@@ -37,8 +37,8 @@ pub mod streams {
     pub use ipc_format_streams::{
         BatchQueues, Counting, DictionaryValues, EncodedData, Faults, Frame, Framed, Incoming,
         NextMessage, StreamMetadata, batch_queues, columnar_memory, deserialize_stream_metadata,
-        dictionary_values, fill, flatbuffers, next_at, next_message, put, read_refusal,
-        read_stream_metadata, refusal, write_continuation, write_message,
+        dictionary_values, fill, flatbuffers, next_at, next_message, outcome, put, read_outcome,
+        read_stream_metadata, write_continuation, write_message,
     };
 
     /// Of `messages`.

@@ -4,6 +4,7 @@ pub mod NextBuffers
 pub mod Decoding
 pub mod NextValues
 pub mod Readings
+pub mod RoomOutcomes
 pub mod Types
 pub mod Marks
 pub mod NumberColumns

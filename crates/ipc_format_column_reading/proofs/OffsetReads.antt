@@ -194,8 +194,7 @@ pub short_read : (is_compressed : Bool) (told : Told) (whole : List ℕ → Opti
     → ((room : List ℕ) → whole room ≡ Some (0 ∷ [])) → MatchResult r (λ offsets. offsets ≡ no_spans) IsOutOfMemory
     → ReadsAs is_compressed told told offsets_of whole r
 short_read is_compressed told whole (Ok s) plain is made =
-    let same : told.failures ≤ told.failures = omega arith in
-    (plain, (refl, same), λ room all. is room ∙ ap (λ (offsets : Spans). Some (offsets_of offsets)) (sym made))
+    (plain, (refl, refl), λ room all. is room ∙ ap (λ (offsets : Spans). Some (offsets_of offsets)) (sym made))
 short_read is_compressed told whole (Err error) plain is made =
     out_of_memory told told (ForBytes told (λ room. whole room ≡ None)) is_compressed error made plain
 

@@ -1,5 +1,5 @@
 -- Reads one after another.
-use Rattle.std.proofs.Common.{◌≡◌, ◌∙◌, ◌<◌, ◌≤◌, ℕ, List, Bool, false, refl, ap, arith}
+use Rattle.std.proofs.Common.{◌≡◌, ◌∙◌, ◌<◌, ℕ, List, Bool, false, refl, ap, arith}
 use Rattle.std.specs.Prelude.{Option, Some, None, Result, Ok, Err}
 use Rattle.ipc_format_column_bytes.specs.streams.columnar_memory.Error.{IsOutOfMemory, IsOutOfSpec}
 use Rattle.ipc_format_column_bytes.specs.streams.columnar_memory.declared.Error.{Error}
@@ -25,8 +25,7 @@ refusal_later old mid new Cause Other errors.Overflow is_compressed stays follow
 
 stays_longer : (old mid new : Told) → Stays old mid → Stays mid new → Stays old new
 stays_longer old mid new first later =
-    let more : old.failures ≤ new.failures = omega (arith, first.1, later.1) in
-    (later.0 ∙ first.0, more)
+    (later.0 ∙ first.0, later.1 ∙ first.1)
 
 -- what is read behind something that was read
 pub reads_behind : {A B X Y : Type 0} (is_compressed : Bool) (old mid new : Told) (first : A → X) (given : List ℕ → Option X) (a : A)

@@ -1,5 +1,5 @@
 -- Where the buffers of batches stand, and what a call that reads there answers.
-use Rattle.std.specs.Prelude.{◌≡◌, ℕ, ◌<◌, ◌≤◌, Bool, true, false, List, length, Option, Some, None, Result, Ok, Err}
+use Rattle.std.specs.Prelude.{◌≡◌, ℕ, ◌<◌, Bool, true, false, List, length, Option, Some, None, Result, Ok, Err}
 use Rattle.ipc_format_column_bytes.specs.streams.columnar_memory.declared.Error.{Error}
 use Rattle.ipc_format_column_bytes.specs.streams.columnar_memory.declared.Error.TheVariants as errors
 use Rattle.ipc_format_column_bytes.specs.streams.flatbuffers.Reading.{window_at}
@@ -9,9 +9,9 @@ pub record Told : Type 0 where
   pub bytes : Option (List ℕ)
   pub failures : ℕ
 
--- a room after a call that was not refused: the same bytes, and no fewer failures
+-- a room after a call that was not refused: the same bytes, and as many failures as before
 abbrev pub Stays : Told → Told → Type 0
-Stays old new = (new.bytes ≡ old.bytes) × (old.failures ≤ new.failures)
+Stays old new = (new.bytes ≡ old.bytes) × (new.failures ≡ old.failures)
 
 -- Why a call is refused: the buffers are compressed, and for nothing else then; the room has failed in the call; there was no memory; or
 -- the format gives nothing.
@@ -42,10 +42,3 @@ abbrev pub ReadsAs : {A B : Type 0} → Bool → Told → Told → (A → B) →
 ReadsAs is_compressed old new view given (Ok found) =
     (is_compressed ≡ false) × Stays old new × ForBytes old (λ room. given room ≡ Some (view found))
 ReadsAs is_compressed old new view given (Err error) = IsRefusal is_compressed old new (ForBytes old (λ room. given room ≡ None)) error
-
--- what a device's refusal is called that had failed so often before the call, and so often after it
-abbrev pub IsFault : ℕ → ℕ → Error → Type 0
-IsFault before after (errors.Io what) = before < after
-IsFault before after errors.OutOfMemory = Unit {0}
-IsFault before after (errors.OutOfSpec what) = Unit {0}
-IsFault before after _ = ⊥

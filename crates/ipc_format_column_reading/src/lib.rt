@@ -59,7 +59,7 @@ pub mod column_bytes {
             BatchQueues, Counting, DictionaryValues, EncodedData, Faults, Frame, Framed, Incoming,
             NextMessage, StreamMetadata, batch_queues, columnar_memory,
             deserialize_stream_metadata, dictionary_values, fill, flatbuffers, next_at,
-            next_message, put, read_refusal, read_stream_metadata, refusal, write_continuation,
+            next_message, outcome, put, read_outcome, read_stream_metadata, write_continuation,
             write_message,
         };
 

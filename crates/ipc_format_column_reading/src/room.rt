@@ -1,14 +1,14 @@
 //! Where the buffers of batches stand: in memory, or on a device.
-ghost use Rattle.std.specs.Prelude.{◌≡◌, ◌+◌, length, OnOk};
+ghost use Rattle.std.specs.Prelude.{◌≡◌, ◌+◌, IfErr, length, MatchResult};
 ghost use Rattle.std.specs.Option.{option_copied};
 ghost use Rattle.ipc_format_column_bytes.specs.streams.flatbuffers.Reading.{window_at};
-ghost use Rattle.ipc_format_column_reading.specs.Rooms.{FillsFrom, IsFault, TellsExtent};
+ghost use Rattle.ipc_format_column_bytes.specs.streams.Arriving.{IsOfDevice};
+ghost use Rattle.ipc_format_column_reading.specs.Rooms.{FillsFrom, TellsExtent};
 
-use ipc_format_column_bytes::streams::Faults;
 use ipc_format_column_bytes::streams::columnar_memory::{Error, Result};
 use ipc_format_column_bytes::streams::flatbuffers::window;
-use std::io;
-use std::io::{ErrorKind, Read, Seek, SeekFrom};
+use ipc_format_column_bytes::streams::{Faults, read_outcome};
+use std::io::{Read, Seek, SeekFrom};
 
 /// How many bytes are asked for at once of a device, beyond those that came.
 const PIECE: usize = 65536;
@@ -27,8 +27,8 @@ pub trait Room {
     /// Puts `count` bytes in place of those that a vector holds: those from `origin + offset` on.
     ///
     /// # Errors
-    /// - `Io`: the device failed.
-    /// - `OutOfSpec`: the bytes end before, or the device refuses without a failure.
+    /// - `Io`: the device failed, also where each of its reads was answered by `Ok`.
+    /// - `OutOfSpec`: the bytes end before, or the device refuses without a failure, or its count of failures falls.
     /// - `OutOfMemory`: the vector, or the device, found no memory. Memory is asked for by what came.
     fn fill_from(
         &mut self,
@@ -42,8 +42,8 @@ pub trait Room {
     /// Where the room begins, and where it ends: a device begins where it stands.
     ///
     /// # Errors
-    /// - `Io`: the device failed.
-    /// - `OutOfSpec`: it refuses without a failure.
+    /// - `Io`: the device failed, also where each of its calls was answered by `Ok`.
+    /// - `OutOfSpec`: it refuses without a failure, or its count of failures falls.
     /// - `OutOfMemory`: it found no memory.
     fn extent(&mut self) -> Result<(u64, u64)>
         ensures { TellsExtent (told self.old) (told self.new) result };
@@ -105,6 +105,7 @@ impl<R: Read + Seek + Faults> Room for R {
         None
     }
 
+    #[tactic(auto, using(crate::proofs::RoomOutcomes::room_fills))]
     fn fill_from(
         &mut self,
         origin: u64,
@@ -112,49 +113,31 @@ impl<R: Read + Seek + Faults> Room for R {
         count: usize,
         into: &mut Vec<u8>,
     ) -> Result<()> {
-        let before = self.faults();
         let Some(place) = origin.checked_add(offset) else {
             return Err(Error::OutOfSpec("a place past 64 bits"));
         };
+        let is_memory = self.is_memory();
+        let before = self.faults();
         let filled = fill_in_pieces(self, place, count, into);
-        let after = self.faults();
-        match filled {
-            Ok(()) if before <= after => Ok(()),
-            Ok(()) => Err(Error::OutOfSpec("a count of failures that fell")),
-            Err(error) => Err(fault(error, before, after)),
-        }
+        read_outcome(filled, is_memory, before, self.faults())
     }
 
+    #[tactic(auto, using(crate::proofs::RoomOutcomes::room_tells))]
     fn extent(&mut self) -> Result<(u64, u64)> {
+        let is_memory = self.is_memory();
         let before = self.faults();
         let found = ends_of(self);
-        let after = self.faults();
-        match found {
-            Ok(extent) if before <= after => Ok(extent),
-            Ok(_) => Err(Error::OutOfSpec("a count of failures that fell")),
-            Err(error) => Err(fault(error, before, after)),
-        }
+        read_outcome(found, is_memory, before, self.faults())
     }
 }
 
 /// The place where a device stands, and that of its end, where it stands then.
-fn ends_of<S: Seek>(device: &mut S) -> io::Result<(u64, u64)> {
+fn ends_of<S: Seek>(device: &mut S) -> Result<(u64, u64)>
+    ensures { IfErr result IsOfDevice }
+{
     let start = device.seek(SeekFrom::Current(0))?;
     let end = device.seek(SeekFrom::End(0))?;
     Ok((start, end))
-}
-
-/// The name of what a device answers that had failed `before` times before the call, and has failed `after` times since.
-fn fault(error: io::Error, before: u64, after: u64) -> Error
-    ensures { IsFault before after result }
-{
-    if before < after {
-        Error::Io(error)
-    } else if error.kind() == ErrorKind::OutOfMemory {
-        Error::OutOfMemory
-    } else {
-        Error::OutOfSpec("a read was refused")
-    }
 }
 
 /// Puts the `count` bytes from a place on in place of those that a vector holds, in pieces, so that memory is asked for by what came.
@@ -163,8 +146,8 @@ fn fill_in_pieces<R: Read + Seek>(
     place: u64,
     count: usize,
     into: &mut Vec<u8>,
-) -> io::Result<()>
-    ensures { OnOk result (length into.new.items ≡ count) }
+) -> Result<()>
+    ensures { MatchResult result (λ _. length into.new.items ≡ count) IsOfDevice }
 {
     into.clear();
     device.seek(SeekFrom::Start(place))?;

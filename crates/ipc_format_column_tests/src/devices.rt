@@ -51,10 +51,18 @@ impl Seek for Failing {
 }
 
 impl Faults for Failing {
+    ghost use Rattle.std.specs.Prelude.{false};
+
     ghost failures = { λ _. 0 };
+
+    ghost in_memory = { false };
 
     fn faults(&self) -> u64 {
         0
+    }
+
+    fn is_memory(&self) -> bool {
+        false
     }
 }
 

@@ -1,6 +1,6 @@
 -- What a run of calls of a writer has added to a file.
 use Rattle.std.proofs.Common.{◌≡◌, ◌∙◌, ℕ, List, [], ◌∷◌, ◌++◌, refl, sym, ap, subst}
-use Rattle.std.specs.Prelude.{Option, Ok}
+use Rattle.std.specs.Prelude.{Bool, Option, Ok}
 use Rattle.ipc_format_stream_writer.specs.Opening.{fields_or}
 use Rattle.ipc_format_stream_writer.specs.reader.chunk_writing.columns.StoredColumns.{Column}
 use Rattle.ipc_format_stream_writer.specs.reader.chunk_writing.grammar.GivenDictionaries.{Given}
@@ -17,8 +17,8 @@ use Rattle.ipc_format_files.specs.Writing.{FinishesIn, IsWritten, WritesIn}
 use Rattle.ipc_format_files.proofs.Runs.{writes_under}
 use Rattle.ipc_format_files.proofs.StandBehind.{bytes_with, none_stand, one_stands}
 
-module _ {W : Type 0} (contents : W → Option (List ℕ)) (failures : W → ℕ) where
-  adds_none : AddsNone contents failures
+module _ {W : Type 0} (contents : W → Option (List ℕ)) (failures : W → ℕ) (in_memory : Bool) where
+  adds_none : AddsNone contents failures in_memory
   adds_none old before told phase tells = record {
     progress = before;
     phase = phase;
@@ -31,9 +31,9 @@ module _ {W : Type 0} (contents : W → Option (List ℕ)) (failures : W → ℕ
   -- ---- write
 
   adds : (old now new : Writer W) (before : Progress) (told : List Given) (batches : List Batch) (ids : IdsList) (columns : List Column)
-      (added : HasAdded contents failures old now before told batches)
-      → IsWritten contents failures now new added.progress ids (told_with told batches) columns
-      → HasAdded contents failures old new before told (batches ++ batch_of_stored ids columns ∷ [])
+      (added : HasAdded contents failures in_memory old now before told batches)
+      → IsWritten contents failures in_memory now new added.progress ids (told_with told batches) columns
+      → HasAdded contents failures in_memory old new before told (batches ++ batch_of_stored ids columns ∷ [])
   adds old now new before told batches ids columns added does =
       let batch = batch_of_stored ids columns in
       let next = bytes_of_messages (batch_messages (told_with told batches) batch) in
@@ -47,18 +47,18 @@ module _ {W : Type 0} (contents : W → Option (List ℕ)) (failures : W → ℕ
         stand = one_stands before added.progress told batches batch added.stand does.after does.behind;
       }
 
-  adds_more : AddsMore contents failures
+  adds_more : AddsMore contents failures in_memory
   adds_more old now new before told batches fields columns added does =
       let ids = ids_views (fields_or now.ids fields) in
-      let under = subst (λ (phase : Phase). WritesIn contents failures phase now new fields columns (Ok tt)) added.phase does in
+      let under = subst (λ (phase : Phase). WritesIn contents failures in_memory phase now new fields columns (Ok tt)) added.phase does in
       adds old now new before told batches ids columns added
-      (writes_under contents failures now.compression now new added.progress ids columns under (told_with told batches) added.stand.tells)
+      (writes_under contents failures in_memory now.compression now new added.progress ids columns under (told_with told batches) added.stand.tells)
 
   -- ---- finish
 
-  ends_grown : EndsGrown contents failures
+  ends_grown : EndsGrown contents failures in_memory
   ends_grown old now new before told batches added does =
-      let here = subst (λ (phase : Phase). FinishesIn contents failures phase now new (Ok tt)) added.phase does in
+      let here = subst (λ (phase : Phase). FinishesIn contents failures in_memory phase now new (Ok tt)) added.phase does in
       let messages = bytes_of_messages (messages_after told batches) in
       let same : here.footer ≡ footer_of old.schema (ids_views old.ids) added.progress =
       here.is.same ∙ (λ j. footer_of (added.schema j) (ids_views (added.ids j)) added.progress) in (
@@ -67,5 +67,5 @@ module _ {W : Type 0} (contents : W → Option (List ℕ)) (failures : W → ℕ
         here.sends.phase,
       )
 
-  pub files_grow : FilesGrow contents failures
+  pub files_grow : FilesGrow contents failures in_memory
   files_grow = (adds_none, adds_more, ends_grown)

@@ -12,6 +12,7 @@ pub mod Placed
 pub mod RunBytes
 pub mod Runs
 pub mod StandBehind
+pub mod Stood
 pub mod ToldAlike
 pub mod WholeFiles
 pub mod WholeRuns

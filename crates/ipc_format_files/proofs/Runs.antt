@@ -1,6 +1,6 @@
 -- What a run of calls of a writer has written.
 use Rattle.std.proofs.Common.{◌≡◌, ◌∙◌, ℕ, ◌+◌, List, [], ◌∷◌, ◌++◌, length, refl, sym, ap, subst}
-use Rattle.std.specs.Prelude.{Option, Some, None, Ok}
+use Rattle.std.specs.Prelude.{Bool, Option, Some, None, Ok}
 use Rattle.std.proofs.Math.Nat.{add-zero}
 use Rattle.std.proofs.lemmas.List.{append-nil, length-append}
 use Rattle.ipc_format_stream_writer.specs.Opening.{fields_or}
@@ -23,24 +23,25 @@ use Rattle.ipc_format_files.specs.Writing.{FinishesIn, IsStarted, IsWritten, Sta
 use Rattle.ipc_format_files.proofs.EndBytes.{end_of_new}
 use Rattle.ipc_format_files.proofs.RunBytes.{blocks_more, bytes_more, file_whole, footer_is, place_is, told_more}
 
-module _ {W : Type 0} (contents : W → Option (List ℕ)) (failures : W → ℕ) where
+module _ {W : Type 0} (contents : W → Option (List ℕ)) (failures : W → ℕ) (in_memory : Bool) where
   -- ---- calls that succeed come in order
 
-  starts_in : (phase : Phase) (old new : Writer W) → StartsIn contents failures phase old new (Ok tt) → IsStarted contents failures old new
+  starts_in : (phase : Phase) (old new : Writer W) → StartsIn contents failures in_memory phase old new (Ok tt)
+      → IsStarted contents failures in_memory old new
   starts_in fresh old new does = does
   starts_in (started progress) old new does = absurd does
   starts_in finished old new does = absurd does
   starts_in broken old new does = absurd does
 
   pub writes_under : (compression : Option Compression) (old new : Writer W) (before : Progress) (ids : IdsList) (columns : List Column)
-      → WritesUnder contents failures compression old new before ids columns (Ok tt)
-      → (told : List Given) → Tells before.told told → IsWritten contents failures old new before ids told columns
+      → WritesUnder contents failures in_memory compression old new before ids columns (Ok tt)
+      → (told : List Given) → Tells before.told told → IsWritten contents failures in_memory old new before ids told columns
   writes_under None old new before ids columns does = does
   writes_under (Some compression) old new before ids columns does = absurd does
 
   -- ---- start
 
-  starts_none : StartsNone contents failures
+  starts_none : StartsNone contents failures in_memory
   starts_none old new does =
       let here = starts_in old.phase old new does in
       record {
@@ -58,8 +59,9 @@ module _ {W : Type 0} (contents : W → Option (List ℕ)) (failures : W → ℕ
   -- ---- write
 
   adds : (old now new : Writer W) (batches : List Batch) (ids : IdsList) (columns : List Column)
-      (before : HasWritten contents failures old now batches) → IsWritten contents failures now new before.progress ids (told_with [] batches) columns
-      → HasWritten contents failures old new (batches ++ batch_of_stored ids columns ∷ [])
+      (before : HasWritten contents failures in_memory old now batches)
+      → IsWritten contents failures in_memory now new before.progress ids (told_with [] batches) columns
+      → HasWritten contents failures in_memory old new (batches ++ batch_of_stored ids columns ∷ [])
   adds old now new batches ids columns before does =
       let batch = batch_of_stored ids columns in
       let next = bytes_of_messages (batch_messages (told_with [] batches) batch) in
@@ -81,18 +83,18 @@ module _ {W : Type 0} (contents : W → Option (List ℕ)) (failures : W → ℕ
             ∙ sym (blocks_more (first_place old.schema (ids_views old.ids)) [] batches batch);
       }
 
-  writes_more : WritesMore contents failures
+  writes_more : WritesMore contents failures in_memory
   writes_more old now new batches fields columns before does =
       let ids = ids_views (fields_or now.ids fields) in
-      let under = subst (λ (phase : Phase). WritesIn contents failures phase now new fields columns (Ok tt)) before.phase does in
+      let under = subst (λ (phase : Phase). WritesIn contents failures in_memory phase now new fields columns (Ok tt)) before.phase does in
       adds old now new batches ids columns before
       (writes_under now.compression now new before.progress ids columns under (told_with [] batches) before.tells)
 
   -- ---- finish
 
-  finishes_file : FinishesFile contents failures
+  finishes_file : FinishesFile contents failures in_memory
   finishes_file old now new batches before does =
-      let here = subst (λ (phase : Phase). FinishesIn contents failures phase now new (Ok tt)) before.phase does in
+      let here = subst (λ (phase : Phase). FinishesIn contents failures in_memory phase now new (Ok tt)) before.phase does in
       let schema = old.schema in
       let ids = ids_views old.ids in
       let so_far = bytes_so_far schema ids batches in
@@ -105,5 +107,5 @@ module _ {W : Type 0} (contents : W → Option (List ℕ)) (failures : W → ℕ
         here.sends.phase,
       )
 
-  pub files_are_written : FilesAreWritten contents failures
+  pub files_are_written : FilesAreWritten contents failures in_memory
   files_are_written = (starts_none, writes_more, finishes_file)

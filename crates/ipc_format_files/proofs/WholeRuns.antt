@@ -1,6 +1,6 @@
 -- What a run of calls of a writer has written, where its writes have the writer's own ids, is a whole file.
 use Rattle.std.proofs.Common.{◌≡◌, ◌∙◌, ℕ, ◌+◌, true, List, [], ◌∷◌, ◌++◌, length, refl, sym, ap, subst, append_assoc}
-use Rattle.std.specs.Prelude.{nat_lt, Option, Some, None, Ok}
+use Rattle.std.specs.Prelude.{nat_lt, Bool, Option, Some, None, Ok}
 use Rattle.std.proofs.lemmas.Grind.{flat_map-append}
 use Rattle.std.proofs.lemmas.List.{length-append, map-append}
 use Rattle.ipc_format_stream_writer.specs.Opening.{fields_or}
@@ -103,21 +103,22 @@ whole_file schema ids run batches is bytes footer fits =
     (ap fits_file_limit same ∙ fits)
     ∙ ap Some same
 
-module _ {W : Type 0} (contents : W → Option (List ℕ)) (failures : W → ℕ) where
+module _ {W : Type 0} (contents : W → Option (List ℕ)) (failures : W → ℕ) (in_memory : Bool) where
   -- ---- start
 
-  starts_in : (phase : Phase) (old new : Writer W) → StartsIn contents failures phase old new (Ok tt) → IsStarted contents failures old new
+  starts_in : (phase : Phase) (old new : Writer W) → StartsIn contents failures in_memory phase old new (Ok tt)
+      → IsStarted contents failures in_memory old new
   starts_in fresh old new does = does
   starts_in (started progress) old new does = absurd does
   starts_in finished old new does = absurd does
   starts_in broken old new does = absurd does
 
-  starts_no_batch : StartsNoBatch contents failures
+  starts_no_batch : StartsNoBatch contents failures in_memory
   starts_no_batch old new does =
       let here = starts_in old.phase old new does in
       let ids = ids_views old.ids in
       record {
-        written = (files_are_written contents failures).0 old new does;
+        written = (files_are_written contents failures in_memory).0 old new does;
         run = begun old.schema ids;
         is = run_begun file old.schema ids here.may here.fits;
         told = refl;
@@ -127,23 +128,23 @@ module _ {W : Type 0} (contents : W → Option (List ℕ)) (failures : W → ℕ
   -- ---- write
 
   bar_under : (compression : Option Compression) (old new : Writer W) (before : Progress) (ids : IdsList) (columns : List Column)
-      → WritesUnder contents failures compression old new before ids columns (Ok tt)
+      → WritesUnder contents failures in_memory compression old new before ids columns (Ok tt)
       → (told : List Given) → Tells before.told told → write_bar file old.schema ids told (stored_columns columns) ≡ None
   bar_under None old new before ids columns does told tells = (does told tells).bar
   bar_under (Some compression) old new before ids columns does told tells = absurd does
 
-  writes_one_more : WritesOneMore contents failures
+  writes_one_more : WritesOneMore contents failures in_memory
   writes_one_more old now new batches fields columns before same does =
       let schema = old.schema in
       let ids = ids_views old.ids in
       let had = before.written in
       let its = batches_with schema ids batches in
       let given = given_ids now.ids ids fields (ap ids_views had.ids) same in
-      let under = subst (λ (phase : Phase). WritesIn contents failures phase now new fields columns (Ok tt)) had.phase does in
+      let under = subst (λ (phase : Phase). WritesIn contents failures in_memory phase now new fields columns (Ok tt)) had.phase does in
       let bar = bar_under now.compression now new had.progress (ids_views (fields_or now.ids fields)) columns under (told_with [] its) had.tells in
-      let more = (files_are_written contents failures).1 old now new its fields columns had does in
+      let more = (files_are_written contents failures in_memory).1 old now new its fields columns had does in
       record {
-        written = subst (HasWritten contents failures old new)
+        written = subst (HasWritten contents failures in_memory old new)
             (ap (λ (views : IdsList). its ++ batch_of_stored views columns ∷ []) given ∙ sym (batches_more schema ids batches columns)) more;
         run = with_batch before.run (stored_columns columns) (batch_of_stored ids columns);
         is = run_more file schema ids before.run batches columns before.is
@@ -154,16 +155,16 @@ module _ {W : Type 0} (contents : W → Option (List ℕ)) (failures : W → ℕ
 
   -- ---- finish
 
-  finishes_whole : FinishesWhole contents failures
+  finishes_whole : FinishesWhole contents failures in_memory
   finishes_whole old now new batches before does =
       let schema = old.schema in
       let ids = ids_views old.ids in
       let had = before.written in
       let its = batches_with schema ids batches in
-      let here = subst (λ (phase : Phase). FinishesIn contents failures phase now new (Ok tt)) had.phase does in
+      let here = subst (λ (phase : Phase). FinishesIn contents failures in_memory phase now new (Ok tt)) had.phase does in
       let same : here.footer ≡ footer_bytes schema ids its =
       here.is.same ∙ (λ j. laid (footer_object (had.schema j) (ids_views (had.ids j)) (had.blocks j))) ∙ footer_is schema ids its in
-      let done = (files_are_written contents failures).2 old now new its had does in
+      let done = (files_are_written contents failures in_memory).2 old now new its had does in
       record {
         bytes = file_bytes schema ids its;
         is = whole_file schema ids before.run batches before.is before.bytes (ap is_footer (sym same) ∙ here.is.fits)
@@ -172,5 +173,5 @@ module _ {W : Type 0} (contents : W → Option (List ℕ)) (failures : W → ℕ
         phase = done.1;
       }
 
-  pub runs_are_files : RunsAreFiles contents failures
+  pub runs_are_files : RunsAreFiles contents failures in_memory
   runs_are_files = (starts_no_batch, writes_one_more, finishes_whole)

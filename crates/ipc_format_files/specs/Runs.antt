@@ -1,5 +1,5 @@
 -- What a run of calls of a writer stands for: start, writes, finish (Arrow IPC, "IPC File Format").
-use Rattle.std.specs.Prelude.{◌≡◌, ℕ, List, [], ◌∷◌, ◌++◌, length, Option, Ok}
+use Rattle.std.specs.Prelude.{◌≡◌, ℕ, Bool, List, [], ◌∷◌, ◌++◌, length, Option, Ok}
 use Rattle.std.specs.Io.KnownBytes.{Appends}
 use Rattle.ipc_format_stream_writer.specs.Opening.{fields_or}
 use Rattle.ipc_format_stream_writer.specs.reader.chunk_writing.Tracking.{Tells}
@@ -29,8 +29,8 @@ bytes_so_far schema ids batches = start_bytes schema ids ++ bytes_of_messages (m
 abbrev pub first_place : Schema → IdsList → ℕ
 first_place schema ids = place_after (length file_start) (schema_written schema ids)
 
--- What a device shows of its bytes, where they are known, and how often it has failed
-module _ {W : Type 0} (contents : W → Option (List ℕ)) (failures : W → ℕ) where
+-- What a device shows of its bytes, where they are known, how often it has failed, and whether devices of its kind are memory alone
+module _ {W : Type 0} (contents : W → Option (List ℕ)) (failures : W → ℕ) (in_memory : Bool) where
   -- a writer was started, and has written batches since
   pub record HasWritten (old now : Writer W) (batches : List Batch) : Type 0 where
     pub progress : Progress
@@ -45,17 +45,17 @@ module _ {W : Type 0} (contents : W → Option (List ℕ)) (failures : W → ℕ
 
   -- after a start no batch is written
   abbrev pub StartsNone : Type 0
-  StartsNone = (old new : Writer W) → Starts contents failures old new (Ok tt) → HasWritten old new []
+  StartsNone = (old new : Writer W) → Starts contents failures in_memory old new (Ok tt) → HasWritten old new []
 
   -- after a write one batch more is
   abbrev pub WritesMore : Type 0
   WritesMore = (old now new : Writer W) (batches : List Batch) (fields : Option (List IpcField)) (columns : List Column)
-      → HasWritten old now batches → WritesChunk contents failures now new fields columns (Ok tt)
+      → HasWritten old now batches → WritesChunk contents failures in_memory now new fields columns (Ok tt)
       → HasWritten old new (batches ++ batch_of_stored (ids_views (fields_or now.ids fields)) columns ∷ [])
 
   -- after the finish a file of the batches is
   abbrev pub FinishesFile : Type 0
-  FinishesFile = (old now new : Writer W) (batches : List Batch) → HasWritten old now batches → Finishes contents failures now new (Ok tt)
+  FinishesFile = (old now new : Writer W) (batches : List Batch) → HasWritten old now batches → Finishes contents failures in_memory now new (Ok tt)
       → Appends (contents old.device) (contents new.device) (file_bytes old.schema (ids_views old.ids) batches) × (new.phase ≡ finished)
 
   -- What a run of a start, writes and a finish has written, leaving out the writes that were refused, is the file of the schema and the batches.

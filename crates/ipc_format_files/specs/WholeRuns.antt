@@ -1,6 +1,6 @@
 -- What a run of calls of a writer stands for whose writes have the writer's own ids: a whole file of batches of columns (Arrow IPC, "IPC File
 -- Format").
-use Rattle.std.specs.Prelude.{◌≡◌, ℕ, List, [], ◌∷◌, ◌++◌, Option, Some, Ok}
+use Rattle.std.specs.Prelude.{◌≡◌, ℕ, Bool, List, [], ◌∷◌, ◌++◌, Option, Some, Ok}
 use Rattle.std.specs.Io.KnownBytes.{Appends}
 use Rattle.ipc_format_stream_writer.specs.Runs.{AreSameIds, IsRunOf}
 use Rattle.ipc_format_stream_writer.specs.reader.chunk_writing.columnar_memory.declared.Schema.{Schema}
@@ -21,12 +21,12 @@ use Rattle.ipc_format_files.specs.Writing.{Finishes, Starts, WritesChunk}
 abbrev pub batches_with : Schema → IdsList → List (List Column) → List Batch
 batches_with schema ids batches = batches_written schema ids (stored_chunks batches)
 
--- What a device shows of its bytes, where they are known, and how often it has failed
-module _ {W : Type 0} (contents : W → Option (List ℕ)) (failures : W → ℕ) where
+-- What a device shows of its bytes, where they are known, how often it has failed, and whether devices of its kind are memory alone
+module _ {W : Type 0} (contents : W → Option (List ℕ)) (failures : W → ℕ) (in_memory : Bool) where
   -- A writer was started, and has written batches with its own ids since: those of this run, which tells the dictionaries that the file does, and
   -- whose messages are the file's.
   pub record HasWrittenBatches (old now : Writer W) (batches : List (List Column)) : Type 0 where
-    pub written : HasWritten contents failures old now (batches_with old.schema (ids_views old.ids) batches)
+    pub written : HasWritten contents failures in_memory old now (batches_with old.schema (ids_views old.ids) batches)
     pub run : Run
     pub is : IsRunOf file run old.schema (ids_views old.ids) batches
     pub told : run.told ≡ told_with [] (batches_with old.schema (ids_views old.ids) batches)
@@ -42,18 +42,19 @@ module _ {W : Type 0} (contents : W → Option (List ℕ)) (failures : W → ℕ
 
   -- after a start no batch is written
   abbrev pub StartsNoBatch : Type 0
-  StartsNoBatch = (old new : Writer W) → Starts contents failures old new (Ok tt) → HasWrittenBatches old new []
+  StartsNoBatch = (old new : Writer W) → Starts contents failures in_memory old new (Ok tt) → HasWrittenBatches old new []
 
   -- after a write with the writer's ids one batch more is
   abbrev pub WritesOneMore : Type 0
   WritesOneMore = (old now new : Writer W) (batches : List (List Column)) (fields : Option (List IpcField)) (columns : List Column)
-      → HasWrittenBatches old now batches → AreSameIds (ids_views old.ids) fields → WritesChunk contents failures now new fields columns (Ok tt)
+      → HasWrittenBatches old now batches → AreSameIds (ids_views old.ids) fields
+      → WritesChunk contents failures in_memory now new fields columns (Ok tt)
       → HasWrittenBatches old new (batches ++ columns ∷ [])
 
   -- after the finish the whole file of the batches is
   abbrev pub FinishesWhole : Type 0
   FinishesWhole = (old now new : Writer W) (batches : List (List Column)) → HasWrittenBatches old now batches
-      → Finishes contents failures now new (Ok tt) → HasFinished old new batches
+      → Finishes contents failures in_memory now new (Ok tt) → HasFinished old new batches
 
   -- What a run of a start, writes with the writer's ids and a finish has written, leaving out the writes that were refused, is a whole file of the
   -- schema and the batches.

@@ -1,5 +1,5 @@
 -- What a writer's calls answer, and what they leave (Arrow IPC, "IPC File Format").
-use Rattle.std.specs.Prelude.{◌≡◌, ◌⊎◌, ℕ, true, List, Option, Some, None, Result, Ok, Err}
+use Rattle.std.specs.Prelude.{◌≡◌, ◌⊎◌, ℕ, Bool, true, List, Option, Some, None, Result, Ok, Err}
 use Rattle.std.specs.Io.KnownBytes.{Appends}
 use Rattle.ipc_format_stream_writer.specs.Objections.{IsNotStarted}
 use Rattle.ipc_format_stream_writer.specs.Opening.{fields_or}
@@ -20,8 +20,7 @@ use Rattle.ipc_format_stream_writer.specs.reader.chunk_writing.grammar.WrittenSt
 use Rattle.ipc_format_stream_writer.specs.reader.chunk_writing.grammar.WrittenStreams.{is_written_with, stored_columns}
 use Rattle.ipc_format_stream_writer.specs.reader.chunk_writing.metadata.Views.{ids_views}
 use Rattle.ipc_format_stream_writer.specs.reader.chunk_writing.metadata.declared.ipc_schema.IpcField.{IpcField}
-use Rattle.ipc_format_stream_writer.specs.reader.streams.Devices.{AppendsBeginning}
-use Rattle.ipc_format_stream_writer.specs.reader.streams.EncodedMessages.{IsRefusedWrite}
+use Rattle.ipc_format_stream_writer.specs.reader.streams.Devices.{AppendsBeginning, IsRefusedWrite}
 use Rattle.ipc_format_files.specs.Adding.{IsBehind, IsNotAdded}
 use Rattle.ipc_format_files.specs.Ends.{HasNoFooter, IsFooter, end_of, footer_of, start_bytes}
 use Rattle.ipc_format_files.specs.Opening.{first_progress}
@@ -42,20 +41,21 @@ abbrev pub IsMade : {W : Type 0} → Result (Writer W) Error → W → Schema �
 IsMade (Ok writer) device schema ids compression = IsNew writer device schema ids compression
 IsMade (Err error) device schema ids compression = IsOutOfMemory error
 
--- What a device shows of its bytes, where they are known, and how often it has failed
-module _ {W : Type 0} (contents : W → Option (List ℕ)) (failures : W → ℕ) where
-  -- some bytes were written, and the file is so far
+-- What a device shows of its bytes, where they are known, how often it has failed, and whether devices of its kind are memory alone
+module _ {W : Type 0} (contents : W → Option (List ℕ)) (failures : W → ℕ) (in_memory : Bool) where
+  -- some bytes were written, the device has failed as often as before, and the file is so far
   pub record Sends (old new : Writer W) (bytes : List ℕ) (now : Phase) : Type 0 where
     pub device : Appends (contents old.device) (contents new.device) bytes
+    pub count : failures new.device ≡ failures old.device
     pub schema : new.schema ≡ old.schema
     pub ids : new.ids ≡ old.ids
     pub compression : new.compression ≡ old.compression
     pub phase : new.phase ≡ now
 
-  -- the device failed where some bytes were to be written: a beginning of them is
+  -- The device failed where some bytes were to be written: a beginning of them is, perhaps all. Memory refuses for want of memory alone.
   pub record Breaks (old new : Writer W) (bytes : List ℕ) (error : Error) : Type 0 where
     pub device : AppendsBeginning (contents old.device) (contents new.device) bytes
-    pub why : IsRefusedWrite (failures old.device) (failures new.device) error
+    pub why : IsRefusedWrite in_memory (failures old.device) (failures new.device) error
     pub schema : new.schema ≡ old.schema
     pub ids : new.ids ≡ old.ids
     pub compression : new.compression ≡ old.compression

@@ -14,18 +14,18 @@ impl<W: Write + Faults> FileWriter<W> {
     /// What a start, writes and a finish have written, leaving out the writes that were refused, is the file of the schema and the batches (Arrow
     /// IPC, "IPC File Format").
     pub fn files_are_written()
-        ensures { FilesAreWritten W.contents W.failures }
+        ensures { FilesAreWritten W.contents W.failures W.in_memory }
     {}
 
     /// What a start, writes with the writer's ids and a finish have written, leaving out the writes that were refused, is a whole file of the schema
     /// and the batches: they belong to it, no dictionary is replaced, and all is within its limits (Arrow IPC, "IPC File Format").
     pub fn runs_are_files()
-        ensures { RunsAreFiles W.contents W.failures }
+        ensures { RunsAreFiles W.contents W.failures W.in_memory }
     {}
 
     /// What writes and a finish add to a file, leaving out the writes that were refused, are the messages of the batches, and an end whose footer
     /// places them behind the file's own (Arrow IPC, "IPC File Format").
     pub fn files_grow()
-        ensures { FilesGrow W.contents W.failures }
+        ensures { FilesGrow W.contents W.failures W.in_memory }
     {}
 }

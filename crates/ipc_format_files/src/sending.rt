@@ -1,16 +1,15 @@
 //! What stands at both ends of a file, written to a device (Arrow IPC, "IPC File Format").
-ghost use Rattle.std.specs.Prelude.{◌≡◌, ◌<◌, ◌^◌, [], IfErr, length, replicate, true};
+ghost use Rattle.std.specs.Prelude.{◌≡◌, ◌<◌, ◌^◌, [], IfErr, MatchResult, length, replicate, true};
 ghost use Rattle.ipc_format_stream_writer.specs.Sending.{Delivers};
 ghost use Rattle.ipc_format_stream_writer.specs.reader.chunk_writing.EncodedChunks.{message_in};
 ghost use Rattle.ipc_format_stream_writer.specs.reader.chunk_writing.grammar.WrittenMessages.{fits_limit};
 ghost use Rattle.ipc_format_stream_writer.specs.reader.chunk_writing.columnar_memory.Error.{IsIo};
-ghost use Rattle.ipc_format_stream_writer.specs.reader.streams.Devices.{Puts};
-ghost use Rattle.ipc_format_stream_writer.specs.reader.streams.EncodedMessages.{IsRefusedWrite};
+ghost use Rattle.ipc_format_stream_writer.specs.reader.streams.Devices.{IsRefusedWrite, Puts};
 ghost use Rattle.ipc_format_files.specs.Ends.{end_with_zeros, file_tail, first_bytes};
 
 use ipc_format_stream_writer::put_message;
 use ipc_format_stream_writer::reader::streams::columnar_memory::{Error, Result};
-use ipc_format_stream_writer::reader::streams::{EncodedData, Faults, put, refusal};
+use ipc_format_stream_writer::reader::streams::{EncodedData, Faults, outcome, put};
 use std::io::{Seek, SeekFrom, Write};
 
 /// The mark of a file, and two zeros.
@@ -92,41 +91,41 @@ fn put_whole_end<W: Write>(writer: &mut W, zeros: u64, footer: &[u8]) -> Result<
 /// Writes the start of a file, and its first message.
 ///
 /// # Errors
-/// - `Io`: the device failed.
-/// - `OutOfSpec`: it took nothing of a piece, or refused it without a failure.
+/// - `Io`: the device failed, also where each of its writes was answered by `Ok`.
+/// - `OutOfSpec`: it took nothing of a piece, or refused it without a failure, or its count of failures fell. Memory never answers this.
 /// - `OutOfMemory`: it had no memory.
 ///
-/// A beginning of the bytes is then written.
+/// A beginning of the bytes is then written, perhaps all of them.
+#[tactic(auto, using(ipc_format_stream_writer::proofs::Delivered::delivered))]
 pub(crate) fn send_start<W: Write + Faults>(writer: &mut W, message: &EncodedData) -> Result<()>
     requires { fits_limit (message_in message.now) ≡ true }
-    ensures { Delivers result (W.failures writer.old) (W.failures writer.new) (W.contents writer.old) (W.contents writer.new)
+    ensures { Delivers result W.in_memory (W.failures writer.old) (W.failures writer.new) (W.contents writer.old) (W.contents writer.new)
         (first_bytes (message_in message.now)) }
 {
+    let is_memory = writer.is_memory();
     let before = writer.faults();
-    match put_start(writer, message) {
-        Ok(()) => Ok(()),
-        Err(error) => Err(refusal(error, before, writer.faults())),
-    }
+    let written = put_start(writer, message);
+    outcome(written, is_memory, before, writer.faults())
 }
 
 /// Writes the end mark of the messages, so many zeros, a footer, its length, and the mark, and has the device let go what it holds back.
 ///
 /// # Errors
-/// - `Io`: the device failed.
-/// - `OutOfSpec`: it took nothing of a piece, or refused it without a failure.
+/// - `Io`: the device failed, also where each of its writes was answered by `Ok`.
+/// - `OutOfSpec`: it took nothing of a piece, or refused it without a failure, or its count of failures fell. Memory never answers this.
 /// - `OutOfMemory`: it had no memory.
 ///
-/// A beginning of the bytes is then written.
+/// A beginning of the bytes is then written, perhaps all of them.
+#[tactic(auto, using(ipc_format_stream_writer::proofs::Delivered::delivered))]
 pub(crate) fn send_end<W: Write + Faults>(writer: &mut W, zeros: u64, footer: &[u8]) -> Result<()>
     requires { length footer.now < 2 ^ 31 }
-    ensures { Delivers result (W.failures writer.old) (W.failures writer.new) (W.contents writer.old) (W.contents writer.new)
+    ensures { Delivers result W.in_memory (W.failures writer.old) (W.failures writer.new) (W.contents writer.old) (W.contents writer.new)
         (end_with_zeros zeros footer.now) }
 {
+    let is_memory = writer.is_memory();
     let before = writer.faults();
-    match put_whole_end(writer, zeros, footer) {
-        Ok(()) => Ok(()),
-        Err(error) => Err(refusal(error, before, writer.faults())),
-    }
+    let written = put_whole_end(writer, zeros, footer);
+    outcome(written, is_memory, before, writer.faults())
 }
 
 /// Has a device stand at a place, and writes so many zeros there.
@@ -142,19 +141,20 @@ fn seek_behind<W: Write + Seek>(writer: &mut W, place: u64, zeros: u64) -> Resul
 /// Has a device stand at a place, and writes so many zeros there.
 ///
 /// # Errors
-/// - `Io`: the device failed.
-/// - `OutOfSpec`: it took nothing of a piece, or refused without a failure.
+/// - `Io`: the device failed, also where each of its calls was answered by `Ok`.
+/// - `OutOfSpec`: it took nothing of a piece, or refused without a failure, or its count of failures fell. Memory never answers this.
 /// - `OutOfMemory`: it had no memory.
+#[tactic(auto, using(crate::proofs::Stood::stood))]
 pub(crate) fn stand_behind<W: Write + Seek + Faults>(
     writer: &mut W,
     place: u64,
     zeros: u64,
 ) -> Result<()>
-    ensures { IfErr result (IsRefusedWrite (W.failures writer.old) (W.failures writer.new)) }
+    ensures { MatchResult result (λ _. W.failures writer.new ≡ W.failures writer.old)
+        (IsRefusedWrite W.in_memory (W.failures writer.old) (W.failures writer.new)) }
 {
+    let is_memory = writer.is_memory();
     let before = writer.faults();
-    match seek_behind(writer, place, zeros) {
-        Ok(()) => Ok(()),
-        Err(error) => Err(refusal(error, before, writer.faults())),
-    }
+    let written = seek_behind(writer, place, zeros);
+    outcome(written, is_memory, before, writer.faults())
 }

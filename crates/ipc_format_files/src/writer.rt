@@ -104,7 +104,7 @@ impl<W: Write + Faults + Drop> FileWriter<W> {
         ipc_fields: Option<Vec<IpcField>>,
         options: WriteOptions,
     ) -> Result<Self>
-        ensures { IsMadeStarted W.contents W.failures result writer schema (ids_given schema ipc_fields) options.compression }
+        ensures { IsMadeStarted W.contents W.failures W.in_memory result writer schema (ids_given schema ipc_fields) options.compression }
     {
         let mut made = FileWriter::new(alloc, writer, schema, ipc_fields, options)?;
         made.start(alloc)?;
@@ -116,16 +116,17 @@ impl<W: Write + Faults> FileWriter<W> {
     /// Writes the file's mark, and the schema's message with the ids of its dictionaries.
     ///
     /// # Errors
-    /// - `OutOfSpec`: the writer was started before, or its device has failed. Nothing changes. Or the device took nothing of a piece now.
+    /// - `OutOfSpec`: the writer was started before, or its device has failed. Nothing changes. Or the device, if it is not memory,
+    ///   took nothing of a piece now, refused it without a failure, or has a count of failures that fell.
     /// - `NotYetImplemented`: a field of floating-point numbers stands in the schema. Nothing changes, as with the next three.
     /// - `InvalidArgumentError`: the schema is none that is written, or the ids are not those of its dictionaries.
     /// - `Overflow`: with its prefix of 8 bytes the metadata would have more than 2,147,483,640 bytes.
     /// - `OutOfMemory`: there was no memory for the metadata. Or the device had none.
-    /// - `Io`: the device failed.
+    /// - `Io`: the device failed, also where each of its writes was answered by `Ok`.
     ///
-    /// Where the device refused, a beginning of the bytes is written, and the writer refuses all later calls.
+    /// Where the device refused, a beginning of the bytes is written, perhaps all of them, and the writer refuses all later calls.
     pub fn start(&mut self, alloc: Global) -> Result<()>
-        ensures { Starts W.contents W.failures self.old self.new result }
+        ensures { Starts W.contents W.failures W.in_memory self.old self.new result }
     {
         if !is_fresh(&self.state) {
             return Err(out_of_order());
@@ -147,22 +148,23 @@ impl<W: Write + Faults> FileWriter<W> {
     /// The ids of its dictionaries are those that are given, or else the writer's.
     ///
     /// # Errors
-    /// - `OutOfSpec`: the writer was not started, is finished, or its device has failed. Nothing changes. Or the device took nothing of a piece now.
+    /// - `OutOfSpec`: the writer was not started, is finished, or its device has failed. Nothing changes. Or the device, if it is not memory,
+    ///   took nothing of a piece now, refused it without a failure, or has a count of failures that fell.
     /// - `NotYetImplemented`: the writer was told to compress. Nothing changes, as with the next three.
     /// - `InvalidArgumentError`: the batch doesn't belong to the schema, the ids are not those of its dictionaries, or a dictionary differs from
     ///   another one under its id.
     /// - `Overflow`: a message is past its limit, or the file would have 2^63 bytes or more, or more than 65,536 messages of dictionaries.
     /// - `OutOfMemory`: there was no memory for the messages or for what the writer keeps. Or the device had none.
-    /// - `Io`: the device failed.
+    /// - `Io`: the device failed, also where each of its writes was answered by `Ok`.
     ///
-    /// Where the device refused, a beginning of the messages is written, and the writer refuses all later calls.
+    /// Where the device refused, a beginning of the messages is written, perhaps all of them, and the writer refuses all later calls.
     pub fn write(
         &mut self,
         alloc: Global,
         columns: &Chunk<AnyArray>,
         ipc_fields: Option<&[IpcField]>,
     ) -> Result<()>
-        ensures { WritesChunk W.contents W.failures self.old self.new (option_copied ipc_fields.entry) columns.now result }
+        ensures { WritesChunk W.contents W.failures W.in_memory self.old self.new (option_copied ipc_fields.entry) columns.now result }
     {
         let State::Started(file) = &mut self.state else {
             return Err(out_of_order());
@@ -201,14 +203,15 @@ impl<W: Write + Faults> FileWriter<W> {
     /// footer of a file that was added to stand as many zeros as it takes for the file to have no fewer bytes than before.
     ///
     /// # Errors
-    /// - `OutOfSpec`: the writer was not started, is finished, or its device has failed. Nothing changes. Or the device took nothing of a piece now.
+    /// - `OutOfSpec`: the writer was not started, is finished, or its device has failed. Nothing changes. Or the device, if it is not memory,
+    ///   took nothing of a piece now, refused it without a failure, or has a count of failures that fell.
     /// - `Overflow`: the footer would have 2^31 bytes or more, or the file 2^63 or more. Nothing changes.
     /// - `OutOfMemory`: there was no memory for the footer, and nothing changes. Or the device had none.
-    /// - `Io`: the device failed.
+    /// - `Io`: the device failed, also where each of its writes was answered by `Ok`.
     ///
-    /// Where the device refused, a beginning of the bytes is written, and the writer refuses all later calls.
+    /// Where the device refused, a beginning of the bytes is written, perhaps all of them, and the writer refuses all later calls.
     pub fn finish(&mut self, alloc: Global) -> Result<()>
-        ensures { Finishes W.contents W.failures self.old self.new result }
+        ensures { Finishes W.contents W.failures W.in_memory self.old self.new result }
     {
         let (zeros, footer) = self.end(alloc)?;
         match send_end(&mut self.writer, zeros, &footer) {
@@ -256,7 +259,8 @@ impl<W: Read + Write + Seek + Faults + Drop> FileWriter<W> {
     ///   specification; or the device refuses without a failure.
     /// - `Overflow`: the file has 2^63 bytes or more.
     /// - `OutOfMemory`: there was no memory for the dictionaries or for what the writer keeps. Or the device had none.
-    /// - `Io`: the device failed.
+    /// - `Io`: the device failed, also where each of its writes was answered by `Ok`.
+    #[tactic(auto, using(crate::proofs::Stood::lost_behind))]
     pub fn try_from_file(
         alloc: Global,
         mut writer: W,

@@ -12,10 +12,10 @@ use Rattle.ipc_format_chunk_writing.specs.columnar_memory.declared.Schema.{Schem
 use Rattle.ipc_format_chunk_writing.specs.columns.StoredColumns.{Column}
 use Rattle.ipc_format_chunk_writing.specs.grammar.Columns.{Dictionary}
 use Rattle.ipc_format_chunk_writing.specs.grammar.Writable.{normalised}
-use Rattle.ipc_format_chunk_writing.specs.streams.Starts.{IsReadRefusal}
+use Rattle.ipc_format_chunk_writing.specs.streams.Starts.{IsReadOutcome, IsReadRefusal, IsRefusedRead}
 use Rattle.ipc_format_chunk_writing.specs.streams.declared.stream_metadata.StreamMetadata.{StreamMetadata}
 use Rattle.ipc_format_readers.specs.Asking.{IsAsked, IsAskedOf, asked_of, asked_schema}
-use Rattle.ipc_format_readers.specs.Readings.{Reading, Opens, Takes, Refuses, Answers, NextGives}
+use Rattle.ipc_format_readers.specs.Readings.{Reading, Opens, Takes, TakesUnfailed, Refuses, Answers, NextGives}
 use Rattle.ipc_format_readers.specs.declared.asking.Asked.{Asked}
 use Rattle.ipc_format_readers.specs.declared.state.StreamState.{StreamState}
 
@@ -63,22 +63,38 @@ schema_kept schema normal columns found is kept =
 -- ---- what a reader answers
 
 -- one that has ended
-pub ended : (reading : Reading) → reading.is_finished ≡ true → NextGives reading None reading
-ended reading is = (refl, refl, subst (λ (b : Bool). Answers b reading reading None) (sym is) (refl, refl))
+pub ended : (in_memory : Bool) (reading : Reading) → reading.is_finished ≡ true → NextGives in_memory reading None reading
+ended in_memory reading is = (refl, refl, subst (λ (b : Bool). Answers in_memory b reading reading None) (sym is) (refl, refl))
 
 -- one that has not
-pub goes_on : (old new : Reading) (result : Option (Result StreamState Error)) → new.metadata ≡ old.metadata → new.columns ≡ old.columns
-    → old.is_finished ≡ false → Answers false old new result → NextGives old result new
-goes_on old new result same columns is answers = (same, columns, subst (λ (b : Bool). Answers b old new result) (sym is) answers)
+pub goes_on : (in_memory : Bool) (old new : Reading) (result : Option (Result StreamState Error)) → new.metadata ≡ old.metadata
+    → new.columns ≡ old.columns → old.is_finished ≡ false → Answers in_memory false old new result → NextGives in_memory old result new
+goes_on in_memory old new result same columns is answers =
+    (same, columns, subst (λ (b : Bool). Answers in_memory b old new result) (sym is) answers)
+
+-- a device's refusal says nothing of the bytes
+device_refused : (in_memory : Bool) (old new : Reading) (error : Error) → IsRefusedRead in_memory old.failures new.failures error
+    → Refuses in_memory old new error
+device_refused in_memory old new (errors.Io what) why = why
+device_refused in_memory old new (errors.OutOfSpec text) why = inl why
+device_refused in_memory old new errors.OutOfMemory why = tt
+device_refused true old new _ why = absurd why
+device_refused false old new _ why = absurd why
 
 -- each refusal by its name
-pub named : (old new : Reading) (error answered : Error) → Takes old new (Err error)
-    → IsReadRefusal error old.failures new.failures answered → Refuses old new answered
-named old new (errors.Io what) (errors.Io same) takes is = is
-named old new (errors.Io what) (errors.OutOfSpec text) takes is = inl is.1
-named old new (errors.Io what) errors.OutOfMemory takes is = tt
-named old new (errors.Io what) _ takes is = absurd is
-named old new (errors.OutOfSpec text) answered takes is = subst (λ (e : Error). Refuses old new e) (sym is) (inr takes)
-named old new (errors.NotYetImplemented text) answered takes is = subst (λ (e : Error). Refuses old new e) (sym is) takes
-named old new errors.OutOfMemory answered takes is = subst (λ (e : Error). Refuses old new e) (sym is) tt
-named old new _ answered takes is = absurd takes
+named : (in_memory : Bool) (old new : Reading) (error answered : Error) → Takes old new (Err error)
+    → IsReadRefusal error in_memory old.failures new.failures answered → Refuses in_memory old new answered
+named in_memory old new (errors.Io what) answered takes is = device_refused in_memory old new answered is
+named in_memory old new (errors.OutOfSpec text) answered takes is = subst (λ (e : Error). Refuses in_memory old new e) (sym is) (inr takes)
+named in_memory old new (errors.NotYetImplemented text) answered takes is = subst (λ (e : Error). Refuses in_memory old new e) (sym is) takes
+named in_memory old new errors.OutOfMemory answered takes is = subst (λ (e : Error). Refuses in_memory old new e) (sym is) tt
+named in_memory old new _ answered takes is = absurd takes
+
+-- what is answered of a turn, by the device's count
+pub told_of_turn : (in_memory : Bool) (old new : Reading) (found answered : Result (Option StreamState) Error) → Takes old new found
+    → IsReadOutcome found in_memory old.failures new.failures answered → TakesUnfailed in_memory old new answered
+told_of_turn in_memory old new (Ok found) (Ok same) takes told =
+    (told.1, subst (λ (it : Option StreamState). Takes old new (Ok it)) (sym told.0) takes)
+told_of_turn in_memory old new (Ok found) (Err error) takes told = device_refused in_memory old new error told.0
+told_of_turn in_memory old new (Err error) (Ok same) takes told = absurd told
+told_of_turn in_memory old new (Err error) (Err answered) takes told = named in_memory old new error answered takes told

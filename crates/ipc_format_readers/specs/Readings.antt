@@ -1,5 +1,5 @@
 -- What a caller sees of a reader of a stream's batches, and what its calls answer (Arrow IPC, "IPC Streaming Format").
-use Rattle.std.specs.Prelude.{◌≡◌, ◌⊎◌, ◌<◌, ℕ, Bool, true, false, List, [], Option, Some, None, Result, Ok, Err}
+use Rattle.std.specs.Prelude.{◌≡◌, ◌⊎◌, ℕ, Bool, true, false, List, [], Option, Some, None, Result, Ok, Err}
 use Rattle.ipc_format_chunk_writing.specs.columnar_memory.Error.{IsOutOfMemory}
 use Rattle.ipc_format_chunk_writing.specs.columnar_memory.declared.Error.{Error}
 use Rattle.ipc_format_chunk_writing.specs.columnar_memory.declared.Error.TheVariants as errors
@@ -8,7 +8,7 @@ use Rattle.ipc_format_chunk_writing.specs.grammar.Messages.{Version}
 use Rattle.ipc_format_chunk_writing.specs.grammar.Tables.{layout_of}
 use Rattle.ipc_format_chunk_writing.specs.messages.MessageViews.{version_view}
 use Rattle.ipc_format_chunk_writing.specs.streams.Incoming.{ForLeft}
-use Rattle.ipc_format_chunk_writing.specs.streams.Starts.{IsUncounted, start_view}
+use Rattle.ipc_format_chunk_writing.specs.streams.Starts.{IsRefusedRead, start_view}
 use Rattle.ipc_format_chunk_writing.specs.streams.declared.stream_metadata.StreamMetadata.{StreamMetadata}
 use Rattle.ipc_format_readers.specs.Hearing.{Spot, TakesTurn, turn_at}
 use Rattle.ipc_format_readers.specs.Turns.{Turn}
@@ -54,20 +54,28 @@ turn_from reading bytes = turn_at reading.columns (layout_by reading.metadata) (
 abbrev pub Takes : Reading → Reading → Result (Option StreamState) Error → Type 0
 Takes old new result = TakesTurn old.columns (layout_by old.metadata) (version_by old.metadata) old.spot new.spot result
 
--- Why a reader refuses: its device failed in the call, there was no memory, a message is not read, or the format gives nothing. A device that refuses
--- without a failure is out of specification, by a text of its own.
-abbrev pub Refuses : Reading → Reading → Error → Type 0
-Refuses old new (errors.Io what) = old.failures < new.failures
-Refuses old new (errors.OutOfSpec text) = IsUncounted (errors.OutOfSpec text) ⊎ Takes old new (Err (errors.OutOfSpec text))
-Refuses old new error = Takes old new (Err error)
+-- Whether devices of a reader's kind are memory alone
+module _ (in_memory : Bool) where
+  -- Why a reader refuses: its device failed in the call, there was no memory, a message is not read, or the format gives nothing. A device that
+  -- refuses without a failure is out of specification, by a text of its own, but for memory, which refuses for want of memory alone.
+  abbrev pub Refuses : Reading → Reading → Error → Type 0
+  Refuses old new (errors.Io what) = IsRefusedRead in_memory old.failures new.failures (errors.Io what)
+  Refuses old new (errors.OutOfSpec text) =
+      IsRefusedRead in_memory old.failures new.failures (errors.OutOfSpec text) ⊎ Takes old new (Err (errors.OutOfSpec text))
+  Refuses old new error = Takes old new (Err error)
 
--- what a reader answers that has ended, or has not; after the end mark and after a refusal it has
-abbrev pub Answers : Bool → Reading → Reading → Option (Result StreamState Error) → Type 0
-Answers true old new result = (result ≡ None) × (new ≡ old)
-Answers false old new None = (new.is_finished ≡ true) × Takes old new (Ok None)
-Answers false old new (Some (Ok state)) = (new.is_finished ≡ false) × Takes old new (Ok (Some state))
-Answers false old new (Some (Err error)) = (new.is_finished ≡ true) × Refuses old new error
+  -- what a turn gives is taken for a success only where the device has failed as often as before
+  abbrev pub TakesUnfailed : Reading → Reading → Result (Option StreamState) Error → Type 0
+  TakesUnfailed old new (Ok found) = (new.failures ≡ old.failures) × Takes old new (Ok found)
+  TakesUnfailed old new (Err error) = Refuses old new error
 
--- The next batch of a stream, or that its bytes end there: the dictionaries before it are read, and the reader stands behind it.
-abbrev pub NextGives : Reading → Option (Result StreamState Error) → Reading → Type 0
-NextGives old result new = (new.metadata ≡ old.metadata) × (new.columns ≡ old.columns) × Answers old.is_finished old new result
+  -- what a reader answers that has ended, or has not; after the end mark and after a refusal it has
+  abbrev pub Answers : Bool → Reading → Reading → Option (Result StreamState Error) → Type 0
+  Answers true old new result = (result ≡ None) × (new ≡ old)
+  Answers false old new None = (new.is_finished ≡ true) × TakesUnfailed old new (Ok None)
+  Answers false old new (Some (Ok state)) = (new.is_finished ≡ false) × TakesUnfailed old new (Ok (Some state))
+  Answers false old new (Some (Err error)) = (new.is_finished ≡ true) × TakesUnfailed old new (Err error)
+
+  -- The next batch of a stream, or that its bytes end there: the dictionaries before it are read, and the reader stands behind it.
+  abbrev pub NextGives : Reading → Option (Result StreamState Error) → Reading → Type 0
+  NextGives old result new = (new.metadata ≡ old.metadata) × (new.columns ≡ old.columns) × Answers old.is_finished old new result

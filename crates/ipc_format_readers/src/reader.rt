@@ -9,7 +9,7 @@ use crate::state::StreamState;
 use crate::turns::{Standing, take_asked};
 use ipc_format_chunk_writing::columnar_memory::{Result, Schema};
 use ipc_format_chunk_writing::streams::owned::writing::normalised;
-use ipc_format_chunk_writing::streams::{Faults, StreamMetadata, read_refusal};
+use ipc_format_chunk_writing::streams::{Faults, StreamMetadata, read_outcome};
 use std::alloc::Global;
 use std::io::Read;
 use std::marker::Model;
@@ -116,21 +116,23 @@ impl<R: Read + Faults + Drop> StreamReader<R> {
 impl<R: Read + Faults + Drop> Iterator for StreamReader<R> {
     type Item = Result<StreamState>;
 
-    ghost next_gives = { NextGives };
+    ghost next_gives = { NextGives R.in_memory };
 
     /// The columns that are asked for of the next record batch, under the dictionaries that came before it. Where the bytes end before it, it is
     /// `Waiting`, and a later call goes on with those that it holds. Behind the end mark and after a refusal nothing comes.
     ///
     /// # Errors
     /// - `OutOfSpec`: the bytes break a rule of the format, end within a message, or more than 65,536 dictionaries come in a row; or the device
-    ///   refuses without a failure.
+    ///   refuses without a failure, or its count of failures falls, which memory never does.
     /// - `NotYetImplemented`: buffers are compressed, or a dictionary adds to an earlier one.
-    /// - `Io`: the device failed.
+    /// - `Io`: the device failed, also where each of its reads was answered by `Ok`.
     /// - `OutOfMemory`: there was no memory for what came.
+    #[tactic(auto, using(crate::proofs::Nexts::told_of_turn))]
     fn next(&mut self) -> Option<Result<StreamState>> {
         if self.is_finished {
             return None;
         }
+        let is_memory = self.device.is_memory();
         let before = self.device.faults();
         let found = take_asked(
             self.alloc,
@@ -141,8 +143,7 @@ impl<R: Read + Faults + Drop> Iterator for StreamReader<R> {
             &self.asked,
             &mut self.standing,
         );
-        let after = self.device.faults();
-        match found {
+        match read_outcome(found, is_memory, before, self.device.faults()) {
             Ok(Some(state)) => Some(Ok(state)),
             Ok(None) => {
                 self.is_finished = true;
@@ -150,7 +151,7 @@ impl<R: Read + Faults + Drop> Iterator for StreamReader<R> {
             }
             Err(error) => {
                 self.is_finished = true;
-                Some(Err(read_refusal(error, before, after)))
+                Some(Err(error))
             }
         }
     }

@@ -63,7 +63,7 @@ given_itself (Some xs) = refl
 pub none_read : (version : Version) (at : At) (told : Told) (fields : List Field) (ids : List IpcField) (nodes : List FieldNode)
     (buffers : List Buffer) → LeftToRead version at told told fields ids nodes nodes buffers buffers 0 []
 none_read version at told fields ids nodes buffers = (
-  (refl, omega arith),
+  (refl, refl),
   λ room is. given_itself (arrays_below fields (at nodes buffers room) (ids_views ids))
       ∙ ap₂ (λ us vs. arrays_below us (at nodes buffers room) (ids_views vs) >>= (λ later. Some later)) (sym (drop_none fields))
       (sym (drop_none ids)),
@@ -124,7 +124,7 @@ pub one_more_read : (version : Version) (at : At) (old now new : Told) (fields :
 one_more_read version at old now new fields ids nodes rest last buffers others end k children u i array lt is has its behind before read =
     let t = type_of u in
     let stays : Stays old new =
-    (read.0.0.1.0 ∙ before.0.0, omega (arith, before.0.1, read.0.0.1.1)) in
+    (read.0.0.1.0 ∙ before.0.0, read.0.0.1.1 ∙ before.0.1) in
     let more_nodes : nodes_below (take (suc k) fields) ≡ nodes_below (take k fields) + node_count t =
     total_next (λ (field : Field). node_count (type_of field)) fields k u lt is in
     let more_buffers : buffers_below version (take (suc k) fields) ≡ buffers_below version (take k fields) + buffer_count version t =

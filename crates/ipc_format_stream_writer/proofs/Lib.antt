@@ -1,5 +1,6 @@
 pub mod Bars
 pub mod Batches
+pub mod Delivered
 pub mod Room
 pub mod Runs
 pub mod Writes

@@ -1,6 +1,6 @@
 -- What a run of calls of a writer has written.
 use Rattle.std.proofs.Common.{◌≡◌, ◌∙◌, ℕ, true, List, [], ◌∷◌, ◌++◌, refl, sym, ap, subst}
-use Rattle.std.specs.Prelude.{ℤ, Option, Some, None, Ok}
+use Rattle.std.specs.Prelude.{ℤ, Bool, Option, Some, None, Ok}
 use Rattle.std.proofs.lemmas.Grind.{flat_map-append}
 use Rattle.std.proofs.lemmas.List.{append-nil, map-append}
 use Rattle.ipc_format_readers.specs.chunk_writing.Tracking.{Tells}
@@ -82,11 +82,11 @@ pub given_ids : (own : List IpcField) (ids : IdsList) (fields : Option (List Ipc
 given_ids own ids None same given = same
 given_ids own ids (Some fields) same given = given
 
-module _ {W : Type 0} (contents : W → Option (List ℕ)) (failures : W → ℕ) where
+module _ {W : Type 0} (contents : W → Option (List ℕ)) (failures : W → ℕ) (in_memory : Bool) where
   -- ---- calls that succeed come in order
 
   starts_in : (phase : Phase) (old new : Writer W) (schema : Schema) (ids : IdsList)
-      → StartsIn contents failures phase old new schema ids (Ok tt) → IsStarted contents failures old new schema ids
+      → StartsIn contents failures in_memory phase old new schema ids (Ok tt) → IsStarted contents failures in_memory old new schema ids
   starts_in fresh old new schema ids does = does
   starts_in (started its own entries) old new schema ids does = absurd does
   starts_in finished old new schema ids does = absurd does
@@ -94,14 +94,14 @@ module _ {W : Type 0} (contents : W → Option (List ℕ)) (failures : W → ℕ
 
   writes_under : (compression : Option Compression) (old new : Writer W) (schema : Schema) (own : List IpcField) (ids : IdsList)
       (entries : List (ℤ × Column)) (columns : List Column)
-      → WritesUnder contents failures compression old new schema own ids entries columns (Ok tt)
-      → (told : List Given) → Tells entries told → IsWritten contents failures old new schema own ids told columns
+      → WritesUnder contents failures in_memory compression old new schema own ids entries columns (Ok tt)
+      → (told : List Given) → Tells entries told → IsWritten contents failures in_memory old new schema own ids told columns
   writes_under None old new schema own ids entries columns does = does
   writes_under (Some compression) old new schema own ids entries columns does = absurd does
 
   -- ---- start
 
-  starts_none : StartsNone contents failures
+  starts_none : StartsNone contents failures in_memory
   starts_none old new schema ids does =
       let here = starts_in old.phase old new schema ids does in
       record {
@@ -118,9 +118,9 @@ module _ {W : Type 0} (contents : W → Option (List ℕ)) (failures : W → ℕ
   -- ---- write
 
   adds : (old now new : Writer W) (schema : Schema) (ids : IdsList) (batches : List (List Column)) (columns : List Column)
-      (before : HasWritten contents failures old now schema ids batches)
-      → IsWritten contents failures now new schema before.fields ids before.run.told columns
-      → HasWritten contents failures old new schema ids (batches ++ columns ∷ [])
+      (before : HasWritten contents failures in_memory old now schema ids batches)
+      → IsWritten contents failures in_memory now new schema before.fields ids before.run.told columns
+      → HasWritten contents failures in_memory old new schema ids (batches ++ columns ∷ [])
   adds old now new schema ids batches columns before does =
       let run = before.run in
       let next = batch_messages run.told (batch_of_stored ids columns) in
@@ -136,22 +136,22 @@ module _ {W : Type 0} (contents : W → Option (List ℕ)) (failures : W → ℕ
         tells = does.tells;
       }
 
-  writes_more : WritesMore contents failures
+  writes_more : WritesMore contents failures in_memory
   writes_more old now new schema ids batches fields columns before same does =
       let own = before.fields in
       let told = before.run.told in
-      let under = subst (λ (phase : Phase). WritesIn contents failures phase now new fields columns (Ok tt)) before.phase does in
+      let under = subst (λ (phase : Phase). WritesIn contents failures in_memory phase now new fields columns (Ok tt)) before.phase does in
       let written = writes_under now.compression now new schema own (ids_views (fields_or own fields)) before.entries columns under told
       before.tells in
       adds old now new schema ids batches columns before
-      (subst (λ (its : IdsList). IsWritten contents failures now new schema own its told columns)
+      (subst (λ (its : IdsList). IsWritten contents failures in_memory now new schema own its told columns)
       (given_ids own ids fields before.same same) written)
 
   -- ---- finish
 
-  finishes_stream : FinishesStream contents failures
+  finishes_stream : FinishesStream contents failures in_memory
   finishes_stream old now new schema ids batches before does =
-      let sends = subst (λ (phase : Phase). FinishesIn contents failures phase now new (Ok tt)) before.phase does in
+      let sends = subst (λ (phase : Phase). FinishesIn contents failures in_memory phase now new (Ok tt)) before.phase does in
       record {
         bytes = run_bytes before.run;
         is = run_stream schema ids before.run batches before.is;
@@ -159,5 +159,5 @@ module _ {W : Type 0} (contents : W → Option (List ℕ)) (failures : W → ℕ
         phase = sends.phase;
       }
 
-  pub streams_are_written : StreamsAreWritten contents failures
+  pub streams_are_written : StreamsAreWritten contents failures in_memory
   streams_are_written = (starts_none, writes_more, finishes_stream)

@@ -20,14 +20,14 @@ use Rattle.ipc_format_stream_writer.specs.Phases.{Phase, Writer, started}
 use Rattle.ipc_format_stream_writer.specs.Streams.{EncodesBatch}
 use Rattle.ipc_format_stream_writer.specs.Writing.{IsWritten, WritesChunk, WritesIn, WritesUnder}
 
-module _ {W : Type 0} (contents : W → Option (List ℕ)) (failures : W → ℕ) where
+module _ {W : Type 0} (contents : W → Option (List ℕ)) (failures : W → ℕ) (in_memory : Bool) where
   written_with : (old new : Writer W) (schema : Schema) (own : List IpcField) (ids : IdsList) (columns : List Column)
       (before after : List (ℤ × Column) × Bool) (messages : List Written) (last : Written)
       → before.1 ≡ false → EncodesBatch schema before after ids columns (Ok messages) last
       → Appends (contents old.device) (contents new.device) (bytes_of_messages (messages ++ last ∷ []))
-      → new.compression ≡ old.compression → new.phase ≡ started schema own after.0
-      → (told : List Given) → Tells before.0 told → IsWritten contents failures old new schema own ids told columns
-  written_with old new schema own ids columns before after messages last replaces encodes sent kept now told tells =
+      → failures new.device ≡ failures old.device → new.compression ≡ old.compression → new.phase ≡ started schema own after.0
+      → (told : List Given) → Tells before.0 told → IsWritten contents failures in_memory old new schema own ids told columns
+  written_with old new schema own ids columns before after messages last replaces encodes sent count kept now told tells =
       let here = encodes told tells in
       record {
         fit = here.fit;
@@ -36,6 +36,7 @@ module _ {W : Type 0} (contents : W → Option (List ℕ)) (failures : W → ℕ
         tells = here.tells;
         sends = record {
           device = subst (λ (them : List Written). Appends (contents old.device) (contents new.device) (bytes_of_messages them)) here.sent sent;
+          count = count;
           compression = kept;
           phase = now;
         };
@@ -47,14 +48,14 @@ module _ {W : Type 0} (contents : W → Option (List ℕ)) (failures : W → ℕ
       → started schema own before.0 ≡ old.phase → None ≡ old.compression → before.1 ≡ false
       → EncodesBatch schema before after (ids_views (fields_or own given)) columns (Ok messages) last
       → Appends (contents old.device) (contents new.device) (bytes_of_messages (messages ++ last ∷ []))
-      → new.compression ≡ old.compression → new.phase ≡ started schema own after.0
-      → WritesChunk contents failures old new given columns (Ok tt)
-  batch_written old new schema own given columns before after messages last phase none replaces encodes sent kept now =
-      subst (λ (some : Phase). WritesIn contents failures some old new given columns (Ok tt)) phase
-      (subst (λ (some : Option Compression). WritesUnder contents failures some old new schema own (ids_views (fields_or own given)) before.0 columns
-      (Ok tt)) none
-      (written_with old new schema own (ids_views (fields_or own given)) columns before after messages last replaces encodes sent kept
-      now))
+      → failures new.device ≡ failures old.device → new.compression ≡ old.compression → new.phase ≡ started schema own after.0
+      → WritesChunk contents failures in_memory old new given columns (Ok tt)
+  batch_written old new schema own given columns before after messages last phase none replaces encodes sent count kept now =
+      subst (λ (some : Phase). WritesIn contents failures in_memory some old new given columns (Ok tt)) phase
+      (subst (λ (some : Option Compression). WritesUnder contents failures in_memory some old new schema own (ids_views (fields_or own given))
+      before.0 columns (Ok tt)) none
+      (written_with old new schema own (ids_views (fields_or own given)) columns before after messages last replaces encodes sent count
+      kept now))
 
   -- a writer whose stream is started
   abbrev pub started_with : W → Option Compression → Schema → List IpcField → List (ℤ × Column) → Writer W
@@ -66,12 +67,12 @@ module _ {W : Type 0} (contents : W → Option (List ℕ)) (failures : W → ℕ
       (given : Option (List IpcField)) (columns : List Column) (before after : List (ℤ × Column) × Bool) (error : Error) (last : Written)
       → started_with device compression schema own before.0 ≡ old → None ≡ compression → before.1 ≡ false
       → EncodesBatch schema before after (ids_views (fields_or own given)) columns (Err error) last
-      → WritesChunk contents failures old (started_with device compression schema own after.0) given columns (Err error)
+      → WritesChunk contents failures in_memory old (started_with device compression schema own after.0) given columns (Err error)
   batch_refused device compression old schema own given columns before after error last was none replaces encodes =
       let new = started_with device compression schema own after.0 in
-      subst (λ (some : Phase). WritesIn contents failures some old new given columns (Err error)) (λ j. (was j).phase)
-      (subst (λ (some : Option Compression). WritesUnder contents failures some old new schema own (ids_views (fields_or own given)) before.0 columns
-      (Err error)) (none ∙ (λ j. (was j).compression))
+      subst (λ (some : Phase). WritesIn contents failures in_memory some old new given columns (Err error)) (λ j. (was j).phase)
+      (subst (λ (some : Option Compression). WritesUnder contents failures in_memory some old new schema own (ids_views (fields_or own given))
+      before.0 columns (Err error)) (none ∙ (λ j. (was j).compression))
       (λ told tells. (let here = encodes told tells in
       inl (
         subst (λ (b : Bool). IsNotWritten (form_by b) error schema (ids_views (fields_or own given)) told columns) replaces here.0,

@@ -1,5 +1,5 @@
 -- What a run of calls of a writer stands for: start, writes, finish (Arrow IPC, "IPC Streaming Format").
-use Rattle.std.specs.Prelude.{◌≡◌, ℕ, ℤ, List, [], ◌∷◌, ◌++◌, Option, Some, None, Ok}
+use Rattle.std.specs.Prelude.{◌≡◌, ℕ, ℤ, Bool, List, [], ◌∷◌, ◌++◌, Option, Some, None, Ok}
 use Rattle.std.specs.Io.KnownBytes.{Appends}
 use Rattle.ipc_format_readers.specs.chunk_writing.Tracking.{Tells}
 use Rattle.ipc_format_readers.specs.chunk_writing.columnar_memory.declared.Schema.{Schema}
@@ -27,8 +27,8 @@ abbrev pub AreSameIds : IdsList → Option (List IpcField) → Type 0
 AreSameIds ids None = Unit {0}
 AreSameIds ids (Some fields) = ids_views fields ≡ ids
 
--- What a device shows of its bytes, where they are known, and how often it has failed
-module _ {W : Type 0} (contents : W → Option (List ℕ)) (failures : W → ℕ) where
+-- What a device shows of its bytes, where they are known, how often it has failed, and whether devices of its kind are memory alone
+module _ {W : Type 0} (contents : W → Option (List ℕ)) (failures : W → ℕ) (in_memory : Bool) where
   -- a writer was started with a schema and some ids, and has written batches since: the device has the messages of this run, whose dictionaries
   -- are told
   pub record HasWritten (old now : Writer W) (schema : Schema) (ids : IdsList) (batches : List (List Column)) : Type 0 where
@@ -50,19 +50,19 @@ module _ {W : Type 0} (contents : W → Option (List ℕ)) (failures : W → ℕ
 
   -- after a start no batch is written
   abbrev pub StartsNone : Type 0
-  StartsNone = (old new : Writer W) (schema : Schema) (ids : IdsList) → Starts contents failures old new schema ids (Ok tt)
+  StartsNone = (old new : Writer W) (schema : Schema) (ids : IdsList) → Starts contents failures in_memory old new schema ids (Ok tt)
       → HasWritten old new schema ids []
 
   -- after a write with the ids of the start one batch more is
   abbrev pub WritesMore : Type 0
   WritesMore = (old now new : Writer W) (schema : Schema) (ids : IdsList) (batches : List (List Column)) (fields : Option (List IpcField))
       (columns : List Column) → HasWritten old now schema ids batches → AreSameIds ids fields
-      → WritesChunk contents failures now new fields columns (Ok tt) → HasWritten old new schema ids (batches ++ columns ∷ [])
+      → WritesChunk contents failures in_memory now new fields columns (Ok tt) → HasWritten old new schema ids (batches ++ columns ∷ [])
 
   -- after the finish the stream of the batches is
   abbrev pub FinishesStream : Type 0
   FinishesStream = (old now new : Writer W) (schema : Schema) (ids : IdsList) (batches : List (List Column))
-      → HasWritten old now schema ids batches → Finishes contents failures now new (Ok tt) → HasFinished old new schema ids batches
+      → HasWritten old now schema ids batches → Finishes contents failures in_memory now new (Ok tt) → HasFinished old new schema ids batches
 
   -- What a run of a start, writes with its ids and a finish has written, leaving out the writes that were refused, is the stream of the schema and
   -- the batches.

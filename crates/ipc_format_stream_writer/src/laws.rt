@@ -12,6 +12,6 @@ impl<W: Write + Faults> StreamWriter<W> {
     /// What a start, writes with its ids and a finish have written, leaving out the writes that were refused, is the stream of the schema and the
     /// batches (Arrow IPC, "IPC Streaming Format").
     pub fn streams_are_written()
-        ensures { StreamsAreWritten W.contents W.failures }
+        ensures { StreamsAreWritten W.contents W.failures W.in_memory }
     {}
 }

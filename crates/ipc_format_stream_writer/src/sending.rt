@@ -9,7 +9,7 @@ ghost use Rattle.ipc_format_readers.specs.streams.EncodedMessages.{prefix_bytes}
 ghost use Rattle.ipc_format_stream_writer.specs.Sending.{Delivers};
 
 use ipc_format_readers::chunk_writing::columnar_memory::Result;
-use ipc_format_readers::streams::{EncodedData, Faults, put, refusal};
+use ipc_format_readers::streams::{EncodedData, Faults, outcome, put};
 use std::io::Write;
 
 /// Before each message's length.
@@ -70,23 +70,23 @@ fn put_all<W: Write>(writer: &mut W, messages: &[EncodedData], last: &EncodedDat
 /// Writes messages, and another one behind them.
 ///
 /// # Errors
-/// - `Io`: the device failed.
-/// - `OutOfSpec`: it took nothing of a piece, or refused it without a failure.
+/// - `Io`: the device failed, also where each of its writes was answered by `Ok`.
+/// - `OutOfSpec`: it took nothing of a piece, or refused it without a failure, or its count of failures fell. Memory never answers this.
 /// - `OutOfMemory`: it had no memory.
 ///
-/// A beginning of the bytes is then written.
+/// A beginning of the bytes is then written, perhaps all of them.
+#[tactic(auto, using(crate::proofs::Delivered::delivered))]
 pub fn send<W: Write + Faults>(
     writer: &mut W,
     messages: &[EncodedData],
     last: &EncodedData,
 ) -> Result<()>
     requires { list_all fits_limit (messages_in messages.now ++ message_in last.now ∷ []) ≡ true }
-    ensures { Delivers result (W.failures writer.old) (W.failures writer.new) (W.contents writer.old) (W.contents writer.new)
+    ensures { Delivers result W.in_memory (W.failures writer.old) (W.failures writer.new) (W.contents writer.old) (W.contents writer.new)
         (bytes_of_messages (messages_in messages.now ++ message_in last.now ∷ [])) }
 {
+    let is_memory = writer.is_memory();
     let before = writer.faults();
-    match put_all(writer, messages, last) {
-        Ok(()) => Ok(()),
-        Err(error) => Err(refusal(error, before, writer.faults())),
-    }
+    let written = put_all(writer, messages, last);
+    outcome(written, is_memory, before, writer.faults())
 }

@@ -74,21 +74,22 @@ impl<W: Write + Faults> StreamWriter<W> {
     /// Writes the schema's message, with the ids of its dictionaries: those that are given, or else numbers from 0 on in pre-order.
     ///
     /// # Errors
-    /// - `OutOfSpec`: the writer was started before, or its device has failed. Nothing changes. Or the device took nothing of a piece now.
+    /// - `OutOfSpec`: the writer was started before, or its device has failed. Nothing changes. Or the device, if it is not memory,
+    ///   took nothing of a piece now, refused it without a failure, or has a count of failures that fell.
     /// - `NotYetImplemented`: a field of floating-point numbers stands in the schema. Nothing changes, as with the next three.
     /// - `InvalidArgumentError`: the schema is none that is written, or the ids are not those of its dictionaries.
     /// - `Overflow`: with its prefix of 8 bytes the metadata would have more than 2,147,483,640 bytes.
     /// - `OutOfMemory`: there was no memory for the metadata or for what the writer keeps. Or the device had none.
-    /// - `Io`: the device failed.
+    /// - `Io`: the device failed, also where each of its writes was answered by `Ok`.
     ///
-    /// Where the device refused, a beginning of the message is written, and the writer refuses all later calls.
+    /// Where the device refused, a beginning of the message is written, perhaps all of it, and the writer refuses all later calls.
     pub fn start(
         &mut self,
         alloc: Global,
         schema: &Schema,
         ipc_fields: Option<Vec<IpcField>>,
     ) -> Result<()>
-        ensures { Starts W.contents W.failures self.old self.new schema.now (ids_given schema.now ipc_fields)
+        ensures { Starts W.contents W.failures W.in_memory self.old self.new schema.now (ids_given schema.now ipc_fields)
             result }
     {
         if !is_fresh(&self.state) {
@@ -111,22 +112,23 @@ impl<W: Write + Faults> StreamWriter<W> {
     /// The ids of its dictionaries are those that are given, or else those of `start`.
     ///
     /// # Errors
-    /// - `OutOfSpec`: the writer was not started, is finished, or its device has failed. Nothing changes. Or the device took nothing of a piece now.
+    /// - `OutOfSpec`: the writer was not started, is finished, or its device has failed. Nothing changes. Or the device, if it is not memory,
+    ///   took nothing of a piece now, refused it without a failure, or has a count of failures that fell.
     /// - `NotYetImplemented`: the writer was told to compress. Nothing changes, as with the next three.
     /// - `InvalidArgumentError`: the batch doesn't belong to the schema, the ids are not those of its dictionaries, or two dictionaries of one id
     ///   differ.
     /// - `Overflow`: a message is past its limit.
     /// - `OutOfMemory`: there was no memory for the messages or for what the writer keeps. Or the device had none.
-    /// - `Io`: the device failed.
+    /// - `Io`: the device failed, also where each of its writes was answered by `Ok`.
     ///
-    /// Where the device refused, a beginning of the messages is written, and the writer refuses all later calls.
+    /// Where the device refused, a beginning of the messages is written, perhaps all of them, and the writer refuses all later calls.
     pub fn write(
         &mut self,
         alloc: Global,
         columns: &Chunk<AnyArray>,
         ipc_fields: Option<&[IpcField]>,
     ) -> Result<()>
-        ensures { WritesChunk W.contents W.failures self.old self.new (option_copied ipc_fields.entry) columns.now result }
+        ensures { WritesChunk W.contents W.failures W.in_memory self.old self.new (option_copied ipc_fields.entry) columns.now result }
     {
         let State::Started(stream) = &mut self.state else {
             return Err(out_of_order());
@@ -155,13 +157,14 @@ impl<W: Write + Faults> StreamWriter<W> {
     /// Writes the end mark.
     ///
     /// # Errors
-    /// - `OutOfSpec`: the writer was not started, is finished, or its device has failed. Nothing changes. Or the device took nothing of a piece now.
-    /// - `Io`: the device failed.
+    /// - `OutOfSpec`: the writer was not started, is finished, or its device has failed. Nothing changes. Or the device, if it is not memory,
+    ///   took nothing of a piece now, refused it without a failure, or has a count of failures that fell.
+    /// - `Io`: the device failed, also where each of its writes was answered by `Ok`.
     /// - `OutOfMemory`: it had no memory.
     ///
-    /// Where the device refused, a beginning of the mark is written, and the writer refuses all later calls.
+    /// Where the device refused, a beginning of the mark is written, perhaps all of it, and the writer refuses all later calls.
     pub fn finish(&mut self) -> Result<()>
-        ensures { Finishes W.contents W.failures self.old self.new result }
+        ensures { Finishes W.contents W.failures W.in_memory self.old self.new result }
     {
         if !is_started(&self.state) {
             return Err(out_of_order());

@@ -1,6 +1,7 @@
 pub mod Appending
 pub mod Passed
 pub mod NextMessages
+pub mod Outcomes
 pub mod Pieces
 pub mod Told
 pub mod Starts

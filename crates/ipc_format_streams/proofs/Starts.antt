@@ -1,6 +1,6 @@
 -- What the first message of a stream says, by its metadata.
 use Rattle.std.proofs.Common.{◌≡◌, ◌∙◌, ◌+◌, ℕ, ℤ, List, [], ◌++◌, refl, sym, ap, subst, inl, inr}
-use Rattle.std.specs.Prelude.{Option, Some, None, Result, Ok, Err, IsSomeAnd}
+use Rattle.std.specs.Prelude.{Bool, true, false, Option, Some, None, Result, Ok, Err, IsSomeAnd}
 use Rattle.std.specs.Io.KnownBytes.{prepend_known}
 use Rattle.ipc_format_values.specs.columnar_memory.declared.Error.{Error}
 use Rattle.ipc_format_values.specs.columnar_memory.declared.Error.TheVariants as errors
@@ -18,7 +18,8 @@ use Rattle.ipc_format_values.specs.metadata.Reading.{Reads}
 use Rattle.ipc_format_values.specs.metadata.Steps as steps
 use Rattle.ipc_format_values.specs.metadata.Steps.{FloatInMessage, FloatInSchema, schema_message_in, schema_table_in}
 use Rattle.ipc_format_streams.specs.Incoming.{ForLeft, IsNextMessage, TakesNext}
-use Rattle.ipc_format_streams.specs.Starts.{IsNamedStart, IsReadRefusal, ReadsStart, Start, start_in, start_of_message, start_view}
+use Rattle.ipc_format_streams.specs.Starts.{IsNamedStart, IsReadOutcome, IsReadRefusal, IsRefusedRead, ReadsStart, Start}
+use Rattle.ipc_format_streams.specs.Starts.{start_in, start_of_message, start_view}
 use Rattle.ipc_format_streams.specs.declared.incoming.Incoming.TheVariants as incoming
 use Rattle.ipc_format_streams.specs.declared.stream_metadata.StreamMetadata.{StreamMetadata}
 
@@ -226,19 +227,39 @@ start_read left left_after held still metadata body result none empty taken read
     subst (λ (rest : Option (List ℕ)). IsNextMessage rest metadata body bytes) (unheld still left_after empty)
     (taken bytes (unheld held left none ∙ e))) read
 
+-- a device's refusal says nothing of the bytes
+device_refused : (left left_after : Option (List ℕ)) (in_memory : Bool) (before after : ℕ) (error : Error)
+    → IsRefusedRead in_memory before after error → IsNamedStart left left_after in_memory before after (Err error)
+device_refused left left_after in_memory before after (errors.Io what) why = why
+device_refused left left_after in_memory before after (errors.OutOfSpec text) why = inl why
+device_refused left left_after in_memory before after errors.OutOfMemory why = tt
+device_refused left left_after true before after _ why = absurd why
+device_refused left left_after false before after _ why = absurd why
+
 -- each refusal by its name
-pub start_named : (left left_after : Option (List ℕ)) (before after : ℕ) (error answered : Error) → ReadsStart left left_after (Err error)
-    → IsReadRefusal error before after answered → IsNamedStart left left_after before after (Err answered)
-start_named left left_after before after (errors.Io what) (errors.Io same) read is = is
-start_named left left_after before after (errors.Io what) (errors.OutOfSpec text) read is = inl is.1
-start_named left left_after before after (errors.Io what) errors.OutOfMemory read is = tt
-start_named left left_after before after (errors.Io what) _ read is = absurd is
-start_named left left_after before after (errors.OutOfSpec text) answered read is =
-    subst (λ (e : Error). IsNamedStart left left_after before after (Err e)) (sym is) (inr read)
-start_named left left_after before after (errors.NotYetImplemented text) answered read is =
-    subst (λ (e : Error). IsNamedStart left left_after before after (Err e)) (sym is) read
-start_named left left_after before after errors.OutOfMemory answered read is =
-    subst (λ (e : Error). IsNamedStart left left_after before after (Err e)) (sym is) tt
-start_named left left_after before after _ answered read is = absurd read
+start_named : (left left_after : Option (List ℕ)) (in_memory : Bool) (before after : ℕ) (error answered : Error)
+    → ReadsStart left left_after (Err error) → IsReadRefusal error in_memory before after answered
+    → IsNamedStart left left_after in_memory before after (Err answered)
+start_named left left_after in_memory before after (errors.Io what) answered read is =
+    device_refused left left_after in_memory before after answered is
+start_named left left_after in_memory before after (errors.OutOfSpec text) answered read is =
+    subst (λ (e : Error). IsNamedStart left left_after in_memory before after (Err e)) (sym is) (inr read)
+start_named left left_after in_memory before after (errors.NotYetImplemented text) answered read is =
+    subst (λ (e : Error). IsNamedStart left left_after in_memory before after (Err e)) (sym is) read
+start_named left left_after in_memory before after errors.OutOfMemory answered read is =
+    subst (λ (e : Error). IsNamedStart left left_after in_memory before after (Err e)) (sym is) tt
+start_named left left_after in_memory before after _ answered read is = absurd read
+
+-- what is answered, by the device's count
+pub start_told : (left left_after : Option (List ℕ)) (in_memory : Bool) (before after : ℕ) (read answered : Result StreamMetadata Error)
+    → ReadsStart left left_after read → IsReadOutcome read in_memory before after answered
+    → IsNamedStart left left_after in_memory before after answered
+start_told left left_after in_memory before after (Ok metadata) (Ok same) read is =
+    (is.1, subst (λ (m : StreamMetadata). ReadsStart left left_after (Ok m)) (sym is.0) read)
+start_told left left_after in_memory before after (Ok metadata) (Err error) read is =
+    device_refused left left_after in_memory before after error is.0
+start_told left left_after in_memory before after (Err error) (Ok metadata) read is = absurd is
+start_told left left_after in_memory before after (Err error) (Err answered) read is =
+    start_named left left_after in_memory before after error answered read is
 
 pub ruleset starts = (start_refused, start_waits, start_ends, start_read)

@@ -1,11 +1,11 @@
 -- Encoded messages as they are written to a device (Arrow IPC, "Encapsulated message format").
-use Rattle.std.specs.Prelude.{◌≡◌, ℕ, ◌+◌, ◌-◌, ◌<◌, ◌≤◌, ℤ, List, ◌++◌, length, replicate, Option, Result, Ok, Err}
+use Rattle.std.specs.Prelude.{◌≡◌, ℕ, ◌+◌, ◌-◌, ◌<◌, ℤ, Bool, List, ◌++◌, length, replicate, Option, Result, Ok, Err}
 use Rattle.std.specs.Int.{w32, next_multiple_of, to_le_bytes, cast_unsigned}
 use Rattle.std.specs.Io.KnownBytes.{Appends, Keeps}
 use Rattle.ipc_format_values.specs.columnar_memory.declared.Error.{Error}
 use Rattle.ipc_format_values.specs.columnar_memory.declared.Error.TheVariants as errors
 use Rattle.ipc_format_values.specs.grammar.WrittenMessages.{continuation_marker, framed, most_metadata, padded_buffer, prefix_size}
-use Rattle.ipc_format_streams.specs.Devices.{AppendsBeginning}
+use Rattle.ipc_format_streams.specs.Devices.{AppendsBeginning, IsRefusedWrite}
 
 -- the metadata of a message is a whole number of eights of bytes, with zeros behind it
 abbrev pub padded_metadata : List ℕ → List ℕ
@@ -27,23 +27,15 @@ prefix_bytes length = continuation_marker ++ to_le_bytes w32 length
 abbrev pub continuation_bytes : ℤ → List ℕ
 continuation_bytes length = prefix_bytes (cast_unsigned w32 length)
 
--- Why a device refused, which had failed so often before the call, and so often after it: `Io` says that it failed in the call, `OutOfSpec`
--- that it took nothing or refused without a failure, and `OutOfMemory` that it had no memory.
-abbrev pub IsRefusedWrite : ℕ → ℕ → Error → Type 0
-IsRefusedWrite before after (errors.Io what) = before < after
-IsRefusedWrite before after (errors.OutOfSpec what) = after ≤ before
-IsRefusedWrite before after errors.OutOfMemory = after ≤ before
-IsRefusedWrite before after _ = ⊥
-
--- bytes are appended, and this is answered; or the device refused, and a beginning of them is
-abbrev pub Writes : {A : Type 0} → Result A Error → A → ℕ → ℕ → Option (List ℕ) → Option (List ℕ) → List ℕ → Type 0
-Writes (Ok answer) given before after old new bytes = (answer ≡ given) × Appends old new bytes
-Writes (Err error) given before after old new bytes = IsRefusedWrite before after error × AppendsBeginning old new bytes
+-- Bytes are appended, and this is answered, and the device has failed as often as before; or it refused, and a beginning of them is.
+abbrev pub Writes : {A : Type 0} → Result A Error → A → Bool → ℕ → ℕ → Option (List ℕ) → Option (List ℕ) → List ℕ → Type 0
+Writes (Ok answer) given in_memory before after old new bytes = (answer ≡ given) × (after ≡ before) × Appends old new bytes
+Writes (Err error) given in_memory before after old new bytes = IsRefusedWrite in_memory before after error × AppendsBeginning old new bytes
 
 -- An encoded message is written, and how many bytes its parts take is answered. Where its metadata is past the limit, that is an overflow,
 -- and nothing is written.
-abbrev pub WritesEncoded : Result (ℕ × ℕ) Error → ℕ → ℕ → Option (List ℕ) → Option (List ℕ) → List ℕ → List ℕ → Type 0
-WritesEncoded (Err errors.Overflow) before after old new metadata body =
+abbrev pub WritesEncoded : Result (ℕ × ℕ) Error → Bool → ℕ → ℕ → Option (List ℕ) → Option (List ℕ) → List ℕ → List ℕ → Type 0
+WritesEncoded (Err errors.Overflow) in_memory before after old new metadata body =
     (most_metadata < prefix_size + length (padded_metadata metadata)) × Keeps old new
-WritesEncoded result before after old new metadata body =
-    Writes result (encoded_sizes metadata body) before after old new (encoded_bytes metadata body)
+WritesEncoded result in_memory before after old new metadata body =
+    Writes result (encoded_sizes metadata body) in_memory before after old new (encoded_bytes metadata body)

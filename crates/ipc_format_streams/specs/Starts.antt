@@ -1,5 +1,6 @@
 -- What a stream says before its batches (Arrow IPC, "IPC Streaming Format", "Schema message").
-use Rattle.std.specs.Prelude.{◌≡◌, ◌⊎◌, ℕ, ◌<◌, ◌≤◌, List, drop, codes, Option, Some, None, Result, Ok, Err}
+use Rattle.std.specs.Prelude.{◌≡◌, ◌⊎◌, ℕ, ◌<◌, ◌≤◌, Bool, true, false, List, drop, codes, Option, Some, None, Result, Ok, Err}
+use Rattle.ipc_format_values.specs.columnar_memory.Error.{IsOutOfMemory}
 use Rattle.ipc_format_values.specs.columnar_memory.declared.Error.{Error}
 use Rattle.ipc_format_values.specs.columnar_memory.declared.Error.TheVariants as errors
 use Rattle.ipc_format_values.specs.flatbuffers.Reading.{◌>>=◌}
@@ -52,22 +53,33 @@ ReadsStart left left_after (Err (errors.Io what)) = Unit {0}
 ReadsStart left left_after (Err errors.OutOfMemory) = Unit {0}
 ReadsStart left left_after (Err _) = ⊥
 
--- the device refused without a failure
-abbrev pub IsUncounted : Error → Type 0
-IsUncounted error = IsNamed (codes "a read was refused") error
+-- Why a device refused to read, which is memory alone or is not, had failed so often before the call, and so often after it. Memory refuses for
+-- want of memory alone. Of another device `Io` says that it failed in the call, `OutOfSpec` by a text of its own that it refused without a failure
+-- or that its count fell, and `OutOfMemory` that it had no memory.
+abbrev pub IsRefusedRead : Bool → ℕ → ℕ → Error → Type 0
+IsRefusedRead true before after error = IsOutOfMemory error
+IsRefusedRead false before after (errors.Io what) = before < after
+IsRefusedRead false before after (errors.OutOfSpec text) = (after ≤ before) × IsNamed (codes "a read was refused") (errors.OutOfSpec text)
+IsRefusedRead false before after errors.OutOfMemory = after ≤ before
+IsRefusedRead false before after _ = ⊥
 
--- What a refusal is called, where the device had failed so often before the call, and so often after it: a device's refusal is `Io` where it
--- failed in the call, and else want of memory, or out of specification. Another error keeps its name.
-abbrev pub IsReadRefusal : Error → ℕ → ℕ → Error → Type 0
-IsReadRefusal (errors.Io what) before after (errors.Io same) = before < after
-IsReadRefusal (errors.Io what) before after (errors.OutOfSpec text) = (after ≤ before) × IsUncounted (errors.OutOfSpec text)
-IsReadRefusal (errors.Io what) before after errors.OutOfMemory = after ≤ before
-IsReadRefusal (errors.Io what) before after _ = ⊥
-IsReadRefusal error before after named = named ≡ error
+-- What a refusal is called: a device's by why it refused. Another error keeps its name.
+abbrev pub IsReadRefusal : Error → Bool → ℕ → ℕ → Error → Type 0
+IsReadRefusal (errors.Io what) in_memory before after named = IsRefusedRead in_memory before after named
+IsReadRefusal error in_memory before after named = named ≡ error
 
--- the same where each refusal of the device has its name
-abbrev pub IsNamedStart : Option (List ℕ) → Option (List ℕ) → ℕ → ℕ → Result StreamMetadata Error → Type 0
-IsNamedStart left left_after before after (Err (errors.Io what)) = before < after
-IsNamedStart left left_after before after (Err (errors.OutOfSpec text)) =
-    IsUncounted (errors.OutOfSpec text) ⊎ ForLeft left (λ bytes. start_in bytes ≡ None)
-IsNamedStart left left_after before after result = ReadsStart left left_after result
+-- What a call answers whose reads gave a result. It is a success only where the device has failed as often as before; a refusal has its name, and
+-- a count that changed is a refusal.
+abbrev pub IsReadOutcome : {A : Type 0} → Result A Error → Bool → ℕ → ℕ → Result A Error → Type 0
+IsReadOutcome (Ok value) in_memory before after (Ok same) = (same ≡ value) × (after ≡ before)
+IsReadOutcome (Ok value) in_memory before after (Err error) = IsRefusedRead in_memory before after error × (after ≡ before → ⊥)
+IsReadOutcome (Err error) in_memory before after (Ok value) = ⊥
+IsReadOutcome (Err error) in_memory before after (Err named) = IsReadRefusal error in_memory before after named
+
+-- What is read of the first message, where each refusal of the device has its name, and where it fails as often as before if nothing is refused.
+abbrev pub IsNamedStart : Option (List ℕ) → Option (List ℕ) → Bool → ℕ → ℕ → Result StreamMetadata Error → Type 0
+IsNamedStart left left_after in_memory before after (Ok metadata) = (after ≡ before) × ReadsStart left left_after (Ok metadata)
+IsNamedStart left left_after in_memory before after (Err (errors.Io what)) = IsRefusedRead in_memory before after (errors.Io what)
+IsNamedStart left left_after in_memory before after (Err (errors.OutOfSpec text)) =
+    IsRefusedRead in_memory before after (errors.OutOfSpec text) ⊎ ForLeft left (λ bytes. start_in bytes ≡ None)
+IsNamedStart left left_after in_memory before after result = ReadsStart left left_after result

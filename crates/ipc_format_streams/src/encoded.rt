@@ -4,7 +4,7 @@ ghost use Rattle.ipc_format_values.specs.grammar.WrittenMessages.{most_metadata,
 ghost use Rattle.ipc_format_streams.specs.Devices.{Puts};
 ghost use Rattle.ipc_format_streams.specs.EncodedMessages.{continuation_bytes, encoded_bytes, padded_metadata, prefix_bytes, Writes, WritesEncoded};
 
-use crate::{Faults, put, refusal};
+use crate::{Faults, outcome, put};
 use ipc_format_values::columnar_memory::{Error, Result};
 use std::alloc::Global;
 use std::io::Write;
@@ -50,20 +50,20 @@ impl EncodedData {
 /// Writes the continuation marker and a length, and answers how many bytes these are. A length of 0 ends a stream.
 ///
 /// # Errors
-/// - `Io`: the device failed.
-/// - `OutOfSpec`: it took nothing of a piece, or refused it without a failure.
+/// - `Io`: the device failed, also where each of its writes was answered by `Ok`.
+/// - `OutOfSpec`: it took nothing of a piece, or refused it without a failure, or its count of failures fell. Memory never answers this.
 /// - `OutOfMemory`: it had no memory.
 ///
-/// A beginning of the bytes is then written.
+/// A beginning of the bytes is then written, perhaps all of them.
 pub fn write_continuation<W: Write + Faults>(writer: &mut W, total_len: i32) -> Result<usize>
-    ensures { Writes result prefix_size (W.failures writer.old) (W.failures writer.new) (W.contents writer.old) (W.contents writer.new)
-        (continuation_bytes total_len) }
+    ensures { Writes result prefix_size W.in_memory (W.failures writer.old) (W.failures writer.new) (W.contents writer.old)
+        (W.contents writer.new) (continuation_bytes total_len) }
 {
+    let is_memory = writer.is_memory();
     let before = writer.faults();
-    match put_prefix(writer, total_len.cast_unsigned()) {
-        Ok(()) => Ok(PREFIX),
-        Err(error) => Err(refusal(error, before, writer.faults())),
-    }
+    let written = put_prefix(writer, total_len.cast_unsigned());
+    outcome(written, is_memory, before, writer.faults())?;
+    Ok(PREFIX)
 }
 
 /// Writes the marker and a length.
@@ -108,29 +108,30 @@ fn put_encoded<W: Write>(writer: &mut W, metadata: &[u8], body: &[u8]) -> Result
 ///
 /// # Errors
 /// - `Overflow`: with its prefix the metadata is longer than 2,147,483,640 bytes. Nothing is written.
-/// - `Io`: the device failed.
-/// - `OutOfSpec`: it took nothing of a piece, or refused it without a failure.
+/// - `Io`: the device failed, also where each of its writes was answered by `Ok`.
+/// - `OutOfSpec`: it took nothing of a piece, or refused it without a failure, or its count of failures fell. Memory never answers this.
 /// - `OutOfMemory`: it had no memory.
 ///
-/// A device that refuses has taken a beginning of the bytes.
+/// A device that refuses has taken a beginning of the bytes, perhaps all of them.
+#[tactic(auto, using(crate::proofs::Outcomes::encoded_refused))]
 pub fn write_message<W: Write + Faults>(
     writer: &mut W,
     encoded: &EncodedData,
 ) -> Result<(usize, usize)>
-    ensures { WritesEncoded result (W.failures writer.old) (W.failures writer.new) (W.contents writer.old) (W.contents writer.new)
-        encoded.now.ipc_message.items encoded.now.arrow_data.items }
+    ensures { WritesEncoded result W.in_memory (W.failures writer.old) (W.failures writer.new) (W.contents writer.old)
+        (W.contents writer.new) encoded.now.ipc_message.items encoded.now.arrow_data.items }
 {
     let metadata = encoded.ipc_message.as_slice();
     let body = encoded.arrow_data.as_slice();
     if metadata.len() > MOST_METADATA - PREFIX {
         return Err(Error::Overflow);
     }
+    let is_memory = writer.is_memory();
     let before = writer.faults();
-    match put_encoded(writer, metadata, body) {
-        Ok(()) => Ok((
-            PREFIX + metadata.len().next_multiple_of(METADATA_ALIGNMENT),
-            body.len().next_multiple_of(BODY_ALIGNMENT),
-        )),
-        Err(error) => Err(refusal(error, before, writer.faults())),
-    }
+    let written = put_encoded(writer, metadata, body);
+    outcome(written, is_memory, before, writer.faults())?;
+    Ok((
+        PREFIX + metadata.len().next_multiple_of(METADATA_ALIGNMENT),
+        body.len().next_multiple_of(BODY_ALIGNMENT),
+    ))
 }

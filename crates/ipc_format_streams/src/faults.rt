@@ -1,4 +1,4 @@
-//! Devices that count their failures, so that a failure is told from an end.
+//! Devices that count their failures, so that a failure is told from an end, and that say whether they are memory alone.
 ghost use Rattle.std.specs.Prelude.{◌≡◌};
 ghost use Rattle.std.specs.Io.{ReadsAtMost, WritesAtMost};
 ghost use Rattle.std.specs.Io.KnownBytes.{Keeps, ReadConsumes, WriteAppends};
@@ -8,52 +8,89 @@ ghost use Rattle.ipc_format_streams.specs.Failures.{Counts, count_after};
 use std::io;
 use std::io::{Cursor, Read, Seek, SeekFrom, Write};
 
-/// A device that counts its failures.
+/// A device that counts its failures, and says whether it is memory alone.
 pub trait Faults {
-    ghost use Rattle.std.specs.Prelude.{ℕ};
+    ghost use Rattle.std.specs.Prelude.{ℕ, Bool};
 
     // How often the device has failed.
     ghost failures: { Self → ℕ };
 
+    // Whether devices of this kind are memory alone: what they refuse, they refuse for want of memory.
+    ghost in_memory: { Bool };
+
     /// How often the device has failed. At its greatest number the count stays.
     fn faults(&self) -> u64
         ensures { result ≡ failures self.now };
+
+    /// Whether the device is memory alone. Such a device never fails: what it refuses, it refuses for want of memory.
+    fn is_memory(&self) -> bool
+        ensures { result ≡ in_memory };
 }
 
 /// Memory never fails as a device does.
 impl Faults for &[u8] {
+    ghost use Rattle.std.specs.Prelude.{true};
+
     ghost failures = { λ _. 0 };
+
+    ghost in_memory = { true };
 
     fn faults(&self) -> u64 {
         0
+    }
+
+    fn is_memory(&self) -> bool {
+        true
     }
 }
 
 impl Faults for Vec<u8> {
+    ghost use Rattle.std.specs.Prelude.{true};
+
     ghost failures = { λ _. 0 };
+
+    ghost in_memory = { true };
 
     fn faults(&self) -> u64 {
         0
     }
+
+    fn is_memory(&self) -> bool {
+        true
+    }
 }
 
 impl<T> Faults for Cursor<T> {
+    ghost use Rattle.std.specs.Prelude.{false};
+
     ghost failures = { λ _. 0 };
+
+    ghost in_memory = { false };
 
     fn faults(&self) -> u64 {
         0
+    }
+
+    fn is_memory(&self) -> bool {
+        false
     }
 }
 
 impl<T: Faults> Faults for &mut T {
     ghost failures = { λ device. T.failures device.now };
 
+    ghost in_memory = { T.in_memory };
+
     fn faults(&self) -> u64 {
         (**self).faults()
     }
+
+    fn is_memory(&self) -> bool {
+        (**self).is_memory()
+    }
 }
 
-/// A device, with a count of how often it failed.
+/// A device, with a count of how often it failed. It is never taken for memory alone.
 #[derive(Debug, Drop)]
 pub struct Counting<T> {
     pub device: T,
@@ -85,10 +122,18 @@ impl<T> Counting<T> {
 }
 
 impl<T> Faults for Counting<T> {
+    ghost use Rattle.std.specs.Prelude.{false};
+
     ghost failures = { λ counting. counting.failures };
+
+    ghost in_memory = { false };
 
     fn faults(&self) -> u64 {
         self.failures
+    }
+
+    fn is_memory(&self) -> bool {
+        false
     }
 }
 

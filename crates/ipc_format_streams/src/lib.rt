@@ -21,10 +21,10 @@ pub use frames::{Frame, Framed, NextMessage};
 pub use framing::next_at;
 pub use incoming::{Incoming, next_message};
 pub use ipc_format_values::{columnar_memory, flatbuffers};
-pub use output::{put, refusal};
+pub use output::{outcome, put};
 pub use queues::{BatchQueues, batch_queues};
 pub use stream_metadata::{
-    StreamMetadata, deserialize_stream_metadata, read_refusal, read_stream_metadata,
+    StreamMetadata, deserialize_stream_metadata, read_outcome, read_stream_metadata,
 };
 pub use values::{DictionaryValues, dictionary_values};
 

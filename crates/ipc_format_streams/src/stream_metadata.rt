@@ -1,7 +1,7 @@
 //! What a stream says before its batches (Arrow IPC, "IPC Streaming Format", "Schema message").
 ghost use Rattle.ipc_format_values.specs.metadata.Reading.{Reads};
 ghost use Rattle.ipc_format_values.specs.metadata.Steps.{FloatInMessage};
-ghost use Rattle.ipc_format_streams.specs.Starts.{IsNamedStart, ReadsStart, start_of_message, start_view, IsReadRefusal};
+ghost use Rattle.ipc_format_streams.specs.Starts.{IsNamedStart, IsReadOutcome, IsReadRefusal, ReadsStart, start_of_message, start_view};
 
 use crate::Faults;
 use crate::incoming::{Incoming, next_message};
@@ -9,6 +9,7 @@ use ipc_format_values::columnar_memory::{Error, Result, Schema};
 use ipc_format_values::messages::{MetadataVersion, version_in};
 use ipc_format_values::metadata::{IpcSchema, deserialize_schema};
 use std::alloc::Global;
+use std::io;
 use std::io::{ErrorKind, Read};
 
 /// What the first message of a stream says.
@@ -56,14 +57,17 @@ fn read_start<R: Read>(alloc: Global, reader: &mut R) -> Result<StreamMetadata>
     }
 }
 
-/// What a refusal is called whose device had failed `before` times before the call, and has failed `after` times now: `Io` where the device
-/// failed in the call, and else `OutOfMemory` for want of memory, and `OutOfSpec`. Another error keeps its name.
-pub fn read_refusal(error: Error, before: u64, after: u64) -> Error
-    ensures { IsReadRefusal error before after result }
+/// What a refusal is called of a device that is memory alone or is not, had failed `before` times before the call, and has failed `after` times now.
+/// Memory refuses for want of memory, by `OutOfMemory`. Another device's refusal is `Io` where its count rose in the call, and else `OutOfMemory`
+/// for want of memory and `OutOfSpec`. An error that is none of the device keeps its name.
+fn read_refusal(error: Error, is_memory: bool, before: u64, after: u64) -> Error
+    ensures { IsReadRefusal error is_memory before after result }
 {
     match error {
         Error::Io(error) => {
-            if before < after {
+            if is_memory {
+                Error::OutOfMemory
+            } else if before < after {
                 Error::Io(error)
             } else if error.kind() == ErrorKind::OutOfMemory {
                 Error::OutOfMemory
@@ -75,26 +79,45 @@ pub fn read_refusal(error: Error, before: u64, after: u64) -> Error
     }
 }
 
+/// What a call answers whose reads gave a result, where the device had failed `before` times before it, and has failed `after` times now. What was
+/// read is taken for a success only where the count is what it was. A refusal is called as `read_refusal` says, and so is a count that changed
+/// though each read was answered by `Ok`: `Io` of kind `Other` where it rose, and `OutOfSpec` where it fell.
+///
+/// # Errors
+/// Those of the result, by the names of `read_refusal`, and a count that changed.
+pub fn read_outcome<T: Drop>(read: Result<T>, is_memory: bool, before: u64, after: u64) -> Result<T>
+    ensures { IsReadOutcome read is_memory before after result }
+{
+    match read {
+        Ok(value) if before == after => Ok(value),
+        Ok(_) => Err(read_refusal(
+            Error::Io(io::Error::from(ErrorKind::Other)),
+            is_memory,
+            before,
+            after,
+        )),
+        Err(error) => Err(read_refusal(error, is_memory, before, after)),
+    }
+}
+
 /// What a stream says before its batches: its first message is taken of the device, and no byte behind it.
 ///
 /// # Errors
 /// - `OutOfSpec`: the first message is not there, or none with a schema that is written, or states no version; or the device refuses without a
-///   failure.
+///   failure, or its count of failures falls, which memory never does.
 /// - `NotYetImplemented`: a field of floating-point numbers stands in the schema.
-/// - `Io`: the device failed.
+/// - `Io`: the device failed, also where each of its reads was answered by `Ok`.
 /// - `OutOfMemory`: there was no memory for what came.
-#[tactic(auto, using(crate::proofs::Starts::start_named))]
+#[tactic(auto, using(crate::proofs::Starts::start_told))]
 pub fn read_stream_metadata<R: Read + Faults>(
     alloc: Global,
     reader: &mut R,
 ) -> Result<StreamMetadata>
-    ensures { IsNamedStart (R.remaining reader.old) (R.remaining reader.new) (R.failures reader.old) (R.failures reader.new) result }
+    ensures { IsNamedStart (R.remaining reader.old) (R.remaining reader.new) R.in_memory (R.failures reader.old) (R.failures reader.new)
+        result }
 {
+    let is_memory = reader.is_memory();
     let before = reader.faults();
     let found = read_start(alloc, reader);
-    let after = reader.faults();
-    match found {
-        Ok(metadata) => Ok(metadata),
-        Err(error) => Err(read_refusal(error, before, after)),
-    }
+    read_outcome(found, is_memory, before, reader.faults())
 }

@@ -73,6 +73,11 @@ fn memory_does_not_fail(rt: HostRuntime) -> Result<(), Fail> {
     assert_eq!(rt; (&mut bytes).faults(), 0);
     assert_eq!(rt; bytes.as_slice().faults(), 0);
     assert_eq!(rt; Cursor::new([1u8]).faults(), 0);
+    assert!(rt; bytes.is_memory());
+    assert!(rt; (&mut bytes).is_memory());
+    assert!(rt; bytes.as_slice().is_memory());
+    assert!(rt; !Cursor::new([1u8]).is_memory());
+    assert!(rt; !Counting::new(bytes.as_slice()).is_memory());
     Ok(())
 }
 

@@ -1,6 +1,6 @@
 -- The file that is written of a table, what it reads as, and what a call that writes it leaves behind what was there (Arrow IPC, "IPC File
 -- Format"; File.fbs).
-use Rattle.std.specs.Prelude.{◌≡◌, ◌⊎◌, ℕ, ℤ, ◌<◌, ◌≤◌, Bool, true, false, List, [], ◌∷◌, ◌++◌, length, map, Option, Some, Result, Ok, Err}
+use Rattle.std.specs.Prelude.{◌≡◌, ◌⊎◌, ℕ, ℤ, ◌≤◌, Bool, true, false, List, [], ◌∷◌, ◌++◌, length, map, Option, Some, Result, Ok, Err}
 use Rattle.std.specs.Io.KnownBytes.{Appends}
 use Rattle.std.specs.declared.alloc.Global.{Global}
 use Rattle.std.specs.declared.vec.Vec.{Vec}
@@ -24,7 +24,7 @@ use Rattle.ipc_format.specs.WrittenFiles.{footer_object, is_footer, none_replace
 use Rattle.ipc_format.specs.WrittenMessages.{Written, fits_limit, schema_written}
 use Rattle.ipc_format.specs.WrittenStreams.{Batch, batch_messages, batch_of_stored, bytes_of_messages, messages_after}
 use Rattle.ipc_format.specs.flatbuffers.Objects.{laid}
-use Rattle.ipc_format.specs.streams.Devices.{AppendsBeginning}
+use Rattle.ipc_format.specs.streams.Devices.{AppendsBeginning, IsRefusedWrite}
 use Rattle.tables_chunks.specs.Refusals.{StopsAtSchema}
 use Rattle.tables_chunks.specs.WrittenTables.{are_within, is_table_within, table_ids, told_after, written_batches}
 use Rattle.tables_chunks.specs.declared.fault.Fault.{Fault}
@@ -113,34 +113,38 @@ PutsFile (Ok _) old new schema batches = IsTableFile schema batches × Appends o
 PutsFile (Err error) old new schema batches = AppendsBeginning old new (table_file schema batches)
     × IsFileRefusal (StopsAtLongFile old new schema batches) (StopsAtReplaced old new schema batches) error
 
--- The same of a device that had failed so often before the call, and so often after it: `Io` says that it failed in the call, `OutOfSpec`
--- that it took nothing or refused without a failure, and `OutOfMemory` that it or the call had no memory.
-abbrev pub IsFileError : Type 0 → Type 0 → ℕ → ℕ → Error → Type 0
-IsFileError too_long replaces before after errors.Overflow = too_long
-IsFileError too_long replaces before after (errors.InvalidArgumentError what) = replaces
-IsFileError too_long replaces before after errors.OutOfMemory = Unit {0}
-IsFileError too_long replaces before after (errors.Io what) = before < after
-IsFileError too_long replaces before after (errors.OutOfSpec what) = after ≤ before
-IsFileError too_long replaces before after _ = ⊥
+-- The same of a device that is memory alone or is not, had failed so often before the call, and so often after it: `Io` says that it failed in the
+-- call, `OutOfSpec` that it took nothing or refused without a failure, or that its count fell, and `OutOfMemory` that it or the call had no memory.
+-- Memory says neither of the first two.
+abbrev pub IsFileError : Type 0 → Type 0 → Bool → ℕ → ℕ → Error → Type 0
+IsFileError too_long replaces in_memory before after errors.Overflow = too_long
+IsFileError too_long replaces in_memory before after (errors.InvalidArgumentError what) = replaces
+IsFileError too_long replaces in_memory before after errors.OutOfMemory = Unit {0}
+IsFileError too_long replaces in_memory before after (errors.Io what) = IsRefusedWrite in_memory before after (errors.Io what)
+IsFileError too_long replaces in_memory before after (errors.OutOfSpec what) = IsRefusedWrite in_memory before after (errors.OutOfSpec what)
+IsFileError too_long replaces in_memory before after _ = ⊥
 
-abbrev pub WritesWhole : Result (Unit {0}) Error → Schema → List (List Column) → ℕ → ℕ → Option (List ℕ) → Option (List ℕ) → Type 0
-WritesWhole (Ok _) schema batches before after old new = IsTableFile schema batches × Appends old new (table_file schema batches)
-WritesWhole (Err error) schema batches before after old new = AppendsBeginning old new (table_file schema batches)
-    × IsFileError (StopsAtLongFile old new schema batches) (StopsAtReplaced old new schema batches) before after error
+abbrev pub WritesWhole : Result (Unit {0}) Error → Schema → List (List Column) → Bool → ℕ → ℕ → Option (List ℕ) → Option (List ℕ) → Type 0
+WritesWhole (Ok _) schema batches in_memory before after old new =
+    IsTableFile schema batches × Appends old new (table_file schema batches) × (after ≡ before)
+WritesWhole (Err error) schema batches in_memory before after old new = AppendsBeginning old new (table_file schema batches)
+    × IsFileError (StopsAtLongFile old new schema batches) (StopsAtReplaced old new schema batches) in_memory before after error
 
 -- `Memory` is want of memory, here or in the device; every other error is `Ipc`
-abbrev pub IsFileFault : Type 0 → Type 0 → ℕ → ℕ → Fault → Type 0
-IsFileFault too_long replaces before after faults.Memory = Unit {0}
-IsFileFault too_long replaces before after (faults.Ipc errors.OutOfMemory) = ⊥
-IsFileFault too_long replaces before after (faults.Ipc error) = IsFileError too_long replaces before after error
-IsFileFault too_long replaces before after _ = ⊥
+abbrev pub IsFileFault : Type 0 → Type 0 → Bool → ℕ → ℕ → Fault → Type 0
+IsFileFault too_long replaces in_memory before after faults.Memory = Unit {0}
+IsFileFault too_long replaces in_memory before after (faults.Ipc errors.OutOfMemory) = ⊥
+IsFileFault too_long replaces in_memory before after (faults.Ipc error) = IsFileError too_long replaces in_memory before after error
+IsFileFault too_long replaces in_memory before after _ = ⊥
 
--- What was written of a table's file to a device, by how often it had failed before the call and after it, and by what it held. Where the call
--- succeeds, all of the file, which is within its limits; where it is refused, a beginning of it.
-abbrev pub WritesFile : Result (Unit {0}) Fault → Schema → List (List Column) → ℕ → ℕ → Option (List ℕ) → Option (List ℕ) → Type 0
-WritesFile (Ok _) schema batches before after old new = IsTableFile schema batches × Appends old new (table_file schema batches)
-WritesFile (Err fault) schema batches before after old new = AppendsBeginning old new (table_file schema batches)
-    × IsFileFault (StopsAtLongFile old new schema batches) (StopsAtReplaced old new schema batches) before after fault
+-- What was written of a table's file to a device, by whether it is memory alone, how often it had failed before the call and after it, and what it
+-- held. Where the call succeeds, all of the file, which is within its limits, and the device has failed as often as before; where it is refused, a
+-- beginning of it.
+abbrev pub WritesFile : Result (Unit {0}) Fault → Schema → List (List Column) → Bool → ℕ → ℕ → Option (List ℕ) → Option (List ℕ) → Type 0
+WritesFile (Ok _) schema batches in_memory before after old new =
+    IsTableFile schema batches × Appends old new (table_file schema batches) × (after ≡ before)
+WritesFile (Err fault) schema batches in_memory before after old new = AppendsBeginning old new (table_file schema batches)
+    × IsFileFault (StopsAtLongFile old new schema batches) (StopsAtReplaced old new schema batches) in_memory before after fault
 
 -- ---- steps
 

@@ -17,17 +17,18 @@ impl Table {
     ///
     /// # Errors
     /// - `Ipc(Overflow)`: a message, or a node in it, is past its limit. Exactly the messages before those of its batch are written.
-    /// - `Ipc(Io)`: the writer failed; its count of failures rose.
-    /// - `Ipc(OutOfSpec)`: it took nothing of what was to be written, or refused it without a failure.
+    /// - `Ipc(Io)`: the writer failed; its count of failures rose, perhaps though each write was answered by `Ok`.
+    /// - `Ipc(OutOfSpec)`: it took nothing of what was to be written, or refused it without a failure, or its count of failures fell. Memory never
+    ///   answers this.
     /// - `Memory`: there was no memory, also in the writer.
     ///
-    /// What was written before an error stays written: a beginning of the stream.
+    /// What was written before an error stays written: a beginning of the stream, perhaps all of it.
     pub fn write_stream<W: Write + Faults>(
         &self,
         alloc: Global,
         writer: &mut W,
     ) -> Result<(), Fault>
-        ensures written { WritesStream result self.now.schema self.now.batches (W.failures writer.old) (W.failures writer.new)
+        ensures written { WritesStream result self.now.schema self.now.batches W.in_memory (W.failures writer.old) (W.failures writer.new)
             (W.contents writer.old) (W.contents writer.new) }
         ensures reads_back { IfOk result (λ done.
             ReadAsTable (table_bytes self.now.schema self.now.batches) self.now.schema self.now.batches) }

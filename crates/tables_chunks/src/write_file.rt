@@ -24,7 +24,7 @@ use ipc_format::messages::Block;
 use ipc_format::nested_arrays::AnyArray;
 use ipc_format::{
     Chunk, DictionaryTracker, EncodedData, Faults, IpcField, default_ipc_fields, encode_batch,
-    footer_to_bytes, put, put_message, put_messages, refusal, schema_to_bytes,
+    footer_to_bytes, outcome, put, put_message, put_messages, schema_to_bytes,
 };
 use std::alloc::Global;
 use std::io::Write;
@@ -261,7 +261,8 @@ fn put_file<W: Write>(
 }
 
 /// Writes a schema and batches as a file. The device's refusals are told apart by its count of failures: `Io` where that rose, `OutOfMemory` for
-/// want of memory, and else `OutOfSpec`.
+/// want of memory, as always of memory, and else `OutOfSpec`. A count that changed is a refusal too.
+#[tactic(auto, using(crate::proofs::FileRefused::file_told))]
 fn write_whole<W: Write + Faults>(
     alloc: Global,
     writer: &mut W,
@@ -269,14 +270,13 @@ fn write_whole<W: Write + Faults>(
     batches: &[Chunk<AnyArray>],
 ) -> Answer<()>
     requires { IsTable schema.now batches.now }
-    ensures { WritesWhole result schema.now batches.now (W.failures writer.old) (W.failures writer.new)
+    ensures { WritesWhole result schema.now batches.now W.in_memory (W.failures writer.old) (W.failures writer.new)
         (W.contents writer.old) (W.contents writer.new) }
 {
+    let is_memory = writer.is_memory();
     let before = writer.faults();
-    match put_file(alloc, writer, schema, batches) {
-        Ok(()) => Ok(()),
-        Err(error) => Err(refusal(error, before, writer.faults())),
-    }
+    let written = put_file(alloc, writer, schema, batches);
+    outcome(written, is_memory, before, writer.faults())
 }
 
 /// Writes a schema and batches as a file, with the faults of tables. What is written reads as these batches, also as a stream without its first eight
@@ -288,7 +288,7 @@ fn write_batches<W: Write + Faults>(
     batches: &[Chunk<AnyArray>],
 ) -> Result<(), Fault>
     requires { IsTable schema.now batches.now }
-    ensures written { WritesFile result schema.now batches.now (W.failures writer.old) (W.failures writer.new)
+    ensures written { WritesFile result schema.now batches.now W.in_memory (W.failures writer.old) (W.failures writer.new)
         (W.contents writer.old) (W.contents writer.new) }
     ensures reads_back { IfOk result (λ _. HasTexts schema.now → length (stored_rows batches.now) < 2 ^ 64
         → ReadAsTableFile (table_file schema.now batches.now) schema.now batches.now) }
@@ -307,15 +307,16 @@ impl Table {
     /// # Errors
     /// - `Ipc(Overflow)`: a message, or a node in it, is past its limit, or the file would have 2^63 bytes or more, or the footer 2^31 or more.
     /// - `Ipc(InvalidArgumentError)`: a dictionary differs from the one that was written under its id, which a file can't replace.
-    /// - `Ipc(Io)`: the writer failed; its count of failures rose.
-    /// - `Ipc(OutOfSpec)`: it took nothing of what was to be written, or refused it without a failure.
+    /// - `Ipc(Io)`: the writer failed; its count of failures rose, perhaps though each write was answered by `Ok`.
+    /// - `Ipc(OutOfSpec)`: it took nothing of what was to be written, or refused it without a failure, or its count of failures fell. Memory never
+    ///   answers this.
     /// - `Memory`: there was no memory, also in the writer.
     ///
-    /// What was written before an error stays written: a beginning of the file. At the first two that is exactly the mark, the schema's message and
-    /// the messages of the batches before; nothing, where the schema's message is past its limit; and all messages, where the footer is, or the file
-    /// with it.
+    /// What was written before an error stays written: a beginning of the file, perhaps all of it. At the first two that is exactly the mark, the
+    /// schema's message and the messages of the batches before; nothing, where the schema's message is past its limit; and all messages, where the
+    /// footer is, or the file with it.
     pub fn write_file<W: Write + Faults>(&self, alloc: Global, writer: &mut W) -> Result<(), Fault>
-        ensures written { WritesFile result self.now.schema self.now.batches (W.failures writer.old) (W.failures writer.new)
+        ensures written { WritesFile result self.now.schema self.now.batches W.in_memory (W.failures writer.old) (W.failures writer.new)
             (W.contents writer.old) (W.contents writer.new) }
         ensures reads_back { IfOk result (λ done.
             ReadAsTableFile (table_file self.now.schema self.now.batches) self.now.schema self.now.batches) }

@@ -10,7 +10,7 @@ use crate::fault::Fault;
 use crate::putting::{put_batches, put_schema};
 use columnar_memory_types::{Result as Answer, Schema};
 use ipc_format::nested_arrays::AnyArray;
-use ipc_format::{Chunk, Faults, default_ipc_fields, put, refusal};
+use ipc_format::{Chunk, Faults, default_ipc_fields, outcome, put};
 use std::alloc::Global;
 use std::io::Write;
 
@@ -37,11 +37,12 @@ fn put_table<W: Write>(
 ///
 /// # Errors
 /// - `Overflow`: a message, or a node in it, is past its limit. Exactly the messages before those of its batch are written.
-/// - `Io`: the device failed; its count of failures rose.
-/// - `OutOfSpec`: it took nothing of a piece, or refused it without a failure.
+/// - `Io`: the device failed; its count of failures rose, perhaps though each write was answered by `Ok`.
+/// - `OutOfSpec`: it took nothing of a piece, or refused it without a failure, or its count of failures fell. Memory never answers this.
 /// - `OutOfMemory`: it had no memory, or there was none for the messages.
 ///
-/// What was written before an error stays written: a beginning of the stream.
+/// What was written before an error stays written: a beginning of the stream, perhaps all of it.
+#[tactic(auto, using(crate::proofs::RefusedWrites::table_told))]
 pub fn write_table<W: Write + Faults>(
     alloc: Global,
     writer: &mut W,
@@ -49,14 +50,13 @@ pub fn write_table<W: Write + Faults>(
     batches: &[Chunk<AnyArray>],
 ) -> Answer<()>
     requires { IsTable schema.now batches.now }
-    ensures { WritesTable result schema.now batches.now (W.failures writer.old) (W.failures writer.new)
+    ensures { WritesTable result schema.now batches.now W.in_memory (W.failures writer.old) (W.failures writer.new)
         (W.contents writer.old) (W.contents writer.new) }
 {
+    let is_memory = writer.is_memory();
     let before = writer.faults();
-    match put_table(alloc, writer, schema, batches) {
-        Ok(()) => Ok(()),
-        Err(error) => Err(refusal(error, before, writer.faults())),
-    }
+    let written = put_table(alloc, writer, schema, batches);
+    outcome(written, is_memory, before, writer.faults())
 }
 
 /// Writes a schema and batches of columns of any type as an Arrow stream (Arrow IPC, "IPC Streaming Format", "Dictionary Messages"): the schema's
@@ -67,11 +67,11 @@ pub fn write_table<W: Write + Faults>(
 /// # Errors
 /// - `Ipc(Overflow)`: a body has 2^63 bytes or more, a node more than 2^63 - 1 slots, or with its prefix of 8 bytes a message's metadata would
 ///   have more than 2,147,483,640 bytes. Exactly the messages before those of this batch are written.
-/// - `Ipc(Io)`: the device failed; its count of failures rose.
-/// - `Ipc(OutOfSpec)`: it took nothing of a piece, or refused it without a failure.
+/// - `Ipc(Io)`: the device failed; its count of failures rose, perhaps though each write was answered by `Ok`.
+/// - `Ipc(OutOfSpec)`: it took nothing of a piece, or refused it without a failure, or its count of failures fell. Memory never answers this.
 /// - `Memory`: there was no memory, also in the device.
 ///
-/// What was written before an error stays written: a beginning of the stream.
+/// What was written before an error stays written: a beginning of the stream, perhaps all of it.
 pub fn write_batches<W: Write + Faults>(
     alloc: Global,
     writer: &mut W,
@@ -79,7 +79,7 @@ pub fn write_batches<W: Write + Faults>(
     batches: &[Chunk<AnyArray>],
 ) -> Result<(), Fault>
     requires { IsTable schema.now batches.now }
-    ensures written { WritesStream result schema.now batches.now (W.failures writer.old) (W.failures writer.new)
+    ensures written { WritesStream result schema.now batches.now W.in_memory (W.failures writer.old) (W.failures writer.new)
         (W.contents writer.old) (W.contents writer.new) }
     ensures reads_back { IfOk result (λ _. HasTexts schema.now → length (stored_rows batches.now) < 2 ^ 64
         → ReadAsTable (table_bytes schema.now batches.now) schema.now batches.now) }

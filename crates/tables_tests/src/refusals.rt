@@ -51,10 +51,18 @@ impl Write for Device {
 }
 
 impl Faults for Device {
+    ghost use Rattle.std.specs.Prelude.{false};
+
     ghost failures = { λ device. device.failed };
+
+    ghost in_memory = { false };
 
     fn faults(&self) -> u64 {
         self.failed
+    }
+
+    fn is_memory(&self) -> bool {
+        false
     }
 }
 

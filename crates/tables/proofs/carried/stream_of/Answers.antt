@@ -1,6 +1,6 @@
 -- The stream has a message past its limit.
 use Rattle.std.proofs.Common.{◌≡◌, ◌∙◌, ap, subst}
-use Rattle.std.specs.Prelude.{Some}
+use Rattle.std.specs.Prelude.{Some, true}
 use Rattle.tables_choices.specs.chunks.Refusals.{IsWriteFault, StopsAtTooLong}
 use Rattle.tables_choices.specs.chunks.declared.fault.Fault.{Fault}
 use Rattle.tables_choices.specs.chunks.declared.fault.Fault.TheVariants as faults
@@ -15,6 +15,6 @@ returns-in-Err-Ipc-Overflow c =
     let old = Some c.new-bytes.result.items in
     let new = Some c.write_stream.new.writer.items in
     let fault : refused.field-0 ≡ faults.Ipc errors.Overflow = refused.field-0-is ∙ ap faults.Ipc refused.field-0-0-is in
-    let why = subst (λ (fault : Fault). IsWriteFault (StopsAtTooLong old new table.schema table.batches) 0 0 fault) fault
+    let why = subst (λ (fault : Fault). IsWriteFault (StopsAtTooLong old new table.schema table.batches) true 0 0 fault) fault
     refused.ensures.written.1 in
     is_long old new table why

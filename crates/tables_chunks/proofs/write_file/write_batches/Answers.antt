@@ -13,7 +13,7 @@ returns-in_err-write_whole-clause-written g c =
     let schema = c.args.schema.now in
     let batches = c.args.batches.now in
     let refused = c.in_err-write_whole.ensures in
-    let why = file_fault (StopsAtLongFile old new schema batches) (StopsAtReplaced old new schema batches) c.in_err-write_whole.field-0.0 _ _
+    let why = file_fault (StopsAtLongFile old new schema batches) (StopsAtReplaced old new schema batches) c.in_err-write_whole.field-0.0 _ _ _
     refused.1 in
     let begins = refused.0 in
     search (rules, begins, why)

@@ -10,7 +10,7 @@ returns-in_err-write_table-clause-written g c =
     let old = g.W.Write.contents c.args.writer.now in
     let new = g.W.Write.contents c.write_table.new.writer in
     let refused = c.in_err-write_table.ensures in
-    let why = fault_is (StopsAtTooLong old new c.args.schema.now c.args.batches.now) c.in_err-write_table.field-0.0 _ _ refused.1 in
+    let why = fault_is (StopsAtTooLong old new c.args.schema.now c.args.batches.now) c.in_err-write_table.field-0.0 _ _ _ refused.1 in
     let begins = refused.0 in
     search (rules, begins, why)
 

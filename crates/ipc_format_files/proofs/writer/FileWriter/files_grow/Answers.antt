@@ -3,4 +3,4 @@ use Rattle.ipc_format_files.proofs.GrowthRuns.{files_grow}
 use Rattle.ipc_format_files.proofs.writer.FileWriter.files_grow.Goals as goal
 
 pub returns : goal.returns
-returns g c = files_grow g.W.Write.contents g.W.Faults.failures
+returns g c = files_grow g.W.Write.contents g.W.Faults.failures g.W.Faults.in_memory

@@ -25,4 +25,5 @@ returns-in-Ok g c =
     let opens : IsOpening file message old.schema (ids_views old.ids) = search rules in
     let new = g.W.Write.contents c.send_start.new.writer in
     let sent : Appends (g.W.Write.contents old.device) new (first_bytes (message_in message)) = search rules in
-    has_started g.W.Write.contents g.W.Faults.failures old _ file message is opens sent (search rules) (search rules) (search rules) (search rules)
+    has_started g.W.Write.contents g.W.Faults.failures g.W.Faults.in_memory old _ file message is opens sent (search rules) (search rules)
+    (search rules) (search rules) (search rules)

@@ -11,12 +11,12 @@ returns g c =
     let made = c.in_ok-made.made in (
       made,
       c.in_ok-made.ensures,
-      subst (λ (phase : Phase). StartsIn g.W.Write.contents g.W.Faults.failures phase made c.start.new.self (Ok tt)) c.in_ok-made.ensures.nothing
-          c.in_ok-start.ensures,
+      subst (λ (phase : Phase). StartsIn g.W.Write.contents g.W.Faults.failures g.W.Faults.in_memory phase made c.start.new.self (Ok tt))
+          c.in_ok-made.ensures.nothing c.in_ok-start.ensures,
     )
 
 pub returns-in_err-start : goal.returns-in_err-start
 returns-in_err-start g c =
-    let whole = not_made g.W.Write.contents g.W.Faults.failures c.in_ok-made.made c.start.new.self _ _ _ _ c.in_err-start.field-0.0
-    c.in_ok-made.ensures c.in_err-start.ensures in
+    let whole = not_made g.W.Write.contents g.W.Faults.failures g.W.Faults.in_memory c.in_ok-made.made c.start.new.self _ _ _ _
+    c.in_err-start.field-0.0 c.in_ok-made.ensures c.in_err-start.ensures in
     search (rules, whole)

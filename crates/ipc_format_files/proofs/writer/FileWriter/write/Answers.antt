@@ -44,6 +44,7 @@ returns-in-Ok g c =
     let own = ids_views (fields_or writer.ids given) in
     let added = subst (λ (it : Schema). AddsBatch it before after own columns (Ok (messages_in dictionaries)) last) schema adds in
     let sent = subst (λ (messages : List EncodedData). Appends old new (bytes_of_messages (messages_in messages ++ last ∷ []))) c.deref.ensures.value
-    c.in-Ok.ensures in
-    batch_written g.W.Write.contents g.W.Faults.failures writer _ before after given columns (messages_in dictionaries) last phase none added
-    (search (rules, sent)) (search rules) (search rules) (search rules) (search rules)
+    c.in-Ok.ensures.1 in
+    let count = c.in-Ok.ensures.0 in
+    batch_written g.W.Write.contents g.W.Faults.failures g.W.Faults.in_memory writer _ before after given columns (messages_in dictionaries) last
+    phase none added (search (rules, sent)) (search (rules, count)) (search rules) (search rules) (search rules) (search rules)

@@ -29,14 +29,14 @@ returns-in_err-dictionaries g c =
     let stream = c.in-Started.stream in
     let inside = c.self.inside in
     let error = c.in_err-dictionaries.field-0.0 in
-    let was : started_with g.W.Write.contents g.W.Faults.failures inside.writer inside.options.compression stream.schema stream.ids
-    stream.tracker.dictionaries.entries ≡ c.args.self.now = search rules in
+    let was : started_with g.W.Write.contents g.W.Faults.failures g.W.Faults.in_memory inside.writer inside.options.compression stream.schema
+    stream.ids stream.tracker.dictionaries.entries ≡ c.args.self.now = search rules in
     let none : None ≡ inside.options.compression = search rules in
     let ids : c.fields_or-ids.result.now ≡ fields_or stream.ids (option_copied c.args.ipc_fields) = search rules in
     let encodes = subst (λ (fields : List IpcField). EncodesBatch stream.schema (tracked stream.tracker) (tracked c.encode.new.tracker)
     (ids_views fields) c.args.columns.now (Err error) (message_in c.encode.new.encoded)) ids c.in_err-dictionaries.ensures in
-    let whole = batch_refused g.W.Write.contents g.W.Faults.failures inside.writer inside.options.compression c.args.self.now stream.schema stream.ids
-    (option_copied c.args.ipc_fields) c.args.columns.now (tracked stream.tracker) (tracked c.encode.new.tracker) error
+    let whole = batch_refused g.W.Write.contents g.W.Faults.failures g.W.Faults.in_memory inside.writer inside.options.compression c.args.self.now
+    stream.schema stream.ids (option_copied c.args.ipc_fields) c.args.columns.now (tracked stream.tracker) (tracked c.encode.new.tracker) error
     (message_in c.encode.new.encoded) was none stream.replaces encodes in
     search (rules, whole)
 
@@ -58,7 +58,8 @@ returns-in-Ok g c =
     (ids_views fields) c.args.columns.now (Ok (messages_in dictionaries)) (message_in c.encode.new.encoded)) ids c.in_ok-dictionaries.ensures in
     let sent = subst (λ (messages : List EncodedData). Appends old new
     (bytes_of_messages (messages_in messages ++ message_in c.encode.new.encoded ∷ [])))
-    c.deref.ensures.value c.in-Ok.ensures in
-    batch_written g.W.Write.contents g.W.Faults.failures c.args.self.now _ stream.schema stream.ids (option_copied c.args.ipc_fields)
-    c.args.columns.now (tracked stream.tracker) (tracked c.encode.new.tracker) (messages_in dictionaries) (message_in c.encode.new.encoded) phase none
-    stream.replaces encodes (search (rules, sent)) (search rules) (search rules)
+    c.deref.ensures.value c.in-Ok.ensures.1 in
+    let count = c.in-Ok.ensures.0 in
+    batch_written g.W.Write.contents g.W.Faults.failures g.W.Faults.in_memory c.args.self.now _ stream.schema stream.ids
+    (option_copied c.args.ipc_fields) c.args.columns.now (tracked stream.tracker) (tracked c.encode.new.tracker) (messages_in dictionaries)
+    (message_in c.encode.new.encoded) phase none stream.replaces encodes (search (rules, sent)) (search (rules, count)) (search rules) (search rules)
