@@ -6,6 +6,7 @@
 mod asking;
 mod block_messages;
 mod blocks;
+mod clones;
 mod entries;
 mod file_batches;
 mod file_metadata;

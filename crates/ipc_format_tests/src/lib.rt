@@ -21,3 +21,5 @@ mod streams;
 mod writable;
 #[cfg(test)]
 mod writing;
+#[cfg(test)]
+mod written_columns;
