@@ -4,6 +4,8 @@
 #[cfg(test)]
 mod columns;
 #[cfg(test)]
+mod given_batches;
+#[cfg(test)]
 mod laying;
 #[cfg(test)]
 mod messages;
