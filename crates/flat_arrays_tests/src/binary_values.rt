@@ -59,3 +59,16 @@ fn values_of_two_builders_stand_in_order(rt: HostRuntime) -> Result<(), Fail> {
     drop(array);
     Ok(())
 }
+
+fn gathered(alloc: Global) -> Result<MutableBinaryValuesArray<i32>, Error> {
+    MutableBinaryValuesArray::from_iter(alloc, ["a", "bc"].into_iter())
+}
+
+#[test]
+fn the_values_of_an_iterator_are_gathered(rt: HostRuntime) -> Result<(), Fail> {
+    let array = gathered(rt.alloc())?.freeze()?;
+    assert_eq!(rt; array.len(), 2);
+    assert!(rt; array.value(1) == b"bc".as_slice());
+    drop(array);
+    Ok(())
+}

@@ -61,6 +61,24 @@ fn slots_of_an_iterator_are_added(rt: HostRuntime) -> Result<(), Fail> {
     Ok(())
 }
 
+fn try_extend(builder: &mut MutableBooleanArray) -> Result<(), Error> {
+    builder.try_push(Some(true))?;
+    builder.try_extend([None, Some(true)].into_iter())
+}
+
+#[test]
+fn more_slots_of_an_iterator_are_added(rt: HostRuntime) -> Result<(), Fail> {
+    let mut builder = slots(rt.alloc())?;
+    assert!(rt; try_extend(&mut builder).is_ok());
+    assert_eq!(rt; builder.len(), 5);
+    assert_eq!(rt;
+        (builder.is_valid(2), builder.is_valid(3), builder.value(4)),
+        (true, false, true)
+    );
+    drop(builder);
+    Ok(())
+}
+
 fn add_nulls(builder: &mut MutableBooleanArray) -> Result<(), Error> {
     builder.extend_constant(2, None)?;
     builder.set(1, Some(true))

@@ -60,6 +60,20 @@ fn slots_of_an_iterator_are_added(rt: HostRuntime) -> Result<(), Fail> {
     Ok(())
 }
 
+fn try_extend(builder: &mut Int32Vec) -> Result<(), Error> {
+    builder.try_push(None)?;
+    builder.try_extend([Some(2), None].into_iter())
+}
+
+#[test]
+fn more_slots_of_an_iterator_are_added(rt: HostRuntime) -> Result<(), Fail> {
+    let mut builder = slots(rt.alloc())?;
+    assert!(rt; try_extend(&mut builder).is_ok());
+    assert!(rt; builder.values().as_slice() == [1, 0, 0, 2, 0].as_slice());
+    drop(builder);
+    Ok(())
+}
+
 fn add_equal_slots(builder: &mut Int32Vec) -> Result<(), Error> {
     builder.extend_constant(2, None)?;
     builder.extend_from_slice(&[3])?;

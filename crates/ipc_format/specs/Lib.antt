@@ -52,6 +52,8 @@ pub use Rattle.ipc_format_files.specs.stream_writer.reader.chunk_writing.columna
 pub use Rattle.ipc_format_files.specs.stream_writer.reader.chunk_writing.nested_arrays
 pub use Rattle.ipc_format_files.specs.stream_writer.reader.chunk_writing.chunks.Chunks
 pub use Rattle.ipc_format_files.specs.stream_writer.reader.chunk_writing.EncodedChunks
+pub use Rattle.ipc_format_files.specs.stream_writer.reader.chunk_writing.Helds
+pub use Rattle.ipc_format_files.specs.stream_writer.reader.chunk_writing.Records
 pub use Rattle.ipc_format_files.specs.stream_writer.reader.chunk_writing.Tracking
 pub use Rattle.ipc_format_files.specs.stream_writer.reader.chunk_writing.Types as OneForms
 pub use Rattle.ipc_format_files.specs.stream_writer.reader.chunk_writing.BatchReads

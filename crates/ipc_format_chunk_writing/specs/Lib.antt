@@ -1,6 +1,8 @@
 pub mod Bodies
 pub mod EncodedChunks
 pub mod Found
+pub mod Helds
+pub mod Records
 pub mod Telling
 pub mod Tracking
 pub mod Types

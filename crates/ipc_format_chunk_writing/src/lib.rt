@@ -5,14 +5,17 @@
 mod chunk;
 mod fitting;
 mod found;
+mod held;
 mod messages;
 mod options;
+mod record;
 mod signed;
 mod telling;
 mod tracker;
 mod types;
 
 pub use chunk::{encode_batch, encode_chunk, encode_chunk_amortized};
+pub use held::Held;
 pub use ipc_format_batch_reading::streams::owned::writing::ids_fit;
 pub use ipc_format_batch_reading::{
     BodyCompressionRef, Buffer, Chunk, Compression, Dictionaries, DictionaryBatchRef, EncodedData,
@@ -25,6 +28,7 @@ pub use ipc_format_batch_reading::{
     read_union, record_metadata, rises, schemas_have_arrays, write,
 };
 pub use options::WriteOptions;
+pub use record::Record;
 pub use tracker::DictionaryTracker;
 pub use types::have_one_form;
 

@@ -7,9 +7,10 @@ use Rattle.std.specs.List.{list_any}
 use Rattle.std.proofs.lemmas.Bool.{cases_lt, le-leb}
 use Rattle.std.proofs.lemmas.Grind.{flat_map-append}
 use Rattle.std.proofs.lemmas.Int.{to_z-of_z}
-use Rattle.std.proofs.lemmas.List.{append_assoc, append-nil, drop-replicate, length-append, length-drop, length-take-le, map-append}
-use Rattle.std.proofs.lemmas.List.{take-append-drop, take-replicate}
+use Rattle.std.proofs.lemmas.List.{append_assoc, append-nil, drop-replicate, length-append, length-drop, length-replicate, length-take-le}
+use Rattle.std.proofs.lemmas.List.{map-append, take-append-drop, take-replicate}
 use Rattle.std.proofs.lemmas.List.Folds.{list_any-append}
+use Rattle.std.proofs.lemmas.List.Sums.{sum_by-append}
 use Rattle.std.proofs.Math.Seq.{take-append_seam, drop-append_seam, take-length}
 use Rattle.ipc_format_streams.specs.columnar_memory.Error.{IsOutOfMemory}
 use Rattle.ipc_format_streams.specs.columnar_memory.declared.Error.{Error}
@@ -25,7 +26,7 @@ use Rattle.ipc_format_column_bytes.proofs.Added.{begins_through}
 use Rattle.ipc_format_column_bytes.specs.declared.body.Body.{Body}
 use Rattle.ipc_format_column_bytes.specs.declared.body.Lengths.{Lengths}
 use Rattle.ipc_format_column_bytes.specs.Bodies.{Parts, Adds, BeginsWithParts, EndsBuffer, GivesBack, IsRefused, IsTooLong, Settles}
-use Rattle.ipc_format_column_bytes.specs.Bodies.{both, firsts, is_long_node, of_buffers, of_node, of_slots, parts, parts_of}
+use Rattle.ipc_format_column_bytes.specs.Bodies.{both, firsts, is_long_node, of_buffers, of_node, of_slots, parts, parts_of, taken_up}
 use Rattle.ipc_format_column_bytes.specs.Bodies.{signed_limit, stated_buffer, stated_node, with_column}
 
 -- ---- lists of buffers
@@ -104,17 +105,38 @@ parts_through p q s first second = record {
   nodes = begins_through p.nodes q.nodes s.nodes first.nodes second.nodes;
   buffers = begins_through p.buffers q.buffers s.buffers first.buffers second.buffers;
   bytes = begins_through p.bytes q.bytes s.bytes first.bytes second.bytes;
+  offset = omega (arith, first.offset, second.offset);
 }
 
-pub column_begins : (p : Parts) (a : Encoded) → BeginsWithParts p (with_column p a)
-column_begins p a = record {
-  nodes = take-append_seam p.nodes _;
-  buffers = take-append_seam p.buffers _;
-  bytes = take-append_seam p.bytes _;
-}
+-- the buffers of a column take up the bytes of its body
+column_takes : (o : ℕ) (buffers : List (List ℕ)) → taken_up (map stated_buffer (buffer_places o buffers)) ≡ length (body_bytes buffers)
+column_takes o [] = refl
+column_takes o (x ∷ xs) =
+    let zeros : ℕ = next_multiple_of (length x) 64 - length x in
+    let size : length (padded_buffer x) ≡ length x + zeros =
+    length-append x (replicate zeros 0) ∙ ap (λ (n : ℕ). length x + n) (length-replicate zeros 0) in
+    let all = length-append (padded_buffer x) (body_bytes xs) in
+    let next : ℕ = o + length (padded_buffer x) in
+    let more : List Buffer = map stated_buffer (buffer_places next xs) in
+    let first : taken_up (map stated_buffer (buffer_places o (x ∷ xs))) ≡ (0 + next_multiple_of (length x) 64) + taken_up more =
+    sum_by-append _ (stated_buffer (o, length x) ∷ []) more in
+    omega (arith, size, all, first, column_takes next xs)
+
+pub column_begins : (nodes : List FieldNode) (buffers : List Buffer) (bytes : List ℕ) (o : ℕ) (a : Encoded)
+    → let p : Parts = record { nodes = nodes; buffers = buffers; bytes = bytes; offset = pos o } in
+    BeginsWithParts p (with_column p a)
+column_begins nodes buffers bytes o a =
+    let more : List Buffer = map stated_buffer (buffer_places o a.buffers) in
+    let all : taken_up (buffers ++ more) ≡ taken_up buffers + taken_up more = sum_by-append _ buffers more in
+    record {
+      nodes = take-append_seam nodes _;
+      buffers = take-append_seam buffers _;
+      bytes = take-append_seam bytes _;
+      offset = omega (arith, all, column_takes o a.buffers);
+    }
 
 pub same_begins : (p : Parts) → BeginsWithParts p p
-same_begins p = record { nodes = take-length p.nodes; buffers = take-length p.buffers; bytes = take-length p.bytes }
+same_begins p = record { nodes = take-length p.nodes; buffers = take-length p.buffers; bytes = take-length p.bytes; offset = refl }
 
 -- ---- what calls answer one after the other
 
@@ -131,7 +153,7 @@ adds_then (Ok x) nodes buffers bytes o q s a b is added =
 adds_then (Err e) nodes buffers bytes o q s a b is refused =
     let p : Parts = record { nodes = nodes; buffers = buffers; bytes = bytes; offset = pos o } in
     let here : Adds (Err e) (with_column p a) s b = subst (λ (parts : Parts). Adds (Err e) parts s b) is refused in
-    (right_refused e o a b here.0, parts_through p (with_column p a) s (column_begins p a) here.1)
+    (right_refused e o a b here.0, parts_through p (with_column p a) s (column_begins nodes buffers bytes o a) here.1)
 
 -- the same of what makes a whole
 pub added_then : (r : Result (Unit {0}) Error) (p : Body) (q s : Parts) (a b whole : Encoded) → q ≡ with_column (parts_of p) a → Adds r q s b
@@ -183,7 +205,7 @@ pub unfinished : (e : Error) (nodes : List FieldNode) (buffers : List Buffer) (o
     → Adds (Err e) (record { nodes = nodes; buffers = buffers; bytes = old; offset = pos o })
     (record { nodes = nodes; buffers = buffers; bytes = new; offset = pos o }) column
 unfinished OutOfMemory nodes buffers old new o column why =
-    (tt, record { nodes = take-length nodes; buffers = take-length buffers; bytes = why.1 })
+    (tt, record { nodes = take-length nodes; buffers = take-length buffers; bytes = why.1; offset = refl })
 unfinished _ nodes buffers old new o column why = absurd why.0
 
 -- ---- numbers that are signed
@@ -284,7 +306,7 @@ pub settled : (answer result : Result (Unit {0}) Error) (nodes : List FieldNode)
 settled (Ok x) (Ok y) nodes buffers bytes o now after begun column added is_nodes is_buffers is_bytes back = back ∙ added
 settled (Ok x) (Err e) nodes buffers bytes o now after begun column added is_nodes is_buffers is_bytes back =
     let before : Parts = parts nodes buffers bytes (pos o) in
-    let begins : BeginsWithParts before now = subst (λ (p : Parts). BeginsWithParts before p) (sym added) (column_begins before column) in
+    let begins : BeginsWithParts before now = subst (λ (p : Parts). BeginsWithParts before p) (sym added) (column_begins nodes buffers bytes o column) in
     let end : place_of now.offset ≡ o + length (body_bytes column.buffers) = ap (λ (p : Parts). place_of p.offset) added in
     let far : signed_limit ≤ o + length (body_bytes column.buffers) = omega (arith, back.1, end) in (
       subst (λ (error : Error). IsRefused error o column) (sym back.0) (inr far),

@@ -1,6 +1,7 @@
 -- What columns are written to, and what it is with a column behind it (Arrow IPC, "RecordBatch message").
-use Rattle.std.specs.Prelude.{◌≡◌, ◌⊎◌, ℕ, ◌+◌, ◌≤◌, ◌^◌, ◌||◌, ℤ, pos, ◌+ℤ◌, Bool, true, List, [], ◌∷◌, ◌++◌, length, map, nat_le, take, drop}
+use Rattle.std.specs.Prelude.{◌≡◌, ◌⊎◌, ℕ, ◌+◌, ◌≤◌, ◌^◌, ◌||◌, ℤ, pos, ◌+ℤ◌, Bool, true, List, [], ◌∷◌, ◌++◌, length, map, nat_le, sum_by, take, drop}
 use Rattle.std.specs.Prelude.{Option, Result, Ok, Err}
+use Rattle.std.specs.Int.{next_multiple_of}
 use Rattle.std.specs.List.{list_any}
 use Rattle.ipc_format_streams.specs.columnar_memory.declared.Error.{Error}
 use Rattle.ipc_format_streams.specs.columnar_memory.declared.Error.TheVariants.{Overflow, OutOfMemory}
@@ -60,11 +61,16 @@ IsRefused Overflow offset column = IsTooLong offset column
 IsRefused OutOfMemory offset column = Unit {0}
 IsRefused _ offset column = ⊥
 
--- the first parts stand at the beginning of others
+-- how many bytes buffers take up that stand one behind the other: each ends at a multiple of 64
+abbrev pub taken_up : List Buffer → ℕ
+taken_up buffers = sum_by (λ buffer. next_multiple_of (place_of buffer.length) 64) buffers
+
+-- the first parts stand at the beginning of others, whose next buffer begins behind all buffers that stand there
 pub record BeginsWithParts (before after : Parts) : Type 0 where
   pub nodes : BeginsWith before.nodes after.nodes
   pub buffers : BeginsWith before.buffers after.buffers
   pub bytes : BeginsWith before.bytes after.bytes
+  pub offset : place_of after.offset + taken_up before.buffers ≡ place_of before.offset + taken_up after.buffers
 
 -- a column stands behind others; or it is refused, and something stands there
 abbrev pub Adds : Result (Unit {0}) Error → Parts → Parts → Encoded → Type 0

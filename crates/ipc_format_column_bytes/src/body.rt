@@ -27,7 +27,7 @@ const ZEROS: [u8; 64] = [0; 64];
 /// What columns are written to: the nodes and buffers of a batch, the bytes of its body, and where the next buffer begins in it.
 ///
 /// # Errors
-/// What adds to it is refused so, and then more may stand behind what stood there before.
+/// What adds to it is refused so, and then more may stand behind what stood there before; the next buffer begins behind all that stand there.
 /// - `Overflow`: a number of a node, or where a buffer ends, is past what the format states.
 /// - `OutOfMemory`: it found no memory.
 #[derive(Drop)]

@@ -8,6 +8,7 @@ pub mod TypeReads
 pub mod FieldReads
 pub mod SchemaSteps
 pub mod ReportSteps
+mod SameIds
 pub use Rattle.ipc_format_grammar.proofs as grammar_lemmas
 pub use Rattle.ipc_format_grammar.proofs.columnar_memory_lemmas
 pub use Rattle.ipc_format_grammar.proofs.flatbuffers_lemmas

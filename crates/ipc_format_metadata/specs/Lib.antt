@@ -9,6 +9,7 @@ pub mod Steps
 pub mod ReadViews
 pub mod SchemaViews
 pub mod Reports
+pub mod Sameness
 pub use Rattle.ipc_format_grammar.specs as grammar
 pub use Rattle.ipc_format_grammar.specs.columnar_memory
 pub use Rattle.ipc_format_grammar.specs.flatbuffers

@@ -1,7 +1,10 @@
-ghost use Rattle.std.specs.Prelude.{◌≡◌, IfOk};
+ghost use Rattle.std.specs.Prelude.{◌≡◌, ◌↔◌, [], IfOk, IsTrue};
+ghost use Rattle.ipc_format_metadata.specs.declared.ipc_schema.IpcField.{out-IpcField};
+ghost use Rattle.ipc_format_metadata.specs.Sameness.{same_ids, same_ids-per, same_ids-equivalence};
+ghost use Rattle.ipc_format_metadata.specs.Sameness.{same_ipc_schema, same_ipc_schema-per, same_ipc_schema-equivalence};
 
 use ipc_format_grammar::columnar_memory::Items;
-use std::alloc::AllocError;
+use std::alloc::{AllocError, Global};
 
 /// The dictionary ids beside a field (Schema.fbs, `DictionaryEncoding`).
 #[derive(Debug, Drop)]
@@ -19,6 +22,91 @@ pub struct IpcSchema {
     pub fields: Items<IpcField>,
     /// Whether numbers stand with their lowest byte first.
     pub is_little_endian: bool,
+}
+
+impl IpcField {
+    /// Beside a field that has no dictionary, and no field below it. It takes no memory.
+    pub fn new(alloc: Global) -> Self
+        ensures below { (out-IpcField result).fields ≡ [] }
+        ensures own { (out-IpcField result).dictionary_id ≡ None }
+    {
+        IpcField {
+            fields: Items::new(alloc),
+            dictionary_id: None,
+        }
+    }
+}
+
+impl PartialEq for IpcField {
+    ghost eq = { same_ids };
+
+    ghost laws = { same_ids-per };
+
+    fn eq(&self, other: &Self) -> bool
+        ensures value { result ≡ same_ids self.now other.now }
+        ensures exact { IsTrue result ↔ (self.now ≡ other.now) }
+    {
+        is_same_field(self, other)
+    }
+}
+
+impl Eq for IpcField {
+    ghost laws = { same_ids-equivalence };
+}
+
+impl PartialEq for IpcSchema {
+    ghost eq = { same_ipc_schema };
+
+    ghost laws = { same_ipc_schema-per };
+
+    fn eq(&self, other: &Self) -> bool
+        ensures value { result ≡ same_ipc_schema self.now other.now }
+        ensures exact { IsTrue result ↔ (self.now ≡ other.now) }
+    {
+        is_same_schema(self, other)
+    }
+}
+
+impl Eq for IpcSchema {
+    ghost laws = { same_ipc_schema-equivalence };
+}
+
+#[tactic(auto, using(crate::proofs::SameIds::same_id))]
+fn is_same_id(a: Option<i64>, b: Option<i64>) -> bool
+    ensures { IsTrue result ↔ (a ≡ b) }
+{
+    a == b
+}
+
+#[cycle(equality)]
+#[tactic(auto, using(crate::proofs::SameIds::same_parts))]
+fn is_same_field(a: &IpcField, b: &IpcField) -> bool
+    ensures { IsTrue result ↔ (a.now ≡ b.now) }
+{
+    is_same_id(a.dictionary_id, b.dictionary_id)
+        && are_same_fields(a.fields.as_slice(), b.fields.as_slice())
+}
+
+#[cycle(equality)]
+fn are_same_fields(a: &[IpcField], b: &[IpcField]) -> bool
+    ensures { IsTrue result ↔ (a.now ≡ b.now) }
+{
+    if a.len() != b.len() {
+        return false;
+    }
+    for i in 0..a.len() {
+        if !is_same_field(&a[i], &b[i]) {
+            return false;
+        }
+    }
+    true
+}
+
+fn is_same_schema(a: &IpcSchema, b: &IpcSchema) -> bool
+    ensures { IsTrue result ↔ (a.now ≡ b.now) }
+{
+    are_same_fields(a.fields.as_slice(), b.fields.as_slice())
+        && a.is_little_endian == b.is_little_endian
 }
 
 impl Clone for IpcField {

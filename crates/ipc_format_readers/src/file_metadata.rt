@@ -13,7 +13,7 @@ use ipc_format_chunk_writing::streams::columnar_memory::Schema;
 use ipc_format_chunk_writing::streams::metadata::IpcSchema;
 
 /// What a file's footer says, and the file's size.
-#[derive(Drop)]
+#[derive(Debug, Drop)]
 pub struct FileMetadata {
     /// The schema, as it is read.
     pub schema: Schema,

@@ -6,6 +6,7 @@
 mod asking;
 mod block_messages;
 mod blocks;
+mod clones;
 mod entries;
 mod file_batches;
 mod file_metadata;
@@ -32,8 +33,8 @@ pub use state::StreamState;
 /// What `ipc_format_chunk_writing` has, as far as packages above use it.
 pub mod chunk_writing {
     pub use ipc_format_chunk_writing::{
-        Chunk, Compression, Dictionaries, DictionaryTracker, InMemory, ProjectionIter,
-        ProjectionResult, Room, WriteOptions, apply_projection, choices_are_put_back,
+        Chunk, Compression, Dictionaries, DictionaryTracker, Held, InMemory, ProjectionIter,
+        ProjectionResult, Record, Room, WriteOptions, apply_projection, choices_are_put_back,
         columnar_memory, encode_batch, encode_chunk, encode_chunk_amortized, have_one_form,
         ids_fit, is_choice, is_projection, look_ups_are_enough, nested_arrays, prepare_projection,
         read, read_children, read_dictionary, read_fixed_size_list, read_large_list, read_list,

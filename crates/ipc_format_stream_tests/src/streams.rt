@@ -22,6 +22,8 @@ fn a_schema_without_fields(rt: HostRuntime) -> Result<(), Fail> {
     assert_eq!(rt; metadata.schema.fields.len(), 0);
     assert!(rt; metadata.ipc_schema.is_little_endian);
     assert_eq!(rt; rest, &[9, 8, 7][..]);
+    let copied = metadata.clone()?;
+    assert!(rt; copied.schema == metadata.schema && copied.ipc_schema == metadata.ipc_schema);
     Ok(())
 }
 

@@ -36,8 +36,8 @@ pub mod reader {
     /// Of `chunk_writing`.
     pub mod chunk_writing {
         pub use ipc_format_readers::chunk_writing::{
-            Chunk, Compression, Dictionaries, DictionaryTracker, InMemory, ProjectionIter,
-            ProjectionResult, Room, WriteOptions, apply_projection, choices_are_put_back,
+            Chunk, Compression, Dictionaries, DictionaryTracker, Held, InMemory, ProjectionIter,
+            ProjectionResult, Record, Room, WriteOptions, apply_projection, choices_are_put_back,
             encode_batch, encode_chunk, encode_chunk_amortized, have_one_form, is_choice,
             is_projection, look_ups_are_enough, nested_arrays, prepare_projection, read,
             read_children, read_dictionary, read_fixed_size_list, read_large_list, read_list,

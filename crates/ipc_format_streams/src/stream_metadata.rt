@@ -1,4 +1,5 @@
 //! What a stream says before its batches (Arrow IPC, "IPC Streaming Format", "Schema message").
+ghost use Rattle.std.specs.Prelude.{◌≡◌};
 ghost use Rattle.ipc_format_values.specs.metadata.Reading.{Reads};
 ghost use Rattle.ipc_format_values.specs.metadata.Steps.{FloatInMessage};
 ghost use Rattle.ipc_format_streams.specs.Starts.{IsNamedStart, IsReadOutcome, IsReadRefusal, ReadsStart, start_of_message, start_view};
@@ -8,7 +9,7 @@ use crate::incoming::{Incoming, next_message};
 use ipc_format_values::columnar_memory::{Error, Result, Schema};
 use ipc_format_values::messages::{MetadataVersion, version_in};
 use ipc_format_values::metadata::{IpcSchema, deserialize_schema};
-use std::alloc::Global;
+use std::alloc::{AllocError, Global};
 use std::io;
 use std::io::{ErrorKind, Read};
 
@@ -21,6 +22,19 @@ pub struct StreamMetadata {
     pub version: MetadataVersion,
     /// The ids of dictionaries beside the fields, and the byte order of the batches.
     pub ipc_schema: IpcSchema,
+}
+
+impl Clone for StreamMetadata {
+    ghost is_clone = { λ a b. b ≡ a };
+
+    /// An error is for want of memory.
+    fn clone(&self) -> std::result::Result<Self, AllocError> {
+        Ok(StreamMetadata {
+            schema: self.schema.clone()?,
+            version: self.version,
+            ipc_schema: self.ipc_schema.clone()?,
+        })
+    }
 }
 
 /// What a stream says before its batches, by the metadata of its first message.

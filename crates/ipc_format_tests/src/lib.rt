@@ -4,6 +4,8 @@
 #[cfg(test)]
 mod columns;
 #[cfg(test)]
+mod given_batches;
+#[cfg(test)]
 mod laying;
 #[cfg(test)]
 mod messages;
@@ -21,3 +23,5 @@ mod streams;
 mod writable;
 #[cfg(test)]
 mod writing;
+#[cfg(test)]
+mod written_columns;

@@ -1,7 +1,7 @@
 //! Schemas read from the metadata of messages.
 use crate::samples::{DICTIONARY, EXTENSION, X};
 use columnar_memory_types::{Boxed, DataType, Error, Field, IntegerType, Items, Schema, Text};
-use ipc_format::metadata::deserialize_schema;
+use ipc_format::metadata::{IpcField, deserialize_schema};
 use std::alloc::Global;
 use std::test::*;
 
@@ -75,9 +75,11 @@ fn ids_stand_beside_the_fields(rt: HostRuntime) -> Result<(), Fail> {
     let found = deserialize_schema(rt.alloc(), &DICTIONARY);
     let (_schema, beside) = found.ok().ok_or("refused")?;
     let copied = beside.clone()?;
+    assert!(rt; copied == beside);
     let field = copied.fields.get(0).ok_or("no ids")?;
     assert_eq!(rt; field.dictionary_id, Some(0));
     assert_eq!(rt; field.fields.len(), 0);
+    assert!(rt; *field != IpcField::new(rt.alloc()));
     Ok(())
 }
 

@@ -93,7 +93,7 @@ fn three_of<R: Room + Drop>(
     mut room: R,
     wanted: &[AnyArray],
 ) -> Result<[Short; 3], Error> {
-    let metadata = read_file_metadata(alloc, &mut room)?;
+    let metadata = read_file_metadata(alloc, &mut room)?.clone()?;
     let mut reader = FileReader::new(alloc, room, metadata, None, None)?;
     Ok([
         next_of(&mut reader, wanted),

@@ -111,3 +111,13 @@ fn tables_grow(rt: HostRuntime) -> Result<(), Fault> {
     }
     Ok(())
 }
+
+#[test]
+fn a_copy_is_the_same_table(rt: HostRuntime) -> Result<(), Fault> {
+    let alloc = rt.alloc();
+    let table = read(alloc, &NESTED)?;
+    let copy = table.clone()?;
+    assert!(rt; Table::same(&copy, &table)?);
+    assert_eq!(rt; copy.batches().len(), table.batches().len());
+    Ok(())
+}
