@@ -28,7 +28,8 @@ CPU = "x86-64-v2"
 # The kinds of large inputs, the commands on them with the megabytes they are measured on, and inputs that grow otherwise than in bytes.
 KINDS = ["numbers", "texts", "lists", "keys", "records"]
 COMMANDS = [("cut", 250), ("same", 250), ("seal", 25)]
-COUNTED = [("columns", 4000), ("columns", 40000), ("fields", 4000), ("fields", 40000), ("batches", 100000), ("batches", 1000000)]
+COUNTED = [("columns", 4000), ("columns", 40000), ("fields", 4000), ("fields", 40000), ("batches", 100000), ("batches", 1000000),
+           ("dictionaries", 1000), ("dictionaries", 10000)]
 
 # How many fields the schemas of the metadata's jobs have.
 FIELDS = [1000, 10000, 100000]
