@@ -2,7 +2,9 @@
 # make program proves the program and all below it, builds it as bin/tables and cuts the samples with it
 # make test    the whole gate: every proof from nothing, each test, each program, the must-fail edits;
 #              with MINUTES=n it ends after n minutes, and names what it skipped
-# make bench   measures bin/tables against cp and plain Rust on a stream of about 250 MB, and on a tenth of it, after the four below
+# make bench   measures bin/tables against cp and plain Rust on a stream of about 250 MB, and on a tenth of it, and its commands on large
+#              inputs of several types, on many columns and on many batches, after the four below
+# make bench-tables   measures the latter alone
 # make bench-memory   measures jobs of the memory layer against plain Rust
 # make bench-flat   measures jobs of flat arrays and their builders against plain Rust
 # make bench-nested   measures jobs of nested arrays against plain Rust
@@ -15,7 +17,7 @@ PYTHON ?= python3 -B
 PROGRAM = crates/tables_program
 BENCHES = crates/benches
 
-.PHONY: demo test bench bench-memory bench-flat bench-nested bench-metadata definitions clean
+.PHONY: demo test bench bench-tables bench-memory bench-flat bench-nested bench-metadata definitions clean
 .PHONY: program benches
 
 # The worked values of the definitions.
@@ -57,6 +59,10 @@ definitions:
 
 bench: program bench-memory bench-flat bench-nested bench-metadata
 	$(PYTHON) tools/benches/bench.py cut bin/tables bin
+	$(PYTHON) tools/benches/bench.py tables bin/tables bin
+
+bench-tables: program
+	$(PYTHON) tools/benches/bench.py tables bin/tables bin
 
 bench-memory bench-flat bench-nested bench-metadata: bench-%: benches
 	$(PYTHON) tools/benches/bench.py $* bin/benches bin

@@ -2,12 +2,14 @@
 """Measures proved programs against plain Rust of the same jobs, which is built by `rustc -O` from the files beside this one.
 
     bench.py cut PROGRAM FOLDER        `tables cut` on nearly all of a large stream, against plain_cut.rs and `cp` of the same file
+    bench.py tables PROGRAM FOLDER     `tables cut`, `same` and `seal` on the large inputs of `large.py`, against plain_tables.rs, as a table, and on
+                                       many columns, fields and batches of one row, as another one
     bench.py memory PROGRAM FOLDER     the jobs of `benches memory`, against plain_memory.rs, as a table
     bench.py flat PROGRAM FOLDER       the jobs of `benches flat`, against plain_flat.rs, as a table
     bench.py nested PROGRAM FOLDER     the jobs of `benches nested`, against plain_nested.rs, as a table
     bench.py metadata PROGRAM FOLDER   the jobs of `benches metadata` at three sizes, against a copy of the metadata's bytes, as a table
 
-What is made stands in FOLDER; streams are taken away at the end. Times of a cut are the best of five rounds, those of the jobs
+What is made stands in FOLDER; streams are taken away at the end. Times of the program are the best of five rounds, those of the jobs
 the best of 21. Outputs and checksums of both programs have to be the same.
 """
 
@@ -22,6 +24,12 @@ ROUNDS = 5
 
 # What `rt run` builds for.
 CPU = "x86-64-v2"
+
+# The kinds of large inputs, the commands on them with the megabytes they are measured on, and inputs that grow otherwise than in bytes.
+KINDS = ["numbers", "texts", "lists", "keys", "records"]
+COMMANDS = [("cut", 250), ("same", 250), ("seal", 25)]
+COUNTED = [("columns", 4000), ("columns", 40000), ("fields", 4000), ("fields", 40000), ("batches", 100000), ("batches", 1000000),
+           ("dictionaries", 1000), ("dictionaries", 10000)]
 
 # How many fields the schemas of the metadata's jobs have.
 FIELDS = [1000, 10000, 100000]
@@ -123,6 +131,61 @@ def measure_cut(program, folder):
     print("ten times the input takes %.1f times as long" % (whole / tenth))
 
 
+def made_large(kind, size, name):
+    """Makes a large input. Returns its rows."""
+    make = [sys.executable, "-B", os.path.join(TOOLS, "large.py"), kind, str(size), name]
+    return int(subprocess.run(make, check=True, stdout=subprocess.PIPE).stdout)
+
+
+def words_of(command, rows, given, output):
+    """The words behind the name of a command, without the kind that plain Rust takes."""
+    if command == "cut":
+        return ["1", str(max(rows - 2, 0)), given, output]
+    return {"seal": ["65536", given, output], "same": [given, given], "join": [output, given, given]}[command]
+
+
+def measure_command(program, plain, folder, kind, command, size):
+    """A row of the table: seconds of the program and of plain Rust, whose outputs are the same, and the peak memory over the size."""
+    given, output, same = (os.path.join(folder, "bench." + it) for it in ("stream", "out", "plain"))
+    rows = made_large(kind, size, given)
+    ours, peak = best([program, command, *words_of(command, rows, given, output)], output)
+    plainly, _ = best([plain, command, kind, *words_of(command, rows, given, same)], same)
+    if command != "same" and not filecmp.cmp(output, same, shallow=False):
+        sys.exit("%s of %s: plain Rust makes another output" % (command, kind))
+    row = (command, kind, size, ours, plainly, ours / plainly, peak / os.path.getsize(given))
+    print("| `%s` of %s | %d | %.3f | %.3f | %.2f | %.2f |" % row, flush=True)
+    for made in (given, output, same):
+        if os.path.exists(made):
+            os.remove(made)
+
+
+def measure_counted(program, folder, kind, count):
+    given, output = os.path.join(folder, "bench.stream"), os.path.join(folder, "bench.out")
+    rows = made_large(kind, count, given)
+    commands = ("join", "same", "seal")
+    least = [best([program, it, *words_of(it, rows, given, output)], output) for it in commands]
+    size = os.path.getsize(given)
+    peaks = max(peak for _, peak in least) / size
+    seconds = " | ".join("%.3f" % it for it, _ in least)
+    print("| %d %s | %.1f | %s | %.2f |" % (count, kind, size / 1e6, seconds, peaks), flush=True)
+    os.remove(given)
+    if os.path.exists(output):
+        os.remove(output)
+
+
+def measure_tables(program, folder):
+    plain = built(folder, "plain_tables")
+    print("| command | MB | ours, s | plain Rust, s | ratio | peak over input |")
+    print("|---|---|---|---|---|---|")
+    for command, size in COMMANDS:
+        for kind in KINDS:
+            measure_command(program, plain, folder, kind, command, size)
+    print("\n| input | MB | `join`, s | `same`, s | `seal`, s | peak over input |")
+    print("|---|---|---|---|---|---|")
+    for kind, count in COUNTED:
+        measure_counted(program, folder, kind, count)
+
+
 def timed(command, job, size):
     """Nanoseconds and checksum of a job."""
     answer = subprocess.run([*command, job, str(size)], check=True, stdout=subprocess.PIPE, text=True).stdout.split()
@@ -177,6 +240,7 @@ def measure_metadata(program, folder):
 if __name__ == "__main__":
     measures = {
         "cut": measure_cut,
+        "tables": measure_tables,
         "memory": measure_memory,
         "flat": measure_flat,
         "nested": measure_nested,

@@ -4,7 +4,7 @@
     large.py [--file] KIND MEGABYTES FILE
 
 Batches have 65,536 rows, all the same; but `columns` is one batch of one row in many columns, `fields`
-the same in a struct of many fields, and `batches` many batches of one row.
+the same in a struct of many fields, `dictionaries` the same in columns with a dictionary each, and `batches` many batches of one row.
 Prints how many rows there are. One slot in eight is null in `numbers`, and none elsewhere but for one in sixteen of `records`.
 """
 
@@ -69,6 +69,9 @@ def make(kind, size, out, is_file):
     elif kind == "fields":
         made = tuple(field(b"f%d" % place, ("Int32",)) for place in range(size))
         fields, rows, times = [field(b"r", ("Struct", made))], [(("fields", tuple(map(number, range(size)))),)], 1
+    elif kind == "dictionaries":
+        fields = [field(b"k%d" % place, ("Dictionary", "Int32", ("Utf8",), False)) for place in range(size)]
+        rows, times = [tuple(text(place) for place in range(size))], 1
     elif kind == "batches":
         fields, rows, times = [field(b"x", ("Int32",)), field(b"t", ("Utf8",))], [(number(7), text(11))], size
     elif kind in KINDS:
@@ -96,7 +99,7 @@ def main(words):
     words = words[is_file:]
     if len(words) != 3:
         sys.exit(__doc__)
-    counts = words[0] in ("columns", "fields", "batches")
+    counts = words[0] in ("columns", "fields", "dictionaries", "batches")
     with open(words[2], "wb") as out:
         print(make(words[0], int(words[1]) if counts else round(float(words[1]) * 1e6), out, is_file))
 

@@ -138,11 +138,11 @@ class Batch:
 
     def placed(self):
         """Where each buffer stands, and the body."""
-        places, body = [], b""
+        places, body = [], bytearray()
         for content in self.buffers:
             places.append((len(body), len(content)))
             body += content + bytes(-len(content) % STEP)
-        return places, body
+        return places, bytes(body)
 
 
 def numbers_of(slot, widths):
