@@ -127,7 +127,6 @@ impl<R: Read + Faults + Drop> Iterator for StreamReader<R> {
     /// - `NotYetImplemented`: buffers are compressed, or a dictionary adds to an earlier one.
     /// - `Io`: the device failed, also where each of its reads was answered by `Ok`.
     /// - `OutOfMemory`: there was no memory for what came.
-    #[tactic(auto, using(crate::proofs::Nexts::told_of_turn))]
     fn next(&mut self) -> Option<Result<StreamState>> {
         if self.is_finished {
             return None;
