@@ -31,7 +31,8 @@ same_given_batch = eq_of_both (on (λ g. g.columns) (pointwise same_column)) (on
 
 pub same_given_batch-equivalence : IsEquivalence same_given_batch
 same_given_batch-equivalence =
-    and_equiv (on_equiv (λ g. g.columns) (lists_equiv same_column-equivalence)) (on_equiv (λ g. g.fields) (options_equiv (lists_equiv same_ids-equivalence)))
+    and_equiv (on_equiv (λ g. g.columns) (lists_equiv same_column-equivalence))
+    (on_equiv (λ g. g.fields) (options_equiv (lists_equiv same_ids-equivalence)))
 
 pub same_given_batch-per : IsPartialEquivalence same_given_batch
 same_given_batch-per = partial_equiv_from_equiv same_given_batch-equivalence

@@ -306,7 +306,8 @@ pub settled : (answer result : Result (Unit {0}) Error) (nodes : List FieldNode)
 settled (Ok x) (Ok y) nodes buffers bytes o now after begun column added is_nodes is_buffers is_bytes back = back ∙ added
 settled (Ok x) (Err e) nodes buffers bytes o now after begun column added is_nodes is_buffers is_bytes back =
     let before : Parts = parts nodes buffers bytes (pos o) in
-    let begins : BeginsWithParts before now = subst (λ (p : Parts). BeginsWithParts before p) (sym added) (column_begins nodes buffers bytes o column) in
+    let begins : BeginsWithParts before now =
+    subst (λ (p : Parts). BeginsWithParts before p) (sym added) (column_begins nodes buffers bytes o column) in
     let end : place_of now.offset ≡ o + length (body_bytes column.buffers) = ap (λ (p : Parts). place_of p.offset) added in
     let far : signed_limit ≤ o + length (body_bytes column.buffers) = omega (arith, back.1, end) in (
       subst (λ (error : Error). IsRefused error o column) (sym back.0) (inr far),
