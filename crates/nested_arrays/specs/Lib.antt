@@ -54,3 +54,4 @@ pub use Rattle.nested_arrays_generic_builders.specs.nulls.NullLaws as NullSlots
 pub use Rattle.nested_arrays_generic_builders.specs.nulls.columnar_memory
 pub use Rattle.nested_arrays_generic_builders.specs.pushes as builders
 pub use Rattle.nested_arrays_generic_builders.specs.ListBuilders
+pub use Rattle.nested_arrays_generic_builders.specs.NullBuilders

@@ -2,5 +2,6 @@ pub mod FirstSpans
 pub mod ListPushes
 pub mod ListSlots
 pub mod ListsStored
+pub mod NullColumns
 pub mod OpenLists
 pub use Rattle.nested_arrays_builder_pushes.proofs.nulls_lemmas

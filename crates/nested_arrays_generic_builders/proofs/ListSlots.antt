@@ -55,13 +55,13 @@ module _ (t : DataType) (ms : List Bool) (s : Spans) (child : Column) (counted :
       ∙ window_same (slot_at (lists t (mask_of_marks ms) (offsets_of s) child)) (list_at (slot_at child) ms s) 0 0 (length s.lengths)
       (λ i h. slot_is (0 + i) (omega (arith, h)))
 
-window_more : (f : ℕ → Slot) (a n : ℕ) → window f a (suc n) ≡ window f a n ++ f (a + n) ∷ []
+pub window_more : (f : ℕ → Slot) (a n : ℕ) → window f a (suc n) ≡ window f a n ++ f (a + n) ∷ []
 window_more f a zero = ap (λ (k : ℕ). f k ∷ []) (omega arith)
 window_more f a (suc n) =
     let next : a + 1 + n ≡ a + suc n = omega arith in
     ap (λ (xs : List Slot). f a ∷ xs) (window_more f (a + 1) n ∙ ap (λ (k : ℕ). window f (a + 1) n ++ f k ∷ []) next)
 
-window_first : (f : ℕ → Slot) (a m n : ℕ) → n ≤ m → take n (window f a m) ≡ window f a n
+pub window_first : (f : ℕ → Slot) (a m n : ℕ) → n ≤ m → take n (window f a m) ≡ window f a n
 window_first f a m zero h = refl
 window_first f a zero (suc n) h = absurd (omega arith)
 window_first f a (suc m) (suc n) h = ap (λ (xs : List Slot). f a ∷ xs) (window_first f (a + 1) m n (omega arith))
