@@ -3,7 +3,7 @@ use Rattle.nested_arrays_builder_pushes.specs.nulls.columnar_memory.Spans.{last_
 use Rattle.nested_arrays_generic_builders.specs.ListBuilders.{list_parts}
 use Rattle.nested_arrays_generic_builders.proofs.ListPushes.{null_pushed}
 use Rattle.nested_arrays_generic_builders.proofs.OpenLists.{pushed_null}
-use Rattle.nested_arrays_generic_builders.proofs.lists.MutableListArrayMutableArray.push_null.Goals as goal
+use Rattle.nested_arrays_generic_builders.proofs.lists.MutableListArray.push_null.Goals as goal
 
 pub returns-clause-column : goal.returns-clause-column
 returns-clause-column g c =
