@@ -12,7 +12,8 @@ use Rattle.nested_arrays_builder_pushes.specs.nulls.columns.StoredColumns.{Colum
 use Rattle.nested_arrays_builder_pushes.specs.cells.parts.Marks.{marks, mask_of_marks}
 use Rattle.nested_arrays_builder_pushes.proofs.columns_lemmas.Windows.{window_same}
 use Rattle.nested_arrays_builder_pushes.proofs.nulls_lemmas.arrays_lemmas.flat_lemmas.Offsets.{get_or-offsets_of, spans_count}
-use Rattle.nested_arrays_builder_pushes.proofs.nulls_lemmas.arrays_lemmas.columnar_memory_lemmas.buffer_lemmas.Runs.{offset_at-le-last_of, offset_at-more}
+use Rattle.nested_arrays_builder_pushes.proofs.nulls_lemmas.arrays_lemmas.columnar_memory_lemmas.buffer_lemmas.Runs.{offset_at-le-last_of}
+use Rattle.nested_arrays_builder_pushes.proofs.nulls_lemmas.arrays_lemmas.columnar_memory_lemmas.buffer_lemmas.Runs.{offset_at-more}
 use Rattle.nested_arrays_builder_pushes.proofs.parts_lemmas.MarkLists.{marks_back}
 
 -- ---- marks

@@ -1,5 +1,6 @@
 -- What pushes, cuts and taking out make of the column of a builder of lists.
-use Rattle.std.proofs.Common.{◌≡◌, ◌∙◌, ◌<◌, ◌≤◌, ◌+◌, ◌-◌, ℕ, zero, suc, List, [], ◌∷◌, ◌++◌, length, take, Bool, true, false, refl, sym, ap, subst}
+use Rattle.std.proofs.Common.{◌≡◌, ◌∙◌, ◌<◌, ◌≤◌, ◌+◌, ◌-◌, ℕ, zero, suc, List, []}
+use Rattle.std.proofs.Common.{◌∷◌, ◌++◌, length, take, Bool, true, false, refl, sym, ap, subst}
 use Rattle.std.proofs.Common.{arith, drop, get_or}
 use Rattle.std.specs.Prelude.{Option, Some, Result, Ok, Err, ◌⊎◌, if◌then◌else◌}
 use Rattle.std.proofs.lemmas.Bool.{cases_Bool, false≢true}
@@ -37,10 +38,12 @@ use Rattle.nested_arrays_builder_pushes.proofs.growth_lemmas.Pieces.{item_spans_
 use Rattle.nested_arrays_builder_pushes.proofs.nulls_lemmas.generic_lemmas.ListParts.{list_whole}
 use Rattle.nested_arrays_builder_pushes.proofs.nulls_lemmas.arrays_lemmas.flat_lemmas.Offsets.{spans_count}
 use Rattle.nested_arrays_builder_pushes.proofs.nulls_lemmas.arrays_lemmas.columnar_memory_lemmas.buffer_lemmas.Runs.{offset_at-le-last_of}
-use Rattle.nested_arrays_generic_builders.specs.ListBuilders.{AddsList, AddsNullList, AreLists, ClosesColumn, ClosesList, FreezesParts, IsFrozen, ListParts, list_parts, list_slot, lists_column, no_lists}
+use Rattle.nested_arrays_generic_builders.specs.ListBuilders.{AddsList, AddsNullList, AreLists, ClosesColumn, ClosesList, FreezesParts}
+use Rattle.nested_arrays_generic_builders.specs.ListBuilders.{IsFrozen, ListParts, list_parts, list_slot, lists_column, no_lists}
 use Rattle.nested_arrays_generic_builders.proofs.ListSlots.{first_lists, list_at, list_slots, one_list_more, window_rest}
 use Rattle.nested_arrays_generic_builders.proofs.ListsStored.{items_stored, list_buildable, marks_fit, marks_stored, one_null_fits}
-use Rattle.nested_arrays_generic_builders.proofs.ListsStored.{item_is, sound_parts, sound_whole, spans_stored, stored_lists, there, too_many, typed_as, typed_by_width}
+use Rattle.nested_arrays_generic_builders.proofs.ListsStored.{item_is, sound_parts, sound_whole, spans_stored}
+use Rattle.nested_arrays_generic_builders.proofs.ListsStored.{stored_lists, there, too_many, typed_as, typed_by_width}
 
 -- the slots of a column, again
 pub same_becomes : (c : Column) → Becomes c (slots c) c
@@ -278,10 +281,10 @@ module _ {M : Type 0} (column : M → Column) (large : Bool) (old : ListParts M)
 
   pub pushed_null : {U : Type 0} (new : ListParts M) (r : Result U Error) → AddsNullList old new r
       → AddsNull (lists_column column old) (lists_column column new) r
-  pushed_null new (Ok u) h =
+  pushed_null after (Ok u) h =
       subst (λ (p : ListParts M). Becomes (lists_column column old) (slots_and (lists_column column old) null) (lists_column column p)) (sym h.0)
       (null_added large old.data_type named.0 named.1 old.marks old.spans (column old.values) are.counted h.1)
-  pushed_null new (Err e) h = (
+  pushed_null after (Err e) h = (
     subst (λ (p : ListParts M). Becomes (lists_column column old) (slots (lists_column column old)) (lists_column column p)) (sym h.0)
         (same_becomes (lists_column column old)),
     why e h.1,
@@ -297,10 +300,10 @@ module _ {M : Type 0} (column : M → Column) (large : Bool) (old : ListParts M)
   pub closed_lists : {U : Type 0} (greatest : ℕ) → greatest ≡ (if large then 0x7fff_ffff_ffff_ffff else 0x7fff_ffff) → (new : ListParts M)
       (r : Result U Error) → ClosesList greatest (column_len (column old.values)) old new r
       → ClosesColumn (lists_column column old) (column old.values) (last_of old.spans) (lists_column column new) r
-  closed_lists greatest most new (Ok u) h =
+  closed_lists greatest most after (Ok u) h =
       subst (λ (p : ListParts M). AddsList (lists_column column old) (column old.values) (last_of old.spans) (lists_column column p)) (sym h.0)
       (list_added large old.data_type named.0 named.1 old.marks old.spans (column old.values) are.counted greatest most h.1 h.2)
-  closed_lists greatest most new (Err e) h = ap (lists_column column) h.0
+  closed_lists greatest most after (Err e) h = ap (lists_column column) h.0
 
   pub kept_lists : (k : ℕ) (values : M) → k ≤ length old.marks → KeepsFirst (column old.values) (last_of (first_spans old.spans k)) (column values)
       → KeepsFirst (lists_column column old) k

@@ -111,4 +111,5 @@ IsFrozen content column r = MatchResult r (λ a. (content a ≡ column) × (is_s
 abbrev pub FreezesParts : DataType → List Bool → Result Spans Error → Result Column Error → Result Column Error → Type 0
 FreezesParts data_type marks spans (Err e) r = r ≡ Err e
 FreezesParts data_type marks (Err e) (Ok child) r = r ≡ Err e
-FreezesParts data_type marks (Ok spans) (Ok child) r = IsFrozen (λ (array : Column). array) (lists data_type (mask_of_marks marks) (offsets_of spans) child) r
+FreezesParts data_type marks (Ok spans) (Ok child) r =
+    IsFrozen (λ (array : Column). array) (lists data_type (mask_of_marks marks) (offsets_of spans) child) r

@@ -8,7 +8,8 @@ ghost use Rattle.nested_arrays_builder_pushes.specs.nulls.columns.StoredColumns.
 ghost use Rattle.nested_arrays_builder_pushes.specs.nulls.generic.ListTypes.{items_field, list_type};
 ghost use Rattle.nested_arrays_builder_pushes.specs.cells.parts.Marks.{mask_of_marks};
 ghost use Rattle.nested_arrays_builder_pushes.specs.cells.taken.OpenColumns.{AddsNull, KeepsFirst, TakesColumn};
-ghost use Rattle.nested_arrays_generic_builders.specs.ListBuilders.{lists_column, lists_of, no_lists, with_values, AddsNullList, AddsSpan, ClosesColumn, ClosesList, FreezesParts, IsFrozen};
+ghost use Rattle.nested_arrays_generic_builders.specs.ListBuilders.{lists_column, lists_of, no_lists, with_values};
+ghost use Rattle.nested_arrays_generic_builders.specs.ListBuilders.{AddsNullList, AddsSpan, ClosesColumn, ClosesList, FreezesParts, IsFrozen};
 
 use crate::lending::MutValues;
 use nested_arrays_builder_pushes::cells::parts::Marks;

@@ -1,4 +1,4 @@
-use Rattle.std.proofs.Common.{◌≡◌, ◌≤◌, ◌∙◌, ap, arith, pos, sym}
+use Rattle.std.proofs.Common.{◌≡◌, ◌≤◌, ◌∙◌, ap, arith, sym}
 use Rattle.nested_arrays_builder_pushes.specs.nulls.columnar_memory.Spans.{last_of, number_of}
 use Rattle.nested_arrays_generic_builders.specs.ListBuilders.{list_parts}
 use Rattle.nested_arrays_generic_builders.proofs.ListPushes.{null_pushed}
