@@ -40,4 +40,4 @@ pub use nested_arrays_generic_builders::pushes::cells::builders::{AnyMutableArra
 pub use nested_arrays_generic_builders::pushes::cells::cell_at;
 pub use nested_arrays_generic_builders::pushes::cells::parts::AnyScalar;
 pub use nested_arrays_generic_builders::pushes::cells::taken::MutableArray;
-pub use nested_arrays_generic_builders::{ListOffset, MutValues, MutableListArray, MutableNullArray};
+pub use nested_arrays_generic_builders::{MutValues, MutableListArray, MutableNullArray};

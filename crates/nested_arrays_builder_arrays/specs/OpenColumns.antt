@@ -1,6 +1,6 @@
 -- Columns that are being built, as what they would be frozen to: a null more, the first slots, and the array that is taken out. Between calls
 -- a column may be unsound, as that of lists whose items were lent for writing.
-use Rattle.std.specs.Prelude.{◌≡◌, ◌⊎◌, ◌+◌, ℕ, Bool, true, false, List, [], ◌∷◌, ◌++◌, length, take, Result, MatchResult}
+use Rattle.std.specs.Prelude.{◌≡◌, ◌⊎◌, ℕ, true, false, List, [], ◌∷◌, ◌++◌, length, take, Result, MatchResult}
 use Rattle.nested_arrays_builders.specs.columnar_memory.declared.Error.{Error}
 use Rattle.nested_arrays_builders.specs.columnar_memory.Error.{IsOutOfMemory, IsOutOfSpec, IsOverflow}
 use Rattle.nested_arrays_builders.specs.columns.FreshColumns.{fresh}

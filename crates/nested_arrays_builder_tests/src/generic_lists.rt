@@ -74,8 +74,9 @@ fn lists_are_closed_over_items(rt: HostRuntime) -> Result<(), Fail> {
     let array = lists.as_box(rt.alloc())?;
     assert!(rt; are_lists(array, &[0, 2, 2, 2, 3], &[13], 3));
     push_list(&mut lists, &[4])?;
-    let array = lists.into_box(rt.alloc())?;
+    let array = lists.as_box(rt.alloc())?;
     assert!(rt; are_lists(array, &[0, 1], &[], 1));
+    drop(lists);
     Ok(())
 }
 

@@ -1,5 +1,5 @@
 -- The slots of lists by their marks and spans, one list more, and the first ones.
-use Rattle.std.proofs.Common.{◌≡◌, ◌∙◌, ◌<◌, ◌≤◌, ◌+◌, ◌-◌, ℕ, zero, suc, List, [], ◌∷◌, ◌++◌, length, take, sum, replicate, get_or}
+use Rattle.std.proofs.Common.{◌≡◌, ◌∙◌, ◌<◌, ◌≤◌, ◌+◌, ◌-◌, ℕ, zero, suc, List, [], ◌∷◌, ◌++◌, drop, length, take, sum, replicate, get_or}
 use Rattle.std.proofs.Common.{Bool, true, false, not, refl, sym, ap, arith}
 use Rattle.std.specs.Prelude.{Option, Some, None, slice_get, if◌then◌else◌}
 use Rattle.std.proofs.lemmas.List.{get_or_append_left, get_or_at, get_or-replicate, get_or-take, take-append-le, take-take, take_at, take_all}
@@ -12,7 +12,8 @@ use Rattle.nested_arrays_builder_pushes.specs.nulls.columns.StoredColumns.{Colum
 use Rattle.nested_arrays_builder_pushes.specs.cells.parts.Marks.{marks, mask_of_marks}
 use Rattle.nested_arrays_builder_pushes.proofs.columns_lemmas.Windows.{window_same}
 use Rattle.nested_arrays_builder_pushes.proofs.nulls_lemmas.arrays_lemmas.flat_lemmas.Offsets.{get_or-offsets_of, spans_count}
-use Rattle.nested_arrays_builder_pushes.proofs.nulls_lemmas.arrays_lemmas.columnar_memory_lemmas.buffer_lemmas.Runs.{offset_at-le-last_of, offset_at-more}
+use Rattle.nested_arrays_builder_pushes.proofs.nulls_lemmas.arrays_lemmas.columnar_memory_lemmas.buffer_lemmas.Runs.{offset_at-le-last_of}
+use Rattle.nested_arrays_builder_pushes.proofs.nulls_lemmas.arrays_lemmas.columnar_memory_lemmas.buffer_lemmas.Runs.{offset_at-more}
 use Rattle.nested_arrays_builder_pushes.proofs.parts_lemmas.MarkLists.{marks_back}
 
 -- ---- marks
@@ -65,6 +66,17 @@ pub window_first : (f : ℕ → Slot) (a m n : ℕ) → n ≤ m → take n (wind
 window_first f a m zero h = refl
 window_first f a zero (suc n) h = absurd (omega arith)
 window_first f a (suc m) (suc n) h = ap (λ (xs : List Slot). f a ∷ xs) (window_first f (a + 1) m n (omega arith))
+
+pub window_rest : (f : ℕ → Slot) (a m o : ℕ) → o ≤ m → drop o (window f a m) ≡ window f (a + o) (m - o)
+window_rest f a m zero h =
+    let at : a ≡ a + 0 = omega arith in
+    let size : m ≡ m - 0 = omega arith in
+    λ j. window f (at j) (size j)
+window_rest f a zero (suc o) h = absurd (omega arith)
+window_rest f a (suc m) (suc o) h =
+    let at : a + 1 + o ≡ a + suc o = omega arith in
+    let size : m - o ≡ suc m - suc o = omega arith in
+    window_rest f (a + 1) m o (omega arith) ∙ (λ j. window f (at j) (size j))
 
 -- one list more of so many items, or a null
 pub one_list_more : (at : ℕ → Slot) (ms : List Bool) (s : Spans) (m : Bool) (n : ℕ) → length ms ≡ length s.lengths

@@ -23,7 +23,7 @@ use Rattle.nested_arrays_builder_pushes.specs.nulls.columns.Slots.{Slot, null}
 use Rattle.nested_arrays_builder_pushes.specs.nulls.columns.SoundColumns.{are_offsets, has_item_type, is_sound, mask_fits}
 use Rattle.nested_arrays_builder_pushes.specs.nulls.columns.StoredColumns.{Column, column_len, column_type, lists, type_layer}
 use Rattle.nested_arrays_builder_pushes.specs.nulls.flat.ColumnMasks.{column_mask}
-use Rattle.nested_arrays_builder_pushes.specs.nulls.generic.ListTypes.{items_field, items_in, list_type}
+use Rattle.nested_arrays_builder_pushes.specs.nulls.generic.ListTypes.{has_list_item_type, items_field, items_in, list_type}
 use Rattle.nested_arrays_builder_pushes.specs.nulls.arrays.ItemTypes.{item_field}
 use Rattle.nested_arrays_builder_pushes.specs.cells.parts.Marks.{marks, mask_of_marks}
 use Rattle.nested_arrays_builder_pushes.specs.cells.taken.builders.growth.OpenParts.{is_list, item_of, item_spans, marks_of, most_items}
@@ -69,6 +69,10 @@ item_there true item = refl
 items_typed : (large : Bool) (item : Field) (child : DataType) → has_item_type (list_layer large item) child ≡ same_type item.data_type child
 items_typed false item child = refl
 items_typed true item child = refl
+
+own_items : (large : Bool) (item : Field) (child : DataType) → has_list_item_type large (list_layer large item) child ≡ same_type item.data_type child
+own_items false item child = refl
+own_items true item child = refl
 
 -- types of lists of a width are so
 pub listed_lies : (large : Bool) (field : Field) → is_some (items_field large (type_layer (lists_of large field))) ≡ true
@@ -125,6 +129,9 @@ module _ (large : Bool) (t : DataType) (item : Field) (is : items_field large (t
 
   pub typed_as : (child : DataType) → has_item_type (type_layer t) child ≡ same_type item.data_type child
   typed_as child = ap (λ (x : Layer). has_item_type x child) layered ∙ items_typed large item child
+
+  pub typed_by_width : (child : DataType) → has_list_item_type large (type_layer t) child ≡ same_type item.data_type child
+  typed_by_width child = ap (λ (x : Layer). has_list_item_type large x child) layered ∙ own_items large item child
 
   -- the column that stores some lists, by their marks and spans
   pub stored_lists : (xs : List Slot)

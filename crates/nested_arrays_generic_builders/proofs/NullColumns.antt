@@ -1,12 +1,15 @@
 -- Columns of nulls alone: one more, the first ones, and none.
 use Rattle.std.proofs.Common.{◌≡◌, ◌∙◌, ◌<◌, ◌≤◌, ◌+◌, ℕ, zero, suc, List, [], ◌∷◌, ◌++◌, length, take, Bool, true, false, refl, sym, ap, subst}
 use Rattle.std.proofs.Common.{arith}
+use Rattle.std.specs.Prelude.{Result, Ok, Err}
 use Rattle.std.specs.List.{list_all}
 use Rattle.std.proofs.lemmas.Bool.{and_from, and_parts, cases_Bool, false≢true, le-leb, leb-true}
 use Rattle.std.proofs.lemmas.List.{length-append}
 use mathlib.Core.Logic.{inl, inr}
 use Rattle.nested_arrays_builder_pushes.specs.nulls.columnar_memory.declared.DataType.{DataType}
 use Rattle.nested_arrays_builder_pushes.specs.nulls.columnar_memory.declared.DataType.TheOpen as layer
+use Rattle.nested_arrays_builder_pushes.specs.nulls.columnar_memory.declared.Error.{Error}
+use Rattle.nested_arrays_builder_pushes.specs.nulls.columnar_memory.Results.{OrOutOfMemory}
 use Rattle.nested_arrays_builder_pushes.specs.nulls.columns.Cells.{is_null}
 use Rattle.nested_arrays_builder_pushes.specs.nulls.columns.FreshColumns.{fresh}
 use Rattle.nested_arrays_builder_pushes.specs.nulls.columns.Kinds.{most_slots}
@@ -14,7 +17,7 @@ use Rattle.nested_arrays_builder_pushes.specs.nulls.columns.OpenBatch.{fits, is_
 use Rattle.nested_arrays_builder_pushes.specs.nulls.columns.Slots.{Slot, null, window}
 use Rattle.nested_arrays_builder_pushes.specs.nulls.columns.SoundColumns.{is_null_type, is_sound}
 use Rattle.nested_arrays_builder_pushes.specs.nulls.columns.StoredColumns.{Column, nulls, slot_at, slots, type_layer}
-use Rattle.nested_arrays_builder_pushes.specs.cells.taken.OpenColumns.{Becomes, IsEmptied, IsFresh, KeepsFirst, slots_and}
+use Rattle.nested_arrays_builder_pushes.specs.cells.taken.OpenColumns.{Becomes, IsEmptied, IsFresh, KeepsFirst, TakesColumn, slots_and}
 use Rattle.nested_arrays_builder_pushes.proofs.columns_lemmas.ColumnSizes.{slots_lengths}
 use Rattle.nested_arrays_builder_pushes.proofs.columns_lemmas.FreshLengths.{Layer}
 use Rattle.nested_arrays_builder_pushes.proofs.columns_lemmas.Windows.{window_same}
@@ -66,8 +69,13 @@ module _ (t : DataType) (typed : is_null_type (type_layer t) ≡ true) where
       let xs = slots_and (nulls t n) null in
       let many : length xs ≡ n + 1 = length-append (slots (nulls t n)) (null ∷ []) ∙ ap (λ (k : ℕ). k + 1) (slots_lengths (nulls t n)) in
       elim (cases_Bool (fits t xs)) [
-        | inl fit ↦ absurd (omega (arith, full, many, leb-true (length xs) most_slots
-            (and_parts (list_all is_null xs) (is_length xs) (sym (fits_nulls t named xs) ∙ fit)).1))
+        | inl fit ↦ absurd (omega (
+          arith,
+          full,
+          many,
+          leb-true (length xs) most_slots
+              (and_parts (list_all is_null xs) (is_length xs) (sym (fits_nulls t named xs) ∙ fit)).1,
+        ))
         | inr unfit ↦ unfit
       ]
 
@@ -78,3 +86,8 @@ module _ (t : DataType) (typed : is_null_type (type_layer t) ≡ true) where
 
   pub no_nulls : (n : ℕ) → IsEmptied (nulls t n) (nulls t 0)
   no_nulls n = record { typed = refl; long = refl; begun = λ _. sym (fresh_nulls t named []) }
+
+  pub nulls_taken : (n : ℕ) (r : Result Column Error) → OrOutOfMemory r (λ (array : Column). array ≡ nulls t n)
+      → TakesColumn (nulls t n) (nulls t 0) (λ (array : Column). array) r
+  nulls_taken n (Ok array) is = (no_nulls n, (is, typed))
+  nulls_taken n (Err e) memory = (no_nulls n, inl memory)

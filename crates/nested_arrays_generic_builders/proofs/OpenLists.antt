@@ -1,7 +1,8 @@
 -- What pushes, cuts and taking out make of the column of a builder of lists.
-use Rattle.std.proofs.Common.{◌≡◌, ◌∙◌, ◌<◌, ◌≤◌, ◌+◌, ◌-◌, ℕ, zero, suc, List, [], ◌∷◌, ◌++◌, length, take, Bool, true, false, refl, sym, ap, subst}
-use Rattle.std.proofs.Common.{arith, get_or}
-use Rattle.std.specs.Prelude.{Option, Some, Result, Ok, Err, ◌⊎◌}
+use Rattle.std.proofs.Common.{◌≡◌, ◌∙◌, ◌<◌, ◌≤◌, ◌+◌, ◌-◌, ℕ, zero, suc, List, []}
+use Rattle.std.proofs.Common.{◌∷◌, ◌++◌, length, take, Bool, true, false, refl, sym, ap, subst}
+use Rattle.std.proofs.Common.{arith, drop, get_or}
+use Rattle.std.specs.Prelude.{Option, Some, Result, Ok, Err, ◌⊎◌, if◌then◌else◌}
 use Rattle.std.proofs.lemmas.Bool.{cases_Bool, false≢true}
 use Rattle.std.proofs.lemmas.List.{append-nil, length-append, length-take-le, get_or-take, take_all}
 use Rattle.std.proofs.lemmas.List.Sums.{sum_by_push}
@@ -34,12 +35,15 @@ use Rattle.nested_arrays_builder_pushes.proofs.growth_lemmas.FirstOnes.{items_cu
 use Rattle.nested_arrays_builder_pushes.proofs.growth_lemmas.Limits.{first_ones_fit}
 use Rattle.nested_arrays_builder_pushes.proofs.growth_lemmas.Masks.{marks_cut, marks_one_more}
 use Rattle.nested_arrays_builder_pushes.proofs.growth_lemmas.Pieces.{item_spans_cut, item_spans_one_more, joined_one_more}
+use Rattle.nested_arrays_builder_pushes.proofs.nulls_lemmas.generic_lemmas.ListParts.{list_whole}
 use Rattle.nested_arrays_builder_pushes.proofs.nulls_lemmas.arrays_lemmas.flat_lemmas.Offsets.{spans_count}
 use Rattle.nested_arrays_builder_pushes.proofs.nulls_lemmas.arrays_lemmas.columnar_memory_lemmas.buffer_lemmas.Runs.{offset_at-le-last_of}
-use Rattle.nested_arrays_generic_builders.specs.ListBuilders.{AddsNullList, AreLists, FreezesParts, IsFrozen, ListParts, list_parts, lists_column, no_lists}
-use Rattle.nested_arrays_generic_builders.proofs.ListSlots.{first_lists, list_at, list_slots, one_list_more}
+use Rattle.nested_arrays_generic_builders.specs.ListBuilders.{AddsList, AddsNullList, AreLists, ClosesColumn, ClosesList, FreezesParts}
+use Rattle.nested_arrays_generic_builders.specs.ListBuilders.{IsFrozen, ListParts, list_parts, list_slot, lists_column, no_lists}
+use Rattle.nested_arrays_generic_builders.proofs.ListSlots.{first_lists, list_at, list_slots, one_list_more, window_rest}
 use Rattle.nested_arrays_generic_builders.proofs.ListsStored.{items_stored, list_buildable, marks_fit, marks_stored, one_null_fits}
-use Rattle.nested_arrays_generic_builders.proofs.ListsStored.{item_is, sound_parts, sound_whole, spans_stored, stored_lists, there, too_many, typed_as}
+use Rattle.nested_arrays_generic_builders.proofs.ListsStored.{item_is, sound_parts, sound_whole, spans_stored}
+use Rattle.nested_arrays_generic_builders.proofs.ListsStored.{stored_lists, there, too_many, typed_as, typed_by_width}
 
 -- the slots of a column, again
 pub same_becomes : (c : Column) → Becomes c (slots c) c
@@ -119,6 +123,50 @@ module _ (large : Bool) (t : DataType) (item : Field) (is : items_field large (t
   pub full : length ms ≡ most_slots → fits t (slots_and old null) ≡ false
   full many =
       too_many large t item is (slots old ++ null ∷ []) (omega (arith, length-append (slots old) (null ∷ []), old_long, counted, many))
+
+  -- ---- a list more
+
+  module _ (greatest : ℕ) (most : greatest ≡ (if large then 0x7fff_ffff_ffff_ffff else 0x7fff_ffff)) (le : last_of s ≤ column_len child)
+      (few : column_len child ≤ greatest) where
+    abbrev more : Column
+    more = lists t (mask_of_marks (ms ++ true ∷ [])) (offsets_of (extended s ((column_len child - last_of s) ∷ []))) child
+
+    longer : length (ms ++ true ∷ []) ≡ length (s.lengths ++ (column_len child - last_of s) ∷ [])
+    longer =
+        omega (arith, length-append ms (true ∷ []), length-append s.lengths ((column_len child - last_of s) ∷ []), counted)
+
+    more_slots : slots more ≡ slots_and old (list_slot (drop (last_of s) (slots child)))
+    more_slots =
+        let count = column_len child - last_of s in
+        let next : length (s.lengths ++ count ∷ []) ≡ length s.lengths + 1 = length-append s.lengths (count ∷ []) in
+        let from : 0 + last_of s ≡ last_of s = omega arith in
+        let rest : window (slot_at child) (last_of s) count ≡ drop (last_of s) (slots child) =
+        ap (λ (k : ℕ). window (slot_at child) k count) (sym from) ∙ sym (window_rest (slot_at child) 0 (column_len child) (last_of s) le) in
+        list_slots t (ms ++ true ∷ []) (extended s (count ∷ [])) child longer
+        ∙ ap (window (list_at (slot_at child) (ms ++ true ∷ []) (extended s (count ∷ []))) 0) next
+        ∙ one_list_more (slot_at child) ms s true count counted
+        ∙ (λ j. sym (list_slots t ms s child counted) j ++ list_slot (rest j) ∷ [])
+
+    more_sound : is_sound old ≡ true → is_sound more ≡ true
+    more_sound h =
+        let count = column_len child - last_of s in
+        let parts = sound_parts t (mask_of_marks ms) s child h in
+        let ends : last_of (extended s (count ∷ [])) ≡ column_len child = omega (arith, le, sum_by_push (λ (n : ℕ). n) s.lengths count) in
+        let typed = typed_by_width large t item is (column_type child) ∙ sym (typed_as large t item is (column_type child)) ∙ parts.typed in
+        (list_whole large greatest t (mask_of_marks (ms ++ true ∷ [])) (extended s (count ∷ [])) child most typed (omega (arith, ends, few))
+        (omega (arith, ends)) (marks_fit (ms ++ true ∷ []) (length (s.lengths ++ count ∷ [])) longer) parts.items).0
+
+    pub list_added : AddsList old child (last_of s) more
+    list_added = record {
+      typed = refl;
+      long = omega (
+        arith,
+        spans_count s,
+        spans_count (extended s ((column_len child - last_of s) ∷ [])),
+        length-append s.lengths ((column_len child - last_of s) ∷ []),
+      );
+      sound = λ h. (more_sound h, more_slots);
+    }
 
   -- ---- the first lists
 
@@ -233,10 +281,10 @@ module _ {M : Type 0} (column : M → Column) (large : Bool) (old : ListParts M)
 
   pub pushed_null : {U : Type 0} (new : ListParts M) (r : Result U Error) → AddsNullList old new r
       → AddsNull (lists_column column old) (lists_column column new) r
-  pushed_null new (Ok u) h =
+  pushed_null after (Ok u) h =
       subst (λ (p : ListParts M). Becomes (lists_column column old) (slots_and (lists_column column old) null) (lists_column column p)) (sym h.0)
       (null_added large old.data_type named.0 named.1 old.marks old.spans (column old.values) are.counted h.1)
-  pushed_null new (Err e) h = (
+  pushed_null after (Err e) h = (
     subst (λ (p : ListParts M). Becomes (lists_column column old) (slots (lists_column column old)) (lists_column column p)) (sym h.0)
         (same_becomes (lists_column column old)),
     why e h.1,
@@ -248,6 +296,14 @@ module _ {M : Type 0} (column : M → Column) (large : Bool) (old : ListParts M)
       why e (inl memory) = inl memory
       why e (inr over) =
           inr (over.0, λ _. full large old.data_type named.0 named.1 old.marks old.spans (column old.values) are.counted over.1)
+
+  pub closed_lists : {U : Type 0} (greatest : ℕ) → greatest ≡ (if large then 0x7fff_ffff_ffff_ffff else 0x7fff_ffff) → (new : ListParts M)
+      (r : Result U Error) → ClosesList greatest (column_len (column old.values)) old new r
+      → ClosesColumn (lists_column column old) (column old.values) (last_of old.spans) (lists_column column new) r
+  closed_lists greatest most after (Ok u) h =
+      subst (λ (p : ListParts M). AddsList (lists_column column old) (column old.values) (last_of old.spans) (lists_column column p)) (sym h.0)
+      (list_added large old.data_type named.0 named.1 old.marks old.spans (column old.values) are.counted greatest most h.1 h.2)
+  closed_lists greatest most after (Err e) h = ap (lists_column column) h.0
 
   pub kept_lists : (k : ℕ) (values : M) → k ≤ length old.marks → KeepsFirst (column old.values) (last_of (first_spans old.spans k)) (column values)
       → KeepsFirst (lists_column column old) k

@@ -1,5 +1,5 @@
 -- Builders of lists: marks and offsets that grow, over a builder of the items (Arrow columnar format, "Variable-size List Layout").
-use Rattle.std.specs.Prelude.{◌≡◌, ◌⊎◌, ◌+◌, ◌-◌, ◌<◌, ◌≤◌, ℕ, Bool, true, false, List, [], ◌∷◌, ◌++◌, length, is_some}
+use Rattle.std.specs.Prelude.{◌≡◌, ◌⊎◌, ◌+◌, ◌-◌, ◌<◌, ◌≤◌, ℕ, Bool, true, false, List, [], ◌∷◌, ◌++◌, drop, length, is_some}
 use Rattle.std.specs.Prelude.{Result, Ok, Err, MatchResult}
 use Rattle.std.proofs.Common.{refl}
 use Rattle.std.specs.Coded.{Coded, code_by, coded×, coded_list, coded_bool, coded_ℕ}
@@ -11,10 +11,12 @@ use Rattle.nested_arrays_builder_pushes.specs.nulls.columnar_memory.declared.Fie
 use Rattle.nested_arrays_builder_pushes.specs.nulls.columnar_memory.Error.{IsOutOfMemory, IsOutOfSpec, IsOverflow}
 use Rattle.nested_arrays_builder_pushes.specs.nulls.columnar_memory.Spans.{Spans, extended, last_of, no_spans, offsets_of}
 use Rattle.nested_arrays_builder_pushes.specs.nulls.columns.Kinds.{most_slots}
+use Rattle.nested_arrays_builder_pushes.specs.nulls.columns.Slots.{Slot, in_slots, items}
 use Rattle.nested_arrays_builder_pushes.specs.nulls.columns.SoundColumns.{is_sound}
-use Rattle.nested_arrays_builder_pushes.specs.nulls.columns.StoredColumns.{Column, column_len, lists, type_layer}
+use Rattle.nested_arrays_builder_pushes.specs.nulls.columns.StoredColumns.{Column, column_len, column_type, lists, slots, type_layer}
 use Rattle.nested_arrays_builder_pushes.specs.nulls.generic.ListTypes.{items_field}
 use Rattle.nested_arrays_builder_pushes.specs.cells.parts.Marks.{mask_of_marks}
+use Rattle.nested_arrays_builder_pushes.specs.cells.taken.OpenColumns.{slots_and}
 
 -- The data type, a mark for each list, the span of each among the items, and the builder of these.
 pub record ListParts (M : Type 0) : Type 0 where
@@ -61,15 +63,29 @@ with_list p mark count = list_parts p.data_type (p.marks ++ mark ∷ []) (extend
 
 -- why a list was not closed: there are as many as a column may have, or fewer items than the offsets say, or more than offsets may number
 abbrev pub HasNoRoom : {M : Type 0} → ℕ → ℕ → ListParts M → Type 0
-HasNoRoom greatest items p = (length p.marks ≡ most_slots) ⊎ (items < last_of p.spans) ⊎ (greatest < items)
+HasNoRoom greatest held p = (length p.marks ≡ most_slots) ⊎ (held < last_of p.spans) ⊎ (greatest < held)
 
 -- A list is closed over the items that stand behind those of the other lists; or nothing has changed.
 abbrev pub ClosesList : {M U : Type 0} → ℕ → ℕ → ListParts M → ListParts M → Result U Error → Type 0
-ClosesList greatest items old new r =
+ClosesList greatest held old new r =
     MatchResult r
-    (λ _. (new ≡ with_list old true (items - last_of old.spans)) × (last_of old.spans ≤ items) × (items ≤ greatest)
+    (λ _. (new ≡ with_list old true (held - last_of old.spans)) × (last_of old.spans ≤ held) × (held ≤ greatest)
     × (length old.marks < most_slots))
-    (λ e. (new ≡ old) × (IsOutOfMemory e ⊎ (IsOverflow e × HasNoRoom greatest items old)))
+    (λ e. (new ≡ old) × (IsOutOfMemory e ⊎ (IsOverflow e × HasNoRoom greatest held old)))
+
+-- the list of some items
+abbrev pub list_slot : List Slot → Slot
+list_slot some = items (in_slots some)
+
+-- The slots of lists, and one more of the items from a place on, which are sound where the lists were.
+pub record AddsList (old child : Column) (begin : ℕ) (new : Column) : Type 0 where
+  pub typed : column_type new ≡ column_type old
+  pub long : column_len new ≡ column_len old + 1
+  pub sound : is_sound old ≡ true → (is_sound new ≡ true) × (slots new ≡ slots_and old (list_slot (drop begin (slots child))))
+
+-- The same of what a list was closed over; or nothing has changed.
+abbrev pub ClosesColumn : {U : Type 0} → Column → Column → ℕ → Column → Result U Error → Type 0
+ClosesColumn old child begin new r = MatchResult r (λ _. AddsList old child begin new) (λ e. new ≡ old)
 
 -- A null stands behind the lists; or nothing has changed.
 abbrev pub AddsNullList : {M U : Type 0} → ListParts M → ListParts M → Result U Error → Type 0
@@ -94,5 +110,6 @@ IsFrozen content column r = MatchResult r (λ a. (content a ≡ column) × (is_s
 -- The array of lists that these parts make; or what stood in the way of a part, first of the items.
 abbrev pub FreezesParts : DataType → List Bool → Result Spans Error → Result Column Error → Result Column Error → Type 0
 FreezesParts data_type marks spans (Err e) r = r ≡ Err e
-FreezesParts data_type marks (Err e) (Ok items) r = r ≡ Err e
-FreezesParts data_type marks (Ok spans) (Ok items) r = IsFrozen (λ (array : Column). array) (lists data_type (mask_of_marks marks) (offsets_of spans) items) r
+FreezesParts data_type marks (Err e) (Ok child) r = r ≡ Err e
+FreezesParts data_type marks (Ok spans) (Ok child) r =
+    IsFrozen (λ (array : Column). array) (lists data_type (mask_of_marks marks) (offsets_of spans) child) r

@@ -4,12 +4,10 @@
 mod lending;
 mod lists;
 mod nulls_alone;
-mod widths;
 
 pub use lending::MutValues;
 pub use lists::MutableListArray;
 pub use nulls_alone::MutableNullArray;
-pub use widths::ListOffset;
 
 /// What `nested_arrays_builder_pushes::nulls` has, as far as packages above use it.
 pub mod nulls {

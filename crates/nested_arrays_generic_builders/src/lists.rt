@@ -1,23 +1,24 @@
 //! Builders of lists of any length.
-ghost use Rattle.std.specs.Prelude.{◌≡◌, ◌<◌, ◌≤◌, [], is_some, length, true};
+ghost use Rattle.std.specs.Prelude.{◌≡◌, ◌<◌, ◌≤◌, [], is_some, length, not, option_copied, true, IfErr};
 ghost use Rattle.nested_arrays_builder_pushes.specs.nulls.columnar_memory.Error.{IsOutOfMemory};
+ghost use Rattle.nested_arrays_builder_pushes.specs.nulls.access.Nulls.{is_null_at};
 ghost use Rattle.nested_arrays_builder_pushes.specs.nulls.columnar_memory.Results.{OrOutOfMemory};
 ghost use Rattle.nested_arrays_builder_pushes.specs.nulls.columnar_memory.Spans.{first_spans, last_of, no_spans, offsets_of, shortened};
 ghost use Rattle.nested_arrays_builder_pushes.specs.nulls.columns.StoredColumns.{column_len, column_type, lists, type_layer};
 ghost use Rattle.nested_arrays_builder_pushes.specs.nulls.generic.ListTypes.{items_field, list_type};
 ghost use Rattle.nested_arrays_builder_pushes.specs.cells.parts.Marks.{mask_of_marks};
 ghost use Rattle.nested_arrays_builder_pushes.specs.cells.taken.OpenColumns.{AddsNull, KeepsFirst, TakesColumn};
-ghost use Rattle.nested_arrays_generic_builders.specs.ListBuilders.{lists_column, lists_of, no_lists, with_values, AddsNullList, AddsSpan, ClosesList, FreezesParts, IsFrozen};
+ghost use Rattle.nested_arrays_generic_builders.specs.ListBuilders.{lists_column, lists_of, no_lists, with_values};
+ghost use Rattle.nested_arrays_generic_builders.specs.ListBuilders.{AddsNullList, AddsSpan, ClosesColumn, ClosesList, FreezesParts, IsFrozen};
 
 use crate::lending::MutValues;
-use crate::widths::ListOffset;
 use nested_arrays_builder_pushes::cells::parts::Marks;
 use nested_arrays_builder_pushes::cells::taken::MutableArray;
 use nested_arrays_builder_pushes::nulls::arrays::AnyArray;
 use nested_arrays_builder_pushes::nulls::columnar_memory::{
     Boxed, DataType, Error, Field, MutableBitmap, Offset, Offsets, Result, Text,
 };
-use nested_arrays_builder_pushes::nulls::generic::ListArray;
+use nested_arrays_builder_pushes::nulls::generic::{ListArray, ToBoxed};
 use std::alloc::Global;
 use std::marker::Model;
 use std::mem;
@@ -97,7 +98,9 @@ impl<O: Offset, M: MutableArray> MutableListArray<O, M> {
     /// `Overflow`: there are as many lists as a column may have, fewer items than the lists before have, or more than an offset may number.
     /// `OutOfMemory`: the offset or the mark found no memory.
     pub fn try_push_valid(&mut self) -> Result<()>
-        ensures { ClosesList O.greatest (column_len (M.column self.old.values)) self.old self.new result }
+        ensures list { ClosesList O.greatest (column_len (M.column self.old.values)) self.old self.new result }
+        ensures column { ClosesColumn (lists_column M.column self.old) (M.column self.old.values) (last_of self.old.spans)
+            (lists_column M.column self.new) result }
     {
         let items = self.values.len();
         let Some(count) = items.checked_sub(self.offsets.last().to_usize()) else {
@@ -135,64 +138,41 @@ impl<O: Offset, M: MutableArray> MutValues for MutableListArray<O, M> {
     }
 }
 
-impl<O: ListOffset, M: MutableArray> MutableListArray<O, M> {
-    /// The array of the lists.
-    ///
-    /// # Errors
-    /// `OutOfMemory`: the array, or what is left of the builder, found no memory.
-    /// `OutOfSpec`: the column is not sound, as where fewer items stand below than the offsets say, or items of another type.
-    pub fn into_box(self, alloc: Global) -> Result<AnyArray>
-        ensures { IsFrozen (λ array. array) (lists_column M.column self) result }
+impl<O: Offset, M: MutableArray> MutableListArray<O, M> {
+    /// How many lists there are.
+    pub fn len(&self) -> usize
+        ensures { result ≡ column_len (lists_column M.column self.now) }
     {
-        let mut builder = self;
-        builder.as_box(alloc)
-    }
-
-    /// The array of the lists behind a count of owners.
-    ///
-    /// # Errors
-    /// `OutOfMemory`: the array, the count, or what is left of the builder, found no memory.
-    /// `OutOfSpec`: as in `into_box`.
-    pub fn into_arc(self, alloc: Global) -> Result<Rc<AnyArray>>
-        ensures { IsFrozen (λ counted. counted.value) (lists_column M.column self) result }
-    {
-        let mut builder = self;
-        builder.as_arc(alloc)
-    }
-}
-
-impl<O: ListOffset, M: MutableArray> MutableArray for MutableListArray<O, M> {
-    ghost column = { lists_column M.column };
-
-    fn len(&self) -> usize {
         self.marks.len()
     }
 
-    fn data_type(&self) -> &DataType {
+    pub fn data_type(&self) -> &DataType
+        ensures { result.now ≡ self.now.data_type }
+    {
         &self.data_type
     }
 
-    fn validity(&self) -> Option<&MutableBitmap> {
+    /// The mask, which is there exactly where a list is null.
+    pub fn validity(&self) -> Option<&MutableBitmap>
+        ensures { option_copied result ≡ mask_of_marks self.now.marks }
+    {
         self.marks.validity()
     }
 
-    fn is_valid(&self, i: usize) -> bool {
+    /// Whether the slot at a place has a list.
+    pub fn is_valid(&self, i: usize) -> bool
+        requires { i < column_len (lists_column M.column self.now) }
+        ensures { result ≡ not (is_null_at (lists_column M.column self.now) i) }
+    {
         self.marks.is_valid(i)
     }
 
-    fn as_box(&mut self, alloc: Global) -> Result<AnyArray> {
-        let marks = mem::replace(&mut self.marks, Marks::new(alloc));
-        let offsets = take_offsets(alloc, &mut self.offsets);
-        let values = self.values.as_box(alloc);
-        freeze_parts(alloc, &self.data_type, marks, offsets, values)
-    }
-
-    fn as_arc(&mut self, alloc: Global) -> Result<Rc<AnyArray>> {
-        let array = self.as_box(alloc)?;
-        Ok(Rc::new(alloc, array)?)
-    }
-
-    fn push_null(&mut self) -> Result<()>
+    /// Pushes a null.
+    ///
+    /// # Errors
+    /// `Overflow`: there are as many lists as a column may have.
+    /// `OutOfMemory`: the offset or the mark found no memory.
+    pub fn push_null(&mut self) -> Result<()>
         ensures list { AddsNullList self.old self.new result }
         ensures column { AddsNull (lists_column M.column self.old) (lists_column M.column self.new) result }
     {
@@ -200,23 +180,151 @@ impl<O: ListOffset, M: MutableArray> MutableArray for MutableListArray<O, M> {
         push_list(&mut self.marks, &mut self.offsets, false, 0)
     }
 
-    fn reserve(&mut self, additional: usize) -> Result<()> {
+    /// Makes room for some more lists, but not for their items.
+    ///
+    /// # Errors
+    /// `OutOfMemory`: the room found no memory.
+    pub fn reserve(&mut self, additional: usize) -> Result<()>
+        ensures same { self.new ≡ self.old }
+        ensures error { IfErr result IsOutOfMemory }
+    {
         self.marks.reserve(additional)?;
         self.offsets.reserve(additional)
     }
 
-    fn shrink_to_fit(&mut self) {
+    /// Gives back memory that no list needs, as far as the allocator takes it.
+    pub fn shrink_to_fit(&mut self)
+        ensures { lists_column M.column self.new ≡ lists_column M.column self.old }
+    {
         self.values.shrink_to_fit();
         self.offsets.shrink_to_fit();
         self.marks.shrink_to_fit();
     }
 
-    fn truncate(&mut self, len: usize) {
+    /// Keeps the first `len` lists alone, and their items.
+    pub fn truncate(&mut self, len: usize)
+        requires { len ≤ column_len (lists_column M.column self.old) }
+        ensures { KeepsFirst (lists_column M.column self.old) len (lists_column M.column self.new) }
+    {
         let end = keep_spans(&mut self.offsets, len);
         self.marks.truncate(len);
         if end < self.values.len() {
             self.values.truncate(end);
         }
+    }
+
+    /// The array of the lists; this is left empty.
+    fn take(&mut self, alloc: Global) -> Result<ListArray<O>>
+        ensures { TakesColumn (lists_column M.column self.old) (lists_column M.column self.new) (λ array. array) result }
+    {
+        let marks = mem::replace(&mut self.marks, Marks::new(alloc));
+        let offsets = take_offsets(alloc, &mut self.offsets);
+        let values = self.values.as_box(alloc);
+        freeze_parts(alloc, &self.data_type, marks, offsets, values)
+    }
+
+    /// The array of the lists.
+    ///
+    /// # Errors
+    /// `OutOfMemory`: the array, or what is left of the builder, found no memory.
+    /// `OutOfSpec`: the column is not sound, as where fewer items stand below than the offsets say, or items of another type.
+    pub fn freeze(self, alloc: Global) -> Result<ListArray<O>>
+        ensures { IsFrozen (λ array. array) (lists_column M.column self) result }
+    {
+        let mut builder = self;
+        builder.take(alloc)
+    }
+}
+
+impl<M: MutableArray> MutableArray for MutableListArray<i32, M> {
+    ghost column = { lists_column M.column };
+
+    fn len(&self) -> usize {
+        MutableListArray::len(self)
+    }
+
+    fn data_type(&self) -> &DataType {
+        MutableListArray::data_type(self)
+    }
+
+    fn validity(&self) -> Option<&MutableBitmap> {
+        MutableListArray::validity(self)
+    }
+
+    fn is_valid(&self, i: usize) -> bool {
+        MutableListArray::is_valid(self, i)
+    }
+
+    fn as_box(&mut self, alloc: Global) -> Result<AnyArray> {
+        let array = self.take(alloc)?;
+        Ok(array.into_any())
+    }
+
+    fn as_arc(&mut self, alloc: Global) -> Result<Rc<AnyArray>> {
+        let array = self.take(alloc)?;
+        Ok(Rc::new(alloc, array.into_any())?)
+    }
+
+    fn push_null(&mut self) -> Result<()> {
+        MutableListArray::push_null(self)
+    }
+
+    fn reserve(&mut self, additional: usize) -> Result<()> {
+        MutableListArray::reserve(self, additional)
+    }
+
+    fn shrink_to_fit(&mut self) {
+        MutableListArray::shrink_to_fit(self);
+    }
+
+    fn truncate(&mut self, len: usize) {
+        MutableListArray::truncate(self, len);
+    }
+}
+
+impl<M: MutableArray> MutableArray for MutableListArray<i64, M> {
+    ghost column = { lists_column M.column };
+
+    fn len(&self) -> usize {
+        MutableListArray::len(self)
+    }
+
+    fn data_type(&self) -> &DataType {
+        MutableListArray::data_type(self)
+    }
+
+    fn validity(&self) -> Option<&MutableBitmap> {
+        MutableListArray::validity(self)
+    }
+
+    fn is_valid(&self, i: usize) -> bool {
+        MutableListArray::is_valid(self, i)
+    }
+
+    fn as_box(&mut self, alloc: Global) -> Result<AnyArray> {
+        let array = self.take(alloc)?;
+        Ok(array.into_any())
+    }
+
+    fn as_arc(&mut self, alloc: Global) -> Result<Rc<AnyArray>> {
+        let array = self.take(alloc)?;
+        Ok(Rc::new(alloc, array.into_any())?)
+    }
+
+    fn push_null(&mut self) -> Result<()> {
+        MutableListArray::push_null(self)
+    }
+
+    fn reserve(&mut self, additional: usize) -> Result<()> {
+        MutableListArray::reserve(self, additional)
+    }
+
+    fn shrink_to_fit(&mut self) {
+        MutableListArray::shrink_to_fit(self);
+    }
+
+    fn truncate(&mut self, len: usize) {
+        MutableListArray::truncate(self, len);
     }
 }
 
@@ -291,13 +399,13 @@ fn take_offsets<O: Offset>(alloc: Global, offsets: &mut Offsets<O>) -> Result<Of
 }
 
 /// The array of lists with these parts, or why one of them could not be had.
-fn freeze_parts<O: ListOffset>(
+fn freeze_parts<O: Offset>(
     alloc: Global,
     data_type: &DataType,
     marks: Marks,
     offsets: Result<Offsets<O>>,
     values: Result<AnyArray>,
-) -> Result<AnyArray>
+) -> Result<ListArray<O>>
     requires { is_some (items_field O.IS_LARGE (type_layer data_type.now)) ≡ true }
     ensures { FreezesParts data_type.now marks offsets values result }
 {
@@ -313,13 +421,13 @@ fn freeze_parts<O: ListOffset>(
 }
 
 /// The array of lists with these parts.
-fn freeze_lists<O: ListOffset>(
+fn freeze_lists<O: Offset>(
     alloc: Global,
     data_type: &DataType,
     marks: Marks,
     offsets: Offsets<O>,
     values: AnyArray,
-) -> Result<AnyArray>
+) -> Result<ListArray<O>>
     requires { is_some (items_field O.IS_LARGE (type_layer data_type.now)) ≡ true }
     ensures { IsFrozen (λ array. array) (lists data_type.now (mask_of_marks marks) (offsets_of offsets) values) result }
 {
@@ -327,6 +435,5 @@ fn freeze_lists<O: ListOffset>(
     let offsets = offsets.freeze()?;
     let validity = marks.freeze()?;
     let values = Box::new(alloc, values)?;
-    let array = ListArray::try_new(data_type, offsets, values, validity)?;
-    Ok(O::into_any(array))
+    ListArray::try_new(data_type, offsets, values, validity)
 }

@@ -1,5 +1,6 @@
 //! Builders of nulls alone.
 ghost use Rattle.std.specs.Prelude.{◌≡◌, ◌≤◌, true};
+ghost use Rattle.nested_arrays_builder_pushes.specs.nulls.columnar_memory.Results.{OrOutOfMemory};
 ghost use Rattle.nested_arrays_builder_pushes.specs.nulls.columns.Kinds.{most_slots};
 ghost use Rattle.nested_arrays_builder_pushes.specs.nulls.columns.SoundColumns.{is_sound};
 ghost use Rattle.nested_arrays_builder_pushes.specs.nulls.columns.StoredColumns.{nulls};
@@ -8,12 +9,13 @@ ghost use Rattle.nested_arrays_generic_builders.specs.NullBuilders.{CountsNull};
 
 use nested_arrays_builder_pushes::cells::taken::MutableArray;
 use nested_arrays_builder_pushes::nulls::arrays::AnyArray;
-use nested_arrays_builder_pushes::nulls::columnar_memory::{DataType, Error, MutableBitmap, Result};
+use nested_arrays_builder_pushes::nulls::columnar_memory::{
+    DataType, Error, MutableBitmap, Result,
+};
 use nested_arrays_builder_pushes::nulls::flat::NullArray;
 use nested_arrays_builder_pushes::nulls::generic::ToBoxed;
 use std::alloc::Global;
 use std::marker::Model;
-use std::mem;
 use std::rc::Rc;
 
 /// As many slots as an array may have.
@@ -81,11 +83,9 @@ impl MutableArray for MutableNullArray {
     }
 
     fn as_box(&mut self, _alloc: Global) -> Result<AnyArray> {
-        let length = mem::replace(&mut self.length, 0);
-        match self.data_type.clone() {
-            Ok(data_type) => Ok(NullArray::new(data_type, length).into_any()),
-            Err(_) => Err(Error::OutOfMemory),
-        }
+        let length = self.length;
+        self.length = 0;
+        nulls_of(&self.data_type, length)
     }
 
     fn as_arc(&mut self, alloc: Global) -> Result<Rc<AnyArray>> {
@@ -113,4 +113,13 @@ impl MutableArray for MutableNullArray {
     fn truncate(&mut self, len: usize) {
         self.length = len;
     }
+}
+
+/// The array of so many nulls of a data type.
+fn nulls_of(data_type: &DataType, length: usize) -> Result<AnyArray>
+    requires { is_sound (nulls data_type.now length) ≡ true }
+    ensures { OrOutOfMemory result (λ array. array ≡ nulls data_type.now length) }
+{
+    let data_type = data_type.clone()?;
+    Ok(NullArray::new(data_type, length).into_any())
 }

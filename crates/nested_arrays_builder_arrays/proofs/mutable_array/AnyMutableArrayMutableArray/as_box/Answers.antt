@@ -4,5 +4,6 @@ use Rattle.nested_arrays_builder_arrays.proofs.mutable_array.AnyMutableArrayMuta
 pub returns : goal.returns
 returns c = record {
   taken = c.as_array.ensures;
-  column = taken_column c.args.self.now c.whole.ensures.within c.whole.ensures.stored c.as_array.new.builder (λ array. array) c.as_array.result c.as_array.ensures;
+  column = taken_column c.args.self.now c.whole.ensures.within c.whole.ensures.stored
+      c.as_array.new.builder (λ array. array) c.as_array.result c.as_array.ensures;
 }

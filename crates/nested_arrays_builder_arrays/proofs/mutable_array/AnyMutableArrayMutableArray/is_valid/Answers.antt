@@ -1,4 +1,4 @@
-use Rattle.std.proofs.Common.{◌≡◌, ◌<◌, ◌∙◌, ℕ, ap, length, not, subst, sym}
+use Rattle.std.proofs.Common.{◌<◌, ◌∙◌, ℕ, ap, length, not, subst, sym}
 use Rattle.nested_arrays_builder_arrays.proofs.OpenColumns.{open_long, open_null}
 use Rattle.nested_arrays_builder_arrays.proofs.mutable_array.AnyMutableArrayMutableArray.is_valid.Goals as goal
 

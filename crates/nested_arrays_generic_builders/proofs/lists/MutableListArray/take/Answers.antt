@@ -3,7 +3,7 @@ use Rattle.nested_arrays_builder_pushes.specs.nulls.columns.StoredColumns.{Colum
 use Rattle.nested_arrays_builder_pushes.specs.cells.taken.OpenColumns.{TakesColumn}
 use Rattle.nested_arrays_generic_builders.specs.ListBuilders.{ListParts, list_parts, lists_column}
 use Rattle.nested_arrays_generic_builders.proofs.OpenLists.{taken_lists}
-use Rattle.nested_arrays_generic_builders.proofs.lists.MutableListArrayMutableArray.as_box.Goals as goal
+use Rattle.nested_arrays_generic_builders.proofs.lists.MutableListArray.take.Goals as goal
 
 pub returns : goal.returns
 returns g c =

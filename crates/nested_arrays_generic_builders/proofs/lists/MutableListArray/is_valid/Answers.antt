@@ -1,9 +1,7 @@
-use Rattle.std.proofs.Common.{◌<◌, ◌≡◌, arith, length}
-use Rattle.nested_arrays_builder_pushes.specs.nulls.columns.StoredColumns.{column_len}
+use Rattle.std.proofs.Common.{◌<◌, arith, length}
 use Rattle.nested_arrays_builder_pushes.proofs.nulls_lemmas.arrays_lemmas.flat_lemmas.Offsets.{spans_count}
-use Rattle.nested_arrays_generic_builders.specs.ListBuilders.{lists_column}
 use Rattle.nested_arrays_generic_builders.proofs.ListSlots.{mark_says}
-use Rattle.nested_arrays_generic_builders.proofs.lists.MutableListArrayMutableArray.is_valid.Goals as goal
+use Rattle.nested_arrays_generic_builders.proofs.lists.MutableListArray.is_valid.Goals as goal
 
 pub is_valid-requires : goal.is_valid-requires
 is_valid-requires g c =

@@ -1,9 +1,9 @@
-use Rattle.std.proofs.Common.{◌≡◌, ◌≤◌, ◌∙◌, ap, arith, pos, sym}
+use Rattle.std.proofs.Common.{◌≡◌, ◌≤◌, ◌∙◌, ap, arith, sym}
 use Rattle.nested_arrays_builder_pushes.specs.nulls.columnar_memory.Spans.{last_of, number_of}
 use Rattle.nested_arrays_generic_builders.specs.ListBuilders.{list_parts}
 use Rattle.nested_arrays_generic_builders.proofs.ListPushes.{null_pushed}
 use Rattle.nested_arrays_generic_builders.proofs.OpenLists.{pushed_null}
-use Rattle.nested_arrays_generic_builders.proofs.lists.MutableListArrayMutableArray.push_null.Goals as goal
+use Rattle.nested_arrays_generic_builders.proofs.lists.MutableListArray.push_null.Goals as goal
 
 pub returns-clause-column : goal.returns-clause-column
 returns-clause-column g c =

@@ -4,7 +4,7 @@ use Rattle.nested_arrays_builder_pushes.proofs.nulls_lemmas.arrays_lemmas.flat_l
 use Rattle.nested_arrays_builder_pushes.specs.cells.taken.OpenColumns.{KeepsFirst}
 use Rattle.nested_arrays_generic_builders.specs.ListBuilders.{list_parts}
 use Rattle.nested_arrays_generic_builders.proofs.OpenLists.{all_kept, kept_lists}
-use Rattle.nested_arrays_generic_builders.proofs.lists.MutableListArrayMutableArray.truncate.Goals as goal
+use Rattle.nested_arrays_generic_builders.proofs.lists.MutableListArray.truncate.Goals as goal
 
 pub keep_spans-end-requires : goal.keep_spans-end-requires
 keep_spans-end-requires g c =
