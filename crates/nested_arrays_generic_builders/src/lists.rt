@@ -9,7 +9,7 @@ ghost use Rattle.nested_arrays_builder_pushes.specs.nulls.generic.ListTypes.{ite
 ghost use Rattle.nested_arrays_builder_pushes.specs.cells.parts.Marks.{mask_of_marks};
 ghost use Rattle.nested_arrays_builder_pushes.specs.cells.taken.OpenColumns.{AddsNull, KeepsFirst, TakesColumn};
 ghost use Rattle.nested_arrays_generic_builders.specs.ListBuilders.{lists_column, lists_of, no_lists, with_values};
-ghost use Rattle.nested_arrays_generic_builders.specs.ListBuilders.{AddsNullList, AddsSpan, ClosesColumn, ClosesList, FreezesParts, IsFrozen};
+ghost use Rattle.nested_arrays_generic_builders.specs.ListBuilders.{AddsNullList, AddsSpan, ClosesColumn, ClosesList, FreezesParts, IsFrozen, KeepsParts, LeavesNone};
 
 use crate::lending::MutValues;
 use nested_arrays_builder_pushes::cells::parts::Marks;
@@ -204,7 +204,8 @@ impl<O: Offset, M: MutableArray> MutableListArray<O, M> {
     /// Keeps the first `len` lists alone, and their items.
     pub fn truncate(&mut self, len: usize)
         requires { len ≤ column_len (lists_column M.column self.old) }
-        ensures { KeepsFirst (lists_column M.column self.old) len (lists_column M.column self.new) }
+        ensures list { KeepsParts self.old len self.new }
+        ensures column { KeepsFirst (lists_column M.column self.old) len (lists_column M.column self.new) }
     {
         let end = keep_spans(&mut self.offsets, len);
         self.marks.truncate(len);
@@ -215,7 +216,8 @@ impl<O: Offset, M: MutableArray> MutableListArray<O, M> {
 
     /// The array of the lists; this is left empty.
     fn take(&mut self, alloc: Global) -> Result<ListArray<O>>
-        ensures { TakesColumn (lists_column M.column self.old) (lists_column M.column self.new) (λ array. array) result }
+        ensures left { LeavesNone M.column self.old self.new }
+        ensures column { TakesColumn (lists_column M.column self.old) (lists_column M.column self.new) (λ array. array) result }
     {
         let marks = mem::replace(&mut self.marks, Marks::new(alloc));
         let offsets = take_offsets(alloc, &mut self.offsets);
@@ -255,12 +257,18 @@ impl<M: MutableArray> MutableArray for MutableListArray<i32, M> {
         MutableListArray::is_valid(self, i)
     }
 
-    fn as_box(&mut self, alloc: Global) -> Result<AnyArray> {
+    fn as_box(&mut self, alloc: Global) -> Result<AnyArray>
+        ensures left { LeavesNone M.column self.old self.new }
+        ensures column { TakesColumn (lists_column M.column self.old) (lists_column M.column self.new) (λ array. array) result }
+    {
         let array = self.take(alloc)?;
         Ok(array.into_any())
     }
 
-    fn as_arc(&mut self, alloc: Global) -> Result<Rc<AnyArray>> {
+    fn as_arc(&mut self, alloc: Global) -> Result<Rc<AnyArray>>
+        ensures left { LeavesNone M.column self.old self.new }
+        ensures column { TakesColumn (lists_column M.column self.old) (lists_column M.column self.new) (λ counted. counted.value) result }
+    {
         let array = self.take(alloc)?;
         Ok(Rc::new(alloc, array.into_any())?)
     }
@@ -301,12 +309,18 @@ impl<M: MutableArray> MutableArray for MutableListArray<i64, M> {
         MutableListArray::is_valid(self, i)
     }
 
-    fn as_box(&mut self, alloc: Global) -> Result<AnyArray> {
+    fn as_box(&mut self, alloc: Global) -> Result<AnyArray>
+        ensures left { LeavesNone M.column self.old self.new }
+        ensures column { TakesColumn (lists_column M.column self.old) (lists_column M.column self.new) (λ array. array) result }
+    {
         let array = self.take(alloc)?;
         Ok(array.into_any())
     }
 
-    fn as_arc(&mut self, alloc: Global) -> Result<Rc<AnyArray>> {
+    fn as_arc(&mut self, alloc: Global) -> Result<Rc<AnyArray>>
+        ensures left { LeavesNone M.column self.old self.new }
+        ensures column { TakesColumn (lists_column M.column self.old) (lists_column M.column self.new) (λ counted. counted.value) result }
+    {
         let array = self.take(alloc)?;
         Ok(Rc::new(alloc, array.into_any())?)
     }
