@@ -55,3 +55,4 @@ pub use Rattle.nested_arrays_generic_builders.specs.nulls.columnar_memory
 pub use Rattle.nested_arrays_generic_builders.specs.pushes as builders
 pub use Rattle.nested_arrays_generic_builders.specs.ListBuilders
 pub use Rattle.nested_arrays_generic_builders.specs.NullBuilders
+pub use Rattle.nested_arrays_generic_builders.specs.pushes.cells.taken.OpenColumns

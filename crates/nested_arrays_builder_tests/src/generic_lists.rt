@@ -1,5 +1,6 @@
 use columnar_memory_types::{DataType, Error, Text};
 use nested_arrays_generic_builders::nulls::arrays::{AnyArray, ListNode, Node};
+use nested_arrays_generic_builders::nulls::columnar_memory::{MutableBitmap, Offsets};
 use nested_arrays_generic_builders::nulls::parts::ListOffsets;
 use nested_arrays_generic_builders::pushes::cells::builders::AnyMutableArray;
 use nested_arrays_generic_builders::pushes::cells::parts::AnyScalar;
@@ -107,6 +108,22 @@ fn lists_without_their_items_make_no_array(rt: HostRuntime) -> Result<(), Fail> 
     push_list(&mut lists, &[3])?;
     let array = lists.as_box(rt.alloc())?;
     assert!(rt; are_lists(array, &[0, 1], &[], 1));
+    drop(lists);
+    Ok(())
+}
+
+#[test]
+fn lists_are_made_of_parts(rt: HostRuntime) -> Result<(), Fail> {
+    let nulls = MutableNullArray::new(DataType::Null, 3);
+    let offsets = Offsets::<i32>::try_from_iter(rt.alloc(), [1usize, 0, 2].into_iter())?;
+    let mut mask = MutableBitmap::new(rt.alloc());
+    mask.push(true)?;
+    mask.push(false)?;
+    mask.push(true)?;
+    let mut lists = MutableListArray::new_from_mutable(rt.alloc(), nulls, offsets, Some(mask))?;
+    lists.push_null()?;
+    let array = lists.as_box(rt.alloc())?;
+    assert!(rt; are_lists(array, &[0, 1, 1, 3, 3], &[5], 3));
     drop(lists);
     Ok(())
 }

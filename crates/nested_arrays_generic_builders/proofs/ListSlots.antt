@@ -3,11 +3,13 @@ use Rattle.std.proofs.Common.{◌≡◌, ◌∙◌, ◌<◌, ◌≤◌, ◌+◌,
 use Rattle.std.proofs.Common.{Bool, true, false, not, refl, sym, ap, arith}
 use Rattle.std.specs.Prelude.{Option, Some, None, slice_get, if◌then◌else◌}
 use Rattle.std.proofs.lemmas.List.{get_or_append_left, get_or_at, get_or-replicate, get_or-take, take-append-le, take-take, take_at, take_all}
-use Rattle.std.proofs.lemmas.List.{length-take-le}
+use Rattle.std.proofs.lemmas.Bool.{eqb-true}
+use Rattle.std.proofs.lemmas.List.{length-replicate, length-take-le}
 use Rattle.std.proofs.lemmas.Option.{get_or_from_slice_get}
 use Rattle.nested_arrays_builder_pushes.specs.nulls.columnar_memory.declared.DataType.{DataType}
 use Rattle.nested_arrays_builder_pushes.specs.nulls.columnar_memory.Spans.{Spans, extended, first_spans, last_of, offset_at, offsets_of}
 use Rattle.nested_arrays_builder_pushes.specs.nulls.columns.Slots.{Slot, null, items, in_slots, window}
+use Rattle.nested_arrays_builder_pushes.specs.nulls.columns.SoundColumns.{mask_fits}
 use Rattle.nested_arrays_builder_pushes.specs.nulls.columns.StoredColumns.{Column, is_valid_at, lists, slot_at, slots}
 use Rattle.nested_arrays_builder_pushes.specs.cells.parts.Marks.{marks, mask_of_marks}
 use Rattle.nested_arrays_builder_pushes.proofs.columns_lemmas.Windows.{window_same}
@@ -21,6 +23,11 @@ use Rattle.nested_arrays_builder_pushes.proofs.parts_lemmas.MarkLists.{marks_bac
 marked_at : (n : ℕ) (mask : Option (List Bool)) (i : ℕ) → i < n → is_valid_at mask i ≡ get_or (marks n mask) i false
 marked_at n None i h = sym (get_or-replicate n i true false h)
 marked_at n (Some bits) i h = refl
+
+-- a mask that fits so many slots has a mark for each
+pub marks_many : (n : ℕ) (mask : Option (List Bool)) → mask_fits mask n ≡ true → length (marks n mask) ≡ n
+marks_many n None h = length-replicate n true
+marks_many n (Some bits) h = eqb-true (length bits) n h
 
 valid_mark : (ms : List Bool) (i : ℕ) → i < length ms → is_valid_at (mask_of_marks ms) i ≡ get_or ms i false
 valid_mark ms i h =

@@ -1,5 +1,5 @@
 -- Builders of lists: marks and offsets that grow, over a builder of the items (Arrow columnar format, "Variable-size List Layout").
-use Rattle.std.specs.Prelude.{◌≡◌, ◌⊎◌, ◌+◌, ◌-◌, ◌<◌, ◌≤◌, ℕ, Bool, true, false, List, [], ◌∷◌, ◌++◌, drop, length, is_some}
+use Rattle.std.specs.Prelude.{◌≡◌, ◌⊎◌, ◌+◌, ◌-◌, ◌<◌, ◌≤◌, ℕ, Bool, true, false, List, [], ◌∷◌, ◌++◌, drop, length, take, is_some}
 use Rattle.std.specs.Prelude.{Result, Ok, Err, MatchResult}
 use Rattle.std.proofs.Common.{refl}
 use Rattle.std.specs.Coded.{Coded, code_by, coded×, coded_list, coded_bool, coded_ℕ}
@@ -9,14 +9,14 @@ use Rattle.nested_arrays_builder_pushes.specs.nulls.columnar_memory.declared.Dat
 use Rattle.nested_arrays_builder_pushes.specs.nulls.columnar_memory.declared.Error.{Error}
 use Rattle.nested_arrays_builder_pushes.specs.nulls.columnar_memory.declared.Field.{Field}
 use Rattle.nested_arrays_builder_pushes.specs.nulls.columnar_memory.Error.{IsOutOfMemory, IsOutOfSpec, IsOverflow}
-use Rattle.nested_arrays_builder_pushes.specs.nulls.columnar_memory.Spans.{Spans, extended, last_of, no_spans, offsets_of}
+use Rattle.nested_arrays_builder_pushes.specs.nulls.columnar_memory.Spans.{Spans, extended, first_spans, last_of, no_spans, offsets_of}
 use Rattle.nested_arrays_builder_pushes.specs.nulls.columns.Kinds.{most_slots}
 use Rattle.nested_arrays_builder_pushes.specs.nulls.columns.Slots.{Slot, in_slots, items}
 use Rattle.nested_arrays_builder_pushes.specs.nulls.columns.SoundColumns.{is_sound}
 use Rattle.nested_arrays_builder_pushes.specs.nulls.columns.StoredColumns.{Column, column_len, column_type, lists, slots, type_layer}
 use Rattle.nested_arrays_builder_pushes.specs.nulls.generic.ListTypes.{items_field}
 use Rattle.nested_arrays_builder_pushes.specs.cells.parts.Marks.{mask_of_marks}
-use Rattle.nested_arrays_builder_pushes.specs.cells.taken.OpenColumns.{slots_and}
+use Rattle.nested_arrays_builder_pushes.specs.cells.taken.OpenColumns.{IsEmptied, slots_and}
 
 -- The data type, a mark for each list, the span of each among the items, and the builder of these.
 pub record ListParts (M : Type 0) : Type 0 where
@@ -86,6 +86,15 @@ pub record AddsList (old child : Column) (begin : ℕ) (new : Column) : Type 0 w
 -- The same of what a list was closed over; or nothing has changed.
 abbrev pub ClosesColumn : {U : Type 0} → Column → Column → ℕ → Column → Result U Error → Type 0
 ClosesColumn old child begin new r = MatchResult r (λ _. AddsList old child begin new) (λ e. new ≡ old)
+
+-- The marks and spans of the first lists are left.
+abbrev pub KeepsParts : {M : Type 0} → ListParts M → ℕ → ListParts M → Type 0
+KeepsParts old n new = (new.data_type ≡ old.data_type) × (new.marks ≡ take n old.marks) × (new.spans ≡ first_spans old.spans n)
+
+-- No lists are left, and no items.
+abbrev pub LeavesNone : {M : Type 0} → (M → Column) → ListParts M → ListParts M → Type 0
+LeavesNone column old new = (new.data_type ≡ old.data_type) × (new.marks ≡ []) × (new.spans ≡ no_spans)
+    × IsEmptied (column old.values) (column new.values)
 
 -- A null stands behind the lists; or nothing has changed.
 abbrev pub AddsNullList : {M U : Type 0} → ListParts M → ListParts M → Result U Error → Type 0

@@ -1,15 +1,17 @@
 //! Builders of lists of any length.
-ghost use Rattle.std.specs.Prelude.{◌≡◌, ◌<◌, ◌≤◌, [], is_some, length, not, option_copied, true, IfErr};
-ghost use Rattle.nested_arrays_builder_pushes.specs.nulls.columnar_memory.Error.{IsOutOfMemory};
+ghost use Rattle.std.specs.Prelude.{◌≡◌, ◌<◌, ◌≤◌, [], is_some, length, not, option_copied, true, ◌⊎◌, IfErr, MatchResult, slice_index_or, false};
+ghost use Rattle.nested_arrays_builder_pushes.specs.nulls.columnar_memory.Error.{IsOutOfMemory, IsOverflow};
 ghost use Rattle.nested_arrays_builder_pushes.specs.nulls.access.Nulls.{is_null_at};
 ghost use Rattle.nested_arrays_builder_pushes.specs.nulls.columnar_memory.Results.{OrOutOfMemory};
 ghost use Rattle.nested_arrays_builder_pushes.specs.nulls.columnar_memory.Spans.{first_spans, last_of, no_spans, offsets_of, shortened};
+ghost use Rattle.nested_arrays_builder_pushes.specs.nulls.columns.Kinds.{most_slots};
+ghost use Rattle.nested_arrays_builder_pushes.specs.nulls.columns.SoundColumns.{mask_fits};
 ghost use Rattle.nested_arrays_builder_pushes.specs.nulls.columns.StoredColumns.{column_len, column_type, lists, type_layer};
 ghost use Rattle.nested_arrays_builder_pushes.specs.nulls.generic.ListTypes.{items_field, list_type};
-ghost use Rattle.nested_arrays_builder_pushes.specs.cells.parts.Marks.{mask_of_marks};
+ghost use Rattle.nested_arrays_builder_pushes.specs.cells.parts.Marks.{marks, mask_of_marks};
 ghost use Rattle.nested_arrays_builder_pushes.specs.cells.taken.OpenColumns.{AddsNull, KeepsFirst, TakesColumn};
-ghost use Rattle.nested_arrays_generic_builders.specs.ListBuilders.{lists_column, lists_of, no_lists, with_values};
-ghost use Rattle.nested_arrays_generic_builders.specs.ListBuilders.{AddsNullList, AddsSpan, ClosesColumn, ClosesList, FreezesParts, IsFrozen};
+ghost use Rattle.nested_arrays_generic_builders.specs.ListBuilders.{list_parts, lists_column, lists_of, no_lists, with_values};
+ghost use Rattle.nested_arrays_generic_builders.specs.ListBuilders.{AddsNullList, AddsSpan, ClosesColumn, ClosesList, FreezesParts, IsFrozen, KeepsParts, LeavesNone};
 
 use crate::lending::MutValues;
 use nested_arrays_builder_pushes::cells::parts::Marks;
@@ -90,6 +92,36 @@ impl<O: Offset, M: MutableArray> MutableListArray<O, M> {
         let item_type = values.data_type().clone()?;
         let field = Boxed::new(alloc, Field::new(alloc, name, item_type, is_nullable))?;
         MutableListArray::new_from(alloc, values, lists_of::<O>(field), 0)
+    }
+
+    /// A builder of lists whose items stand in a builder already: where each of them begins, from 0 on, and a mask, which is let go where it has no
+    /// null. The items are named "item" and may be null.
+    ///
+    /// # Errors
+    /// `Overflow`: there are more lists than a column may have.
+    /// `OutOfMemory`: the data type or the marks found no memory.
+    pub fn new_from_mutable(
+        alloc: Global,
+        mutable: M,
+        offsets: Offsets<O>,
+        validity: Option<MutableBitmap>,
+    ) -> Result<Self>
+        requires first { offsets.start ≡ 0 }
+        requires masked { mask_fits validity (length offsets.lengths) ≡ true }
+        ensures { MatchResult result
+            (λ builder. builder ≡ list_parts (list_type O.IS_LARGE (column_type (M.column mutable))) (marks (length offsets.lengths) validity) offsets
+            mutable)
+            (λ e. IsOutOfMemory e ⊎ (IsOverflow e × (most_slots < length offsets.lengths))) }
+    {
+        let item_type = mutable.data_type().clone()?;
+        let data_type = ListArray::<O>::default_datatype(alloc, item_type)?;
+        let marks = marks_of(alloc, &validity, offsets.len_proxy())?;
+        Ok(MutableListArray {
+            data_type,
+            marks,
+            offsets,
+            values: mutable,
+        })
     }
 
     /// Closes a list over the items that stand behind those of the lists before it.
@@ -204,7 +236,8 @@ impl<O: Offset, M: MutableArray> MutableListArray<O, M> {
     /// Keeps the first `len` lists alone, and their items.
     pub fn truncate(&mut self, len: usize)
         requires { len ≤ column_len (lists_column M.column self.old) }
-        ensures { KeepsFirst (lists_column M.column self.old) len (lists_column M.column self.new) }
+        ensures list { KeepsParts self.old len self.new }
+        ensures column { KeepsFirst (lists_column M.column self.old) len (lists_column M.column self.new) }
     {
         let end = keep_spans(&mut self.offsets, len);
         self.marks.truncate(len);
@@ -215,7 +248,8 @@ impl<O: Offset, M: MutableArray> MutableListArray<O, M> {
 
     /// The array of the lists; this is left empty.
     fn take(&mut self, alloc: Global) -> Result<ListArray<O>>
-        ensures { TakesColumn (lists_column M.column self.old) (lists_column M.column self.new) (λ array. array) result }
+        ensures left { LeavesNone M.column self.old self.new }
+        ensures column { TakesColumn (lists_column M.column self.old) (lists_column M.column self.new) (λ array. array) result }
     {
         let marks = mem::replace(&mut self.marks, Marks::new(alloc));
         let offsets = take_offsets(alloc, &mut self.offsets);
@@ -255,12 +289,18 @@ impl<M: MutableArray> MutableArray for MutableListArray<i32, M> {
         MutableListArray::is_valid(self, i)
     }
 
-    fn as_box(&mut self, alloc: Global) -> Result<AnyArray> {
+    fn as_box(&mut self, alloc: Global) -> Result<AnyArray>
+        ensures left { LeavesNone M.column self.old self.new }
+        ensures column { TakesColumn (lists_column M.column self.old) (lists_column M.column self.new) (λ array. array) result }
+    {
         let array = self.take(alloc)?;
         Ok(array.into_any())
     }
 
-    fn as_arc(&mut self, alloc: Global) -> Result<Rc<AnyArray>> {
+    fn as_arc(&mut self, alloc: Global) -> Result<Rc<AnyArray>>
+        ensures left { LeavesNone M.column self.old self.new }
+        ensures column { TakesColumn (lists_column M.column self.old) (lists_column M.column self.new) (λ counted. counted.value) result }
+    {
         let array = self.take(alloc)?;
         Ok(Rc::new(alloc, array.into_any())?)
     }
@@ -301,12 +341,18 @@ impl<M: MutableArray> MutableArray for MutableListArray<i64, M> {
         MutableListArray::is_valid(self, i)
     }
 
-    fn as_box(&mut self, alloc: Global) -> Result<AnyArray> {
+    fn as_box(&mut self, alloc: Global) -> Result<AnyArray>
+        ensures left { LeavesNone M.column self.old self.new }
+        ensures column { TakesColumn (lists_column M.column self.old) (lists_column M.column self.new) (λ array. array) result }
+    {
         let array = self.take(alloc)?;
         Ok(array.into_any())
     }
 
-    fn as_arc(&mut self, alloc: Global) -> Result<Rc<AnyArray>> {
+    fn as_arc(&mut self, alloc: Global) -> Result<Rc<AnyArray>>
+        ensures left { LeavesNone M.column self.old self.new }
+        ensures column { TakesColumn (lists_column M.column self.old) (lists_column M.column self.new) (λ counted. counted.value) result }
+    {
         let array = self.take(alloc)?;
         Ok(Rc::new(alloc, array.into_any())?)
     }
@@ -325,6 +371,31 @@ impl<M: MutableArray> MutableArray for MutableListArray<i64, M> {
 
     fn truncate(&mut self, len: usize) {
         MutableListArray::truncate(self, len);
+    }
+}
+
+/// The marks of so many slots with a mask.
+fn marks_of(alloc: Global, validity: &Option<MutableBitmap>, count: usize) -> Result<Marks>
+    requires { mask_fits validity.now count ≡ true }
+    ensures { MatchResult result (λ kept. kept ≡ marks count validity.now)
+        (λ e. IsOutOfMemory e ⊎ (IsOverflow e × (most_slots < count))) }
+{
+    let mut kept = Marks::new(alloc);
+    for place in 0..count {
+        kept.push(mark_at(validity, place, count))?;
+    }
+    Ok(kept)
+}
+
+/// The mark of one of so many slots with a mask.
+fn mark_at(validity: &Option<MutableBitmap>, place: usize, _count: usize) -> bool
+    requires masked { mask_fits validity.now _count ≡ true }
+    requires within { place < _count }
+    ensures { slice_index_or (marks _count validity.now) place false ≡ result }
+{
+    match validity {
+        Some(bits) => bits.get(place),
+        None => true,
     }
 }
 

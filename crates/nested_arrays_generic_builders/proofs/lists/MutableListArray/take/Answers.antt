@@ -5,8 +5,8 @@ use Rattle.nested_arrays_generic_builders.specs.ListBuilders.{ListParts, list_pa
 use Rattle.nested_arrays_generic_builders.proofs.OpenLists.{taken_lists}
 use Rattle.nested_arrays_generic_builders.proofs.lists.MutableListArray.take.Goals as goal
 
-pub returns : goal.returns
-returns g c =
+pub returns-clause-column : goal.returns-clause-column
+returns-clause-column g c =
     let own = c.self.inside in
     let column = g.M.MutableArray.column in
     let left = list_parts own.data_type c.replace-marks.new.dest c.take_offsets-offsets.new.offsets c.as_box-values.new.self in

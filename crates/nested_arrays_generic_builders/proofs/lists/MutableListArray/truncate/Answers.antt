@@ -15,8 +15,8 @@ truncate-requires g c =
     let within = rw (← c.self.view_is) at c.requires in
     omega (arith, within, spans_count c.self.inside.offsets, c.self.invariant.counted)
 
-pub returns-then-end-len : goal.returns-then-end-len
-returns-then-end-len g c =
+pub returns-then-end-len-clause-column : goal.returns-then-end-len-clause-column
+returns-then-end-len-clause-column g c =
     let own = c.self.inside in
     let column = g.M.MutableArray.column in
     let within = rw (← c.self.view_is) at c.requires in
@@ -28,8 +28,8 @@ returns-then-end-len g c =
     (kept_lists column g.O.Offset.IS_LARGE (list_parts own.data_type own.marks own.offsets own.values) c.self.invariant c.args.len
     c.truncate-then-end-len.new.self few kept)
 
-pub returns-else-end-len : goal.returns-else-end-len
-returns-else-end-len g c =
+pub returns-else-end-len-clause-column : goal.returns-else-end-len-clause-column
+returns-else-end-len-clause-column g c =
     let own = c.self.inside in
     let column = g.M.MutableArray.column in
     let within = rw (← c.self.view_is) at c.requires in
