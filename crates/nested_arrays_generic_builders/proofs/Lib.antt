@@ -1,7 +1,0 @@
-pub mod FirstSpans
-pub mod ListPushes
-pub mod ListSlots
-pub mod ListsStored
-pub mod NullColumns
-pub mod OpenLists
-pub use Rattle.nested_arrays_builder_pushes.proofs.nulls_lemmas
