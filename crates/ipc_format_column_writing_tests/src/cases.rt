@@ -5,8 +5,7 @@ use ipc_format_column_writing::nested_arrays::columnar_memory::{
 };
 use ipc_format_column_writing::nested_arrays::flat_arrays::PrimitiveArray;
 use ipc_format_column_writing::nested_arrays::{
-    AnyArray, AnyPrimitive, FlatArray, ListArray, StructArray, ToBoxed, UnionArray,
-    columnar_memory as memory,
+    AnyArray, AnyPrimitive, FlatArray, ListArray, ToBoxed, UnionArray, columnar_memory as memory,
 };
 use ipc_format_column_writing::write;
 use std::alloc::Global;
@@ -80,18 +79,8 @@ pub(crate) fn lists(alloc: Global) -> Result<AnyArray, Error> {
     Ok(ListArray::try_new(data_type, offsets, items, None)?.into_any())
 }
 
-/// A struct of two numbers.
-pub(crate) fn record(alloc: Global) -> Result<StructArray, Error> {
-    let mut fields = Items::new(alloc);
-    let name = Text::from_str(alloc, "number")?;
-    fields.push(Field::new(alloc, name, DataType::Int32, true))?;
-    let mut children = Vec::new(alloc);
-    children.push(numbers(alloc, &[7, 8])?)?;
-    StructArray::try_new(DataType::Struct(fields), children, None)
-}
-
 /// A sparse union of three numbers of one child.
-pub(crate) fn sparse(alloc: Global) -> Result<UnionArray, Error> {
+pub(crate) fn sparse(alloc: Global) -> Result<AnyArray, Error> {
     let mut fields = Items::new(alloc);
     let name = Text::from_str(alloc, "number")?;
     fields.push(Field::new(alloc, name, DataType::Int32, true))?;
@@ -100,5 +89,5 @@ pub(crate) fn sparse(alloc: Global) -> Result<UnionArray, Error> {
     let types = Vec::from_slice(alloc, &[0i8, 0, 0])?;
     let data_type = DataType::Union(fields, None, UnionMode::Sparse);
     let types = memory::Buffer::from_vec(types)?;
-    UnionArray::try_new(data_type, types, children, None)
+    Ok(AnyArray::from(UnionArray::try_new(data_type, types, children, None)?))
 }
