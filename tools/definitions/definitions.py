@@ -4,7 +4,7 @@
 usage: definitions.py CRATE MODULE EXPRESSION [NAME=FILE]..
 
     definitions.py ipc_format_grammar Tables 'table_of stream input' input=samples/example.stream
-    definitions.py ipc_format_worked Examples 'is_writable x_int32'
+    definitions.py ipc_format_values_tests Examples x_int32
 
 EXPRESSION stands as it would in crates/CRATE/specs/MODULE.antt, with the imports of that module;
 NAME is the bytes of FILE. It proves nothing: it shows what a definition says. Of statements those

@@ -50,13 +50,14 @@ pub use Rattle.ipc_format_files.specs.stream_writer.reader.chunk_writing.grammar
 pub use Rattle.ipc_format_files.specs.stream_writer.reader.chunk_writing.grammar.AppendedFiles
 pub use Rattle.ipc_format_files.specs.stream_writer.reader.chunk_writing.columnar_memory
 pub use Rattle.ipc_format_files.specs.stream_writer.reader.chunk_writing.nested_arrays
-pub use Rattle.ipc_format_files.specs.stream_writer.reader.chunk_writing.chunks.Chunks
+pub use Rattle.ipc_format_files.specs.stream_writer.reader.chunk_writing.Chunks
 pub use Rattle.ipc_format_files.specs.stream_writer.reader.chunk_writing.EncodedChunks
 pub use Rattle.ipc_format_files.specs.stream_writer.reader.chunk_writing.Helds
 pub use Rattle.ipc_format_files.specs.stream_writer.reader.chunk_writing.Records
 pub use Rattle.ipc_format_files.specs.stream_writer.reader.chunk_writing.Tracking
 pub use Rattle.ipc_format_files.specs.stream_writer.reader.chunk_writing.Types as OneForms
 pub use Rattle.ipc_format_files.specs.stream_writer.reader.chunk_writing.BatchReads
+pub use Rattle.ipc_format_files.specs.stream_writer.reader.chunk_writing.BufferCounts
 pub use Rattle.ipc_format_files.specs.stream_writer.reader.chunk_writing.Projections
 pub use Rattle.ipc_format_files.specs.stream_writer.reader.chunk_writing.DictionaryReads
 pub use Rattle.ipc_format_files.specs.stream_writer.reader.chunk_writing.Readable

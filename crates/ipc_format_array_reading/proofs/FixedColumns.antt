@@ -34,9 +34,9 @@ use Rattle.ipc_format_column_writing.proofs.reading_lemmas.columns_lemmas.TypeLa
 use Rattle.ipc_format_array_reading.specs.ArrayReads.{Test, is_readable}
 use Rattle.ipc_format_array_reading.specs.TypedReads.{IsNeeded, ReadsNulls, StatesSmall, front_array}
 use Rattle.ipc_format_array_reading.proofs.Layers.{layer_plain, layer_reads, layer_tests, read_layer, test_layer}
-use Rattle.ipc_format_column_writing.specs.chunks.nested_arrays.Checked.{IsChecked}
-use Rattle.ipc_format_column_writing.specs.chunks.nested_arrays.FlatColumns.{byte_width, layer_width}
-use Rattle.ipc_format_column_writing.proofs.chunk_lemmas.nested_lemmas.flat_lemmas.FixedWidths.{fixed_parts, fixed_sound}
+use Rattle.ipc_format_column_writing.specs.nested_arrays.Checked.{IsChecked}
+use Rattle.ipc_format_column_writing.specs.nested_arrays.FlatColumns.{byte_width, layer_width}
+use Rattle.ipc_format_column_writing.proofs.nested_lemmas.flat_lemmas.FixedWidths.{fixed_parts, fixed_sound}
 
 -- nothing follows, whatever there is
 pub nothing_follows : {A B : Type 0} (r : Option A) (f : A → Option B) → ((x : A) → f x ≡ None) → (r >>= f) ≡ None

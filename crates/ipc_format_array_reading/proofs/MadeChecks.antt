@@ -11,7 +11,7 @@ use Rattle.ipc_format_column_writing.specs.column_reading.columnar_memory.declar
 use Rattle.ipc_format_column_writing.specs.column_reading.columnar_memory.declared.PhysicalType.TheVariants as physical
 use Rattle.ipc_format_column_writing.specs.column_reading.grammar.Columns.{last_of}
 use Rattle.ipc_format_column_writing.proofs.reading_lemmas.ColumnReads.{last_is}
-use Rattle.ipc_format_column_writing.specs.chunks.nested_arrays.ListTypes.{list_layout}
+use Rattle.ipc_format_column_writing.specs.nested_arrays.ListTypes.{list_layout}
 use Rattle.ipc_format_column_writing.specs.column_reading.columnar_memory.declared.DataType.TheOpen as layer
 use Rattle.ipc_format_column_writing.specs.column_reading.columnar_memory.declared.Error.{Error}
 use Rattle.ipc_format_column_writing.specs.column_reading.columnar_memory.declared.PhysicalType.{PhysicalType}
@@ -19,9 +19,9 @@ use Rattle.ipc_format_column_writing.specs.column_reading.columns.SoundColumns.{
 use Rattle.ipc_format_column_writing.specs.column_reading.columns.StoredColumns.{Column, column_len, fixed_lists, in_columns, lists, records, type_layer}
 use Rattle.ipc_format_column_writing.specs.column_reading.flatbuffers.Reading.{◌>>=◌}
 use Rattle.ipc_format_column_writing.proofs.reading_lemmas.columns_lemmas.TypeLayers.{Layer, layer_layout, layout_is}
-use Rattle.ipc_format_column_writing.specs.chunks.nested_arrays.Answers.{IsChecked, IsCheckedAs}
-use Rattle.ipc_format_column_writing.specs.chunks.nested_arrays.FlatLayouts.{layout_in}
-use Rattle.ipc_format_column_writing.specs.chunks.nested_arrays.Lengths.{layer_size, size_of, struct_len}
+use Rattle.ipc_format_column_writing.specs.nested_arrays.Answers.{IsChecked, IsCheckedAs}
+use Rattle.ipc_format_column_writing.specs.nested_arrays.FlatLayouts.{layout_in}
+use Rattle.ipc_format_column_writing.specs.nested_arrays.Lengths.{layer_size, size_of, struct_len}
 use Rattle.ipc_format_array_reading.specs.Parts.{Makes, beginning_of, checked, has_children, if_long, made_column, marked_column, marks, single}
 use Rattle.ipc_format_array_reading.specs.Parts.{sound_column, spans}
 use Rattle.ipc_format_array_reading.specs.declared.begun.Beginning.{Beginning}

@@ -3,8 +3,8 @@ pub mod Limits
 pub mod Parts
 pub mod TypedReads
 pub use Rattle.ipc_format_column_writing.specs as column_writing
-pub use Rattle.ipc_format_column_writing.specs.chunks
-pub use Rattle.ipc_format_column_writing.specs.chunks.nested_arrays
+pub use Rattle.ipc_format_column_writing.specs.Chunks
+pub use Rattle.ipc_format_column_writing.specs.nested_arrays
 pub use Rattle.ipc_format_column_writing.specs.columnar_memory
 pub use Rattle.ipc_format_column_writing.specs.flatbuffers
 pub use Rattle.ipc_format_column_writing.specs.columns

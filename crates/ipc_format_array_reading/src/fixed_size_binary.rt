@@ -7,12 +7,12 @@ ghost use Rattle.ipc_format_column_writing.specs.column_reading.columns.SoundCol
 ghost use Rattle.ipc_format_column_writing.specs.column_reading.Reads.{ReadsColumn};
 ghost use Rattle.ipc_format_array_reading.specs.TypedReads.{IsNeeded, StatesSmall, front_array};
 
-use ipc_format_column_writing::chunks::nested_arrays::FixedSizeBinaryArray;
 use ipc_format_column_writing::column_reading::columnar_memory::{
     Buffer, DataType, Error, PhysicalType, Result,
 };
 use ipc_format_column_writing::column_reading::messages::{BodyCompressionRef, FieldNode};
 use ipc_format_column_writing::column_reading::{Room, messages as ipc, read_bytes, read_marked};
+use ipc_format_column_writing::nested_arrays::FixedSizeBinaryArray;
 use std::alloc::Global;
 use std::collections::VecDeque;
 

@@ -11,14 +11,9 @@ mod null;
 pub use begun::{Beginning, Begun, begin, has_children, limit_below};
 pub use fixed_size_binary::read_fixed_size_binary;
 pub use ipc_format_column_writing::column_reading::{InMemory, Room};
-pub use ipc_format_column_writing::{columnar_memory, nested_arrays};
+pub use ipc_format_column_writing::{Chunk, columnar_memory, nested_arrays};
 pub use made::array_of;
 pub use null::read_null;
-
-/// What `ipc_format_column_writing::chunks` has, as far as packages above use it.
-pub mod chunks {
-    pub use ipc_format_column_writing::chunks::Chunk;
-}
 
 /// What `ipc_format_column_writing` has, as far as packages above use it.
 pub mod column_writing {
@@ -27,10 +22,10 @@ pub mod column_writing {
     /// Of `column_reading`.
     pub mod column_reading {
         pub use ipc_format_column_writing::column_reading::{
-            read_binary, read_bitmap, read_boolean, read_buffer, read_marked, read_primitive,
-            read_utf8, read_validity, skip, skip_binary, skip_boolean, skip_dictionary,
-            skip_fixed_size_binary, skip_fixed_size_list, skip_list, skip_map, skip_null,
-            skip_primitive, skip_struct, skip_union, skip_utf8,
+            read_binary, read_bitmap, read_boolean, read_buffer, read_bytes, read_marked,
+            read_primitive, read_utf8, read_validity, skip, skip_binary, skip_boolean,
+            skip_dictionary, skip_fixed_size_binary, skip_fixed_size_list, skip_list, skip_map,
+            skip_null, skip_primitive, skip_struct, skip_union, skip_utf8,
         };
 
         /// Of `column_bytes`.

@@ -1,8 +1,8 @@
 //! Arrays made of what stands before their children, and of these.
 ghost use Rattle.std.specs.Prelude.{◌≡◌, ◌*◌, ◌==◌, ◌↔◌, IsTrue, None, true};
 ghost use Rattle.std.specs.List.{list_all};
-ghost use Rattle.ipc_format_column_writing.specs.chunks.nested_arrays.Lengths.{size_of};
-ghost use Rattle.ipc_format_column_writing.specs.chunks.nested_arrays.ListTypes.{list_layout};
+ghost use Rattle.ipc_format_column_writing.specs.nested_arrays.Lengths.{size_of};
+ghost use Rattle.ipc_format_column_writing.specs.nested_arrays.ListTypes.{list_layout};
 ghost use Rattle.ipc_format_column_writing.specs.column_reading.columnar_memory.Layouts.{physical_type};
 ghost use Rattle.ipc_format_column_writing.specs.column_reading.columnar_memory.Spans as memory;
 ghost use Rattle.ipc_format_column_writing.specs.column_reading.columnar_memory.Spans.{offsets_of};
@@ -16,12 +16,12 @@ ghost use Rattle.ipc_format_array_reading.specs.Parts.{made_column, marks, parts
 ghost use Rattle.ipc_format_array_reading.specs.declared.begun.Beginning.TheVariants as beginnings;
 
 use crate::begun::Begun;
-use ipc_format_column_writing::chunks::nested_arrays::{
-    AnyArray, FixedSizeListArray, ListArray, MapArray, StructArray, ToBoxed, UnionArray,
-};
 use ipc_format_column_writing::column_reading::Marked;
 use ipc_format_column_writing::column_reading::columnar_memory::{
     Bitmap, Buffer, DataType, Error, Index, Offset, OffsetsBuffer, PhysicalType, Result,
+};
+use ipc_format_column_writing::nested_arrays::{
+    AnyArray, FixedSizeListArray, ListArray, MapArray, StructArray, ToBoxed, UnionArray,
 };
 use std::alloc::Global;
 

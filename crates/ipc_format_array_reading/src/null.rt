@@ -3,12 +3,12 @@ ghost use Rattle.std.specs.Prelude.{[], true};
 ghost use Rattle.ipc_format_column_writing.specs.column_reading.Reads.{front_slots};
 ghost use Rattle.ipc_format_array_reading.specs.TypedReads.{ReadsNulls};
 
-use ipc_format_column_writing::chunks::nested_arrays::NullArray;
 use ipc_format_column_writing::column_reading::columnar_memory::{
     DataType, Error, PhysicalType, Result,
 };
 use ipc_format_column_writing::column_reading::messages::FieldNode;
 use ipc_format_column_writing::column_reading::slots_taken;
+use ipc_format_column_writing::nested_arrays::NullArray;
 use std::collections::VecDeque;
 
 /// Reads a column of nulls: a node, and no buffer.

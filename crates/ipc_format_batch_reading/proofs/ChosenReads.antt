@@ -191,7 +191,7 @@ read_more arrays array (Some columns) =
     ∙ ap (λ front. front ++ columns) (sym (map-append slots arrays (array ∷ []))))
 
 -- the field of one column more
-chosen_more : (columns : List ℕ) (fields : List Field) (k c : ℕ) (u : Field) → k < length columns → c ≡ get_or columns k c
+pub chosen_more : (columns : List ℕ) (fields : List Field) (k c : ℕ) (u : Field) → k < length columns → c ≡ get_or columns k c
     → c < length fields → u ≡ get_or fields c u → chosen (take (suc k) columns) fields ≡ chosen (take k columns) fields ++ u ∷ []
 chosen_more columns fields k c u lt is below its =
     let found : slice_get fields c ≡ Some u = slice_get-get_or fields c u below ∙ ap Some (sym its) in
@@ -310,7 +310,7 @@ drop_past [] (suc k) past = refl
 drop_past (x ∷ xs) zero past = absurd (omega (arith, past))
 drop_past (x ∷ xs) (suc k) past = drop_past xs k (omega (arith, past))
 
-take_past : {A : Type 0} (xs : List A) (k : ℕ) → length xs ≤ k → take k xs ≡ xs
+pub take_past : {A : Type 0} (xs : List A) (k : ℕ) → length xs ≤ k → take k xs ≡ xs
 take_past [] zero past = refl
 take_past [] (suc k) past = refl
 take_past (x ∷ xs) zero past = absurd (omega (arith, past))

@@ -11,6 +11,8 @@ pub mod PassedColumns
 pub mod ChunkReads
 pub mod Projections
 pub mod ChosenReads
+pub mod BufferCounts
+pub mod ChosenCounts
 pub mod DictionaryReads
 pub mod PutBack
 pub mod RisingColumns

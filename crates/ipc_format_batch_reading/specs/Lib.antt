@@ -1,5 +1,6 @@
 pub mod Standing
 pub mod BatchReads
+pub mod BufferCounts
 pub mod DictionaryReads
 pub mod Readable
 pub mod PassedOver
@@ -16,7 +17,7 @@ pub use Rattle.ipc_format_reading.specs.Rooms
 pub use Rattle.ipc_format_reading.specs.Below
 pub use Rattle.ipc_format_reading.specs.childless_reading.ReadArrays
 pub use Rattle.ipc_format_reading.specs.childless_reading.array_reading.ArrayReads
-pub use Rattle.ipc_format_reading.specs.childless_reading.array_reading.chunks
+pub use Rattle.ipc_format_reading.specs.childless_reading.array_reading.Chunks
 pub use Rattle.ipc_format_reading.specs.childless_reading.array_reading.column_writing.column_reading.column_bytes.streams
 pub use Rattle.ipc_format_reading.specs.childless_reading.array_reading.column_writing.column_reading.column_bytes.Bodies
 pub use Rattle.ipc_format_reading.specs.childless_reading.array_reading.column_writing.column_reading.column_bytes.Placing

@@ -2,6 +2,7 @@
 //! Messages"), and the laws that what is read of a schema's batches is what the format gives.
 #![tactic(auto)]
 
+mod counted;
 mod dictionary_batch;
 mod laws;
 mod passing;
@@ -22,7 +23,7 @@ pub use projection::{
     ProjectionIter, ProjectionResult, apply_projection, choices_are_put_back, is_choice,
     prepare_projection, rises,
 };
-pub use record_batch::{is_projection, read_record_batch};
+pub use record_batch::{is_projection, read_record_batch, read_record_batch_counted};
 
 /// What `ipc_format_reading::childless_reading` has, as far as packages above use it.
 pub mod childless_reading {

@@ -1,7 +1,7 @@
 //! Record batches.
-ghost use Rattle.std.specs.Prelude.{◌≡◌, IfOk, false, length, map, true};
+ghost use Rattle.std.specs.Prelude.{◌≡◌, ◌+◌, ◌≤◌, IfOk, false, length, map, true};
 ghost use Rattle.std.specs.Option.{option_copied};
-ghost use Rattle.ipc_format_reading.specs.Below.{no_own_ids, type_of};
+ghost use Rattle.ipc_format_reading.specs.Below.{buffers_below, no_own_ids, type_of};
 ghost use Rattle.ipc_format_reading.specs.childless_reading.ReadArrays.{at_front, standing_in};
 ghost use Rattle.ipc_format_reading.specs.Rooms.{ReadsAs};
 ghost use Rattle.ipc_format_reading.specs.columns.StoredColumns.{column_type, slots};
@@ -13,13 +13,15 @@ ghost use Rattle.ipc_format_reading.specs.metadata.Views.{ids_views};
 ghost use Rattle.ipc_format_reading.specs.childless_reading.array_reading.column_writing.column_reading.column_bytes.streams.Queues.{is_compressed};
 ghost use Rattle.ipc_format_batch_reading.specs.BatchReads.{IsProjection, asked_arrays, asked_fields, chosen_arrays, chosen_record_arrays, rise_below};
 ghost use Rattle.ipc_format_batch_reading.specs.BatchReads.{MakesBatch, entry_in, placed_arrays, record_arrays, sized};
+ghost use Rattle.ipc_format_batch_reading.specs.BufferCounts.{AreStated, CountsTaken, stated_buffers};
 
+use crate::counted::{read_children_counted, read_counted};
 use crate::passing::pass_fields;
-use ipc_format_reading::columnar_memory::{Error, Field, Result};
+use ipc_format_reading::columnar_memory::{Error, Field, Result, Steps};
 use ipc_format_reading::nested_arrays::AnyArray;
 use ipc_format_reading::{
     Buffer, Chunk, Dictionaries, FieldNode, IpcField, IpcSchema, MetadataVersion, RecordBatchRef,
-    Room, batch_queues, read, read_children,
+    Room, batch_queues,
 };
 use std::alloc::Global;
 use std::collections::VecDeque;
@@ -53,13 +55,16 @@ fn read_chunk<R: Room>(
     limit: Option<usize>,
     version: MetadataVersion,
     scratch: &mut Vec<u8>,
+    steps: &mut Steps,
 ) -> Result<Chunk<AnyArray>>
     ensures read { ReadsAs false (R.told reader.old) (R.told reader.new) (map slots)
         (λ room. placed_arrays fields.now (ids_views ipc_schema.now.fields) (at_front field_nodes.old.items buffers.old.items (version_view version)
         ipc_schema.now.is_little_endian (standing_in dictionaries.now) limit block_offset no_own_ids room)) result }
     ensures types { IfOk result (λ chunk. map column_type chunk ≡ map type_of fields.now) }
+    ensures counted { CountsTaken (buffers_below (version_view version) fields.now) (length buffers.old.items) steps.old.count steps.new.count
+        result }
 {
-    let arrays = read_children(
+    let arrays = read_children_counted(
         alloc,
         field_nodes,
         fields,
@@ -72,6 +77,7 @@ fn read_chunk<R: Room>(
         limit,
         version,
         scratch,
+        steps,
     )?;
     chunk_of(arrays)
 }
@@ -92,6 +98,7 @@ fn read_columns<R: Room>(
     block_offset: u64,
     file_size: u64,
     scratch: &mut Vec<u8>,
+    steps: &mut Steps,
 ) -> Result<Chunk<AnyArray>>
     ensures read { ReadsAs (is_compressed batch.now.table.bytes.now (table_of batch.now.table.place))
         (sized file_size (R.told reader.old)) (sized file_size (R.told reader.new)) (map slots)
@@ -103,6 +110,10 @@ fn read_columns<R: Room>(
         (entry_in batch.now.table.bytes.now (record_batch (table_of batch.now.table.place)) (version_view version) block_offset room)
         (table_of batch.now.table.place)) result }
     ensures types { IfOk result (λ chunk. map column_type chunk ≡ map type_of fields.now) }
+    ensures stated { AreStated file_size (stated_buffers batch.now.table.bytes.now (table_of batch.now.table.place)) steps.old.count
+        steps.new.count }
+    ensures counted { IfOk result (λ _. steps.new.count ≡ steps.old.count + buffers_below (version_view version)
+        fields.now) }
 {
     let mut queues = batch_queues(alloc, batch, file_size)?;
     read_chunk(
@@ -117,6 +128,7 @@ fn read_columns<R: Room>(
         limit,
         version,
         scratch,
+        steps,
     )
 }
 
@@ -137,6 +149,7 @@ fn read_choice<R: Room>(
     block_offset: u64,
     file_size: u64,
     scratch: &mut Vec<u8>,
+    steps: &mut Steps,
 ) -> Result<Chunk<AnyArray>>
     requires { rise_below (length fields.now) columns.now ≡ true }
     ensures read { ReadsAs (is_compressed batch.now.table.bytes.now (table_of batch.now.table.place))
@@ -149,6 +162,10 @@ fn read_choice<R: Room>(
         (entry_in batch.now.table.bytes.now (record_batch (table_of batch.now.table.place)) (version_view version) block_offset room)
         (table_of batch.now.table.place)) result }
     ensures types { IfOk result (λ chunk. map column_type chunk ≡ map type_of (chosen columns.now fields.now)) }
+    ensures stated { AreStated file_size (stated_buffers batch.now.table.bytes.now (table_of batch.now.table.place)) steps.old.count
+        steps.new.count }
+    ensures counted { IfOk result (λ _. steps.new.count ≡ steps.old.count + buffers_below (version_view version)
+        (chosen columns.now fields.now)) }
 {
     let mut queues = batch_queues(alloc, batch, file_size)?;
     let arrays = read_chosen(
@@ -165,6 +182,7 @@ fn read_choice<R: Room>(
         limit,
         version,
         scratch,
+        steps,
     )?;
     chunk_of(arrays)
 }
@@ -188,6 +206,7 @@ fn read_chosen<R: Room>(
     limit: Option<usize>,
     version: MetadataVersion,
     scratch: &mut Vec<u8>,
+    steps: &mut Steps,
 ) -> Result<Vec<AnyArray>>
     requires { rise_below (length fields.now) columns.now ≡ true }
     ensures read { ReadsAs false (R.told reader.old) (R.told reader.new) (λ arrays. map slots arrays.items)
@@ -198,6 +217,8 @@ fn read_chosen<R: Room>(
         }) (standing_in dictionaries.now) (at_front field_nodes.old.items buffers.old.items (version_view version) is_little_endian
         (standing_in dictionaries.now) limit block_offset no_own_ids room).source limit columns.now) result }
     ensures types { IfOk result (λ arrays. map column_type arrays.items ≡ map type_of (chosen columns.now fields.now)) }
+    ensures counted { CountsTaken (buffers_below (version_view version) (chosen columns.now fields.now)) (length buffers.old.items) steps.old.count
+        steps.new.count result }
 {
     let mut arrays = Vec::new(alloc);
     let mut behind = 0;
@@ -207,7 +228,7 @@ fn read_chosen<R: Room>(
         if column >= ipc_fields.len() {
             return Err(Error::OutOfSpec("a field without dictionary ids beside it"));
         }
-        let array = read(
+        let array = read_counted(
             alloc,
             field_nodes,
             &fields[column],
@@ -217,10 +238,10 @@ fn read_chosen<R: Room>(
             dictionaries,
             block_offset,
             is_little_endian,
-            None,
             limit,
             version,
             scratch,
+            steps,
         )?;
         arrays.push(array)?;
         behind = column + 1;
@@ -265,6 +286,58 @@ pub fn read_record_batch<R: Room>(
         (table_of batch.now.table.place)) result }
     ensures types { IfOk result (λ chunk. map column_type chunk ≡ map type_of (asked_fields (option_copied projection.entry) fields.now)) }
 {
+    read_record_batch_counted(
+        alloc,
+        batch,
+        fields,
+        ipc_schema,
+        projection,
+        limit,
+        dictionaries,
+        version,
+        reader,
+        block_offset,
+        file_size,
+        scratch,
+        &mut Steps::new(),
+    )
+}
+
+/// As [`read_record_batch`]. Each buffer that is taken off for a column that is read is a step: where there is a batch these are as many as its
+/// columns have, and never more than the message states, whose metadata has sixteen bytes for each.
+///
+/// # Errors
+/// As [`read_record_batch`].
+pub fn read_record_batch_counted<R: Room>(
+    alloc: Global,
+    batch: &RecordBatchRef<'_>,
+    fields: &[Field],
+    ipc_schema: &IpcSchema,
+    projection: Option<&[usize]>,
+    limit: Option<usize>,
+    dictionaries: &Dictionaries,
+    version: MetadataVersion,
+    reader: &mut R,
+    block_offset: u64,
+    file_size: u64,
+    scratch: &mut Vec<u8>,
+    steps: &mut Steps,
+) -> Result<Chunk<AnyArray>>
+    requires { IsProjection (length fields.now) (option_copied projection) }
+    ensures read { ReadsAs (is_compressed batch.now.table.bytes.now (table_of batch.now.table.place))
+        (sized file_size (R.told reader.old)) (sized file_size (R.told reader.new)) (map slots)
+        (λ room. asked_arrays (option_copied projection.entry)
+        (record { fields = fields.now; below = ids_views ipc_schema.now.fields; is_little_endian = ipc_schema.now.is_little_endian })
+        (standing_in dictionaries.now) limit
+        (entry_in batch.now.table.bytes.now (record_batch (table_of batch.now.table.place)) (version_view version) block_offset room)
+        (table_of batch.now.table.place)) result }
+    ensures types { IfOk result (λ chunk. map column_type chunk ≡ map type_of (asked_fields (option_copied projection.entry) fields.now)) }
+    ensures stated { AreStated file_size (stated_buffers batch.now.table.bytes.now (table_of batch.now.table.place)) steps.old.count
+        steps.new.count }
+    ensures most { steps.new.count ≤ steps.old.count + length batch.now.table.bytes.now }
+    ensures counted { IfOk result (λ _. steps.new.count ≡ steps.old.count + buffers_below (version_view version)
+        (asked_fields (option_copied projection.entry) fields.now)) }
+{
     match projection {
         None => read_columns(
             alloc,
@@ -278,6 +351,7 @@ pub fn read_record_batch<R: Room>(
             block_offset,
             file_size,
             scratch,
+            steps,
         ),
         Some(columns) => read_choice(
             alloc,
@@ -292,6 +366,7 @@ pub fn read_record_batch<R: Room>(
             block_offset,
             file_size,
             scratch,
+            steps,
         ),
     }
 }

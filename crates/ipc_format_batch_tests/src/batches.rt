@@ -1,10 +1,10 @@
 //! Messages that the tests read: their metadata, with nodes and buffers by their numbers.
-use ipc_format::columnar_memory::{Boxed, DataType, Error, Field, IntegerType, Items, Text};
+use ipc_format::columnar_memory::{Boxed, DataType, Error, Field, IntegerType, Items, Steps, Text};
 use ipc_format::messages::{Buffer, FieldNode, MessageHeaderRef, MetadataVersion, message_in};
 use ipc_format::nested_arrays::AnyArray;
 use ipc_format::{
     Chunk, Dictionaries, InMemory, IpcField, IpcSchema, dictionary_batch_to_bytes, is_projection,
-    read_dictionary, read_record_batch, record_batch_to_bytes,
+    read_dictionary, read_record_batch, read_record_batch_counted, record_batch_to_bytes,
 };
 use std::alloc::Global;
 
@@ -131,6 +131,39 @@ pub(crate) fn batch(
         0,
         body.len() as u64,
         &mut Vec::new(alloc),
+    )
+}
+
+/// The same by the call that counts.
+pub(crate) fn counted_batch(
+    alloc: Global,
+    fields: &[Field],
+    schema: &IpcSchema,
+    dictionaries: &Dictionaries,
+    lengths: &[(i64, i64)],
+    places: &[(i64, i64)],
+    body: &[u8],
+) -> Result<Chunk<AnyArray>, Error> {
+    let metadata = record_of(alloc, lengths, places, body)?;
+    let parts = message_in(metadata.as_slice()).ok_or(Error::OutOfSpec("no message"))?;
+    let MessageHeaderRef::RecordBatch(header) = parts.header else {
+        return Err(Error::OutOfSpec("no record batch"));
+    };
+    let mut room = InMemory { bytes: body };
+    read_record_batch_counted(
+        alloc,
+        &header,
+        fields,
+        schema,
+        None,
+        None,
+        dictionaries,
+        MetadataVersion::V5,
+        &mut room,
+        0,
+        body.len() as u64,
+        &mut Vec::new(alloc),
+        &mut Steps::new(),
     )
 }
 

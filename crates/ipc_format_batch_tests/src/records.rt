@@ -1,6 +1,6 @@
 //! Record batches.
 use crate::answers::{Short, told};
-use crate::batches::{batch, field, ids, one_field, one_id};
+use crate::batches::{batch, counted_batch, field, ids, one_field, one_id};
 use ipc_format::columnar_memory::{DataType, Error, Field, Items};
 use ipc_format::{Dictionaries, IpcSchema};
 use std::alloc::Global;
@@ -49,5 +49,38 @@ fn columns_of_one_length(rt: HostRuntime) -> Result<(), Fail> {
     ));
     assert_eq!(rt; sizes, (2, 1));
     assert_eq!(rt; refused, Short::OutOfSpec);
+    Ok(())
+}
+
+#[test]
+fn the_call_that_counts_answers_the_same(rt: HostRuntime) -> Result<(), Fail> {
+    let alloc = rt.alloc();
+    let (fields, schema) = two_numbers(alloc)?;
+    let none = Dictionaries::new(alloc);
+    let lengths = &[(1, 0), (1, 0)];
+    let places = &[(0, 0), (0, 4), (0, 0), (4, 1)];
+    let body = [0, 0, 0, 7, 9];
+    let plain = batch(
+        alloc,
+        fields.as_slice(),
+        &schema,
+        &none,
+        lengths,
+        places,
+        &body,
+    )?;
+    let counted = counted_batch(
+        alloc,
+        fields.as_slice(),
+        &schema,
+        &none,
+        lengths,
+        places,
+        &body,
+    )?;
+    let is_same = counted == plain;
+    drop(counted);
+    drop(plain);
+    assert!(rt; is_same);
     Ok(())
 }

@@ -10,7 +10,6 @@ mod numbers;
 
 pub use childless::read_childless;
 pub use dictionaries::Dictionaries;
-pub use ipc_format_array_reading::chunks::Chunk;
 pub use ipc_format_array_reading::column_writing::column_reading::column_bytes::streams::owned::writing::{
     first_beside, normalised,
 };
@@ -27,7 +26,8 @@ pub use ipc_format_array_reading::messages::{
 };
 pub use ipc_format_array_reading::metadata::{IpcField, IpcSchema};
 pub use ipc_format_array_reading::{
-    InMemory, Room, array_of, begin, columnar_memory, has_children, limit_below, nested_arrays,
+    Chunk, InMemory, Room, array_of, begin, columnar_memory, has_children, limit_below,
+    nested_arrays,
 };
 pub use keyed::read_dictionary;
 
@@ -42,8 +42,8 @@ pub mod array_reading {
         /// Of `column_reading`.
         pub mod column_reading {
             pub use ipc_format_array_reading::column_writing::column_reading::{
-                read_binary, read_bitmap, read_boolean, read_buffer, read_primitive, read_utf8,
-                read_validity, skip, skip_binary, skip_boolean, skip_dictionary,
+                read_binary, read_bitmap, read_boolean, read_buffer, read_bytes, read_primitive,
+                read_utf8, read_validity, skip, skip_binary, skip_boolean, skip_dictionary,
                 skip_fixed_size_binary, skip_fixed_size_list, skip_list, skip_map, skip_null,
                 skip_primitive, skip_struct, skip_union, skip_utf8,
             };

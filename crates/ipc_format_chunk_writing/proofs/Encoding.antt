@@ -27,7 +27,7 @@ use Rattle.ipc_format_batch_reading.specs.streams.declared.EncodedData.{EncodedD
 use Rattle.ipc_format_chunk_writing.specs.EncodedChunks.{message_in, messages_in}
 use Rattle.ipc_format_chunk_writing.specs.Found.{given_in}
 use Rattle.ipc_format_chunk_writing.specs.declared.found.Found.{Found}
-use Rattle.ipc_format_batch_reading.specs.chunks.Chunks.{rows_of}
+use Rattle.ipc_format_batch_reading.specs.Chunks.{rows_of}
 use Rattle.ipc_format_chunk_writing.specs.Telling.{IsNotTold, IsToldAll, TellsAll}
 use Rattle.ipc_format_chunk_writing.specs.Tracking.{Tells, form_by, given_of, told_by}
 

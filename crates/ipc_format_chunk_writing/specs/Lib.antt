@@ -13,9 +13,10 @@ pub use Rattle.ipc_format_batch_reading.specs.grammar
 pub use Rattle.ipc_format_batch_reading.specs.messages
 pub use Rattle.ipc_format_batch_reading.specs.metadata
 pub use Rattle.ipc_format_batch_reading.specs.nested_arrays
-pub use Rattle.ipc_format_batch_reading.specs.chunks
+pub use Rattle.ipc_format_batch_reading.specs.Chunks
 pub use Rattle.ipc_format_batch_reading.specs.Placing
 pub use Rattle.ipc_format_batch_reading.specs.BatchReads
+pub use Rattle.ipc_format_batch_reading.specs.BufferCounts
 pub use Rattle.ipc_format_batch_reading.specs.Projections
 pub use Rattle.ipc_format_batch_reading.specs.DictionaryReads
 pub use Rattle.ipc_format_batch_reading.specs.Readable

@@ -1,8 +1,11 @@
 //! Single buffers, from bytes in memory.
 use crate::cases::{buffers, node};
-use columnar_memory::Error;
-use ipc_format_column_reading::messages::{BodyCompressionRef, TableRef};
-use ipc_format_column_reading::{InMemory, read_bitmap, read_buffer, read_bytes, read_validity};
+use ipc_format_reading::childless_reading::array_reading::column_writing::column_reading::{
+    read_bitmap, read_buffer, read_bytes, read_validity,
+};
+use ipc_format_reading::columnar_memory::Error;
+use ipc_format_reading::streams::messages::TableRef;
+use ipc_format_reading::{BodyCompressionRef, InMemory};
 use std::test::*;
 
 #[test]

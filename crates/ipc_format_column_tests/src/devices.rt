@@ -1,8 +1,9 @@
 //! Buffers that are read from devices.
 use crate::cases::buffers;
-use columnar_memory::{Buffer, Error};
-use ipc_format_column_reading::column_bytes::streams::{Counting, Faults};
-use ipc_format_column_reading::{Room, read_buffer};
+use ipc_format_reading::Room;
+use ipc_format_reading::childless_reading::array_reading::column_writing::column_reading::read_buffer;
+use ipc_format_reading::columnar_memory::{Buffer, Error};
+use ipc_format_reading::streams::{Counting, Faults};
 use std::alloc::Global;
 use std::io;
 use std::io::{Cursor, ErrorKind, Read, Seek, SeekFrom};

@@ -1,8 +1,11 @@
 //! Columns of numbers, booleans, byte strings and texts, from bytes in memory.
 use crate::cases::{buffers, nodes};
-use columnar_memory::{DataType, Error, IntervalUnit, days_ms};
-use flat_arrays::{BinaryArray, Utf8Array};
-use ipc_format_column_reading::{InMemory, read_binary, read_boolean, read_primitive, read_utf8};
+use ipc_format_reading::InMemory;
+use ipc_format_reading::childless_reading::array_reading::column_writing::column_reading::{
+    read_binary, read_boolean, read_primitive, read_utf8,
+};
+use ipc_format_reading::columnar_memory::{DataType, Error, IntervalUnit, days_ms};
+use ipc_format_reading::nested_arrays::flat_arrays::{BinaryArray, Utf8Array};
 use std::alloc::Global;
 use std::test::*;
 

@@ -1,8 +1,8 @@
+pub mod Chunks
 pub mod Parts
 pub mod Written
 pub use Rattle.ipc_format_column_reading.specs as column_reading
-pub use Rattle.ipc_format_chunks.specs as chunks
-pub use Rattle.ipc_format_chunks.specs.nested_arrays
+pub use Rattle.nested_arrays.specs as nested_arrays
 pub use Rattle.ipc_format_column_reading.specs.columnar_memory
 pub use Rattle.ipc_format_column_reading.specs.flatbuffers
 pub use Rattle.ipc_format_column_reading.specs.columns

@@ -1,7 +1,7 @@
 //! Columns of arrays of any type, as they are written.
 ghost use Rattle.std.specs.Prelude.{◌+◌, ◌≤◌};
-ghost use Rattle.ipc_format_chunks.specs.nested_arrays.AnyColumns.{column_of, IsWhole};
-ghost use Rattle.ipc_format_chunks.specs.nested_arrays.StoredColumns.{column_len, in_columns};
+ghost use Rattle.nested_arrays.specs.AnyColumns.{column_of, IsWhole};
+ghost use Rattle.nested_arrays.specs.StoredColumns.{column_len, in_columns};
 ghost use Rattle.ipc_format_column_reading.specs.column_bytes.Bodies.{Adds, parts_of};
 ghost use Rattle.ipc_format_column_reading.specs.column_bytes.grammar.Encoding.{joined};
 ghost use Rattle.ipc_format_column_reading.specs.column_bytes.grammar.StoredEncoding.{encode_range};
@@ -10,9 +10,9 @@ ghost use Rattle.ipc_format_column_writing.specs.Parts.{HasPart, HaveParts, enco
 use crate::flats::{write_flat, write_numbers};
 use crate::own::{begin_fixed_lists, begin_lists, begin_maps, begin_structs, begin_unions};
 use crate::parts::Part;
-use ipc_format_chunks::nested_arrays::{AnyArray, DictionaryNode, Node};
 use ipc_format_column_reading::column_bytes::Body;
 use ipc_format_column_reading::column_bytes::columnar_memory::Result;
+use nested_arrays::{AnyArray, DictionaryNode, Node};
 
 /// Adds the `count` slots from slot `first` on of a dictionary: the keys alone, whose mask it has.
 fn write_keys(

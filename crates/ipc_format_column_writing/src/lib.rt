@@ -1,20 +1,22 @@
-//! Columns as they are written into record batches (Arrow IPC, "RecordBatch message"), from arrays of any type.
+//! Chunks, which are arrays of one length, and columns as they are written into record batches (Arrow IPC, "RecordBatch message"), from arrays of
+//! any type.
 #![tactic(auto)]
 
+mod chunk;
+mod clones;
 mod columns;
+mod equality;
 mod flats;
 mod own;
 mod parts;
 mod serialize;
+mod walks;
 
-pub use ipc_format_chunks::nested_arrays;
+pub use chunk::Chunk;
+pub use clones::CloneArray;
 pub use ipc_format_column_reading::columnar_memory;
+pub use nested_arrays;
 pub use serialize::{Compression, write, write_struct, write_union};
-
-/// What `ipc_format_chunks` has, as far as packages above use it.
-pub mod chunks {
-    pub use ipc_format_chunks::{Chunk, nested_arrays};
-}
 
 /// What `ipc_format_column_reading` has, as far as packages above use it.
 pub mod column_reading {

@@ -8,10 +8,10 @@ ghost use Rattle.ipc_format_column_writing.specs.Written.{Writes};
 use crate::columns::{write_children, write_range};
 use crate::own::add_union_buffers;
 use crate::parts::Part;
-use ipc_format_chunks::nested_arrays::{AnyArray, StructArray, UnionArray};
 use ipc_format_column_reading::column_bytes::columnar_memory::{Error, Result};
 use ipc_format_column_reading::column_bytes::messages::{Buffer, FieldNode};
 use ipc_format_column_reading::column_bytes::{Body, Lengths};
+use nested_arrays::{AnyArray, StructArray, UnionArray};
 
 /// How the buffers of a body are compressed (Arrow IPC, "Compression").
 #[derive(Clone, Copy, PartialEq, Eq, Hash, Debug)]

@@ -13,7 +13,7 @@ use Rattle.ipc_format_chunk_writing.specs.Projections.{ChoicesArePutBack}
 use Rattle.ipc_format_chunk_writing.specs.Readable.{HasArrays}
 use Rattle.ipc_format_chunk_writing.specs.Rooms.{ForBytes, Stays, Told}
 use Rattle.ipc_format_chunk_writing.specs.Standing.{ByLookUps, StandAlike}
-use Rattle.ipc_format_chunk_writing.specs.chunks.Chunks.{rows_of}
+use Rattle.ipc_format_chunk_writing.specs.Chunks.{rows_of}
 use Rattle.ipc_format_chunk_writing.specs.columnar_memory.Error.{IsOutOfMemory}
 use Rattle.ipc_format_chunk_writing.specs.columnar_memory.declared.Error.{Error}
 use Rattle.ipc_format_chunk_writing.specs.columnar_memory.declared.Error.TheVariants as errors

@@ -5,7 +5,7 @@ use Rattle.std.specs.BTreeMap.{BTreeMap}
 use Rattle.std.specs.declared.alloc.Global.{Global}
 use Rattle.std.specs.declared.vec.Vec.{Vec}
 use Rattle.ipc_format_chunk_writing.specs.BatchReads.{entry_in}
-use Rattle.ipc_format_chunk_writing.specs.chunks.Chunks.{AreAsLong}
+use Rattle.ipc_format_chunk_writing.specs.Chunks.{AreAsLong}
 use Rattle.ipc_format_chunk_writing.specs.ReadArrays.{standing_in}
 use Rattle.ipc_format_chunk_writing.specs.Standing.{StandAlike}
 use Rattle.ipc_format_chunk_writing.specs.columnar_memory.declared.DataType.{DataType}

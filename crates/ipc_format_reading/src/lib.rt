@@ -35,10 +35,10 @@ pub mod childless_reading {
             /// Of `column_reading`.
             pub mod column_reading {
                 pub use ipc_format_childless_reading::array_reading::column_writing::column_reading::{
-                    read_binary, read_bitmap, read_boolean, read_buffer, read_primitive, read_utf8,
-                    read_validity, skip, skip_binary, skip_boolean, skip_dictionary,
-                    skip_fixed_size_binary, skip_fixed_size_list, skip_list, skip_map, skip_null,
-                    skip_primitive, skip_struct, skip_union, skip_utf8,
+                    read_binary, read_bitmap, read_boolean, read_buffer, read_bytes,
+                    read_primitive, read_utf8, read_validity, skip, skip_binary, skip_boolean,
+                    skip_dictionary, skip_fixed_size_binary, skip_fixed_size_list, skip_list,
+                    skip_map, skip_null, skip_primitive, skip_struct, skip_union, skip_utf8,
                 };
 
                 /// Of `column_bytes`.

@@ -5,7 +5,7 @@ use Rattle.std.specs.List.{list_all}
 use Rattle.std.proofs.lemmas.Bool.{and_from, and_parts, eq-eqb}
 use Rattle.ipc_format_readers.specs.chunk_writing.EncodedChunks.{Encodes, IsBarred, IsEncoded, is_batch_within}
 use Rattle.ipc_format_readers.specs.chunk_writing.Tracking.{Tells, form_by, told_by}
-use Rattle.ipc_format_readers.specs.chunk_writing.chunks.Chunks.{AreAsLong, HaveLength, rows_of}
+use Rattle.ipc_format_readers.specs.chunk_writing.Chunks.{AreAsLong, HaveLength, rows_of}
 use Rattle.ipc_format_readers.specs.chunk_writing.columnar_memory.declared.Error.{Error}
 use Rattle.ipc_format_readers.specs.chunk_writing.columnar_memory.declared.Error.TheVariants as errors
 use Rattle.ipc_format_readers.specs.chunk_writing.columnar_memory.declared.Schema.{Schema}

@@ -41,8 +41,8 @@ pub mod reader {
             encode_batch, encode_chunk, encode_chunk_amortized, have_one_form, is_choice,
             is_projection, look_ups_are_enough, nested_arrays, prepare_projection, read,
             read_children, read_dictionary, read_fixed_size_list, read_large_list, read_list,
-            read_map, read_record_batch, read_struct, read_union, rises, schemas_have_arrays,
-            write,
+            read_map, read_record_batch, read_record_batch_counted, read_struct, read_union, rises,
+            schemas_have_arrays, write,
         };
     }
 

@@ -1,5 +1,5 @@
-//! Tests of the packages of the metadata's values, and of files that are written and read: worked values, each call once. They stand here
-//! since a crate with tests is proved twice.
+//! Tests of the packages of the metadata's values, and of files that are written and read: worked values, each call once; and the definitions of
+//! the format, computed on small values. They stand here since a crate with tests is proved twice.
 #![tactic(auto)]
 
 #[cfg(test)]
@@ -20,6 +20,8 @@ mod samples;
 mod schemas;
 #[cfg(test)]
 mod taken;
+#[cfg(test)]
+mod worked;
 
 pub use calling::message_of;
 pub use calling_owned::whole_field;

@@ -1,5 +1,6 @@
 pub mod FrozenKeys
 pub mod Layouts
+pub mod OpenColumns
 pub mod Taken
 pub use Rattle.nested_arrays_builders.specs as builders
 pub use Rattle.nested_arrays_builders.specs.arrays

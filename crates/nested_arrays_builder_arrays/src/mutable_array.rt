@@ -1,10 +1,11 @@
 //! The trait of builders.
-ghost use Rattle.std.specs.Prelude.{◌≡◌, ◌<◌, ◌≤◌, ◌↔◌, length, not, option_copied, slice_index_or, IfErr, IsTrue};
+ghost use Rattle.std.specs.Prelude.{◌≡◌, ◌<◌, ◌≤◌, ◌↔◌, not, option_copied, IfErr, IsTrue};
 ghost use Rattle.nested_arrays_builders.specs.arrays.flat.ColumnMasks.{column_mask};
 ghost use Rattle.nested_arrays_builders.specs.columnar_memory.Error.{IsOutOfMemory};
-ghost use Rattle.nested_arrays_builders.specs.columns.Cells.{is_null};
-ghost use Rattle.nested_arrays_builders.specs.columns.Slots.{null};
-ghost use Rattle.nested_arrays_builders.specs.parts.Open.{column_of, first_slots, IsPushed, Open};
+ghost use Rattle.nested_arrays_builders.specs.columns.StoredColumns.{Column, column_len, column_type};
+ghost use Rattle.nested_arrays_builders.specs.nulls.access.Nulls.{is_null_at};
+ghost use Rattle.nested_arrays_builders.specs.parts.Open.{column_of};
+ghost use Rattle.nested_arrays_builder_arrays.specs.OpenColumns.{AddsNull, KeepsFirst, TakesColumn};
 ghost use Rattle.nested_arrays_builder_arrays.specs.Taken.{IsTaken};
 
 use crate::taken::{as_arc, as_array};
@@ -14,41 +15,44 @@ use nested_arrays_builders::columnar_memory::{DataType, MutableBitmap, Result};
 use std::alloc::Global;
 use std::rc::Rc;
 
-/// A builder of any type, of which a contract sees the open column: the data type, and the slots that were pushed.
+/// A builder of any type, of which a contract sees the column that it would be frozen to. Between calls that column may be unsound, as that of
+/// lists whose items were lent for writing and are not as many as the offsets say; no array is made of it then.
 ///
-/// A call that is refused changes nothing, but for `as_box` and `as_arc`, which leave an empty builder in any case.
+/// A call that is refused changes no slot, but for `as_box` and `as_arc`, which leave an empty builder in any case.
 pub trait MutableArray: Drop + Sized {
-    ghost open_column: { Self → Open };
+    ghost column: { Self → Column };
 
     /// How many slots there are.
     fn len(&self) -> usize
-        ensures { result ≡ length (open_column self.now).slots };
+        ensures { result ≡ column_len (column self.now) };
 
     fn data_type(&self) -> &DataType
-        ensures { result.now ≡ (open_column self.now).data_type };
+        ensures { result.now ≡ column_type (column self.now) };
 
-    /// The mask, which is there exactly where a slot is null; of nulls alone there is none.
+    /// The mask, where there is one: a bit is set where its slot is not null.
     fn validity(&self) -> Option<&MutableBitmap>
-        ensures { option_copied result ≡ column_mask (column_of (open_column self.now)) };
+        ensures { option_copied result ≡ column_mask (column self.now) };
 
-    /// Whether the slot at a place has a value.
+    /// Whether the slot at a place has a value: none has of nulls alone, and else the mask says it.
     fn is_valid(&self, i: usize) -> bool
-        requires { i < length (open_column self.now).slots }
-        ensures { result ≡ not (is_null (slice_index_or (open_column self.now).slots i null)) };
+        requires { i < column_len (column self.now) }
+        ensures { result ≡ not (is_null_at (column self.now) i) };
 
     /// The array of the slots; this is left empty, as a new builder of its data type.
     ///
     /// # Errors
-    /// `OutOfMemory`: the new builder or the array found no memory; this is left empty too.
+    /// `OutOfMemory`: the array, or what is left, found no memory.
+    /// `OutOfSpec`: the column is not sound. In either case this is left empty too.
     fn as_box(&mut self, alloc: Global) -> Result<AnyArray>
-        ensures { IsTaken (open_column self.old) (open_column self.new) (λ array. array) result };
+        ensures { TakesColumn (column self.old) (column self.new) (λ array. array) result };
 
     /// The array of the slots behind a count of owners; this is left empty, as a new builder of its data type.
     ///
     /// # Errors
-    /// `OutOfMemory`: the new builder, the array or the count found no memory; this is left empty too.
+    /// `OutOfMemory`: the array, the count, or what is left, found no memory.
+    /// `OutOfSpec`: the column is not sound. In either case this is left empty too.
     fn as_arc(&mut self, alloc: Global) -> Result<Rc<AnyArray>>
-        ensures { IsTaken (open_column self.old) (open_column self.new) (λ counted. counted.value) result };
+        ensures { TakesColumn (column self.old) (column self.new) (λ counted. counted.value) result };
 
     /// Pushes a null.
     ///
@@ -56,36 +60,37 @@ pub trait MutableArray: Drop + Sized {
     /// `Overflow`: the slots with this one are more than a column may have, at some depth.
     /// `OutOfMemory`: the slot found no memory.
     fn push_null(&mut self) -> Result<()>
-        ensures { IsPushed (open_column self.old) null (open_column self.new) result };
+        ensures { AddsNull (column self.old) (column self.new) result };
 
     /// Makes room for some more slots: marks, offsets and values, but for items of lists of any length.
     ///
     /// # Errors
     /// `OutOfMemory`: the room found no memory.
     fn reserve(&mut self, additional: usize) -> Result<()>
-        ensures same { open_column self.new ≡ open_column self.old }
+        ensures same { column self.new ≡ column self.old }
         ensures error { IfErr result IsOutOfMemory };
 
     /// Gives back memory that no slot needs, as far as the allocator takes it.
     fn shrink_to_fit(&mut self)
-        ensures { open_column self.new ≡ open_column self.old };
+        ensures { column self.new ≡ column self.old };
 
     /// Keeps the first `len` slots alone.
     fn truncate(&mut self, len: usize)
-        requires { len ≤ length (open_column self.old).slots }
-        ensures { open_column self.new ≡ first_slots (open_column self.old) len };
+        requires { len ≤ column_len (column self.old) }
+        ensures { KeepsFirst (column self.old) len (column self.new) };
 
     fn is_empty(&self) -> bool
-        ensures { IsTrue result ↔ (length (open_column self.now).slots ≡ 0) }
+        ensures { IsTrue result ↔ (column_len (column self.now) ≡ 0) }
     {
         self.len() == 0
     }
 }
 
 impl MutableArray for AnyMutableArray {
-    ghost open_column = { λ builder. builder };
+    ghost column = { column_of };
 
     fn len(&self) -> usize {
+        self.whole();
         AnyMutableArray::len(self)
     }
 
@@ -98,18 +103,28 @@ impl MutableArray for AnyMutableArray {
     }
 
     fn is_valid(&self, i: usize) -> bool {
+        self.whole();
         AnyMutableArray::is_valid(self, i)
     }
 
-    fn as_box(&mut self, alloc: Global) -> Result<AnyArray> {
+    fn as_box(&mut self, alloc: Global) -> Result<AnyArray>
+        ensures taken { IsTaken self.old self.new (λ array. array) result }
+        ensures column { TakesColumn (column_of self.old) (column_of self.new) (λ array. array) result }
+    {
+        self.whole();
         as_array(self, alloc)
     }
 
-    fn as_arc(&mut self, alloc: Global) -> Result<Rc<AnyArray>> {
+    fn as_arc(&mut self, alloc: Global) -> Result<Rc<AnyArray>>
+        ensures taken { IsTaken self.old self.new (λ counted. counted.value) result }
+        ensures column { TakesColumn (column_of self.old) (column_of self.new) (λ counted. counted.value) result }
+    {
+        self.whole();
         as_arc(self, alloc)
     }
 
     fn push_null(&mut self) -> Result<()> {
+        self.whole();
         AnyMutableArray::push_null(self)
     }
 
@@ -122,6 +137,7 @@ impl MutableArray for AnyMutableArray {
     }
 
     fn truncate(&mut self, len: usize) {
+        self.whole();
         AnyMutableArray::truncate(self, len);
     }
 }

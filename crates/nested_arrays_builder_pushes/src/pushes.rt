@@ -2,7 +2,7 @@
 ghost use Rattle.std.specs.Prelude.{◌<◌};
 ghost use Rattle.nested_arrays_builder_cells.specs.ArrayCells.{has_cell_at};
 ghost use Rattle.nested_arrays_builder_cells.specs.arrays.columns.StoredColumns.{column_len, slot_at};
-ghost use Rattle.nested_arrays_builder_cells.specs.parts.Open.{IsPushed};
+ghost use Rattle.nested_arrays_builder_cells.specs.parts.Open.{IsPushed, Open};
 ghost use Rattle.nested_arrays_builder_cells.specs.parts.Scalars.{scalar_slot};
 ghost use Rattle.nested_arrays_builder_pushes.specs.Pushes.{IsPushedIf};
 
@@ -14,8 +14,11 @@ use nested_arrays_builder_cells::taken::MutableArray;
 use nested_arrays_scalars::AnyScalar;
 use std::alloc::Global;
 
-/// Builders that take slots of arrays. A push that is refused changes nothing.
+/// Builders that take slots of arrays, of which a contract sees the open column: the data type, and the slots that were pushed. A push that is
+/// refused changes nothing.
 pub trait TryPushFrom: MutableArray {
+    ghost open_column: { Self → Open };
+
     /// Pushes the cell of the slot at a place of an array.
     ///
     /// # Errors
@@ -25,11 +28,13 @@ pub trait TryPushFrom: MutableArray {
     /// - `OutOfMemory`: the cell or the slot found no memory.
     fn try_push_from(&mut self, alloc: Global, array: &AnyArray, place: usize) -> Result<()>
         requires { place < column_len array.now }
-        ensures { IsPushedIf (has_cell_at place array.now) (Self.open_column self.old) (slot_at array.now place) (Self.open_column self.new)
+        ensures { IsPushedIf (has_cell_at place array.now) (open_column self.old) (slot_at array.now place) (open_column self.new)
             result };
 }
 
 impl TryPushFrom for AnyMutableArray {
+    ghost open_column = { λ builder. builder };
+
     fn try_push_from(&mut self, alloc: Global, array: &AnyArray, place: usize) -> Result<()> {
         match cell_at(alloc, array, place)? {
             Some(cell) => push_cell(self, cell),

@@ -6,8 +6,12 @@ mod begun;
 #[cfg(test)]
 mod dictionaries;
 #[cfg(test)]
+mod generic_lists;
+#[cfg(test)]
 mod lists;
 #[cfg(test)]
 mod marks;
+#[cfg(test)]
+mod sized_strings;
 #[cfg(test)]
 mod strings;

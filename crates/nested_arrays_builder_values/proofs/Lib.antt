@@ -1,4 +1,5 @@
 pub mod CellLayers
+pub mod LinkedHashes
 pub mod Looked
 pub mod Needs
 pub mod Totals

@@ -3,7 +3,7 @@ use Rattle.std.proofs.Common.{inl, inr, ◌≡◌, ◌∙◌, ℕ, zero, suc, �
 use Rattle.std.specs.Prelude.{◌⊎◌, ◌≢◌, Option, Some, None}
 use Rattle.std.proofs.lemmas.Bool.{false_from_ne_true}
 use Rattle.std.proofs.lemmas.List.{length-map}
-use Rattle.nested_arrays_places.specs.Newest.{IsNewest}
+use Rattle.nested_arrays_builder_values.specs.Newest.{IsNewest}
 use Rattle.nested_arrays_builder_parts.specs.arrays.columns.SameSlots.{same_slot}
 use Rattle.nested_arrays_builder_parts.specs.arrays.columns.Slots.{null}
 use Rattle.nested_arrays_builder_parts.proofs.arrays_lemmas.columns_lemmas.SameSlotsDecide.{same_slot-implies, same_slot-itself}

@@ -3,8 +3,10 @@
 #![tactic(auto)]
 
 mod cells;
+mod chains;
 mod hashes;
 mod keys;
+mod places;
 mod uses;
 mod values;
 

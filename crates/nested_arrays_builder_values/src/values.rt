@@ -6,7 +6,7 @@ ghost use Rattle.nested_arrays_builder_values.specs.Hashes.{cell_hash};
 
 use crate::cells::{copy_of_cell, same_cell};
 use crate::hashes::hash_of;
-use nested_arrays_places::Places;
+use crate::places::Places;
 use nested_arrays_scalars::AnyScalar;
 use std::alloc::{AllocError, Global};
 use std::marker::Model;

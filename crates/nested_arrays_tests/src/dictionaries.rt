@@ -1,6 +1,8 @@
-use columnar_memory::{Bitmap, Boxed, Buffer, DataType, Error, IntegerType};
-use nested_arrays::flat_arrays::{PrimitiveArray, Utf8Array};
-use nested_arrays::{AnyArray, DictionaryArray, FlatArray};
+use nested_arrays_nulls::arrays::AnyArray;
+use nested_arrays_nulls::columnar_memory::{Bitmap, Boxed, Buffer, DataType, Error, IntegerType};
+use nested_arrays_nulls::flat_arrays::{PrimitiveArray, Utf8Array};
+use nested_arrays_nulls::generic::DictionaryArray;
+use nested_arrays_nulls::parts::FlatArray;
 use std::alloc::Global;
 use std::test::Fail;
 

@@ -1,5 +1,5 @@
-use columnar_memory::{Buffer, DataType, Error};
-use nested_arrays::{FixedSizeBinaryArray, NullArray};
+use nested_arrays_nulls::columnar_memory::{Buffer, DataType, Error};
+use nested_arrays_nulls::flat::{FixedSizeBinaryArray, NullArray};
 use std::alloc::{AllocError, Global};
 use std::test::Fail;
 

@@ -1,5 +1,5 @@
-use columnar_memory::{DataType, Error};
-use nested_arrays::FixedSizeBinaryArray;
+use nested_arrays_nulls::columnar_memory::{DataType, Error};
+use nested_arrays_nulls::flat::FixedSizeBinaryArray;
 use std::test::Fail;
 
 #[test]

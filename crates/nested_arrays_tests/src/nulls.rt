@@ -1,8 +1,10 @@
-use columnar_memory::{Boxed, DataType, Error, Field, IntegerType, Items, Text, UnionMode};
-use nested_arrays::{
-    Array, DictionaryArray, FixedSizeListArray, ListArray, MapArray, NullArrays, StructArray,
-    UnionArray, new_empty_array, new_null_array,
+use nested_arrays_nulls::access::Array;
+use nested_arrays_nulls::arrays::{FixedSizeListArray, MapArray, StructArray, UnionArray};
+use nested_arrays_nulls::columnar_memory::{
+    Boxed, DataType, Error, Field, IntegerType, Items, Text, UnionMode,
 };
+use nested_arrays_nulls::generic::{DictionaryArray, ListArray};
+use nested_arrays_nulls::{NullArrays, new_empty_array, new_null_array};
 use std::alloc::Global;
 use std::test::Fail;
 

@@ -1,6 +1,6 @@
-use columnar_memory::{Bitmap, Error};
-use nested_arrays::flat_arrays::PrimitiveArray;
-use nested_arrays::{AnyPrimitive, PrimitiveKind};
+use nested_arrays_nulls::columnar_memory::{Bitmap, Error};
+use nested_arrays_nulls::flat::{AnyPrimitive, PrimitiveKind};
+use nested_arrays_nulls::flat_arrays::PrimitiveArray;
 use std::alloc::{AllocError, Global};
 use std::test::Fail;
 

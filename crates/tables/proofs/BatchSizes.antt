@@ -2,7 +2,7 @@
 use Rattle.std.proofs.Common.{◌≡◌, ℕ, Bool, true, false, List, [], ◌∷◌, refl, sym, subst}
 use Rattle.std.specs.Prelude.{Option, Some, None, codes, if◌then◌else◌}
 use Rattle.std.specs.Str.{bytes_eq}
-use Rattle.tables_choices.specs.chunks.ipc_format.Seals.{is_batch_size}
+use Rattle.tables_rows.specs.chunks.ipc_format.Seals.{is_batch_size}
 use Rattle.tables.specs.Columns.{columns_in, limit_of, names_columns}
 use Rattle.tables.specs.Command.{Asked, Pick, Seal, command_of, cut_asked, cut_of, has_batch_size, join_of, pick_asked, pick_of, same_of}
 use Rattle.tables.specs.Command.{seal_asked, seal_of}

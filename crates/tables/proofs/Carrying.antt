@@ -3,9 +3,9 @@ use Rattle.std.proofs.Common.{◌≡◌, ◌⊎◌, inl, inr, ℕ, List, [], ◌
 use Rattle.std.specs.Prelude.{◌↔◌, IsTrue, Bool, true, false, Option, Some, None, Result, Ok, Err}
 use Rattle.std.proofs.lemmas.Bool.{false≢true}
 use Rattle.std.proofs.lemmas.List.{take_more, take-append-drop, at_drop_more}
-use Rattle.tables_choices.specs.chunks.ipc_format.columnar_memory.declared.Error.TheVariants as errors
-use Rattle.tables_choices.specs.chunks.declared.fault.Fault.TheVariants as faults
-use Rattle.tables_choices.specs.chunks.StoredTables.{Stored}
+use Rattle.tables_rows.specs.chunks.ipc_format.columnar_memory.declared.Error.TheVariants as errors
+use Rattle.tables_rows.specs.chunks.declared.fault.Fault.TheVariants as faults
+use Rattle.tables_rows.specs.chunks.StoredTables.{Stored}
 use Rattle.tables.specs.Command.{Asked, Cut, Join, Same, Seal, inputs_of}
 use Rattle.tables.specs.Contents.{Contents, Holds, Keeps, Sets}
 use Rattle.tables.specs.Inputs.{HoldsTable, HoldTables, IsInputFailure, IsReadFailure}

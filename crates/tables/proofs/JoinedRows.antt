@@ -8,14 +8,14 @@ use Rattle.std.proofs.lemmas.List.{map-append, take_more, take-append-drop, appe
 use Rattle.std.proofs.lemmas.List.Concat.{flat_map-append}
 use Rattle.std.proofs.lemmas.List.Elements.{All-get_or, All-more}
 use Rattle.std.proofs.lemmas.List.Sums.{sum_by-cons, sum_by_more_le}
-use Rattle.tables_choices.specs.chunks.ipc_format.columns.Slots.{Slot}
-use Rattle.tables_choices.specs.chunks.ipc_format.columns.StoredColumns.{Column, column_len, slot_at, slots}
-use Rattle.tables_choices.specs.chunks.ipc_format.columns.Tables.{batch_rows, row_at, rows_of_batches, rows_of_columns}
-use Rattle.tables_choices.proofs.chunk_lemmas.Windows.{length-window}
-use Rattle.tables_choices.specs.chunks.Batches.{batch_len, stored_rows}
-use Rattle.tables_choices.specs.chunks.StoredTables.{AddsBatch, Stored, row_count}
-use Rattle.tables_choices.specs.chunks.declared.fault.Fault.{Fault}
-use Rattle.tables_choices.specs.chunks.declared.fault.Fault.TheVariants as faults
+use Rattle.tables_rows.specs.chunks.ipc_format.columns.Slots.{Slot}
+use Rattle.tables_rows.specs.chunks.ipc_format.columns.StoredColumns.{Column, column_len, slot_at, slots}
+use Rattle.tables_rows.specs.chunks.ipc_format.columns.Tables.{batch_rows, row_at, rows_of_batches, rows_of_columns}
+use Rattle.tables_rows.proofs.chunk_lemmas.Windows.{length-window}
+use Rattle.tables_rows.specs.chunks.Batches.{batch_len, stored_rows}
+use Rattle.tables_rows.specs.chunks.StoredTables.{AddsBatch, Stored, row_count}
+use Rattle.tables_rows.specs.chunks.declared.fault.Fault.{Fault}
+use Rattle.tables_rows.specs.chunks.declared.fault.Fault.TheVariants as faults
 use Rattle.tables.specs.Made.{AddsBatches, HaveSchemaOf, MakesJoin, joined_all, rows_together}
 use Rattle.tables.specs.declared.program.Failure.{Failure}
 use Rattle.tables.specs.declared.program.Failure.TheVariants as failures

@@ -2,8 +2,8 @@
 use Rattle.std.proofs.Common.{◌≡◌, ℕ, List, [], refl, sym, subst}
 use Rattle.std.specs.Prelude.{Option, Some, Result, Ok, Err}
 use Rattle.std.proofs.lemmas.List.{append-nil}
-use Rattle.tables_choices.specs.chunks.ipc_format.columnar_memory.declared.Error.{Error}
-use Rattle.tables_choices.specs.chunks.ipc_format.streams.Devices.{AppendsBeginning, Puts}
+use Rattle.tables_rows.specs.chunks.ipc_format.columnar_memory.declared.Error.{Error}
+use Rattle.tables_rows.specs.chunks.ipc_format.streams.Devices.{AppendsBeginning, Puts}
 use Rattle.tables.specs.Command.{Asked}
 use Rattle.tables.specs.Contents.{Contents}
 use Rattle.tables.specs.Failure.{failure_line, line_of}

@@ -2,13 +2,13 @@
 use Rattle.std.proofs.Common.{◌≡◌, ◌∙◌, inl, inr, ℕ, Bool, true, false, ◌&&◌, List, [], ◌∷◌, ◌++◌, map, refl, ap}
 use Rattle.std.specs.Prelude.{Option}
 use Rattle.std.proofs.lemmas.List.{map-append}
-use Rattle.tables_choices.specs.chunks.ipc_format.columns.StoredColumns.{Column}
-use Rattle.tables_choices.specs.chunks.ipc_format.grammar.GivenDictionaries.{Given, written_after}
-use Rattle.tables_choices.specs.chunks.ipc_format.grammar.WrittenMessages.{fits_limit, schema_written}
-use Rattle.tables_choices.specs.chunks.ipc_format.grammar.WrittenStreams.{Batch, batch_of_stored}
-use Rattle.tables_choices.specs.chunks.Refusals.{StopsAtTooLong}
-use Rattle.tables_choices.specs.chunks.StoredTables.{Stored}
-use Rattle.tables_choices.specs.chunks.WrittenTables.{are_within, table_ids, told_after, written_batches}
+use Rattle.tables_rows.specs.chunks.ipc_format.columns.StoredColumns.{Column}
+use Rattle.tables_rows.specs.chunks.ipc_format.grammar.GivenDictionaries.{Given, written_after}
+use Rattle.tables_rows.specs.chunks.ipc_format.grammar.WrittenMessages.{fits_limit, schema_written}
+use Rattle.tables_rows.specs.chunks.ipc_format.grammar.WrittenStreams.{Batch, batch_of_stored}
+use Rattle.tables_rows.specs.chunks.Refusals.{StopsAtTooLong}
+use Rattle.tables_rows.specs.chunks.StoredTables.{Stored}
+use Rattle.tables_rows.specs.chunks.WrittenTables.{are_within, table_ids, told_after, written_batches}
 use Rattle.tables.specs.Made.{IsLong}
 
 and_false : (a b : Bool) → b ≡ false → (a && b) ≡ false

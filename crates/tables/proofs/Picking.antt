@@ -1,10 +1,10 @@
 -- Chosen columns of an input and their stream, put together to what comes of a command.
 use Rattle.std.proofs.Common.{◌≡◌, ℕ, List, refl}
 use Rattle.std.specs.Prelude.{true, false, Option, Some, None, Result, Ok, Err}
-use Rattle.tables_choices.specs.chunks.ipc_format.columnar_memory.declared.Error.TheVariants as errors
-use Rattle.tables_choices.specs.chunks.declared.fault.Fault.TheVariants as faults
-use Rattle.tables_choices.specs.chunks.Choices.{are_distinct}
-use Rattle.tables_choices.specs.chunks.StoredTables.{Stored}
+use Rattle.tables_rows.specs.chunks.ipc_format.columnar_memory.declared.Error.TheVariants as errors
+use Rattle.tables_rows.specs.chunks.declared.fault.Fault.TheVariants as faults
+use Rattle.tables_rows.specs.chunks.Choices.{are_distinct}
+use Rattle.tables_rows.specs.chunks.StoredTables.{Stored}
 use Rattle.tables.specs.Command.{Pick}
 use Rattle.tables.specs.Contents.{Contents, Keeps}
 use Rattle.tables.specs.Inputs.{ReadsPicked}

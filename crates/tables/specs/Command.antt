@@ -2,7 +2,7 @@
 use Rattle.std.specs.Prelude.{ℕ, Bool, true, List, [], ◌∷◌, codes, map, Option, Some, None, if◌then◌else◌}
 use Rattle.std.specs.Str.{bytes_eq}
 use Rattle.std.specs.String.{string_bytes}
-use Rattle.tables_choices.specs.chunks.ipc_format.Seals.{is_batch_size}
+use Rattle.tables_rows.specs.chunks.ipc_format.Seals.{is_batch_size}
 use Rattle.tables.specs.Columns.{columns_in, limit_of, names_columns}
 use Rattle.tables.specs.Number.{number_of}
 use Rattle.tables.specs.declared.commands.Command.{Command}

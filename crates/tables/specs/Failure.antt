@@ -1,6 +1,6 @@
 -- The lines of the program's failures.
 use Rattle.std.specs.Prelude.{ℕ, List, ◌++◌, codes}
-use Rattle.tables_choices.specs.chunks.Texts.{text_of}
+use Rattle.tables_rows.specs.chunks.Texts.{text_of}
 use Rattle.tables.specs.declared.program.Failure.{Failure}
 use Rattle.tables.specs.declared.program.Failure.TheVariants.{Fault, UnreadableInput, UnwritableOutput, RangeOutsideRows, SchemasDiffer, RepeatedColumn}
 

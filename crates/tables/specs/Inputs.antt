@@ -2,11 +2,11 @@
 use Rattle.std.specs.Prelude.{◌≡◌, ℕ, List, [], ◌∷◌, ◌++◌, Option, Some, None, Result, Ok, Err}
 use Rattle.std.specs.declared.vec.Vec.{Vec}
 use Rattle.std.specs.declared.alloc.Global.{Global}
-use Rattle.tables_choices.specs.ReadChoices.{ReadsChoice, form_of}
-use Rattle.tables_choices.specs.chunks.declared.fault.Fault.{Fault}
-use Rattle.tables_choices.specs.chunks.declared.fault.Fault.TheVariants as faults
-use Rattle.tables_choices.specs.chunks.ReadTables.{ReadsTable}
-use Rattle.tables_choices.specs.chunks.StoredTables.{Stored}
+use Rattle.tables_rows.specs.ReadChoices.{ReadsChoice, form_of}
+use Rattle.tables_rows.specs.chunks.declared.fault.Fault.{Fault}
+use Rattle.tables_rows.specs.chunks.declared.fault.Fault.TheVariants as faults
+use Rattle.tables_rows.specs.chunks.ReadTables.{ReadsTable}
+use Rattle.tables_rows.specs.chunks.StoredTables.{Stored}
 use Rattle.tables.specs.Contents.{Contents, Holds}
 use Rattle.tables.specs.Forms.{form_in}
 use Rattle.tables.specs.declared.program.Failure.{Failure}

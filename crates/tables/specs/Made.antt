@@ -3,15 +3,15 @@ use Rattle.std.specs.Prelude.{◌≡◌, ℕ, ◌+◌, ◌≤◌, ◌<◌, ◌^�
 use Rattle.std.specs.List.{flat_map}
 use Rattle.std.specs.declared.alloc.Global.{Global}
 use Rattle.std.specs.declared.vec.Vec.{Vec}
-use Rattle.tables_choices.specs.chunks.ipc_format.columns.StoredColumns.{Column}
-use Rattle.tables_choices.specs.chunks.ipc_format.Seals.{sealed}
-use Rattle.tables_choices.specs.chunks.Batches.{stored_rows}
-use Rattle.tables_choices.specs.chunks.declared.fault.Fault.{Fault}
-use Rattle.tables_choices.specs.chunks.declared.fault.Fault.TheVariants as faults
-use Rattle.tables_choices.specs.chunks.StoredTables.{Stored, as_table, row_count}
-use Rattle.tables_choices.specs.chunks.TableParts.{cut_table}
-use Rattle.tables_choices.specs.chunks.WrittenTables.{is_table_within, table_bytes}
-use Rattle.tables_choices.specs.Seals.{Seals}
+use Rattle.tables_rows.specs.chunks.ipc_format.columns.StoredColumns.{Column}
+use Rattle.tables_rows.specs.chunks.ipc_format.Seals.{sealed}
+use Rattle.tables_rows.specs.chunks.Batches.{stored_rows}
+use Rattle.tables_rows.specs.chunks.declared.fault.Fault.{Fault}
+use Rattle.tables_rows.specs.chunks.declared.fault.Fault.TheVariants as faults
+use Rattle.tables_rows.specs.chunks.StoredTables.{Stored, as_table, row_count}
+use Rattle.tables_rows.specs.chunks.TableParts.{cut_table}
+use Rattle.tables_rows.specs.chunks.WrittenTables.{is_table_within, table_bytes}
+use Rattle.tables_rows.specs.Seals.{Seals}
 use Rattle.tables.specs.Command.{Asked, Cut, Join, Same, Seal}
 use Rattle.tables.specs.declared.program.Failure.{Failure}
 use Rattle.tables.specs.declared.program.Failure.TheVariants as failures

@@ -3,11 +3,11 @@ use Rattle.std.specs.Prelude.{◌≡◌, ◌⊎◌, ℕ, true, false, List, [], 
 use Rattle.std.specs.Io.KnownBytes as known
 use Rattle.std.specs.declared.vec.Vec.{Vec}
 use Rattle.std.specs.declared.alloc.Global.{Global}
-use Rattle.tables_choices.specs.chunks.ipc_format.columnar_memory.declared.Error.TheVariants as errors
-use Rattle.tables_choices.specs.chunks.declared.fault.Fault.TheVariants as faults
-use Rattle.tables_choices.specs.chunks.ipc_format.streams.Devices.{AppendsBeginning}
-use Rattle.tables_choices.specs.chunks.Choices.{are_distinct}
-use Rattle.tables_choices.specs.chunks.StoredTables.{Stored, as_table}
+use Rattle.tables_rows.specs.chunks.ipc_format.columnar_memory.declared.Error.TheVariants as errors
+use Rattle.tables_rows.specs.chunks.declared.fault.Fault.TheVariants as faults
+use Rattle.tables_rows.specs.chunks.ipc_format.streams.Devices.{AppendsBeginning}
+use Rattle.tables_rows.specs.chunks.Choices.{are_distinct}
+use Rattle.tables_rows.specs.chunks.StoredTables.{Stored, as_table}
 use Rattle.tables.specs.Command.{Asked, Cut, Join, Pick, Same, Seal, inputs_of}
 use Rattle.tables.specs.Contents.{Contents, Keeps, Sets}
 use Rattle.tables.specs.Failure.{line_of, usage_line}

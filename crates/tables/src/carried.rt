@@ -1,7 +1,7 @@
 //! Commands carried out: all of each, or nothing where it fails.
 ghost use Rattle.std.specs.Prelude.{◌≡◌, map, true};
 ghost use Rattle.std.specs.String.{string_bytes};
-ghost use Rattle.tables_choices.specs.chunks.ipc_format.Seals.{is_batch_size};
+ghost use Rattle.tables_rows.specs.chunks.ipc_format.Seals.{is_batch_size};
 ghost use Rattle.tables.specs.Command.{Cut, Join, Pick, Same, Seal, asked_by, has_batch_size};
 ghost use Rattle.tables.specs.Columns.{columns_in};
 ghost use Rattle.tables.specs.Made.{AddsBatches, MakesCut, MakesJoin, MakesSeal};
@@ -12,9 +12,9 @@ use crate::inputs::{read_input, read_inputs, read_picked};
 use crate::places::Places;
 use crate::program::{Failure, Outcome};
 use std::alloc::Global;
-use tables_choices::Seal;
-use tables_choices::tables_chunks::columnar_memory::Error;
-use tables_choices::tables_chunks::{Fault, GrowingTable, Table, distinct};
+use tables_rows::Seal;
+use tables_rows::tables_chunks::columnar_memory::Error;
+use tables_rows::tables_chunks::{Fault, GrowingTable, Table, distinct};
 
 /// Carries a command out.
 pub(crate) fn execute<P: Places>(

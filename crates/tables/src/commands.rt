@@ -8,7 +8,7 @@ ghost use Rattle.tables.specs.Columns.{columns_in, limit_of, names_columns};
 ghost use Rattle.tables.specs.Command.{asked_by, command_of, cut_of, join_of, pick_of, same_of, seal_of};
 
 use std::alloc::{AllocError, Global};
-use tables_choices::is_batch_size;
+use tables_rows::is_batch_size;
 
 /// What the program is asked to do.
 #[derive(Clone, Copy, Debug)]

@@ -4,13 +4,13 @@ ghost use Rattle.std.specs.String.{string_bytes};
 ghost use Rattle.tables.specs.Contents.{Keeps};
 ghost use Rattle.tables.specs.Forms.{form_in};
 ghost use Rattle.tables.specs.Inputs.{ReadsBytes, ReadsInput, ReadsInputs, ReadsPicked};
-ghost use Rattle.tables_choices.specs.chunks.Choices.{are_distinct};
+ghost use Rattle.tables_rows.specs.chunks.Choices.{are_distinct};
 
 use crate::places::Places;
 use crate::program::Failure;
 use std::alloc::Global;
-use tables_choices::ReadChoice;
-use tables_choices::tables_chunks::{Fault, Form, Table};
+use tables_rows::ReadChoice;
+use tables_rows::tables_chunks::{Fault, Form, Table};
 
 /// The bytes that stand under a name.
 fn read_bytes<P: Places>(places: &mut P, name: &str) -> Result<Vec<u8>, Failure>

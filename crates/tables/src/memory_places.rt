@@ -1,13 +1,13 @@
 ghost use Rattle.std.specs.Prelude.{◌≡◌, Some, true, OnOk, OnErr, IfOk, IfErr};
 ghost use Rattle.std.specs.Option.{option_map};
 ghost use Rattle.std.specs.FinMap as map;
-ghost use Rattle.tables_choices.specs.chunks.ipc_format.columnar_memory.Error.{IsOutOfMemory};
+ghost use Rattle.tables_rows.specs.chunks.ipc_format.columnar_memory.Error.{IsOutOfMemory};
 
 use crate::places::Places;
 use std::alloc::Global;
 use std::collections::BTreeMap;
 use std::marker::Model;
-use tables_choices::tables_chunks::columnar_memory::Result;
+use tables_rows::tables_chunks::columnar_memory::Result;
 
 /// Bytes by name in memory, which a contract sees as the map from each name's bytes to them.
 #[derive(Drop)]

@@ -1,12 +1,12 @@
 ghost use Rattle.std.specs.Prelude.{Option, None, IfOk, IfErr};
 ghost use Rattle.std.specs.Option.{option_map};
-ghost use Rattle.tables_choices.specs.chunks.ipc_format.columnar_memory.Error.{IsOutOfMemory};
+ghost use Rattle.tables_rows.specs.chunks.ipc_format.columnar_memory.Error.{IsOutOfMemory};
 ghost use Rattle.tables.specs.Contents.{Contents, Keeps, Holds, Puts};
 
 use std::io::ErrorKind;
 use std::rt::Files;
 use std::{fs, io};
-use tables_choices::tables_chunks::columnar_memory::{Error, Result};
+use tables_rows::tables_chunks::columnar_memory::{Error, Result};
 
 /// Where the program's inputs and outputs stand, by name.
 pub trait Places {

@@ -4,7 +4,7 @@ ghost use Rattle.std.specs.String.{string_bytes};
 ghost use Rattle.tables.specs.Command.{command_of};
 ghost use Rattle.tables.specs.Failure.{failure_line, failure_text, line_of};
 ghost use Rattle.tables.specs.Outcome.{Answers, status_of};
-ghost use Rattle.tables_choices.specs.chunks.ipc_format.streams.Devices.{AppendsBeginning, Puts};
+ghost use Rattle.tables_rows.specs.chunks.ipc_format.streams.Devices.{AppendsBeginning, Puts};
 
 use crate::carried::execute;
 use crate::commands::Command;
@@ -12,8 +12,8 @@ use crate::places::Places;
 use std::alloc::Global;
 use std::fmt;
 use std::io::Write;
-use tables_choices::tables_chunks::columnar_memory::Error;
-use tables_choices::tables_chunks::{Fault, put};
+use tables_rows::tables_chunks::columnar_memory::Error;
+use tables_rows::tables_chunks::{Fault, put};
 
 const DONE: u8 = 0;
 

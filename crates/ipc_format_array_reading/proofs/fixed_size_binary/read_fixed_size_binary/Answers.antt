@@ -12,8 +12,8 @@ use Rattle.ipc_format_column_writing.specs.column_reading.Rooms.{ForBytes}
 use Rattle.ipc_format_column_writing.proofs.reading_lemmas.ColumnReads.{Marks}
 use Rattle.ipc_format_column_writing.proofs.reading_lemmas.Readings.{out_of_memory, reads_refused}
 use Rattle.ipc_format_column_writing.proofs.reading_lemmas.Skipping.{end_behind}
-use Rattle.ipc_format_column_writing.specs.chunks.nested_arrays.Checked.{IsChecked}
-use Rattle.ipc_format_column_writing.specs.chunks.nested_arrays.FlatColumns.{byte_width}
+use Rattle.ipc_format_column_writing.specs.nested_arrays.Checked.{IsChecked}
+use Rattle.ipc_format_column_writing.specs.nested_arrays.FlatColumns.{byte_width}
 use Rattle.ipc_format_array_reading.specs.TypedReads.{IsNeeded, front_array}
 use Rattle.ipc_format_array_reading.proofs.FixedColumns.{bytes_past, bytes_refused, fixed_bytes_given, fixed_bytes_next, strings_made}
 use Rattle.ipc_format_array_reading.proofs.fixed_size_binary.read_fixed_size_binary.Goals as goal

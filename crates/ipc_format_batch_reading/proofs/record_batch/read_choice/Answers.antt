@@ -1,9 +1,10 @@
 -- The queues of a batch, and the chosen columns that are read at their fronts.
-use Rattle.std.proofs.Common.{◌≡◌, ℕ, [], ap, map, refl, rules}
-use Rattle.std.specs.Prelude.{Err, Some}
-use Rattle.ipc_format_reading.specs.Below.{no_own_ids}
+use Rattle.std.proofs.Common.{◌≡◌, ℕ, [], ap, length, map, refl, rules}
+use Rattle.std.specs.Prelude.{Err, Ok, Some}
+use Rattle.ipc_format_reading.specs.Below.{buffers_below, no_own_ids}
 use Rattle.ipc_format_reading.specs.childless_reading.ReadArrays.{at_front, standing_in}
 use Rattle.ipc_format_reading.specs.columns.StoredColumns.{slots}
+use Rattle.ipc_format_reading.specs.columns.Tables.{chosen}
 use Rattle.ipc_format_reading.specs.flatbuffers.Reading.{◌>>=◌, guard}
 use Rattle.ipc_format_reading.specs.flatbuffers.Views.{table_of}
 use Rattle.ipc_format_reading.specs.grammar.Messages.{record_batch}
@@ -11,6 +12,8 @@ use Rattle.ipc_format_reading.specs.grammar.Tables.{agree_in_length}
 use Rattle.ipc_format_reading.specs.messages.MessageViews.{version_view}
 use Rattle.ipc_format_reading.specs.metadata.Views.{ids_views}
 use Rattle.ipc_format_batch_reading.specs.BatchReads.{chosen_arrays}
+use Rattle.ipc_format_batch_reading.specs.BufferCounts.{stated_buffers}
+use Rattle.ipc_format_batch_reading.proofs.BufferCounts.{counts_any, counts_ok, no_step, queue_stated}
 use Rattle.ipc_format_batch_reading.proofs.ChunkReads.{choice_read, choice_refused}
 use Rattle.ipc_format_batch_reading.proofs.QueueReads.{queues_read, queues_refused}
 use Rattle.ipc_format_batch_reading.proofs.record_batch.read_choice.Goals as goal
@@ -74,3 +77,28 @@ returns-clause-read g c =
     no_own_ids room).source) (g.R.Room.told c.args.reader.now) (g.R.Room.told c.read_chosen.new.reader) (λ arrays. map slots arrays.items)
     c.in_ok-arrays.arrays c.in_ok-arrays.arrays.items c.chunk_of.result (ap ids_views c.as_slice.ensures) refl c.in_ok-arrays.ensures.read
     c.chunk_of.ensures)
+
+pub returns-in_err-queues-clause-stated : goal.returns-in_err-queues-clause-stated
+returns-in_err-queues-clause-stated g c =
+    no_step c.args.file_size (stated_buffers c.args.batch.now.table.bytes.now (table_of c.args.batch.now.table.place)) c.args.steps.now.count
+
+pub returns-in_err-arrays-clause-stated : goal.returns-in_err-arrays-clause-stated
+returns-in_err-arrays-clause-stated g c =
+    queue_stated {A = ℕ} c.args.batch.now.table.bytes.now (table_of c.args.batch.now.table.place) c.args.file_size c.in_ok-queues.queues
+    (buffers_below (version_view c.args.version) (chosen c.args.columns.now c.args.fields.now)) c.args.steps.now.count
+    c.read_chosen.new.steps.count (Err c.in_err-arrays.field-0.0) c.in_ok-queues.ensures c.in_err-arrays.ensures.counted
+
+pub returns-clause-stated : goal.returns-clause-stated
+returns-clause-stated g c =
+    queue_stated c.args.batch.now.table.bytes.now (table_of c.args.batch.now.table.place) c.args.file_size c.in_ok-queues.queues
+    (buffers_below (version_view c.args.version) (chosen c.args.columns.now c.args.fields.now)) c.args.steps.now.count
+    c.read_chosen.new.steps.count (Ok c.in_ok-arrays.arrays) c.in_ok-queues.ensures c.in_ok-arrays.ensures.counted
+
+pub returns-clause-counted : goal.returns-clause-counted
+returns-clause-counted g c =
+    let count = buffers_below (version_view c.args.version) (chosen c.args.columns.now c.args.fields.now) in
+    let had = length c.in_ok-queues.queues.buffers.items in
+    let old = c.args.steps.now.count in
+    let new = c.read_chosen.new.steps.count in
+    counts_ok count had old new c.chunk_of.result
+    (counts_any count had old new c.in_ok-arrays.arrays c.chunk_of.result c.in_ok-arrays.ensures.counted)

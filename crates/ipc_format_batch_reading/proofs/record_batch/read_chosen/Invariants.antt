@@ -1,6 +1,12 @@
--- The first columns are read, and the queues are those of the batch behind the last of them.
+-- The first columns are read, the queues are those of the batch behind the last of them, and a step was taken for each of their buffers.
+use Rattle.std.specs.Prelude.{length, take}
+use Rattle.ipc_format_reading.specs.Below.{type_of}
 use Rattle.ipc_format_reading.specs.childless_reading.ReadArrays.{standing_in}
+use Rattle.ipc_format_reading.specs.columnar_memory.declared.Field.{Field}
+use Rattle.ipc_format_reading.specs.columns.Tables.{chosen}
+use Rattle.ipc_format_reading.specs.grammar.Layouts.{buffer_count}
 use Rattle.ipc_format_reading.specs.messages.MessageViews.{version_view}
+use Rattle.ipc_format_batch_reading.proofs.ChosenCounts.{CountedTo}
 use Rattle.ipc_format_batch_reading.proofs.ChosenReads.{ChosenToRead}
 use Rattle.ipc_format_batch_reading.proofs.record_batch.read_chosen.Given as goal
 
@@ -17,3 +23,5 @@ invariant-loop-k g l =
       nodes = l.initial.field_nodes.items;
       buffers = l.initial.buffers.items;
     }) (g.R.Room.told l.initial.reader) (g.R.Room.told l.reader) l.columns l.field_nodes.items l.buffers.items l.k l.behind l.arrays.items
+    × CountedTo (λ (field : Field). buffer_count (version_view l.version) (type_of field)) (chosen (take l.k l.columns) l.fields)
+    (length l.buffers.items) (length l.initial.buffers.items) l.initial.steps.count l.steps.count

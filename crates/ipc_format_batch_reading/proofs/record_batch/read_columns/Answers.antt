@@ -1,7 +1,7 @@
 -- The queues of a batch, and what is read at their fronts.
-use Rattle.std.proofs.Common.{◌≡◌, List, map, rules}
+use Rattle.std.proofs.Common.{◌≡◌, List, length, map, rules}
 use Rattle.std.specs.Prelude.{Err}
-use Rattle.ipc_format_reading.specs.Below.{no_own_ids}
+use Rattle.ipc_format_reading.specs.Below.{buffers_below, no_own_ids}
 use Rattle.ipc_format_reading.specs.childless_reading.ReadArrays.{standing_in}
 use Rattle.ipc_format_reading.specs.columns.StoredColumns.{slots}
 use Rattle.ipc_format_reading.specs.flatbuffers.Views.{table_of}
@@ -9,6 +9,8 @@ use Rattle.ipc_format_reading.specs.grammar.Messages.{record_batch}
 use Rattle.ipc_format_reading.specs.messages.MessageViews.{version_view}
 use Rattle.ipc_format_reading.specs.metadata.Views.{ids_views}
 use Rattle.ipc_format_batch_reading.specs.BatchReads.{placed_arrays}
+use Rattle.ipc_format_batch_reading.specs.BufferCounts.{stated_buffers}
+use Rattle.ipc_format_batch_reading.proofs.BufferCounts.{counts_ok, no_step, queue_stated}
 use Rattle.ipc_format_batch_reading.proofs.QueueReads.{queues_read, queues_refused}
 use Rattle.ipc_format_batch_reading.proofs.record_batch.read_columns.Goals as goal
 
@@ -43,3 +45,18 @@ returns-clause-read g c =
       buffer = 0;
       ids = no_own_ids;
     })) (map slots) c.read_chunk.result c.in_ok-queues.ensures c.read_chunk.ensures.read
+
+pub returns-in_err-queues-clause-stated : goal.returns-in_err-queues-clause-stated
+returns-in_err-queues-clause-stated g c =
+    no_step c.args.file_size (stated_buffers c.args.batch.now.table.bytes.now (table_of c.args.batch.now.table.place)) c.args.steps.now.count
+
+pub returns-clause-stated : goal.returns-clause-stated
+returns-clause-stated g c =
+    queue_stated c.args.batch.now.table.bytes.now (table_of c.args.batch.now.table.place) c.args.file_size c.in_ok-queues.queues
+    (buffers_below (version_view c.args.version) c.args.fields.now) c.args.steps.now.count c.read_chunk.new.steps.count c.read_chunk.result
+    c.in_ok-queues.ensures c.read_chunk.ensures.counted
+
+pub returns-clause-counted : goal.returns-clause-counted
+returns-clause-counted g c =
+    counts_ok (buffers_below (version_view c.args.version) c.args.fields.now) (length c.in_ok-queues.queues.buffers.items) c.args.steps.now.count
+    c.read_chunk.new.steps.count c.read_chunk.result c.read_chunk.ensures.counted

@@ -1,7 +1,7 @@
 -- The ids, the lengths and the types decide.
 use Rattle.std.proofs.Common.{rules, ◌≡◌, Bool, true, false, inl, inr}
 use Rattle.std.specs.List.{list_all}
-use Rattle.ipc_format_readers.specs.chunk_writing.chunks.Chunks.{AreAsLong}
+use Rattle.ipc_format_readers.specs.chunk_writing.Chunks.{AreAsLong}
 use Rattle.ipc_format_readers.specs.chunk_writing.columns.SoundColumns.{is_sound}
 use Rattle.ipc_format_readers.specs.chunk_writing.columns.StoredColumns.{Column, in_columns}
 use Rattle.ipc_format_readers.specs.chunk_writing.grammar.Ids.{ids_fit_fields}

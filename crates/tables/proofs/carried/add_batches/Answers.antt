@@ -1,8 +1,8 @@
 -- A batch that can't be put behind those before it.
 use Rattle.std.proofs.Common.{List, rules, subst}
 use Rattle.std.specs.Prelude.{Err}
-use Rattle.tables_choices.specs.chunks.StoredTables.{AddsBatch}
-use Rattle.tables_choices.specs.chunks.ipc_format.columns.StoredColumns.{Column}
+use Rattle.tables_rows.specs.chunks.StoredTables.{AddsBatch}
+use Rattle.tables_rows.specs.chunks.ipc_format.columns.StoredColumns.{Column}
 use Rattle.tables.specs.Made.{AddsBatches}
 use Rattle.tables.proofs.JoinedRows.{adding_refused}
 use Rattle.tables.proofs.carried.add_batches.Goals as goal

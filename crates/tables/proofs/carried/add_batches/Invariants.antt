@@ -1,6 +1,6 @@
 -- The batches so far stand behind those that were there, and all rows fit 64 bits.
 use Rattle.std.proofs.Common.{◌≡◌, ◌<◌, ◌^◌, ◌++◌, take}
-use Rattle.tables_choices.specs.chunks.StoredTables.{row_count}
+use Rattle.tables_rows.specs.chunks.StoredTables.{row_count}
 use Rattle.tables.proofs.carried.add_batches.Given as goal
 
 abbrev pub invariant-loop-batch : goal.invariant-loop-batch

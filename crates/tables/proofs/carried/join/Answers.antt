@@ -2,7 +2,7 @@
 use Rattle.std.proofs.Common.{◌∷◌, List, ℕ, map, refl, rules, subst}
 use Rattle.std.specs.Prelude.{Err, Ok}
 use Rattle.std.specs.String.{string_bytes}
-use Rattle.tables_choices.specs.chunks.StoredTables.{Stored}
+use Rattle.tables_rows.specs.chunks.StoredTables.{Stored}
 use Rattle.tables.specs.Command.{Asked, Join}
 use Rattle.tables.specs.Made.{MakesJoin}
 use Rattle.tables.specs.Outcome.{CarriesOut, IsMade}

@@ -2,7 +2,7 @@
 use Rattle.std.proofs.Common.{◌≡◌, ◌∙◌, Bool, true, false, ap, refl, sym, rules}
 use Rattle.std.specs.Prelude.{Ok, not}
 use Rattle.columnar_memory_types.specs.SchemaEquality.{same_schema, same_schema-Decides}
-use Rattle.tables_choices.specs.chunks.StoredTables.{Stored}
+use Rattle.tables_rows.specs.chunks.StoredTables.{Stored}
 use Rattle.tables.specs.Made.{AddsBatches}
 use Rattle.tables.proofs.JoinedRows.{are_joined_next, join_refused_as, schemas_differ}
 use Rattle.tables.proofs.carried.join_of.Goals as goal

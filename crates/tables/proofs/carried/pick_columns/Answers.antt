@@ -1,7 +1,7 @@
 -- The choice that is read and the output, one after another.
 use Rattle.std.proofs.Common.{◌≡◌, rules, tests}
 use Rattle.std.specs.Prelude.{true, Err}
-use Rattle.tables_choices.specs.chunks.Choices.{are_distinct}
+use Rattle.tables_rows.specs.chunks.Choices.{are_distinct}
 use Rattle.tables.specs.Command.{Asked, Pick}
 use Rattle.tables.specs.Outcome.{CarriesOut}
 use Rattle.tables.proofs.Picking.{pick_fails, pick_put}

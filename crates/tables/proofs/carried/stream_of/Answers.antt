@@ -1,10 +1,10 @@
 -- The stream has a message past its limit.
 use Rattle.std.proofs.Common.{◌≡◌, ◌∙◌, ap, subst}
 use Rattle.std.specs.Prelude.{Some, true}
-use Rattle.tables_choices.specs.chunks.Refusals.{IsWriteFault, StopsAtTooLong}
-use Rattle.tables_choices.specs.chunks.declared.fault.Fault.{Fault}
-use Rattle.tables_choices.specs.chunks.declared.fault.Fault.TheVariants as faults
-use Rattle.tables_choices.specs.chunks.ipc_format.columnar_memory.declared.Error.TheVariants as errors
+use Rattle.tables_rows.specs.chunks.Refusals.{IsWriteFault, StopsAtTooLong}
+use Rattle.tables_rows.specs.chunks.declared.fault.Fault.{Fault}
+use Rattle.tables_rows.specs.chunks.declared.fault.Fault.TheVariants as faults
+use Rattle.tables_rows.specs.chunks.ipc_format.columnar_memory.declared.Error.TheVariants as errors
 use Rattle.tables.proofs.LongTables.{is_long}
 use Rattle.tables.proofs.carried.stream_of.Goals as goal
 

@@ -2,7 +2,7 @@
 use Rattle.std.proofs.Common.{◌≡◌, ◌∙◌, ◌++◌, ◌∷◌, [], ℕ, ◌<◌, List, length, map, get_or, ap, arith, subst, sym, rules}
 use Rattle.std.specs.String.{string_bytes}
 use Rattle.std.proofs.lemmas.List.{length-map, get_or-map}
-use Rattle.tables_choices.specs.chunks.declared.fault.Fault.TheVariants as faults
+use Rattle.tables_rows.specs.chunks.declared.fault.Fault.TheVariants as faults
 use Rattle.tables.specs.Inputs.{HoldsTable, IsInputFailure, IsReadFailure}
 use Rattle.tables.specs.declared.program.Failure.TheVariants as failures
 use Rattle.tables.proofs.Carrying.{input_failure_at, keeps_both, read_failure_before, table_before, tables_next}

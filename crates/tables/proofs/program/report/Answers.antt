@@ -2,7 +2,7 @@
 use Rattle.std.proofs.Common.{rules, ◌++◌, ◌∙◌, List, ℕ}
 use Rattle.std.specs.Prelude.{codes}
 use Rattle.tables.specs.Failure.{failure_text}
-use Rattle.tables_choices.proofs.chunk_lemmas.Appending.{appends_both, appends_same, puts_behind, puts_first, puts_between, refused_same}
+use Rattle.tables_rows.proofs.chunk_lemmas.Appending.{appends_both, appends_same, puts_behind, puts_first, puts_between, refused_same}
 use Rattle.tables.proofs.program.report.Goals as goal
 
 pub returns-in_err-put : goal.returns-in_err-put

@@ -11,10 +11,10 @@ loop-k-preserved c =
     let inside : c.loop-k.k < length os = omega (arith, c.loop-k-test.true, c.len-k-end.ensures) in
     record {
       emptied = one_emptied os c.loop-k.columns.items c.loop-k.k c.index_mut.result.now c.loop-k.invariant.emptied inside
-          c.index_mut.ensures.value c.as_box.new.self c.as_box.ensures.0;
+          c.index_mut.ensures.value c.as_box.new.self c.as_box.ensures.taken.0;
       taken = one_taken os c.loop-k.columns.items c.loop-k.k c.index_mut.result.now c.loop-k.invariant.emptied inside
           c.index_mut.ensures.value c.loop-k.arrays.items c.push.new.self.items c.in_ok-as_box.field-0 c.loop-k.invariant.taken
-          c.in_ok-as_box.ensures.1 c.in_ok-push.ensures.items;
+          c.in_ok-as_box.ensures.taken.1 c.in_ok-push.ensures.items;
     }
 
 pub returns : goal.returns

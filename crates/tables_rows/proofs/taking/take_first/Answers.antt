@@ -15,10 +15,10 @@ returns-in_err-array c =
     let inside : k < length columns = omega (arith, c.loop-place-test.true, c.len-count.ensures) in
     let left : slice_set c.loop-place.columns.items k c.as_box.new.self ≡ cut_back (k + 1) 0 columns =
     one_more_cut k 0 columns c.loop-place.columns.items c.index_mut.result.now inside c.loop-place.invariant.left c.index_mut.ensures.value
-    c.as_box.new.self c.in_err-array.ensures.0 in
+    c.as_box.new.self c.in_err-array.ensures.taken.0 in
     let again : map emptied (slice_set c.loop-place.columns.items k c.as_box.new.self) ≡ map emptied columns =
     ap (map emptied) left ∙ emptied_again (k + 1) columns in
-    let out : IsOutOfMemory c.in_err-array.field-0.0 = c.in_err-array.ensures.1 in
+    let out : IsOutOfMemory c.in_err-array.field-0.0 = c.in_err-array.ensures.taken.1 in
     search (rules, again, out)
 
 pub returns-in_err-push : goal.returns-in_err-push
@@ -28,7 +28,7 @@ returns-in_err-push c =
     let inside : k < length columns = omega (arith, c.loop-place-test.true, c.len-count.ensures) in
     let left : slice_set c.loop-place.columns.items k c.as_box.new.self ≡ cut_back (k + 1) 0 columns =
     one_more_cut k 0 columns c.loop-place.columns.items c.index_mut.result.now inside c.loop-place.invariant.left c.index_mut.ensures.value
-    c.as_box.new.self c.in_ok-array.ensures.0 in
+    c.as_box.new.self c.in_ok-array.ensures.taken.0 in
     let again : map emptied (slice_set c.loop-place.columns.items k c.as_box.new.self) ≡ map emptied columns =
     ap (map emptied) left ∙ emptied_again (k + 1) columns in
     search (rules, again)
@@ -42,8 +42,8 @@ loop-place-preserved c =
     c.index_mut.ensures.value any_column in
     record {
       left = one_more_cut k 0 columns c.loop-place.columns.items c.index_mut.result.now inside c.loop-place.invariant.left c.index_mut.ensures.value
-          c.as_box.new.self c.in_ok-array.ensures.0;
+          c.as_box.new.self c.in_ok-array.ensures.taken.0;
       taken = c.in_ok-push.ensures.items
           ∙ one_more_taken columns c.loop-place.arrays.items k any_column c.index_mut.result.now c.in_ok-array.array inside
-          c.loop-place.invariant.taken own c.in_ok-array.ensures.1;
+          c.loop-place.invariant.taken own c.in_ok-array.ensures.taken.1;
     }

@@ -1,2 +1,0 @@
-pub mod Chunks
-pub use Rattle.nested_arrays.specs as nested_arrays

@@ -1,0 +1,67 @@
+//! Columns of nulls and of byte strings of one size.
+use crate::cases::{buffers, nodes};
+use ipc_format_reading::InMemory;
+use ipc_format_reading::childless_reading::array_reading::{read_fixed_size_binary, read_null};
+use ipc_format_reading::columnar_memory::{DataType, Error};
+use std::alloc::Global;
+use std::test::*;
+
+#[test]
+fn nulls_are_as_many_as_the_node_says(rt: HostRuntime) -> Result<(), Fail> {
+    let alloc = rt.alloc();
+    let mut queue = nodes(alloc, &[(3, 3)])?;
+    let array = read_null(&mut queue, DataType::Null, Some(2))
+        .ok()
+        .ok_or("refused")?;
+    assert_eq!(rt; (array.len(), queue.len()), (2, 0));
+    assert!(rt;
+        matches!(
+            read_null(&mut queue, DataType::Null, None),
+            Err(Error::OutOfSpec(_))
+        )
+    );
+    let mut queue = nodes(alloc, &[(3, 3)])?;
+    assert!(rt;
+        matches!(
+            read_null(&mut queue, DataType::Int8, None),
+            Err(Error::OutOfSpec(_))
+        )
+    );
+    assert_eq!(rt; queue.len(), 1);
+    Ok(())
+}
+
+/// How many strings of a size are read in 1 and 6 bytes, the second of which is null.
+fn strings(alloc: Global, size: usize, length: i64) -> Result<Result<usize, Error>, Fail> {
+    let mut queue = nodes(alloc, &[(length, 1)])?;
+    let mut places = buffers(alloc, &[(0, 1), (1, 6)])?;
+    let mut room = InMemory {
+        bytes: &[0b101, 1, 2, 3, 4, 5, 6],
+    };
+    let mut scratch = Vec::new(alloc);
+    let found = read_fixed_size_binary(
+        alloc,
+        &mut queue,
+        DataType::FixedSizeBinary(size),
+        &mut places,
+        &mut room,
+        0,
+        true,
+        None,
+        None,
+        &mut scratch,
+    );
+    match found {
+        Ok(array) => Ok(Ok(array.len())),
+        Err(error) => Ok(Err(error)),
+    }
+}
+
+#[test]
+fn strings_of_one_size_have_a_byte_at_least(rt: HostRuntime) -> Result<(), Fail> {
+    assert_eq!(rt; strings(rt.alloc(), 2, 3)?.ok(), Some(3));
+    assert!(rt; matches!(strings(rt.alloc(), 0, 3)?, Err(Error::OutOfSpec(_))));
+    assert!(rt; matches!(strings(rt.alloc(), 3, 3)?, Err(Error::OutOfSpec(_))));
+    assert!(rt; matches!(strings(rt.alloc(), 1 << 63, 3)?, Err(Error::OutOfSpec(_))));
+    Ok(())
+}

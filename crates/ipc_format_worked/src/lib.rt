@@ -1,5 +1,0 @@
-//! The definitions of the format, computed on small values.
-#![tactic(auto)]
-
-#[cfg(test)]
-mod tests;

@@ -1,0 +1,157 @@
+use columnar_memory_types::{DataType, Error, Text};
+use nested_arrays_sized_builders::nulls::arrays::{AnyArray, ListNode, Node};
+use nested_arrays_sized_builders::nulls::columnar_memory::{MutableBitmap, Offsets};
+use nested_arrays_sized_builders::nulls::parts::ListOffsets;
+use nested_arrays_sized_builders::pushes::cells::builders::AnyMutableArray;
+use nested_arrays_sized_builders::pushes::cells::parts::AnyScalar;
+use nested_arrays_sized_builders::pushes::cells::taken::MutableArray;
+use nested_arrays_sized_builders::{MutValues, MutableListArray, MutableNullArray};
+use std::alloc::Global;
+use std::test::Fail;
+
+/// A builder of lists of numbers.
+fn new_lists(alloc: Global) -> Result<MutableListArray<i32, AnyMutableArray>, Error> {
+    let items = AnyMutableArray::new(alloc, &DataType::Int32)?;
+    MutableListArray::new_with_capacity(alloc, items, 4)
+}
+
+/// Pushes a list of these numbers.
+fn push_list(
+    lists: &mut MutableListArray<i32, AnyMutableArray>,
+    items: &[i32],
+) -> Result<(), Error> {
+    for item in items {
+        lists
+            .mut_values()
+            .try_push_scalar(&AnyScalar::Int32(*item))?;
+    }
+    lists.try_push_valid()
+}
+
+/// The lists of an array of lists.
+fn lists_of(array: AnyArray) -> Option<ListNode> {
+    match array.node {
+        Node::List(lists) => Some(lists),
+        _ => None,
+    }
+}
+
+/// Whether lists have these offsets, these bytes as their mask, and so many items.
+fn are_lists(array: AnyArray, offsets: &[i32], mask: &[u8], items: usize) -> bool {
+    let Some(lists) = lists_of(array) else {
+        return false;
+    };
+    let ListNode {
+        data_type,
+        offsets: own,
+        values,
+        validity,
+    } = lists;
+    drop(data_type);
+    let same = match own {
+        ListOffsets::Small(own) => own.as_slice() == offsets,
+        ListOffsets::Large(_) => false,
+    };
+    let masked = match validity {
+        Some(bits) => bits.as_slice().0 == mask,
+        None => mask.is_empty(),
+    };
+    let count = values.len();
+    drop(values);
+    same && masked && count == items
+}
+
+#[test]
+fn lists_are_closed_over_items(rt: HostRuntime) -> Result<(), Fail> {
+    let mut lists = new_lists(rt.alloc())?;
+    push_list(&mut lists, &[1, 2])?;
+    lists.push_null()?;
+    push_list(&mut lists, &[])?;
+    push_list(&mut lists, &[3])?;
+    assert_eq!(rt;
+        (lists.len(), lists.values().len(), lists.is_valid(1)),
+        (4, 3, false)
+    );
+    let array = lists.as_box(rt.alloc())?;
+    assert!(rt; are_lists(array, &[0, 2, 2, 2, 3], &[13], 3));
+    push_list(&mut lists, &[4])?;
+    let array = lists.as_box(rt.alloc())?;
+    assert!(rt; are_lists(array, &[0, 1], &[], 1));
+    drop(lists);
+    Ok(())
+}
+
+#[test]
+fn lists_that_are_cut_back_keep_their_items_alone(rt: HostRuntime) -> Result<(), Fail> {
+    let mut lists = new_lists(rt.alloc())?;
+    push_list(&mut lists, &[1, 2])?;
+    lists.push_null()?;
+    push_list(&mut lists, &[3])?;
+    lists.truncate(1);
+    lists.shrink_to_fit();
+    push_list(&mut lists, &[4])?;
+    let array = lists.as_box(rt.alloc())?;
+    assert!(rt; are_lists(array, &[0, 2, 3], &[], 3));
+    drop(lists);
+    Ok(())
+}
+
+#[test]
+fn lists_without_their_items_make_no_array(rt: HostRuntime) -> Result<(), Fail> {
+    let mut lists = new_lists(rt.alloc())?;
+    push_list(&mut lists, &[1, 2])?;
+    lists.mut_values().truncate(1);
+    assert!(rt; matches!(lists.try_push_valid(), Err(Error::Overflow)));
+    let refused = lists.as_box(rt.alloc());
+    assert!(rt; matches!(refused, Err(Error::OutOfSpec(_))));
+    drop(refused);
+    push_list(&mut lists, &[3])?;
+    let array = lists.as_box(rt.alloc())?;
+    assert!(rt; are_lists(array, &[0, 1], &[], 1));
+    drop(lists);
+    Ok(())
+}
+
+#[test]
+fn lists_are_made_of_parts(rt: HostRuntime) -> Result<(), Fail> {
+    let nulls = MutableNullArray::new(DataType::Null, 3);
+    let offsets = Offsets::<i32>::try_from_iter(rt.alloc(), [1usize, 0, 2].into_iter())?;
+    let mut mask = MutableBitmap::new(rt.alloc());
+    mask.push(true)?;
+    mask.push(false)?;
+    mask.push(true)?;
+    let mut lists = MutableListArray::new_from_mutable(rt.alloc(), nulls, offsets, Some(mask))?;
+    lists.push_null()?;
+    let array = lists.as_box(rt.alloc())?;
+    assert!(rt; are_lists(array, &[0, 1, 1, 3, 3], &[5], 3));
+    drop(lists);
+    Ok(())
+}
+
+#[test]
+fn lists_of_lists_of_nulls(rt: HostRuntime) -> Result<(), Fail> {
+    let nulls = MutableNullArray::new(DataType::Null, 0);
+    let name = Text::from_str(rt.alloc(), "nulls")?;
+    let inner: MutableListArray<i64, MutableNullArray> = MutableListArray::new_with_field(
+        rt.alloc(),
+        nulls,
+        name,
+        false,
+    )?;
+    let mut outer: MutableListArray<i32, MutableListArray<i64, MutableNullArray>> =
+        MutableListArray::new_with_capacity(rt.alloc(), inner, 0)?;
+    outer.mut_values().mut_values().push_null()?;
+    outer.mut_values().try_push_valid()?;
+    outer.mut_values().push_null()?;
+    outer.try_push_valid()?;
+    outer.reserve(1)?;
+    let array = outer.as_box(rt.alloc())?;
+    let Some(lists) = lists_of(array) else {
+        return Err(Fail::from("an array of lists"));
+    };
+    assert_eq!(rt; lists.values.len(), 2);
+    drop(lists);
+    assert!(rt; outer.is_empty());
+    drop(outer);
+    Ok(())
+}

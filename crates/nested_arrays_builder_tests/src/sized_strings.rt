@@ -1,0 +1,68 @@
+use columnar_memory_types::{DataType, Error};
+use nested_arrays_sized_builders::MutableFixedSizeBinaryArray;
+use nested_arrays_sized_builders::nulls::columnar_memory::MutableBitmap;
+use nested_arrays_sized_builders::pushes::cells::taken::MutableArray;
+use std::test::Fail;
+
+#[test]
+fn strings_of_one_size_are_pushed(rt: HostRuntime) -> Result<(), Fail> {
+    let mut strings = MutableFixedSizeBinaryArray::with_capacity(rt.alloc(), 2, 4)?;
+    strings.push(Some("ab".as_bytes()))?;
+    strings.push_null()?;
+    assert!(rt;
+        matches!(
+            strings.try_push(Some("abc".as_bytes())),
+            Err(Error::InvalidArgumentError(_))
+        )
+    );
+    strings.try_push(Some("cd".as_bytes()))?;
+    assert_eq!(rt; strings.values(), [97u8, 98, 0, 0, 99, 100].as_slice());
+    assert_eq!(rt; (strings.len(), strings.size()), (3, 2));
+    let last = strings.pop()?;
+    assert!(rt; matches!(&last, Some(bytes) if bytes.as_slice() == [99u8, 100].as_slice()));
+    drop(last);
+    let array = strings.freeze()?;
+    assert_eq!(rt; array.values().as_slice(), [97u8, 98, 0, 0].as_slice());
+    assert!(rt; array.get(1).is_none());
+    drop(array);
+    Ok(())
+}
+
+#[test]
+fn strings_of_one_size_are_cut_back_and_taken(rt: HostRuntime) -> Result<(), Fail> {
+    let mut mask = MutableBitmap::new(rt.alloc());
+    mask.push(true)?;
+    mask.push(false)?;
+    let bytes = Vec::from_slice(rt.alloc(), &[1, 2, 3, 4])?;
+    let mut strings = MutableFixedSizeBinaryArray::try_new(
+        rt.alloc(),
+        DataType::FixedSizeBinary(2),
+        bytes,
+        Some(mask),
+    )?;
+    strings.truncate(1);
+    assert!(rt; strings.validity().is_none());
+    strings.shrink_to_fit();
+    let array = strings.as_box(rt.alloc())?;
+    assert_eq!(rt; (array.len(), MutableArray::is_empty(&strings)), (1, true));
+    drop(array);
+    let counted = MutableArray::as_arc(&mut strings, rt.alloc())?;
+    assert_eq!(rt; counted.len(), 0);
+    drop(counted);
+    drop(strings);
+    Ok(())
+}
+
+#[test]
+fn parts_of_another_length_are_refused(rt: HostRuntime) -> Result<(), Fail> {
+    let bytes = Vec::from_slice(rt.alloc(), &[1, 2, 3])?;
+    let refused = MutableFixedSizeBinaryArray::try_new(
+        rt.alloc(),
+        DataType::FixedSizeBinary(2),
+        bytes,
+        None,
+    );
+    assert!(rt; matches!(refused, Err(Error::OutOfSpec(_))));
+    drop(refused);
+    Ok(())
+}

@@ -1,0 +1,9 @@
+pub mod FirstSpans
+pub mod FrozenLists
+pub mod ListPushes
+pub mod ListSlots
+pub mod ListsStored
+pub mod NullColumns
+pub mod OpenLists
+pub use Rattle.nested_arrays_builder_pushes.proofs.nulls_lemmas
+pub use Rattle.nested_arrays_builder_pushes.proofs as pushes_lemmas

@@ -1,0 +1,18 @@
+-- Builders of nulls alone.
+use Rattle.std.specs.Prelude.{◌≡◌, ◌+◌, ◌≤◌, ℕ, true, Result, MatchResult}
+use Rattle.nested_arrays_builder_pushes.specs.nulls.columnar_memory.declared.DataType.{DataType}
+use Rattle.nested_arrays_builder_pushes.specs.nulls.columnar_memory.declared.Error.{Error}
+use Rattle.nested_arrays_builder_pushes.specs.nulls.columnar_memory.Error.{IsOverflow}
+use Rattle.nested_arrays_builder_pushes.specs.nulls.columns.Kinds.{most_slots}
+use Rattle.nested_arrays_builder_pushes.specs.nulls.columns.SoundColumns.{is_null_type}
+use Rattle.nested_arrays_builder_pushes.specs.nulls.columns.StoredColumns.{Column, column_len, column_type, nulls, type_layer}
+
+-- a type of nulls alone, and no more of them than a column may have
+pub record AreNulls (data_type : DataType) (n : ℕ) : Type 0 where
+  pub typed : is_null_type (type_layer data_type) ≡ true
+  pub few : n ≤ most_slots
+
+-- One null more; or there are as many as a column may have, and nothing has changed.
+abbrev pub CountsNull : {U : Type 0} → Column → Column → Result U Error → Type 0
+CountsNull old new r = MatchResult r (λ _. new ≡ nulls (column_type old) (column_len old + 1))
+    (λ e. (new ≡ old) × IsOverflow e × (column_len old ≡ most_slots))

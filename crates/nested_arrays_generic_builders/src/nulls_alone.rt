@@ -1,0 +1,125 @@
+//! Builders of nulls alone.
+ghost use Rattle.std.specs.Prelude.{◌≡◌, ◌≤◌, true};
+ghost use Rattle.nested_arrays_builder_pushes.specs.nulls.columnar_memory.Results.{OrOutOfMemory};
+ghost use Rattle.nested_arrays_builder_pushes.specs.nulls.columns.Kinds.{most_slots};
+ghost use Rattle.nested_arrays_builder_pushes.specs.nulls.columns.SoundColumns.{is_sound};
+ghost use Rattle.nested_arrays_builder_pushes.specs.nulls.columns.StoredColumns.{nulls};
+ghost use Rattle.nested_arrays_builder_pushes.specs.cells.taken.OpenColumns.{AddsNull};
+ghost use Rattle.nested_arrays_generic_builders.specs.NullBuilders.{CountsNull};
+
+use nested_arrays_builder_pushes::cells::taken::MutableArray;
+use nested_arrays_builder_pushes::nulls::arrays::AnyArray;
+use nested_arrays_builder_pushes::nulls::columnar_memory::{
+    DataType, Error, MutableBitmap, Result,
+};
+use nested_arrays_builder_pushes::nulls::flat::NullArray;
+use nested_arrays_builder_pushes::nulls::generic::ToBoxed;
+use std::alloc::Global;
+use std::marker::Model;
+use std::rc::Rc;
+
+/// As many slots as an array may have.
+const MOST_SLOTS: usize = 9_223_372_036_854_775_807;
+
+/// A builder of nulls alone, which counts them (Arrow columnar format, "Null Layout"). A contract sees the column that it would be frozen to.
+#[derive(Drop)]
+pub struct MutableNullArray {
+    data_type: DataType,
+    length: usize,
+}
+
+impl Model for MutableNullArray {
+    ghost use Rattle.nested_arrays_builder_pushes.specs.nulls.columns.ColumnCodes.{column_code};
+    ghost use Rattle.nested_arrays_builder_pushes.specs.nulls.columns.StoredColumns.{Column, nulls};
+    ghost use Rattle.nested_arrays_generic_builders.specs.NullBuilders.{AreNulls};
+
+    ghost Value = { Column };
+
+    ghost coded = { column_code };
+
+    ghost view = { λ it. nulls it.data_type it.length };
+
+    ghost invariant = { λ it. AreNulls it.data_type it.length };
+}
+
+impl MutableNullArray {
+    /// So many nulls of a data type whose arrays are of nulls alone.
+    pub fn new(data_type: DataType, length: usize) -> Self
+        requires typed { is_sound (nulls data_type length) ≡ true }
+        requires long { length ≤ most_slots }
+        ensures { result ≡ nulls data_type length }
+    {
+        MutableNullArray { data_type, length }
+    }
+
+    /// The array of the nulls. Takes no memory.
+    pub fn into_box(self) -> AnyArray
+        ensures { result ≡ self }
+    {
+        let MutableNullArray { data_type, length } = self;
+        NullArray::new(data_type, length).into_any()
+    }
+}
+
+impl MutableArray for MutableNullArray {
+    ghost column = { λ column. column };
+
+    fn len(&self) -> usize {
+        self.length
+    }
+
+    fn data_type(&self) -> &DataType {
+        &self.data_type
+    }
+
+    fn validity(&self) -> Option<&MutableBitmap> {
+        let _length = self.length;
+        None
+    }
+
+    fn is_valid(&self, _i: usize) -> bool {
+        let _length = self.length;
+        false
+    }
+
+    fn as_box(&mut self, _alloc: Global) -> Result<AnyArray> {
+        let length = self.length;
+        self.length = 0;
+        nulls_of(&self.data_type, length)
+    }
+
+    fn as_arc(&mut self, alloc: Global) -> Result<Rc<AnyArray>> {
+        let array = self.as_box(alloc)?;
+        Ok(Rc::new(alloc, array)?)
+    }
+
+    fn push_null(&mut self) -> Result<()>
+        ensures counted { CountsNull self.old self.new result }
+        ensures column { AddsNull self.old self.new result }
+    {
+        if self.length == MOST_SLOTS {
+            return Err(Error::Overflow);
+        }
+        self.length += 1;
+        Ok(())
+    }
+
+    fn reserve(&mut self, _additional: usize) -> Result<()> {
+        Ok(())
+    }
+
+    fn shrink_to_fit(&mut self) {}
+
+    fn truncate(&mut self, len: usize) {
+        self.length = len;
+    }
+}
+
+/// The array of so many nulls of a data type.
+fn nulls_of(data_type: &DataType, length: usize) -> Result<AnyArray>
+    requires { is_sound (nulls data_type.now length) ≡ true }
+    ensures { OrOutOfMemory result (λ array. array ≡ nulls data_type.now length) }
+{
+    let data_type = data_type.clone()?;
+    Ok(NullArray::new(data_type, length).into_any())
+}
