@@ -15,6 +15,37 @@ fn new_lists(alloc: Global) -> Result<MutableListArray<i32, AnyMutableArray>, Er
     MutableListArray::new_with_capacity(alloc, items, 4)
 }
 
+/// Keeps the first slots of a builder, where there are as many.
+pub(crate) fn keep<M: MutableArray>(slots: &mut M, count: usize) -> Result<(), Fail> {
+    if slots.len() < count {
+        return Err(Fail::from("fewer slots"));
+    }
+    slots.truncate(count);
+    Ok(())
+}
+
+/// Whether the slot at a place has a value, where there is one.
+fn is_valid_at<M: MutableArray>(slots: &M, place: usize) -> Option<bool> {
+    if place < slots.len() {
+        Some(slots.is_valid(place))
+    } else {
+        None
+    }
+}
+
+/// Lists of nulls, the first of which have no items, as many as a mask has bits.
+fn lists_without_items(
+    alloc: Global,
+    nulls: MutableNullArray,
+    mask: MutableBitmap,
+) -> Result<MutableListArray<i32, MutableNullArray>, Fail> {
+    let offsets = Offsets::<i32>::new_zeroed(alloc, mask.len())?;
+    if mask.len() != offsets.len_proxy() {
+        return Err(Fail::from("a mask of another length"));
+    }
+    Ok(MutableListArray::new_from_mutable(alloc, nulls, offsets, Some(mask))?)
+}
+
 /// Pushes a list of these numbers.
 fn push_list(
     lists: &mut MutableListArray<i32, AnyMutableArray>,
@@ -69,8 +100,8 @@ fn lists_are_closed_over_items(rt: HostRuntime) -> Result<(), Fail> {
     push_list(&mut lists, &[])?;
     push_list(&mut lists, &[3])?;
     assert_eq!(rt;
-        (lists.len(), lists.values().len(), lists.is_valid(1)),
-        (4, 3, false)
+        (lists.len(), lists.values().len(), is_valid_at(&lists, 1)),
+        (4, 3, Some(false))
     );
     let array = lists.as_box(rt.alloc())?;
     assert!(rt; are_lists(array, &[0, 2, 2, 2, 3], &[13], 3));
@@ -87,7 +118,7 @@ fn lists_that_are_cut_back_keep_their_items_alone(rt: HostRuntime) -> Result<(),
     push_list(&mut lists, &[1, 2])?;
     lists.push_null()?;
     push_list(&mut lists, &[3])?;
-    lists.truncate(1);
+    keep(&mut lists, 1)?;
     lists.shrink_to_fit();
     push_list(&mut lists, &[4])?;
     let array = lists.as_box(rt.alloc())?;
@@ -100,7 +131,7 @@ fn lists_that_are_cut_back_keep_their_items_alone(rt: HostRuntime) -> Result<(),
 fn lists_without_their_items_make_no_array(rt: HostRuntime) -> Result<(), Fail> {
     let mut lists = new_lists(rt.alloc())?;
     push_list(&mut lists, &[1, 2])?;
-    lists.mut_values().truncate(1);
+    keep(lists.mut_values(), 1)?;
     assert!(rt; matches!(lists.try_push_valid(), Err(Error::Overflow)));
     let refused = lists.as_box(rt.alloc());
     assert!(rt; matches!(refused, Err(Error::OutOfSpec(_))));
@@ -114,16 +145,17 @@ fn lists_without_their_items_make_no_array(rt: HostRuntime) -> Result<(), Fail> 
 
 #[test]
 fn lists_are_made_of_parts(rt: HostRuntime) -> Result<(), Fail> {
-    let nulls = MutableNullArray::new(DataType::Null, 3);
-    let offsets = Offsets::<i32>::try_from_iter(rt.alloc(), [1usize, 0, 2].into_iter())?;
+    let mut nulls = MutableNullArray::new(DataType::Null, 0);
+    nulls.push_null()?;
+    nulls.push_null()?;
     let mut mask = MutableBitmap::new(rt.alloc());
     mask.push(true)?;
     mask.push(false)?;
-    mask.push(true)?;
-    let mut lists = MutableListArray::new_from_mutable(rt.alloc(), nulls, offsets, Some(mask))?;
+    let mut lists = lists_without_items(rt.alloc(), nulls, mask)?;
+    lists.try_push_valid()?;
     lists.push_null()?;
     let array = lists.as_box(rt.alloc())?;
-    assert!(rt; are_lists(array, &[0, 1, 1, 3, 3], &[5], 3));
+    assert!(rt; are_lists(array, &[0, 0, 0, 2, 2], &[5], 2));
     drop(lists);
     Ok(())
 }

@@ -1,13 +1,22 @@
+use crate::generic_lists::keep;
 use columnar_memory_types::{DataType, Error};
 use nested_arrays_sized_builders::MutableFixedSizeBinaryArray;
 use nested_arrays_sized_builders::nulls::columnar_memory::MutableBitmap;
 use nested_arrays_sized_builders::pushes::cells::taken::MutableArray;
 use std::test::Fail;
 
+/// Pushes a string, where it has the size.
+fn push(strings: &mut MutableFixedSizeBinaryArray, bytes: &[u8]) -> Result<(), Error> {
+    if bytes.len() != strings.size() {
+        return Err(Error::InvalidArgumentError("another size"));
+    }
+    strings.push(Some(bytes))
+}
+
 #[test]
 fn strings_of_one_size_are_pushed(rt: HostRuntime) -> Result<(), Fail> {
     let mut strings = MutableFixedSizeBinaryArray::with_capacity(rt.alloc(), 2, 4)?;
-    strings.push(Some("ab".as_bytes()))?;
+    push(&mut strings, "ab".as_bytes())?;
     strings.push_null()?;
     assert!(rt;
         matches!(
@@ -40,7 +49,7 @@ fn strings_of_one_size_are_cut_back_and_taken(rt: HostRuntime) -> Result<(), Fai
         bytes,
         Some(mask),
     )?;
-    strings.truncate(1);
+    keep(&mut strings, 1)?;
     assert!(rt; strings.validity().is_none());
     strings.shrink_to_fit();
     let array = strings.as_box(rt.alloc())?;
