@@ -3,7 +3,8 @@ use crate::cases::{list, one_field};
 use ipc_format_reading::columnar_memory::{DataType, Error, OffsetsBuffer, UnionMode};
 use ipc_format_reading::nested_arrays::flat_arrays::PrimitiveArray;
 use ipc_format_reading::nested_arrays::{
-    AnyArray, AnyPrimitive, FlatArray, ListArray, ToBoxed, UnionArray, columnar_memory as memory,
+    AnyArray, AnyPrimitive, FlatArray, ListArray, StructArray, ToBoxed, UnionArray,
+    columnar_memory as memory,
 };
 use ipc_format_reading::{Buffer, FieldNode, write};
 use std::alloc::Global;
@@ -76,13 +77,21 @@ pub(crate) fn lists(alloc: Global) -> Result<AnyArray, Error> {
     Ok(ListArray::try_new(data_type, offsets, items, None)?.into_any())
 }
 
+/// A struct of two numbers.
+pub(crate) fn record(alloc: Global) -> Result<StructArray, Error> {
+    let fields = one_field(alloc, DataType::Int32)?;
+    let mut children = Vec::new(alloc);
+    children.push(numbers(alloc, &[7, 8])?)?;
+    StructArray::try_new(DataType::Struct(fields), children, None)
+}
+
 /// A sparse union of three numbers of one child.
-pub(crate) fn sparse(alloc: Global) -> Result<AnyArray, Error> {
+pub(crate) fn sparse(alloc: Global) -> Result<UnionArray, Error> {
     let fields = one_field(alloc, DataType::Int32)?;
     let mut children = Vec::new(alloc);
     children.push(numbers(alloc, &[7, 8, 9])?)?;
     let types = Vec::from_slice(alloc, &[0i8, 0, 0])?;
     let data_type = DataType::Union(fields, None, UnionMode::Sparse);
     let types = memory::Buffer::from_vec(types)?;
-    Ok(AnyArray::from(UnionArray::try_new(data_type, types, children, None)?))
+    UnionArray::try_new(data_type, types, children, None)
 }

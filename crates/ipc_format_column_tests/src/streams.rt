@@ -23,14 +23,14 @@ pub(crate) fn stream() -> [u8; 104] {
 #[test]
 fn a_schema_without_fields(rt: HostRuntime) -> Result<(), Fail> {
     let bytes = stream();
-    let mut rest = &bytes[..99];
+    let mut rest = &bytes[..];
     let metadata = read_stream_metadata(rt.alloc(), &mut rest)
         .ok()
         .ok_or("refused")?;
     assert_eq!(rt; metadata.version, MetadataVersion::V5);
     assert_eq!(rt; metadata.schema.fields.len(), 0);
     assert!(rt; metadata.ipc_schema.is_little_endian);
-    assert_eq!(rt; rest, &[255, 255, 255][..]);
+    assert_eq!(rt; rest, &[255, 255, 255, 255, 0, 0, 0, 0][..]);
     let copied = metadata.clone()?;
     assert!(rt; copied.schema == metadata.schema && copied.ipc_schema == metadata.ipc_schema);
     Ok(())

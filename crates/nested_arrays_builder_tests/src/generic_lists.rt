@@ -92,98 +92,147 @@ fn are_lists(array: AnyArray, offsets: &[i32], mask: &[u8], items: usize) -> boo
     same && masked && count == items
 }
 
-#[test]
-fn lists_are_closed_over_items(rt: HostRuntime) -> Result<(), Fail> {
-    let mut lists = new_lists(rt.alloc())?;
+/// The array of one list more.
+fn array_with(
+    alloc: Global,
+    lists: &mut MutableListArray<i32, AnyMutableArray>,
+    items: &[i32],
+) -> Result<AnyArray, Error> {
+    push_list(lists, items)?;
+    lists.as_box(alloc)
+}
+
+/// A list of two numbers, a null, and a list without items.
+fn three_lists(alloc: Global) -> Result<MutableListArray<i32, AnyMutableArray>, Error> {
+    let mut lists = new_lists(alloc)?;
     push_list(&mut lists, &[1, 2])?;
     lists.push_null()?;
     push_list(&mut lists, &[])?;
-    push_list(&mut lists, &[3])?;
-    assert_eq!(rt;
-        (lists.len(), lists.values().len(), is_valid_at(&lists, 1)),
-        (4, 3, Some(false))
-    );
-    let array = lists.as_box(rt.alloc())?;
-    assert!(rt; are_lists(array, &[0, 2, 2, 2, 3], &[13], 3));
-    push_list(&mut lists, &[4])?;
-    let array = lists.as_box(rt.alloc())?;
-    assert!(rt; are_lists(array, &[0, 1], &[], 1));
+    Ok(lists)
+}
+
+#[test]
+fn lists_are_closed_over_items(rt: HostRuntime) -> Result<(), Fail> {
+    let mut lists = three_lists(rt.alloc())?;
+    let counts = (lists.len(), lists.values().len(), is_valid_at(&lists, 1));
+    let first = array_with(rt.alloc(), &mut lists, &[3]);
+    let second = array_with(rt.alloc(), &mut lists, &[4]);
     drop(lists);
+    assert_eq!(rt; counts, (3, 2, Some(false)));
+    assert!(rt; are_lists(first?, &[0, 2, 2, 2, 3], &[13], 3));
+    assert!(rt; are_lists(second?, &[0, 1], &[], 1));
     Ok(())
+}
+
+/// The array of the first of three lists, and one more.
+fn array_of_the_first(alloc: Global) -> Result<AnyArray, Fail> {
+    let mut lists = three_lists(alloc)?;
+    keep(&mut lists, 1)?;
+    lists.shrink_to_fit();
+    let array = array_with(alloc, &mut lists, &[4]);
+    drop(lists);
+    Ok(array?)
 }
 
 #[test]
 fn lists_that_are_cut_back_keep_their_items_alone(rt: HostRuntime) -> Result<(), Fail> {
-    let mut lists = new_lists(rt.alloc())?;
-    push_list(&mut lists, &[1, 2])?;
-    lists.push_null()?;
-    push_list(&mut lists, &[3])?;
-    keep(&mut lists, 1)?;
-    lists.shrink_to_fit();
-    push_list(&mut lists, &[4])?;
-    let array = lists.as_box(rt.alloc())?;
+    let array = array_of_the_first(rt.alloc())?;
     assert!(rt; are_lists(array, &[0, 2, 3], &[], 3));
-    drop(lists);
     Ok(())
+}
+
+/// A list of two numbers, of which one was taken away.
+fn list_without_an_item(alloc: Global) -> Result<MutableListArray<i32, AnyMutableArray>, Fail> {
+    let mut lists = new_lists(alloc)?;
+    push_list(&mut lists, &[1, 2])?;
+    keep(lists.mut_values(), 1)?;
+    Ok(lists)
+}
+
+/// Whether no array was made of lists that have fewer items than they say.
+fn is_out_of_spec(made: Result<AnyArray, Error>) -> bool {
+    matches!(made, Err(Error::OutOfSpec(_)))
 }
 
 #[test]
 fn lists_without_their_items_make_no_array(rt: HostRuntime) -> Result<(), Fail> {
-    let mut lists = new_lists(rt.alloc())?;
-    push_list(&mut lists, &[1, 2])?;
-    keep(lists.mut_values(), 1)?;
-    assert!(rt; matches!(lists.try_push_valid(), Err(Error::Overflow)));
-    let refused = lists.as_box(rt.alloc());
-    assert!(rt; matches!(refused, Err(Error::OutOfSpec(_))));
-    drop(refused);
-    push_list(&mut lists, &[3])?;
-    let array = lists.as_box(rt.alloc())?;
-    assert!(rt; are_lists(array, &[0, 1], &[], 1));
+    let mut lists = list_without_an_item(rt.alloc())?;
+    let is_overflow = matches!(lists.try_push_valid(), Err(Error::Overflow));
+    let is_refused = is_out_of_spec(lists.as_box(rt.alloc()));
+    let array = array_with(rt.alloc(), &mut lists, &[3]);
     drop(lists);
+    assert!(rt; is_overflow && is_refused);
+    assert!(rt; are_lists(array?, &[0, 1], &[], 1));
     Ok(())
+}
+
+fn two_nulls() -> Result<MutableNullArray, Error> {
+    let mut nulls = MutableNullArray::new(DataType::Null, 0);
+    nulls.push_null()?;
+    nulls.push_null()?;
+    Ok(nulls)
+}
+
+/// A mask whose first slot alone has a value.
+fn mask_of_two(alloc: Global) -> Result<MutableBitmap, Error> {
+    let mut mask = MutableBitmap::new(alloc);
+    mask.push(true)?;
+    mask.push(false)?;
+    Ok(mask)
+}
+
+/// The array of two lists without items, one of all items, and a null.
+fn array_of_parts(alloc: Global) -> Result<AnyArray, Fail> {
+    let mut lists = lists_without_items(alloc, two_nulls()?, mask_of_two(alloc)?)?;
+    lists.try_push_valid()?;
+    lists.push_null()?;
+    let array = lists.as_box(alloc);
+    drop(lists);
+    Ok(array?)
 }
 
 #[test]
 fn lists_are_made_of_parts(rt: HostRuntime) -> Result<(), Fail> {
-    let mut nulls = MutableNullArray::new(DataType::Null, 0);
-    nulls.push_null()?;
-    nulls.push_null()?;
-    let mut mask = MutableBitmap::new(rt.alloc());
-    mask.push(true)?;
-    mask.push(false)?;
-    let mut lists = lists_without_items(rt.alloc(), nulls, mask)?;
-    lists.try_push_valid()?;
-    lists.push_null()?;
-    let array = lists.as_box(rt.alloc())?;
+    let array = array_of_parts(rt.alloc())?;
     assert!(rt; are_lists(array, &[0, 0, 0, 2, 2], &[5], 2));
-    drop(lists);
     Ok(())
 }
 
-#[test]
-fn lists_of_lists_of_nulls(rt: HostRuntime) -> Result<(), Fail> {
+/// A builder of lists of lists of nulls.
+type ListsOfLists = MutableListArray<i32, MutableListArray<i64, MutableNullArray>>;
+
+fn new_lists_of_lists(alloc: Global) -> Result<ListsOfLists, Error> {
+    let name = Text::from_str(alloc, "nulls")?;
     let nulls = MutableNullArray::new(DataType::Null, 0);
-    let name = Text::from_str(rt.alloc(), "nulls")?;
-    let inner: MutableListArray<i64, MutableNullArray> = MutableListArray::new_with_field(
-        rt.alloc(),
-        nulls,
-        name,
-        false,
-    )?;
-    let mut outer: MutableListArray<i32, MutableListArray<i64, MutableNullArray>> =
-        MutableListArray::new_with_capacity(rt.alloc(), inner, 0)?;
+    let inner = MutableListArray::new_with_field(alloc, nulls, name, false)?;
+    MutableListArray::new_with_capacity(alloc, inner, 0)
+}
+
+/// Pushes a list of a list of one null and of a null.
+fn push_lists(outer: &mut ListsOfLists) -> Result<(), Error> {
     outer.mut_values().mut_values().push_null()?;
     outer.mut_values().try_push_valid()?;
     outer.mut_values().push_null()?;
     outer.try_push_valid()?;
-    outer.reserve(1)?;
-    let array = outer.as_box(rt.alloc())?;
-    let Some(lists) = lists_of(array) else {
-        return Err(Fail::from("an array of lists"));
-    };
-    assert_eq!(rt; lists.values.len(), 2);
+    outer.reserve(1)
+}
+
+/// How many items stand in an array of lists.
+fn item_count(array: AnyArray) -> Option<usize> {
+    let lists = lists_of(array)?;
+    let count = lists.values.len();
     drop(lists);
-    assert!(rt; outer.is_empty());
+    Some(count)
+}
+
+#[test]
+fn lists_of_lists_of_nulls(rt: HostRuntime) -> Result<(), Fail> {
+    let mut outer = new_lists_of_lists(rt.alloc())?;
+    let pushed = push_lists(&mut outer);
+    let array = outer.as_box(rt.alloc());
+    let is_empty = outer.is_empty();
     drop(outer);
+    pushed?;
+    assert!(rt; is_empty && item_count(array?) == Some(2));
     Ok(())
 }
