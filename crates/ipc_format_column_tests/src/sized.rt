@@ -6,28 +6,36 @@ use ipc_format_reading::columnar_memory::{DataType, Error};
 use std::alloc::Global;
 use std::test::*;
 
+/// How many nulls are read, and how many nodes are left then; no number where what is asked for is out of the format.
+fn nulls_of(
+    alloc: Global,
+    data_type: DataType,
+    nodes_of: &[(i64, i64)],
+    limit: Option<usize>,
+) -> Result<(Option<usize>, usize), Fail> {
+    let mut queue = nodes(alloc, nodes_of)?;
+    let found = match read_null(&mut queue, data_type, limit) {
+        Ok(array) => {
+            let len = array.len();
+            drop(array);
+            Some(len)
+        }
+        Err(Error::OutOfSpec(_)) => None,
+        Err(_) => return Err(Fail::from("refused")),
+    };
+    Ok((found, queue.len()))
+}
+
 #[test]
 fn nulls_are_as_many_as_the_node_says(rt: HostRuntime) -> Result<(), Fail> {
     let alloc = rt.alloc();
-    let mut queue = nodes(alloc, &[(3, 3)])?;
-    let array = read_null(&mut queue, DataType::Null, Some(2))
-        .ok()
-        .ok_or("refused")?;
-    assert_eq!(rt; (array.len(), queue.len()), (2, 0));
-    assert!(rt;
-        matches!(
-            read_null(&mut queue, DataType::Null, None),
-            Err(Error::OutOfSpec(_))
-        )
+    let (three, none) = (&[(3, 3)], &[]);
+    assert_eq!(rt;
+        nulls_of(alloc, DataType::Null, three, Some(2))?,
+        (Some(2), 0)
     );
-    let mut queue = nodes(alloc, &[(3, 3)])?;
-    assert!(rt;
-        matches!(
-            read_null(&mut queue, DataType::Int8, None),
-            Err(Error::OutOfSpec(_))
-        )
-    );
-    assert_eq!(rt; queue.len(), 1);
+    assert_eq!(rt; nulls_of(alloc, DataType::Null, none, None)?, (None, 0));
+    assert_eq!(rt; nulls_of(alloc, DataType::Int8, three, None)?, (None, 1));
     Ok(())
 }
 
