@@ -8,6 +8,7 @@
     bench.py flat PROGRAM FOLDER       the jobs of `benches flat`, against plain_flat.rs, as a table
     bench.py nested PROGRAM FOLDER     the jobs of `benches nested`, against plain_nested.rs, as a table
     bench.py metadata PROGRAM FOLDER   the jobs of `benches metadata` at three sizes, against a copy of the metadata's bytes, as a table
+    bench.py columns PROGRAM FOLDER    the jobs of `benches columns`, against plain_columns.rs and copies of the same bytes, as a table
 
 What is made stands in FOLDER; streams are taken away at the end. Times of the program are the best of five rounds, those of the jobs
 the best of 21. Outputs and checksums of both programs have to be the same.
@@ -70,6 +71,25 @@ NESTED_JOBS = [
     ("texts", "`equal` of short texts", 22),
     ("lists", "`equal` of lists at other places of their items", 22),
     ("dictionaries", "`equal` of dictionaries with values in another order", 22),
+]
+
+# The same of columns, files and streams. The table has a hundred columns of numbers, 2^26 in all, in batches of 65,536 rows.
+COLUMNS_JOBS = [
+    ("read_numbers", "`read` of numbers, one in eight null", 24),
+    ("read_texts", "`read` of short texts", 23),
+    ("read_lists", "`read` of lists of up to three numbers", 22),
+    ("read_keys", "`read` of keys of a thousand texts", 22),
+    ("read_structs", "`read` of structs of ten numbers", 20),
+    ("write_numbers", "`write` of the numbers", 24),
+    ("write_texts", "`write` of the texts", 23),
+    ("write_lists", "`write` of the lists", 22),
+    ("write_keys", "`write` of the keys", 22),
+    ("write_structs", "`write` of the structs", 20),
+    ("read_choice", "one of 100 columns by `FileReader`", 26),
+    ("write_file", "a file by `FileWriter`", 26),
+    ("append_file", "a row by `append_file` to a copy of a file", 26),
+    ("write_stream", "a stream by `StreamWriter`", 26),
+    ("read_stream", "a stream by `StreamReader`", 26),
 ]
 
 
@@ -186,10 +206,15 @@ def measure_tables(program, folder):
         measure_counted(program, folder, kind, count)
 
 
+def answered(command, job, size):
+    """The words that a program answers of a job behind its name."""
+    return subprocess.run([*command, job, str(size)], check=True, stdout=subprocess.PIPE, text=True).stdout.split()[1:]
+
+
 def timed(command, job, size):
     """Nanoseconds and checksum of a job."""
-    answer = subprocess.run([*command, job, str(size)], check=True, stdout=subprocess.PIPE, text=True).stdout.split()
-    return int(answer[1]), answer[2]
+    nanoseconds, checksum = answered(command, job, size)
+    return int(nanoseconds), checksum
 
 
 def measure_job(command, plain, job, size):
@@ -222,6 +247,20 @@ def measure_nested(program, folder):
     measure_jobs(program, folder, "nested", NESTED_JOBS)
 
 
+def measure_columns(program, folder):
+    plain = built(folder, "plain_columns")
+    print("| job | size | ours, ms | plain Rust, ms | ratio | copy, ms | to the copy |")
+    print("|---|---|---|---|---|---|---|")
+    for job, what, power in COLUMNS_JOBS:
+        turns = [(answered([program, "columns"], job, 1 << power), answered([plain], job, 1 << power)) for _ in range(TURNS)]
+        if any(ours[1] != plainly[1] for ours, plainly in turns):
+            sys.exit("%s: plain Rust makes another result" % job)
+        ours = min(int(it[0]) for it, _ in turns) / 1e6
+        plainly, copy = (min(int(it[k]) for _, it in turns) / 1e6 for k in (0, 2))
+        row = (what, power, ours, plainly, ours / plainly, copy, ours / copy)
+        print("| %s | 2^%d | %.2f | %.2f | %.2f | %.2f | %.2f |" % row, flush=True)
+
+
 def measure_metadata(program, folder):
     least = {}
     print("| fields | metadata, kB | read, ms | write, ms | copy, ms | read / copy | write / copy |")
@@ -245,6 +284,7 @@ if __name__ == "__main__":
         "flat": measure_flat,
         "nested": measure_nested,
         "metadata": measure_metadata,
+        "columns": measure_columns,
     }
     if len(sys.argv) != 4 or sys.argv[1] not in measures:
         sys.exit(__doc__)

@@ -1,5 +1,5 @@
 use crate::timing::{Named, show_checksums, show_time};
-use crate::{flat, memory, metadata, nested};
+use crate::{columns, flat, memory, metadata, nested};
 use columnar_memory_types::Result;
 use std::rt::Clock;
 
@@ -15,11 +15,20 @@ pub(crate) enum Group {
     /// Those of nested arrays.
     Nested,
 
-    /// Those of the format.
+    /// Those of schemas.
     Metadata,
+
+    /// Those of columns, files and streams.
+    Columns,
 }
 
-pub(crate) const GROUPS: [Group; 4] = [Group::Memory, Group::Flat, Group::Nested, Group::Metadata];
+pub(crate) const GROUPS: [Group; 5] = [
+    Group::Memory,
+    Group::Flat,
+    Group::Nested,
+    Group::Metadata,
+    Group::Columns,
+];
 
 impl Named for Group {
     fn name(&self) -> &'static str {
@@ -28,6 +37,7 @@ impl Named for Group {
             Group::Flat => "flat",
             Group::Nested => "nested",
             Group::Metadata => "metadata",
+            Group::Columns => "columns",
         }
     }
 }
@@ -40,6 +50,7 @@ impl Group {
             Group::Flat => show_checksums(rt, self.name(), &flat::JOBS),
             Group::Nested => show_checksums(rt, self.name(), &nested::JOBS),
             Group::Metadata => show_checksums(rt, self.name(), &metadata::JOBS),
+            Group::Columns => show_checksums(rt, self.name(), &columns::JOBS),
         }
     }
 
@@ -55,6 +66,7 @@ impl Group {
             Group::Flat => show_time(rt, &flat::JOBS, job, size),
             Group::Nested => show_time(rt, &nested::JOBS, job, size),
             Group::Metadata => show_time(rt, &metadata::JOBS, job, size),
+            Group::Columns => show_time(rt, &columns::JOBS, job, size),
         }
     }
 }

@@ -4,4 +4,5 @@ mod equality;
 mod job;
 mod tables;
 
+pub(crate) use data::{any_numbers, lists, slots, text_column, texts};
 pub(crate) use job::{JOBS, NestedJob};
