@@ -14,16 +14,15 @@ fn nulls_of(
     limit: Option<usize>,
 ) -> Result<(Option<usize>, usize), Fail> {
     let mut queue = nodes(alloc, nodes_of)?;
-    let found = match read_null(&mut queue, data_type, limit) {
+    match read_null(&mut queue, data_type, limit) {
         Ok(array) => {
             let len = array.len();
             drop(array);
-            Some(len)
+            Ok((Some(len), queue.len()))
         }
-        Err(Error::OutOfSpec(_)) => None,
-        Err(_) => return Err(Fail::from("refused")),
-    };
-    Ok((found, queue.len()))
+        Err(Error::OutOfSpec(_)) => Ok((None, queue.len())),
+        Err(_) => Err(Fail::from("refused")),
+    }
 }
 
 #[test]
