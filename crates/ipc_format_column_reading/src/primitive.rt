@@ -1,9 +1,11 @@
 //! Columns of values of one width.
-ghost use Rattle.std.specs.Prelude.{◌≡◌, is_some};
+ghost use Rattle.std.specs.Prelude.{◌≡◌, is_some, length, map, IfOk};
+ghost use Rattle.ipc_format_column_bytes.specs.flat_arrays.Flat.{IsMaskOf};
 ghost use Rattle.ipc_format_column_bytes.specs.streams.columnar_memory.Layouts.{physical_type};
 ghost use Rattle.ipc_format_column_bytes.specs.streams.columnar_memory.Numbers.{IsNative, zeros};
 ghost use Rattle.ipc_format_column_bytes.specs.streams.columnar_memory.declared.PhysicalType.TheVariants as layouts;
-ghost use Rattle.ipc_format_column_reading.specs.FlatColumns.{primitive_column};
+ghost use Rattle.ipc_format_column_bytes.specs.streams.columns.StoredColumns.{flat};
+ghost use Rattle.ipc_format_column_reading.specs.FlatColumns.{primitive_column, stored_numbers};
 ghost use Rattle.ipc_format_column_reading.specs.Queues.{Skips};
 ghost use Rattle.ipc_format_column_reading.specs.Reads.{ReadsColumn, front_slots};
 
@@ -12,9 +14,11 @@ use crate::queues::skip_own;
 use crate::read_basic::read_buffer;
 use crate::room::Room;
 use ipc_format_column_bytes::flat_arrays::PrimitiveArray;
-use ipc_format_column_bytes::streams::columnar_memory::{DataType, Error, NativeType, Result};
+use ipc_format_column_bytes::streams::columnar_memory::{
+    Bitmap, Buffer, DataType, Error, NativeType, Result,
+};
 use ipc_format_column_bytes::streams::messages as ipc;
-use ipc_format_column_bytes::streams::messages::{BodyCompressionRef, Buffer, FieldNode};
+use ipc_format_column_bytes::streams::messages::{BodyCompressionRef, FieldNode};
 use std::alloc::Global;
 use std::collections::VecDeque;
 
@@ -24,6 +28,54 @@ fn has_numbers<T: NativeType>()
 {
     let zero = T::default();
     let _bytes = zero.to_le_bytes();
+}
+
+/// The values and the validity of a column, whose type is looked at before.
+fn read_numbers<T: NativeType, R: Room>(
+    alloc: Global,
+    field_nodes: &mut VecDeque<FieldNode>,
+    data_type: &DataType,
+    buffers: &mut VecDeque<ipc::Buffer>,
+    reader: &mut R,
+    block_offset: u64,
+    is_little_endian: bool,
+    compression: Option<BodyCompressionRef<'_>>,
+    limit: Option<usize>,
+    scratch: &mut Vec<u8>,
+) -> Result<(Buffer<T>, Option<Bitmap>)>
+    ensures read { ReadsColumn (physical_type data_type.now ≡ layouts.Primitive T.PRIMITIVE) (is_some compression.entry)
+        (R.told reader.old) (R.told reader.new)
+        (λ parts. flat data_type.now parts.1 (stored_numbers T.PRIMITIVE (map T.numbers parts.0))) data_type.now
+        (front_slots data_type.now field_nodes.old.items buffers.old.items is_little_endian limit block_offset)
+        1 2 field_nodes.old.items field_nodes.new.items buffers.old.items buffers.new.items result }
+    ensures size { IfOk result (λ parts. IsMaskOf (length parts.0) parts.1) }
+{
+    has_numbers::<T>();
+    if !data_type.to_physical_type().eq_primitive(T::PRIMITIVE) {
+        return Err(Error::OutOfSpec("InvalidDataType"));
+    }
+    let marked = read_marked(
+        alloc,
+        field_nodes,
+        buffers,
+        reader,
+        block_offset,
+        is_little_endian,
+        compression,
+        limit,
+        scratch,
+    )?;
+    let values = read_buffer::<T, R>(
+        alloc,
+        buffers,
+        marked.taken,
+        reader,
+        block_offset,
+        is_little_endian,
+        compression,
+        scratch,
+    )?;
+    Ok((values, marked.validity))
 }
 
 /// Reads a column of values of one width: a node and two buffers.
@@ -51,13 +103,10 @@ pub fn read_primitive<T: NativeType, R: Room>(
         (front_slots data_type field_nodes.old.items buffers.old.items is_little_endian limit block_offset)
         1 2 field_nodes.old.items field_nodes.new.items buffers.old.items buffers.new.items result }
 {
-    has_numbers::<T>();
-    if !data_type.to_physical_type().eq_primitive(T::PRIMITIVE) {
-        return Err(Error::OutOfSpec("InvalidDataType"));
-    }
-    let marked = read_marked(
+    let parts = read_numbers::<T, R>(
         alloc,
         field_nodes,
+        &data_type,
         buffers,
         reader,
         block_offset,
@@ -66,17 +115,7 @@ pub fn read_primitive<T: NativeType, R: Room>(
         limit,
         scratch,
     )?;
-    let values = read_buffer::<T, R>(
-        alloc,
-        buffers,
-        marked.taken,
-        reader,
-        block_offset,
-        is_little_endian,
-        compression,
-        scratch,
-    )?;
-    Ok(PrimitiveArray::new(data_type, values, marked.validity))
+    Ok(PrimitiveArray::new(data_type, parts.0, parts.1))
 }
 
 /// Passes over a column of values of one width: a node and two buffers.
@@ -85,7 +124,7 @@ pub fn read_primitive<T: NativeType, R: Room>(
 /// `OutOfSpec`: there are fewer. Each queue then holds an end of what it held.
 pub fn skip_primitive(
     field_nodes: &mut VecDeque<FieldNode>,
-    buffers: &mut VecDeque<Buffer>,
+    buffers: &mut VecDeque<ipc::Buffer>,
 ) -> Result<()>
     ensures { Skips 1 2 field_nodes.old.items field_nodes.new.items buffers.old.items buffers.new.items result }
 {

@@ -1,5 +1,5 @@
 //! Where the buffers of batches stand: in memory, or on a device.
-ghost use Rattle.std.specs.Prelude.{◌≡◌, ◌+◌, IfErr, length, MatchResult};
+ghost use Rattle.std.specs.Prelude.{◌≡◌, ◌+◌, ◌<◌, ◌≤◌, IfErr, length, MatchResult};
 ghost use Rattle.std.specs.Option.{option_copied};
 ghost use Rattle.ipc_format_column_bytes.specs.streams.flatbuffers.Reading.{window_at};
 ghost use Rattle.ipc_format_column_bytes.specs.streams.Arriving.{IsOfDevice};
@@ -140,6 +140,17 @@ fn ends_of<S: Seek>(device: &mut S) -> Result<(u64, u64)>
     Ok((start, end))
 }
 
+/// Puts the next piece of `count` bytes behind those that a vector holds.
+fn fill_piece<R: Read>(device: &mut R, count: usize, into: &mut Vec<u8>) -> Result<()>
+    requires { length into.old.items < count }
+    ensures { MatchResult result (λ _. (length into.old.items < length into.new.items) × (length into.new.items ≤ count)) IsOfDevice }
+{
+    let start = into.len();
+    into.resize(start + PIECE.min(count - start), 0)?;
+    device.read_exact(&mut into[start..])?;
+    Ok(())
+}
+
 /// Puts the `count` bytes from a place on in place of those that a vector holds, in pieces, so that memory is asked for by what came.
 fn fill_in_pieces<R: Read + Seek>(
     device: &mut R,
@@ -152,10 +163,7 @@ fn fill_in_pieces<R: Read + Seek>(
     into.clear();
     device.seek(SeekFrom::Start(place))?;
     while into.len() < count {
-        let start = into.len();
-        let end = start + PIECE.min(count - start);
-        into.resize(end, 0)?;
-        device.read_exact(&mut into[start..])?;
+        fill_piece(device, count, into)?;
     }
     Ok(())
 }

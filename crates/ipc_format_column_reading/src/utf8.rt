@@ -8,11 +8,9 @@ ghost use Rattle.ipc_format_column_reading.specs.Reads.{ReadsColumn, front_slots
 
 use crate::queues::skip_own;
 use crate::room::Room;
-use crate::strings::read_strings;
+use crate::strings::read_strings_of;
 use ipc_format_column_bytes::flat_arrays::Utf8Array;
-use ipc_format_column_bytes::streams::columnar_memory::{
-    DataType, Error, Offset, PhysicalType, Result,
-};
+use ipc_format_column_bytes::streams::columnar_memory::{DataType, Offset, PhysicalType, Result};
 use ipc_format_column_bytes::streams::messages as ipc;
 use ipc_format_column_bytes::streams::messages::{BodyCompressionRef, Buffer, FieldNode};
 use std::alloc::Global;
@@ -54,12 +52,11 @@ pub fn read_utf8<O: Offset, R: Room>(
         (front_slots data_type field_nodes.old.items buffers.old.items is_little_endian limit block_offset)
         1 3 field_nodes.old.items field_nodes.new.items buffers.old.items buffers.new.items result }
 {
-    if data_type.to_physical_type() != layout::<O>() {
-        return Err(Error::OutOfSpec("InvalidDataType"));
-    }
-    let parts = read_strings::<O, R>(
+    let parts = read_strings_of::<O, R>(
         alloc,
         field_nodes,
+        &data_type,
+        layout::<O>(),
         buffers,
         reader,
         block_offset,

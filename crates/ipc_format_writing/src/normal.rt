@@ -1,6 +1,7 @@
 //! The one form of a schema: at each field at any depth the keys of an extension are those of its type.
-ghost use Rattle.std.specs.Prelude.{◌≡◌, IfOk, MatchResult, map};
+ghost use Rattle.std.specs.Prelude.{◌≡◌, IfOk, OnOk, MatchResult, map};
 ghost use Rattle.ipc_format_messages.specs.columnar_memory.Error.{IsOutOfMemory};
+ghost use Rattle.ipc_format_messages.specs.columnar_memory.Pairs.{with_pair};
 ghost use Rattle.ipc_format_messages.specs.columnar_memory.declared.DataType.{out-DataType};
 ghost use Rattle.ipc_format_messages.specs.grammar.Writable as format;
 ghost use Rattle.ipc_format_writing.specs.Normal.{field_normal};
@@ -35,6 +36,15 @@ fn without(pairs: Metadata, key: &Text) -> Metadata
     Metadata::from_map(map)
 }
 
+/// A copy of a pair put among others.
+fn put_pair(alloc: Global, pairs: &mut Metadata, key: &str, value: &Text) -> Result<(), AllocError>
+    ensures { OnOk result (pairs.new ≡ with_pair pairs.old key.now value.now) }
+{
+    let key = Text::from_str(alloc, key)?;
+    let value = value.clone()?;
+    pairs.insert(key, value)
+}
+
 /// An extension's pairs put among others.
 fn with_extension(
     alloc: Global,
@@ -45,13 +55,10 @@ fn with_extension(
     ensures { IfOk result (λ found. found ≡ format.with_extension pairs name.now metadata.now) }
 {
     let mut found = pairs;
-    found.insert(Text::from_str(alloc, EXTENSION_NAME)?, name.clone()?)?;
+    put_pair(alloc, &mut found, EXTENSION_NAME, name)?;
     match metadata {
         Some(metadata) => {
-            found.insert(
-                Text::from_str(alloc, EXTENSION_METADATA)?,
-                metadata.clone()?,
-            )?;
+            put_pair(alloc, &mut found, EXTENSION_METADATA, metadata)?;
             Ok(found)
         }
         None => Ok(found),
@@ -99,6 +106,14 @@ fn normal_pairs(
     with_extension_under(alloc, others, data_type)
 }
 
+/// Copies of what an extension type is called by.
+fn copied_names(name: &Text, metadata: &Option<Text>) -> Result<(Text, Option<Text>), AllocError>
+    ensures { IfOk result (λ names. (names.0 ≡ name.now) × (names.1 ≡ metadata.now)) }
+{
+    let name = name.clone()?;
+    Ok((name, metadata.clone()?))
+}
+
 #[cycle(normal)]
 fn normal_type(alloc: Global, data_type: &DataType) -> Result<DataType, AllocError>
     ensures { IfOk result (λ normal. normal ≡ format.normalised_type data_type.now) }
@@ -113,31 +128,38 @@ fn normal_type(alloc: Global, data_type: &DataType) -> Result<DataType, AllocErr
             Ok(DataType::Map(boxed_field(alloc, entry.get())?, *is_sorted))
         }
         DataType::Struct(fields) => Ok(DataType::Struct(normal_fields(alloc, fields.as_slice())?)),
-        DataType::Union(fields, ids, mode) => Ok(DataType::Union(
-            normal_fields(alloc, fields.as_slice())?,
-            ids.clone()?,
-            *mode,
-        )),
+        DataType::Union(fields, ids, mode) => {
+            let ids = ids.clone()?;
+            Ok(DataType::Union(normal_fields(alloc, fields.as_slice())?, ids, *mode))
+        }
         DataType::Dictionary(key, value, is_ordered) => {
-            let value = Boxed::new(alloc, normal_type(alloc, value.get())?)?;
-            Ok(DataType::Dictionary(*key, value, *is_ordered))
+            Ok(DataType::Dictionary(*key, boxed_type(alloc, value.get())?, *is_ordered))
         }
         DataType::Extension(name, inner, metadata) => {
-            let inner = Boxed::new(alloc, normal_type(alloc, inner.get())?)?;
-            Ok(DataType::Extension(name.clone()?, inner, metadata.clone()?))
+            let names = copied_names(name, metadata)?;
+            Ok(DataType::Extension(names.0, boxed_type(alloc, inner.get())?, names.1))
         }
         _ => data_type.clone(),
     }
 }
 
 #[cycle(normal)]
+fn boxed_type(alloc: Global, data_type: &DataType) -> Result<Boxed<DataType>, AllocError>
+    ensures { IfOk result (λ normal. normal ≡ format.normalised_type data_type.now) }
+{
+    let normal = normal_type(alloc, data_type)?;
+    Boxed::new(alloc, normal)
+}
+
+#[cycle(normal)]
 fn normal_field(alloc: Global, field: &Field) -> Result<Field, AllocError>
     ensures { IfOk result (λ normal. normal ≡ field_normal field.now) }
 {
+    let name = field.name.clone()?;
     let data_type = normal_type(alloc, &field.data_type)?;
     let metadata = normal_pairs(alloc, &data_type, &field.metadata)?;
     Ok(Field {
-        name: field.name.clone()?,
+        name,
         data_type,
         is_nullable: field.is_nullable,
         metadata,
