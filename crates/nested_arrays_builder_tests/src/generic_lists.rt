@@ -111,16 +111,25 @@ fn three_lists(alloc: Global) -> Result<MutableListArray<i32, AnyMutableArray>, 
     Ok(lists)
 }
 
+/// Whether an array was made of lists, with these offsets, these bytes as its mask, and so many items.
+fn is_made(made: Result<AnyArray, Error>, offsets: &[i32], mask: &[u8], items: usize) -> bool {
+    match made {
+        Ok(array) => are_lists(array, offsets, mask, items),
+        Err(_) => false,
+    }
+}
+
 #[test]
 fn lists_are_closed_over_items(rt: HostRuntime) -> Result<(), Fail> {
     let mut lists = three_lists(rt.alloc())?;
     let counts = (lists.len(), lists.values().len(), is_valid_at(&lists, 1));
-    let first = array_with(rt.alloc(), &mut lists, &[3]);
-    let second = array_with(rt.alloc(), &mut lists, &[4]);
+    let more = array_with(rt.alloc(), &mut lists, &[3]);
+    let is_first = is_made(more, &[0, 2, 2, 2, 3], &[13], 3);
+    let more = array_with(rt.alloc(), &mut lists, &[4]);
+    let is_second = is_made(more, &[0, 1], &[], 1);
     drop(lists);
     assert_eq!(rt; counts, (3, 2, Some(false)));
-    assert!(rt; are_lists(first?, &[0, 2, 2, 2, 3], &[13], 3));
-    assert!(rt; are_lists(second?, &[0, 1], &[], 1));
+    assert!(rt; is_first && is_second);
     Ok(())
 }
 
