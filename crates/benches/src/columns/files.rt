@@ -5,13 +5,16 @@ use crate::timing::Work;
 use columnar_memory_types::{Error, Result};
 use ipc_format::nested_arrays::AnyArray;
 use ipc_format::{
-    Chunk, FileReader, FileWriter, InMemory, WriteOptions, append_file, is_choice, read_file,
+    Chunk, FileReader, FileWriter, InMemory, Room, WriteOptions, append_file, is_choice, read_file,
     read_file_metadata,
 };
 use std::alloc::Global;
 
 /// The column that is chosen of a hundred.
 const CHOSEN: usize = 50;
+
+/// More batches than any file here has.
+const MOST_BATCHES: usize = 1_000_000;
 
 /// The bytes of a file.
 #[derive(Drop)]
@@ -98,6 +101,47 @@ impl Work for AppendFile {
     }
 }
 
+/// A reader of some columns of a file, from its footer on.
+fn reader_of_columns<R: Room + Drop>(
+    alloc: Global,
+    mut room: R,
+    columns: &[usize],
+) -> Result<FileReader<R>> {
+    let metadata = read_file_metadata(alloc, &mut room)?;
+    let asked = Vec::from_slice(alloc, columns)?;
+    if !is_choice(asked.as_slice(), metadata.schema.fields.len()) {
+        return Err(Error::InvalidArgumentError("no such column"));
+    }
+    FileReader::new(alloc, room, metadata, Some(asked), None)
+}
+
+/// Reads a batch behind others, or answers that there is none.
+fn push_next<R: Room + Drop>(
+    reader: &mut FileReader<R>,
+    chunks: &mut Vec<Chunk<AnyArray>>,
+) -> Result<bool> {
+    match reader.next() {
+        Some(Ok(chunk)) => {
+            chunks.push(chunk)?;
+            Ok(true)
+        }
+        Some(Err(error)) => Err(error),
+        None => Ok(false),
+    }
+}
+
+/// The batches of some columns of a file.
+fn batches_of<R: Room + Drop>(alloc: Global, room: R, columns: &[usize]) -> Result<Batches> {
+    let mut reader = reader_of_columns(alloc, room, columns)?;
+    let mut chunks = Vec::new(alloc);
+    for _ in 0..MOST_BATCHES {
+        if !push_next(&mut reader, &mut chunks)? {
+            break;
+        }
+    }
+    Ok(Batches { alloc, chunks })
+}
+
 /// `FileReader` of one column of a hundred, from the footer on.
 #[derive(Drop)]
 pub(crate) struct ReadChoice {
@@ -115,24 +159,10 @@ impl Work for ReadChoice {
     type Made = Batches;
 
     fn make(&self) -> Result<Batches> {
-        let alloc = self.file.alloc;
-        let mut room = InMemory {
+        let room = InMemory {
             bytes: &self.file.bytes,
         };
-        let metadata = read_file_metadata(alloc, &mut room)?;
-        let count = metadata.blocks.len();
-        let asked = Vec::from_slice(alloc, &[CHOSEN])?;
-        if !is_choice(asked.as_slice(), metadata.schema.fields.len()) {
-            return Err(Error::InvalidArgumentError("no such column"));
-        }
-        let mut reader = FileReader::new(alloc, room, metadata, Some(asked), None)?;
-        let mut chunks = Vec::new(alloc);
-        for _ in 0..count {
-            if let Some(chunk) = reader.next() {
-                chunks.push(chunk?)?;
-            }
-        }
-        Ok(Batches { alloc, chunks })
+        batches_of(self.file.alloc, room, &[CHOSEN])
     }
 
     fn checksum(made: &Batches) -> u64 {

@@ -3,8 +3,12 @@ use crate::columns::column::Batches;
 use crate::columns::data::Table;
 use crate::timing::Work;
 use columnar_memory_types::Result;
-use ipc_format::{StreamReader, StreamState, StreamWriter, WriteOptions, read_stream_metadata};
+use ipc_format::nested_arrays::AnyArray;
+use ipc_format::{
+    Chunk, Faults, StreamReader, StreamState, StreamWriter, WriteOptions, read_stream_metadata,
+};
 use std::alloc::Global;
+use std::io::Read;
 
 /// The bytes of a stream.
 #[derive(Drop)]
@@ -13,20 +17,37 @@ pub(crate) struct Stream {
     bytes: Vec<u8>,
 }
 
+/// A reader of what stands behind the schema.
+fn reader_of<R: Read + Faults + Drop>(alloc: Global, mut device: R) -> Result<StreamReader<R>> {
+    let metadata = read_stream_metadata(alloc, &mut device)?;
+    StreamReader::new(alloc, device, metadata, None)
+}
+
+/// Reads a batch behind others, or answers that there is none.
+fn push_next<R: Read + Faults + Drop>(
+    reader: &mut StreamReader<R>,
+    chunks: &mut Vec<Chunk<AnyArray>>,
+) -> Result<bool> {
+    match reader.next() {
+        Some(Ok(StreamState::Some(chunk))) => {
+            chunks.push(chunk)?;
+            Ok(true)
+        }
+        Some(Err(error)) => Err(error),
+        Some(Ok(StreamState::Waiting)) | None => Ok(false),
+    }
+}
+
 impl Stream {
     /// All batches.
     fn batches(&self) -> Result<Batches> {
         let alloc = self.alloc;
-        let mut device = self.bytes.as_slice();
-        let metadata = read_stream_metadata(alloc, &mut device)?;
-        let mut reader = StreamReader::new(alloc, device, metadata, None)?;
+        let mut reader = reader_of(alloc, self.bytes.as_slice())?;
         let mut chunks = Vec::new(alloc);
         // Each batch has more than one byte.
         for _ in 0..self.bytes.len() {
-            match reader.next() {
-                Some(Ok(StreamState::Some(chunk))) => chunks.push(chunk)?,
-                Some(Err(error)) => return Err(error),
-                Some(Ok(StreamState::Waiting)) | None => break,
+            if !push_next(&mut reader, &mut chunks)? {
+                break;
             }
         }
         Ok(Batches { alloc, chunks })
