@@ -10,8 +10,8 @@ loop-slot-preserved g c = record {
       c.loop-slot.values.items
       c.push_slot.new.values.items c.loop-slot.offsets c.push_slot.new.offsets c.stored_bytes-bytes.ensures c.loop-slot.invariant.gathered
       c.in_ok-push_slot.ensures.follows;
-  marks = marks_more c.loop-slot.yielded c.in-Some.slot c.loop-slot.mask c.push_slot.new.mask c.is_some.result c.in_ok-push_slot.ensures.marked c.is_some.ensures
-      c.loop-slot.invariant.marks;
+  marks = marks_more c.loop-slot.yielded c.in-Some.slot c.loop-slot.mask c.push_slot.new.mask c.is_some.result c.in_ok-push_slot.ensures.marked
+      c.is_some.ensures c.loop-slot.invariant.marks;
 }
 
 pub from_gathered-requires-clause-masked : goal.from_gathered-requires-clause-masked
@@ -32,7 +32,8 @@ returns-in_err-push_slot g c =
     c.loop-slot.values.items g.I.Iterator.next_gives
     c.args.slots c.into_iter-slot-iterator.result c.into_iter-slot-iterator.ensures.into_iter_gives c.loop-slot.yielded
     c.loop-slot.slot-iterator c.loop-slot.yielded_by c.loop-slot.invariant.gathered c.next.new.self
-    c.in-Some.slot c.stored_bytes-bytes.result.now c.in_err-push_slot.field-0.0 c.in-Some.ensures.steps c.stored_bytes-bytes.ensures c.in_err-push_slot.ensures.follows)
+    c.in-Some.slot c.stored_bytes-bytes.result.now c.in_err-push_slot.field-0.0 c.in-Some.ensures.steps c.stored_bytes-bytes.ensures
+    c.in_err-push_slot.ensures.follows)
 
 pub returns : goal.returns
 returns g c =

@@ -11,8 +11,8 @@ loop-slot-preserved g c = record {
       c.loop-slot.values.items
       c.push_slot.new.values.items c.loop-slot.offsets c.push_slot.new.offsets c.stored_text-bytes.ensures.value c.loop-slot.invariant.gathered
       c.in_ok-push_slot.ensures.follows;
-  marks = marks_more c.loop-slot.yielded c.in-Some.slot c.loop-slot.mask c.push_slot.new.mask c.is_some.result c.in_ok-push_slot.ensures.marked c.is_some.ensures
-      c.loop-slot.invariant.marks;
+  marks = marks_more c.loop-slot.yielded c.in-Some.slot c.loop-slot.mask c.push_slot.new.mask c.is_some.result c.in_ok-push_slot.ensures.marked
+      c.is_some.ensures c.loop-slot.invariant.marks;
   texts = texts_more (stored_by g.T.AsStr.text) c.loop-slot.yielded c.in-Some.slot c.stored_text-bytes.result.now c.stored_text-bytes.ensures.value
       c.stored_text-bytes.ensures.text c.loop-slot.invariant.texts;
 }
