@@ -8,8 +8,8 @@ ghost use Rattle.flat_arrays_bytes.specs.Collected.{CollectsAlong, IsCollected};
 ghost use Rattle.flat_arrays_bytes.specs.Fits.{IsMaskOf, binary_type};
 
 use crate::binary::BinaryArray;
-use crate::gather::{gathered_mask, push_slot, push_value, shared, stored_bytes};
-use flat_arrays_values::columnar_memory::{BitGatherer, Bitmap, Offset, Offsets, Result};
+use crate::gather::{push_value, stored_bytes};
+use flat_arrays_values::columnar_memory::{BitGatherer, Bitmap, Buffer, Offset, Offsets, Result};
 use std::alloc::Global;
 use std::convert::AsSlice;
 
@@ -35,10 +35,10 @@ impl<O: Offset> BinaryArray<O> {
         let _ = offsets.reserve(least);
         let _ = mask.reserve(least);
         for slot in slots {
-            let bytes = stored_bytes(&slot);
-            push_slot(&mut offsets, &mut values, &mut mask, bytes, slot.is_some())?;
+            push_value(&mut offsets, &mut values, stored_bytes(&slot))?;
+            mask.push(slot.is_some())?;
         }
-        let validity = gathered_mask(mask)?;
+        let validity = Option::<Bitmap>::try_from(mask.finish()?)?;
         BinaryArray::from_gathered(offsets, values, validity)
     }
 
@@ -93,7 +93,8 @@ impl<O: Offset> BinaryArray<O> {
         requires within { last_of offsets ≤ length values.items }
         ensures { OrOutOfMemory result (λ a. a ≡ byte_strings (binary_type O.IS_LARGE) offsets values.items validity) }
     {
-        let (offsets, values) = shared(offsets, values)?;
+        let offsets = offsets.freeze()?;
+        let values = Buffer::from_vec(values)?;
         let data_type = BinaryArray::<O>::default_data_type();
         Ok(BinaryArray::new(data_type, offsets, values, validity))
     }

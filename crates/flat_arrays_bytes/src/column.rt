@@ -120,13 +120,6 @@ fn check_parts<O: Offset>(
     Ok(())
 }
 
-/// Offsets and bytes of no slots.
-fn empty_parts<O: Offset>(alloc: Global) -> Result<(OffsetsBuffer<O>, Buffer<u8>)>
-    ensures { OrOutOfMemory result (λ parts. (parts.0 ≡ no_spans) × (parts.1 ≡ [])) }
-{
-    Ok((OffsetsBuffer::new(alloc)?, Buffer::new(alloc)?))
-}
-
 /// Offsets, bytes and a mask of so many nulls, each of which stores no bytes.
 fn null_parts<O: Offset>(
     alloc: Global,
@@ -192,11 +185,10 @@ impl<O: Offset> ByteColumn<O> {
     pub fn new_empty(alloc: Global, data_type: DataType) -> Result<Self>
         ensures { OrOutOfMemory result (λ a. a ≡ byte_strings data_type no_spans [] None) }
     {
-        let (offsets, values) = empty_parts(alloc)?;
         Ok(ByteColumn {
             data_type,
-            offsets,
-            values,
+            offsets: OffsetsBuffer::new(alloc)?,
+            values: Buffer::new(alloc)?,
             validity: None,
         })
     }

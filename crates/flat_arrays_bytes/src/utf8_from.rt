@@ -8,9 +8,9 @@ ghost use Rattle.flat_arrays_bytes.specs.Collected.{CollectsAlong, IsCollected};
 ghost use Rattle.flat_arrays_bytes.specs.Fits.{IsMaskOf, text_type};
 ghost use Rattle.flat_arrays_bytes.specs.Texts.{AllTexts};
 
-use crate::gather::{bytes_of, gathered_mask, push_slot, push_value, shared, stored_text};
+use crate::gather::{bytes_of, push_value, stored_text};
 use crate::utf8::Utf8Array;
-use flat_arrays_values::columnar_memory::{BitGatherer, Bitmap, Offset, Offsets, Result};
+use flat_arrays_values::columnar_memory::{BitGatherer, Bitmap, Buffer, Offset, Offsets, Result};
 use std::alloc::Global;
 use std::convert::AsStr;
 
@@ -36,10 +36,10 @@ impl<O: Offset> Utf8Array<O> {
         let _ = offsets.reserve(least);
         let _ = mask.reserve(least);
         for slot in slots {
-            let bytes = stored_text(&slot);
-            push_slot(&mut offsets, &mut values, &mut mask, bytes, slot.is_some())?;
+            push_value(&mut offsets, &mut values, stored_text(&slot))?;
+            mask.push(slot.is_some())?;
         }
-        let validity = gathered_mask(mask)?;
+        let validity = Option::<Bitmap>::try_from(mask.finish()?)?;
         Utf8Array::from_gathered(offsets, values, validity)
     }
 
@@ -95,7 +95,8 @@ impl<O: Offset> Utf8Array<O> {
         requires texts { AllTexts (cut_by offsets.lengths (drop offsets.start values.items)) }
         ensures { OrOutOfMemory result (λ a. a ≡ byte_strings (text_type O.IS_LARGE) offsets values.items validity) }
     {
-        let (offsets, values) = shared(offsets, values)?;
+        let offsets = offsets.freeze()?;
+        let values = Buffer::from_vec(values)?;
         let data_type = Utf8Array::<O>::default_data_type();
         Ok(Utf8Array::new(data_type, offsets, values, validity))
     }
