@@ -1,7 +1,8 @@
 //! Byte strings that grow, with validity marks: what builders of bytes and of texts hold.
-ghost use Rattle.std.specs.Prelude.{◌≡◌, ◌+◌, ◌-◌, ◌<◌, ◌≤◌, ◌↔◌, IsTrue, Some, None, [], length, slice_get, IfErr, option_map, take};
+ghost use Rattle.std.specs.Prelude.{◌≡◌, ◌+◌, ◌-◌, ◌<◌, ◌≤◌, ◌↔◌, IsTrue, Some, None, [], length, slice_get, IfErr};
+ghost use Rattle.std.specs.Prelude.{MatchResult, option_map, take};
 ghost use Rattle.std.specs.Option.{option_copied};
-ghost use Rattle.flat_arrays_bytes.specs.columnar_memory.Error.{IsOutOfMemory};
+ghost use Rattle.flat_arrays_bytes.specs.columnar_memory.Error.{IsOutOfMemory, IsOutOfSpec};
 ghost use Rattle.flat_arrays_bytes.specs.columnar_memory.Layouts.{physical_type};
 ghost use Rattle.flat_arrays_bytes.specs.columnar_memory.Results.{OrOutOfMemory};
 ghost use Rattle.flat_arrays_bytes.specs.columnar_memory.Spans.{last_of, no_spans, shortened};
@@ -128,6 +129,53 @@ pub(crate) fn end_of<O: Offset>(offsets: &Offsets<O>) -> usize
     offsets.last().to_usize()
 }
 
+/// Offsets, bytes and a mask in memory that arrays share. Where no slot is null there is no mask.
+fn frozen_parts<O: Offset>(
+    offsets: Offsets<O>,
+    values: Vec<u8>,
+    validity: Option<MutableBitmap>,
+) -> Result<(OffsetsBuffer<O>, Buffer<u8>, Option<Bitmap>)>
+    ensures { OrOutOfMemory result (λ p. (p.0 ≡ offsets) × (p.1 ≡ values.items) × (p.2 ≡ frozen_mask validity)) }
+{
+    let validity = frozen(validity)?;
+    Ok((offsets.freeze()?, Buffer::from_vec(values)?, validity))
+}
+
+/// Offsets and bytes of no slots, with room for this many and for this many bytes.
+fn empty_parts<O: Offset>(
+    alloc: Global,
+    capacity: usize,
+    bytes: usize,
+) -> Result<(Offsets<O>, Vec<u8>)>
+    ensures { OrOutOfMemory result (λ p. (p.0 ≡ no_spans) × (p.1.items ≡ [])) }
+{
+    let offsets = Offsets::with_capacity(alloc, capacity)?;
+    Ok((offsets, Vec::with_capacity(alloc, bytes)?))
+}
+
+/// Refuses parts that make no array of the layout.
+fn check_parts<O: Offset>(
+    layout: PhysicalType,
+    data_type: &DataType,
+    offsets: &Offsets<O>,
+    values: &[u8],
+    validity: &Option<MutableBitmap>,
+) -> Result<()>
+    ensures { MatchResult result (λ _. Fits layout (byte_strings data_type.now offsets.now values.now validity.now))
+        (λ e. IsOutOfSpec e × ¬ Fits layout (byte_strings data_type.now offsets.now values.now validity.now)) }
+{
+    if !has_layout(data_type, layout) {
+        return Err(Error::OutOfSpec("data type of another layout than the array's"));
+    }
+    if !is_mask_of(validity, offsets.len_proxy()) {
+        return Err(Error::OutOfSpec("validity of another length than the array"));
+    }
+    if end_of(offsets) > values.len() {
+        return Err(Error::OutOfSpec("offsets past the end of the values"));
+    }
+    Ok(())
+}
+
 impl<O: Offset> ByteBuilder<O> {
     /// The builder that goes on behind these parts, where they make an array of the layout. Takes no memory, and cuts the bytes behind the
     /// last byte string.
@@ -143,15 +191,7 @@ impl<O: Offset> ByteBuilder<O> {
     ) -> Result<Self>
         ensures { IsTaken (Fits layout) (byte_strings data_type offsets values.items validity) result }
     {
-        if !has_layout(&data_type, layout) {
-            return Err(Error::OutOfSpec("data type of another layout than the array's"));
-        }
-        if !is_mask_of(&validity, offsets.len_proxy()) {
-            return Err(Error::OutOfSpec("validity of another length than the array"));
-        }
-        if end_of(&offsets) > values.len() {
-            return Err(Error::OutOfSpec("offsets past the end of the values"));
-        }
+        check_parts(layout, &data_type, &offsets, &values, &validity)?;
         Ok(ByteBuilder::new(data_type, offsets, values, validity))
     }
 
@@ -185,10 +225,11 @@ impl<O: Offset> ByteBuilder<O> {
     ) -> Result<Self>
         ensures { OrOutOfMemory result (λ a. a ≡ byte_strings data_type no_spans [] None) }
     {
+        let (offsets, values) = empty_parts(alloc, capacity, bytes)?;
         Ok(ByteBuilder {
             data_type,
-            offsets: Offsets::with_capacity(alloc, capacity)?,
-            values: Vec::with_capacity(alloc, bytes)?,
+            offsets,
+            values,
             validity: None,
         })
     }
@@ -388,13 +429,8 @@ impl<O: Offset> ByteBuilder<O> {
             values,
             validity,
         } = self;
-        let validity = frozen(validity)?;
-        Ok((
-            data_type,
-            offsets.freeze()?,
-            Buffer::from_vec(values)?,
-            validity,
-        ))
+        let (offsets, values, validity) = frozen_parts(offsets, values, validity)?;
+        Ok((data_type, offsets, values, validity))
     }
 
     /// The data type, the offsets, the bytes and the mask.

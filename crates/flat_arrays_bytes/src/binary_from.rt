@@ -93,11 +93,9 @@ impl<O: Offset> BinaryArray<O> {
         requires within { last_of offsets ≤ length values.items }
         ensures { OrOutOfMemory result (λ a. a ≡ byte_strings (binary_type O.IS_LARGE) offsets values.items validity) }
     {
-        Ok(BinaryArray::new(
-            BinaryArray::<O>::default_data_type(),
-            offsets.freeze()?,
-            Buffer::from_vec(values)?,
-            validity,
-        ))
+        let offsets = offsets.freeze()?;
+        let values = Buffer::from_vec(values)?;
+        let data_type = BinaryArray::<O>::default_data_type();
+        Ok(BinaryArray::new(data_type, offsets, values, validity))
     }
 }

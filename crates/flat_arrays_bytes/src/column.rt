@@ -1,7 +1,9 @@
 //! Byte strings between offsets, with validity marks: what arrays of bytes and of texts hold.
-ghost use Rattle.std.specs.Prelude.{◌≡◌, ◌+◌, ◌<◌, ◌≤◌, ◌↔◌, IsTrue, Bool, Some, None, List, [], length, slice_get, MatchOption};
+ghost use Rattle.std.specs.Prelude.{◌≡◌, ◌+◌, ◌<◌, ◌≤◌, ◌↔◌, IsTrue, Bool, Some, None, List, []};
+ghost use Rattle.std.specs.Prelude.{false, length, replicate, slice_get, MatchOption, MatchResult};
 ghost use Rattle.std.specs.Option.{ForSome, option_copied};
 ghost use Rattle.flat_arrays_values.specs.columnar_memory.Bits.{unset_count};
+ghost use Rattle.flat_arrays_values.specs.columnar_memory.Error.{IsOutOfSpec};
 ghost use Rattle.flat_arrays_values.specs.columnar_memory.Layouts.{physical_type};
 ghost use Rattle.flat_arrays_values.specs.columnar_memory.Results.{OrOutOfMemory};
 ghost use Rattle.flat_arrays_values.specs.columnar_memory.Spans.{last_of, no_spans};
@@ -95,6 +97,45 @@ pub(crate) fn start_of<O: Offset>(offsets: &OffsetsBuffer<O>) -> usize
     offsets.first().to_usize()
 }
 
+/// Refuses parts that make no column of the layout.
+fn check_parts<O: Offset>(
+    layout: PhysicalType,
+    data_type: &DataType,
+    offsets: &OffsetsBuffer<O>,
+    values: &Buffer<u8>,
+    validity: &Option<Bitmap>,
+) -> Result<()>
+    ensures { MatchResult result (λ _. Fits layout (byte_strings data_type.now offsets.now values.now validity.now))
+        (λ e. IsOutOfSpec e × ¬ Fits layout (byte_strings data_type.now offsets.now values.now validity.now)) }
+{
+    if !has_layout(data_type, layout) {
+        return Err(Error::OutOfSpec("data type of another layout than the array's"));
+    }
+    if !is_mask_of(validity, offsets.len_proxy()) {
+        return Err(Error::OutOfSpec("validity of another length than the array"));
+    }
+    if end_of(offsets) > values.len() {
+        return Err(Error::OutOfSpec("offsets past the end of the values"));
+    }
+    Ok(())
+}
+
+/// Offsets, bytes and a mask of so many nulls, each of which stores no bytes.
+fn null_parts<O: Offset>(
+    alloc: Global,
+    count: usize,
+) -> Result<(OffsetsBuffer<O>, Buffer<u8>, Bitmap)>
+    ensures { OrOutOfMemory result (λ parts. (parts.0.start ≡ 0) × (parts.0.lengths ≡ replicate count 0)
+        × (parts.1 ≡ []) × (parts.2 ≡ replicate count false)) }
+{
+    let offsets = Offsets::new_zeroed(alloc, count)?.freeze()?;
+    Ok((
+        offsets,
+        Buffer::new(alloc)?,
+        Bitmap::new_zeroed(alloc, count)?,
+    ))
+}
+
 impl<O: Offset> ByteColumn<O> {
     /// The column of these parts, where they make one of the layout. Takes no memory.
     ///
@@ -109,15 +150,7 @@ impl<O: Offset> ByteColumn<O> {
     ) -> Result<Self>
         ensures { IsChecked (Fits layout) (byte_strings data_type offsets values validity) result }
     {
-        if !has_layout(&data_type, layout) {
-            return Err(Error::OutOfSpec("data type of another layout than the array's"));
-        }
-        if !is_mask_of(&validity, offsets.len_proxy()) {
-            return Err(Error::OutOfSpec("validity of another length than the array"));
-        }
-        if end_of(&offsets) > values.len() {
-            return Err(Error::OutOfSpec("offsets past the end of the values"));
-        }
+        check_parts(layout, &data_type, &offsets, &values, &validity)?;
         Ok(ByteColumn {
             data_type,
             offsets,
@@ -167,11 +200,12 @@ impl<O: Offset> ByteColumn<O> {
     pub fn new_null(alloc: Global, data_type: DataType, count: usize) -> Result<Self>
         ensures { OrOutOfMemory result (λ a. a ≡ nulls data_type count) }
     {
+        let (offsets, values, mask) = null_parts(alloc, count)?;
         Ok(ByteColumn {
             data_type,
-            offsets: Offsets::new_zeroed(alloc, count)?.freeze()?,
-            values: Buffer::new(alloc)?,
-            validity: Some(Bitmap::new_zeroed(alloc, count)?),
+            offsets,
+            values,
+            validity: Some(mask),
         })
     }
 

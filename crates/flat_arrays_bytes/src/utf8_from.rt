@@ -95,11 +95,9 @@ impl<O: Offset> Utf8Array<O> {
         requires texts { AllTexts (cut_by offsets.lengths (drop offsets.start values.items)) }
         ensures { OrOutOfMemory result (λ a. a ≡ byte_strings (text_type O.IS_LARGE) offsets values.items validity) }
     {
-        Ok(Utf8Array::new(
-            Utf8Array::<O>::default_data_type(),
-            offsets.freeze()?,
-            Buffer::from_vec(values)?,
-            validity,
-        ))
+        let offsets = offsets.freeze()?;
+        let values = Buffer::from_vec(values)?;
+        let data_type = Utf8Array::<O>::default_data_type();
+        Ok(Utf8Array::new(data_type, offsets, values, validity))
     }
 }
