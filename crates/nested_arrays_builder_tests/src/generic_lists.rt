@@ -245,38 +245,3 @@ fn lists_of_lists_of_nulls(rt: HostRuntime) -> Result<(), Fail> {
     assert!(rt; is_empty && item_count(array?) == Some(2));
     Ok(())
 }
-
-/// How many lists an array of them has that a builder was frozen to.
-fn frozen_len(alloc: Global) -> Result<usize, Error> {
-    let lists = three_lists(alloc)?;
-    let array = lists.freeze(alloc)?;
-    let len = array.len();
-    drop(array);
-    Ok(len)
-}
-
-/// How many lists an array of them has behind a count of owners.
-fn shared_len(alloc: Global) -> Result<usize, Error> {
-    let mut lists = three_lists(alloc)?;
-    let counted = lists.as_arc(alloc);
-    drop(lists);
-    let array = counted?;
-    let len = array.len();
-    drop(array);
-    Ok(len)
-}
-
-fn null_len() -> Result<usize, Error> {
-    let array = two_nulls()?.into_box();
-    let len = array.len();
-    drop(array);
-    Ok(len)
-}
-
-#[test]
-fn lists_and_nulls_are_frozen(rt: HostRuntime) -> Result<(), Fail> {
-    assert_eq!(rt; frozen_len(rt.alloc())?, 3);
-    assert_eq!(rt; shared_len(rt.alloc())?, 3);
-    assert_eq!(rt; null_len()?, 2);
-    Ok(())
-}
