@@ -102,51 +102,38 @@ fn array_with(
     lists.as_box(alloc)
 }
 
-/// A list of two numbers, a null, and a list without items.
-fn three_lists(alloc: Global) -> Result<MutableListArray<i32, AnyMutableArray>, Error> {
-    let mut lists = new_lists(alloc)?;
+#[test]
+fn lists_are_closed_over_items(rt: HostRuntime) -> Result<(), Fail> {
+    let mut lists = new_lists(rt.alloc())?;
     push_list(&mut lists, &[1, 2])?;
     lists.push_null()?;
     push_list(&mut lists, &[])?;
-    Ok(lists)
-}
-
-/// Whether an array was made of lists, with these offsets, these bytes as its mask, and so many items.
-fn is_made(made: Result<AnyArray, Error>, offsets: &[i32], mask: &[u8], items: usize) -> bool {
-    match made {
-        Ok(array) => are_lists(array, offsets, mask, items),
-        Err(_) => false,
-    }
-}
-
-#[test]
-fn lists_are_closed_over_items(rt: HostRuntime) -> Result<(), Fail> {
-    let mut lists = three_lists(rt.alloc())?;
-    let counts = (lists.len(), lists.values().len(), is_valid_at(&lists, 1));
-    let more = array_with(rt.alloc(), &mut lists, &[3]);
-    let is_first = is_made(more, &[0, 2, 2, 2, 3], &[13], 3);
-    let more = array_with(rt.alloc(), &mut lists, &[4]);
-    let is_second = is_made(more, &[0, 1], &[], 1);
+    push_list(&mut lists, &[3])?;
+    assert_eq!(rt;
+        (lists.len(), lists.values().len(), is_valid_at(&lists, 1)),
+        (4, 3, Some(false))
+    );
+    let array = lists.as_box(rt.alloc())?;
+    assert!(rt; are_lists(array, &[0, 2, 2, 2, 3], &[13], 3));
+    push_list(&mut lists, &[4])?;
+    let array = lists.as_box(rt.alloc())?;
+    assert!(rt; are_lists(array, &[0, 1], &[], 1));
     drop(lists);
-    assert_eq!(rt; counts, (3, 2, Some(false)));
-    assert!(rt; is_first && is_second);
     Ok(())
-}
-
-/// The array of the first of three lists, and one more.
-fn array_of_the_first(alloc: Global) -> Result<AnyArray, Fail> {
-    let mut lists = three_lists(alloc)?;
-    keep(&mut lists, 1)?;
-    lists.shrink_to_fit();
-    let array = array_with(alloc, &mut lists, &[4]);
-    drop(lists);
-    Ok(array?)
 }
 
 #[test]
 fn lists_that_are_cut_back_keep_their_items_alone(rt: HostRuntime) -> Result<(), Fail> {
-    let array = array_of_the_first(rt.alloc())?;
+    let mut lists = new_lists(rt.alloc())?;
+    push_list(&mut lists, &[1, 2])?;
+    lists.push_null()?;
+    push_list(&mut lists, &[3])?;
+    keep(&mut lists, 1)?;
+    lists.shrink_to_fit();
+    push_list(&mut lists, &[4])?;
+    let array = lists.as_box(rt.alloc())?;
     assert!(rt; are_lists(array, &[0, 2, 3], &[], 3));
+    drop(lists);
     Ok(())
 }
 
