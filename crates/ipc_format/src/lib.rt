@@ -31,7 +31,7 @@ pub use ipc_format_files::stream_writer::reader::{
 pub use ipc_format_files::stream_writer::{StreamWriter, put_message, put_messages};
 pub use ipc_format_files::{FileBatches, FileWriter, append_file, metadata_of_file, read_file};
 
-/// Columns one by one: read at the fronts of queues of nodes and buffers (those of `messages`), passed over there, and written behind what stands
+/// Columns one by one: read at the fronts of queues of nodes and buffers (those of `format`), passed over there, and written behind what stands
 /// in a body; and single buffers that are read. `read_dictionary` reads a column of keys here, and a dictionary batch outside.
 pub mod columns {
     pub use ipc_format_files::stream_writer::reader::columns::{
@@ -43,8 +43,9 @@ pub mod columns {
     };
 }
 
-/// What `ipc_format_files::stream_writer::reader::streams::messages` has.
-pub mod messages {
+/// Arrow's metadata under the names of its FlatBuffers tables: views that borrow a message or a footer (`..Ref`), one call a slot, the values that
+/// stand there, owned, and what makes these of views.
+pub mod format {
     pub use ipc_format_files::stream_writer::reader::streams::messages::{
         Block, BlocksRef, BodyCompressionRef, Buffer, BuffersRef, DateRef, DateUnit, DecimalRef,
         DictionaryBatchParts, DictionaryBatchRef, DictionaryEncodingRef, DurationRef, Endianness,
@@ -54,9 +55,15 @@ pub mod messages {
         TableRef, TablesRef, TimeRef, TimestampRef, TypeRef, UnionRef, as_memory_error,
         dictionary_batch_in, message_in, record_batch_in, version_in,
     };
+    pub use ipc_format_files::stream_writer::reader::streams::owned::{
+        DictionaryBatch, DictionaryEncoding, Field, Footer, Int, KeyValue, Message, MessageHeader,
+        RecordBatch, Schema, Type_, dictionary_batch_of, field_of, footer_of, key_value_of,
+        message_header_of, message_of, record_batch_of, schema_of, type_of,
+    };
 }
 
-/// What `ipc_format_files::stream_writer::reader::streams::metadata` has.
+/// Schemas in metadata: the ids of dictionaries beside fields, whole schemas and single types that are read, which schemas are written, and the
+/// numbers of slots and of unions' members.
 pub mod metadata {
     pub use ipc_format_files::stream_writer::reader::streams::metadata::{
         IpcField, IpcSchema, MOST_LEVELS, OutOfSpecKind, Tag, any_schema_in, can_write,
@@ -65,7 +72,7 @@ pub mod metadata {
     };
 }
 
-/// What `ipc_format_files::reading_laws` has.
+/// Theorems of the definitions, as functions without a body: what is written reads back, choices are those of the whole, seals tell tables apart.
 pub mod reading_laws {
     pub use ipc_format_files::reading_laws::{
         appended_files_read_back, choices_are_isolated, choices_are_of_the_whole,
@@ -76,7 +83,8 @@ pub mod reading_laws {
     };
 }
 
-/// What `ipc_format_files::stream_writer::reader::streams` has.
+/// Messages one by one: those of a stream in memory or from a device, and those that are sent; queues of a batch's nodes and buffers; which values
+/// the id of a dictionary names.
 pub mod streams {
     pub use ipc_format_files::stream_writer::reader::streams::{
         BatchQueues, Counting, DictionaryValues, EncodedData, Faults, Frame, Framed, Incoming,
@@ -84,13 +92,4 @@ pub mod streams {
         fill, next_at, next_message, outcome, put, read_outcome, read_stream_metadata,
         write_continuation, write_message,
     };
-
-    /// Of `owned`.
-    pub mod owned {
-        pub use ipc_format_files::stream_writer::reader::streams::owned::{
-            DictionaryBatch, DictionaryEncoding, Field, Footer, Int, KeyValue, Message,
-            MessageHeader, RecordBatch, Schema, Type_, dictionary_batch_of, field_of, footer_of,
-            key_value_of, message_header_of, message_of, record_batch_of, schema_of, type_of,
-        };
-    }
 }

@@ -4,7 +4,7 @@ use crate::cases::{id, letters, letters_schema, numbers, numbers_schema, of_two,
 use crate::samples::EXAMPLE;
 use crate::writers::{calls, start_numbers, started, to_memory, write_numbers, write_one};
 use ipc_format::columnar_memory::Error;
-use ipc_format::messages::MessageHeaderRef;
+use ipc_format::format::MessageHeaderRef;
 use ipc_format::{NextMessage, StreamWriter, next_at};
 use std::alloc::Global;
 use std::test::*;

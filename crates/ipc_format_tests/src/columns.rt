@@ -2,8 +2,9 @@
 use ipc_format::InMemory;
 use ipc_format::columnar_memory::{DataType, Items, Text};
 use ipc_format::columns::{Body, read_primitive, skip, skip_boolean, write_primitive};
-use ipc_format::messages::{Buffer, Endianness, FieldNode, MetadataVersion};
-use ipc_format::streams::owned::{DictionaryBatch, KeyValue, RecordBatch, Schema};
+use ipc_format::format::{
+    Buffer, DictionaryBatch, Endianness, FieldNode, KeyValue, MetadataVersion, RecordBatch, Schema,
+};
 use std::alloc::Global;
 use std::collections::VecDeque;
 use std::test::*;

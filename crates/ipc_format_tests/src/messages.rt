@@ -1,7 +1,7 @@
 //! Messages, batches and footers: their views at the bounds of each rule, and what is written.
 use crate::samples::{DICTIONARY_BATCH, FOOTER, NO_FIELDS, RECORD_BATCH, X};
 use columnar_memory_types::{Error as MemoryError, Items, Schema};
-use ipc_format::messages::{
+use ipc_format::format::{
     Block, Buffer, BuffersRef, DictionaryBatchRef, Error, FieldNode, FooterRef, MessageHeaderRef,
     MessageRef, MetadataVersion, RecordBatchRef, dictionary_batch_in, message_in, record_batch_in,
     version_in,

@@ -1,6 +1,6 @@
 //! Views of schemas and fields.
 use crate::samples::{DICTIONARY, EXTENSION, NO_FIELDS, X};
-use ipc_format::messages::{
+use ipc_format::format::{
     Endianness, FieldRef, KeyValuesRef, MessageHeaderRef, MessageRef, SchemaRef, TypeRef,
 };
 use std::test::*;

@@ -1,6 +1,6 @@
 //! Messages one after another, and devices that count their failures.
 use crate::samples::{NO_FIELDS, RECORD_BATCH};
-use ipc_format::messages::MessageHeaderRef;
+use ipc_format::format::MessageHeaderRef;
 use ipc_format::streams::{Counting, Faults, NextMessage, next_at};
 use std::alloc::Global;
 use std::io::{Cursor, Read, Seek, SeekFrom, Write};

@@ -2,7 +2,7 @@
 use crate::answers::{Short, told};
 use crate::cases::{column, field, letters, letters_schema, numbers, numbers_schema, of_one};
 use ipc_format::columnar_memory::{DataType, Error, Items, Schema};
-use ipc_format::messages::Block;
+use ipc_format::format::Block;
 use ipc_format::nested_arrays::flat_arrays::BooleanArray;
 use ipc_format::nested_arrays::{AnyArray, FlatArray};
 use ipc_format::{

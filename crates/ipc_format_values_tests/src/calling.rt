@@ -5,9 +5,9 @@ ghost use Rattle.ipc_format.specs.metadata.Views.{ids_views};
 ghost use Rattle.ipc_format.specs.values.ValueObjects.{message_value};
 
 use columnar_memory_types::{Result, Schema};
+use ipc_format::format::{Message, MessageHeader};
 use ipc_format::metadata::IpcField;
 use ipc_format::serialize_schema;
-use ipc_format::streams::owned::{Message, MessageHeader};
 use std::alloc::Global;
 
 /// The message of a schema.

@@ -4,8 +4,7 @@ ghost use Rattle.ipc_format.specs.messages.SchemaRefs.{field_view};
 ghost use Rattle.ipc_format.specs.values.OwnedFields.{top_field_in};
 
 use columnar_memory_types::Result;
-use ipc_format::messages::FieldRef;
-use ipc_format::streams::owned::{Field, field_of};
+use ipc_format::format::{Field, FieldRef, field_of};
 use std::alloc::Global;
 
 /// The field of a view, with the fields below it.

@@ -3,10 +3,9 @@ use crate::calling::message_of;
 use columnar_memory_types::{
     Boxed, DataType, Error, Field, IntegerType, Items, Metadata, Schema, Text,
 };
-use ipc_format::messages::MetadataVersion;
+use ipc_format::format::{DictionaryEncoding, Footer, Int, MetadataVersion};
 use ipc_format::metadata::IpcField;
 use ipc_format::serialize_schema;
-use ipc_format::streams::owned::{DictionaryEncoding, Footer, Int};
 use std::alloc::Global;
 use std::test::*;
 

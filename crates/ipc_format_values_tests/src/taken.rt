@@ -1,11 +1,9 @@
 //! Values taken of views.
 use crate::schemas::{ids, schema};
 use columnar_memory_types::{DataType, Error, Field, Items, Schema, Text};
-use ipc_format::messages::{
-    Block, Buffer, FieldNode, FieldRef, FooterRef, MessageHeaderRef, MessageRef,
-};
-use ipc_format::streams::owned::{
-    Type_, dictionary_batch_of, field_of, footer_of, key_value_of, message_header_of, message_of,
+use ipc_format::format::{
+    Block, Buffer, FieldNode, FieldRef, FooterRef, MessageHeaderRef, MessageRef, Type_,
+    dictionary_batch_of, field_of, footer_of, key_value_of, message_header_of, message_of,
     record_batch_of, schema_of, type_of,
 };
 use ipc_format::{

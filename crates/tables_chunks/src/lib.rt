@@ -26,7 +26,7 @@ pub use batches::{fits_schema, is_table_schema};
 pub use choices::{are_all_below, choose_fields, choose_of, distinct};
 pub use fault::{Fault, SealBar};
 pub use growing::GrowingTable;
-pub use ipc_format::messages::{
+pub use ipc_format::format::{
     DictionaryBatchRef, MessageHeaderRef, MetadataVersion, RecordBatchRef,
 };
 pub use ipc_format::metadata::IpcSchema;

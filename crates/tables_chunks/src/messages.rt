@@ -15,7 +15,7 @@ ghost use Rattle.ipc_format.specs.ReadArrays.{standing_in};
 ghost use Rattle.tables_chunks.specs.Messages.{AreOfFields, ReadsNext, TakesDictionary, layout_by};
 
 use ipc_format::columnar_memory::{Error, Field, Result};
-use ipc_format::messages::{DictionaryBatchRef, MessageHeaderRef, MetadataVersion, RecordBatchRef};
+use ipc_format::format::{DictionaryBatchRef, MessageHeaderRef, MetadataVersion, RecordBatchRef};
 use ipc_format::metadata::IpcSchema;
 use ipc_format::nested_arrays::AnyArray;
 use ipc_format::streams::{NextMessage, next_at};

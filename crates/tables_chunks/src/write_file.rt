@@ -20,7 +20,7 @@ ghost use Rattle.tables_chunks.specs.WrittenFiles.{ReadAsTableFile, WritesFile, 
 use crate::fault::Fault;
 use crate::table::Table;
 use columnar_memory_types::{Error, Result as Answer, Schema};
-use ipc_format::messages::Block;
+use ipc_format::format::Block;
 use ipc_format::nested_arrays::AnyArray;
 use ipc_format::{
     Chunk, DictionaryTracker, EncodedData, Faults, IpcField, default_ipc_fields, encode_batch,
