@@ -89,8 +89,3 @@ has_room_for_columns batch e its_ids few =
       given = rooms batch.given first.1 its_ids;
       few = few;
     }
-
-pub rows_small : (batch : Batch) → is_in_room batch ≡ true → batch.rows < 2 ^ 63
-rows_small batch e =
-    let first = both (nat_lt batch.rows length_limit && has_nodes_in_room (joined batch.columns)) (list_all has_room_for batch.given) e in
-    ltb-true batch.rows length_limit (both (nat_lt batch.rows length_limit) (has_nodes_in_room (joined batch.columns)) first.0).0
