@@ -4,7 +4,7 @@ use Rattle.std.specs.Prelude.{ℕ, zero, suc, ◌+◌, ◌*◌, ℤ, pos, negsuc
 use Rattle.std.specs.Prelude.{nat_lt, is_some, if◌then◌else◌}
 use Rattle.std.specs.Int.{w8, w16, w64}
 use Rattle.ipc_format_flatbuffers.specs.Reading.{◌>>=◌}
-use Rattle.ipc_format_flatbuffers.specs.FlatBuffers.{Table, Vector, number_field, signed_field, truth_field, signed_at, table_field}
+use Rattle.ipc_format_flatbuffers.specs.FlatBuffers.{TablePlace, Vector, number_field, signed_field, truth_field, signed_at, table_field}
 use Rattle.ipc_format_flatbuffers.specs.FlatBuffers.{vector_field, root_of}
 use Rattle.ipc_format_grammar.specs.SlotNumbers as slots
 
@@ -27,12 +27,12 @@ version_of _ = None
 
 -- what a message carries, by the table of its header
 pub data Header : Type 0 where
-  schema : Table → Header
-  dictionary_batch : Table → Header
-  record_batch : Table → Header
+  schema : TablePlace → Header
+  dictionary_batch : TablePlace → Header
+  record_batch : TablePlace → Header
 
 -- the kinds of header by their tags; any other is refused
-abbrev pub header_of : ℕ → Table → Option Header
+abbrev pub header_of : ℕ → TablePlace → Option Header
 header_of (suc zero) table = Some (schema table)
 header_of (suc (suc zero)) table = Some (dictionary_batch table)
 header_of (suc (suc (suc zero))) table = Some (record_batch table)
@@ -44,7 +44,7 @@ pub record Message : Type 0 where
   pub body_length : ℤ
 
 -- how many bytes the body has; a schema has none, and what its message states is not looked at
-abbrev pub body_length_of : List ℕ → Table → Header → Option ℤ
+abbrev pub body_length_of : List ℕ → TablePlace → Header → Option ℤ
 body_length_of bytes root (schema table) = Some (pos 0)
 body_length_of bytes root (dictionary_batch table) = signed_field w64 bytes root slots.message_body_length (pos 0)
 body_length_of bytes root (record_batch table) = signed_field w64 bytes root slots.message_body_length (pos 0)
@@ -74,7 +74,7 @@ pub record RecordBatch : Type 0 where
   pub is_compressed : Bool
 
 -- a record batch; both vectors must be there, each with structs of 16 bytes
-unfoldable pub record_batch_in : List ℕ → Table → Option RecordBatch
+unfoldable pub record_batch_in : List ℕ → TablePlace → Option RecordBatch
 record_batch_in bytes table = do
   found_nodes ← vector_field bytes table slots.record_batch_nodes slots.pair_size
   nodes ← found_nodes
@@ -86,10 +86,10 @@ record_batch_in bytes table = do
 -- a dictionary's id, its values as a record batch, and whether they are added to earlier ones
 pub record DictionaryBatch : Type 0 where
   pub id : ℤ
-  pub values : Table
+  pub values : TablePlace
   pub is_delta : Bool
 
-unfoldable pub dictionary_batch_in : List ℕ → Table → Option DictionaryBatch
+unfoldable pub dictionary_batch_in : List ℕ → TablePlace → Option DictionaryBatch
 dictionary_batch_in bytes table = do
   id ← signed_field w64 bytes table slots.dictionary_batch_id (pos 0)
   found ← table_field bytes table slots.dictionary_batch_data

@@ -3,7 +3,7 @@ use Rattle.std.specs.Prelude.{ℕ, zero, suc, ◌+◌, ℤ, pos, Bool, true, fal
 use Rattle.std.specs.Ordering.{int_eq}
 use Rattle.std.specs.Int.{w16, w32}
 use Rattle.ipc_format_flatbuffers.specs.Reading.{◌>>=◌}
-use Rattle.ipc_format_flatbuffers.specs.FlatBuffers.{Table, Vector, signed_field, truth_field, signed_at, string_field, vector_field}
+use Rattle.ipc_format_flatbuffers.specs.FlatBuffers.{TablePlace, Vector, signed_field, truth_field, signed_at, string_field, vector_field}
 use Rattle.nested_arrays_columns.specs.columnar_memory.declared.DataType.{DataType}
 use Rattle.nested_arrays_columns.specs.columnar_memory.declared.DataType.TheVariants as types
 use Rattle.nested_arrays_columns.specs.columnar_memory.declared.TimeUnit.{TimeUnit}
@@ -73,7 +73,7 @@ integer_of bits true = signed_of bits
 integer_of bits false = unsigned_of bits
 
 -- an Int table: how many bits, and whether signed
-unfoldable pub integer_in : List ℕ → Table → Option IntegerType
+unfoldable pub integer_in : List ℕ → TablePlace → Option IntegerType
 integer_in bytes table = do
   bits ← signed_field w32 bytes table slots.int_bit_width (pos 0)
   is_signed ← truth_field bytes table slots.int_is_signed
@@ -101,7 +101,7 @@ decimal_of bits precision scale =
     if int_eq bits (pos 128) then Some (types.Decimal precision scale) else
     if int_eq bits (pos 256) then Some (types.Decimal256 precision scale) else None
 
-unfoldable pub decimal_in : List ℕ → Table → Option DataType
+unfoldable pub decimal_in : List ℕ → TablePlace → Option DataType
 decimal_in bytes table = do
   stated_precision ← signed_field w32 bytes table slots.decimal_precision (pos 0)
   precision ← natural stated_precision
@@ -131,14 +131,14 @@ abbrev pub time_of : ℤ → TimeUnit → Option DataType
 time_of bits unit =
     if int_eq bits (pos 32) then short_time_of unit else if int_eq bits (pos 64) then long_time_of unit else None
 
-unfoldable pub time_in : List ℕ → Table → Option DataType
+unfoldable pub time_in : List ℕ → TablePlace → Option DataType
 time_in bytes table = do
   number ← signed_field w16 bytes table slots.time_unit (pos 1)
   unit ← time_unit_of number
   bits ← signed_field w32 bytes table slots.time_bit_width (pos 32)
   time_of bits unit
 
-unfoldable pub timestamp_in : List ℕ → Table → Option DataType
+unfoldable pub timestamp_in : List ℕ → TablePlace → Option DataType
 timestamp_in bytes table = do
   number ← signed_field w16 bytes table slots.timestamp_unit (pos 0)
   unit ← time_unit_of number
@@ -177,7 +177,7 @@ pub record UnionTable : Type 0 where
   pub mode : UnionMode
   pub ids : Option (List ℤ)
 
-unfoldable pub union_in : List ℕ → Table → Option UnionTable
+unfoldable pub union_in : List ℕ → TablePlace → Option UnionTable
 union_in bytes table = do
   number ← signed_field w16 bytes table slots.union_mode (pos 0)
   mode ← mode_of number

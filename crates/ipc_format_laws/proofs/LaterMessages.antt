@@ -4,7 +4,7 @@ use Rattle.std.specs.Prelude.{Some, nat_le, nat_lt}
 use Rattle.std.specs.List.{All}
 use Rattle.std.proofs.lemmas.Bool.{leb-true, ltb-true, lt-ltb}
 use Rattle.std.proofs.lemmas.List.Elements.{All-nil, All-cons}
-use Rattle.ipc_format_grammar.specs.flatbuffers.FlatBuffers.{Table}
+use Rattle.ipc_format_grammar.specs.flatbuffers.FlatBuffers.{TablePlace}
 use Rattle.ipc_format_grammar.specs.Messages as grammar
 use Rattle.ipc_format_grammar.specs.Messages.{Header, message_in}
 use Rattle.ipc_format_grammar.specs.Framing.{Framed}
@@ -36,14 +36,14 @@ abbrev pub read_of : Written → Header → Framed
 read_of message header = record { metadata = message.metadata; header = header; body = message.body }
 
 -- a message's metadata is read with a header of a kind, which has something
-abbrev pub ReadsBack : Written → (Table → Header) → (Table → Type 0) → Type 0
+abbrev pub ReadsBack : Written → (TablePlace → Header) → (TablePlace → Type 0) → Type 0
 ReadsBack message kind HasTable = IsMessage message.metadata kind (length message.body) HasTable
 
 is_readable : (message : Written) (header : Header) → message_in message.metadata
     ≡ Some (record { header = header; body_length = pos (length message.body) }) → fits_limit message ≡ true → IsReadable (read_of message header)
 is_readable message header tells fits = record { tells = tells; is_short = (has_room message fits).metadata }
 
-pub is_message_of : (message : Written) (kind : Table → Header) (HasTable : Table → Type 0) (found : ReadsBack message kind HasTable)
+pub is_message_of : (message : Written) (kind : TablePlace → Header) (HasTable : TablePlace → Type 0) (found : ReadsBack message kind HasTable)
     → IsMessageOf message kind HasTable (read_of message (kind found.header_at))
 is_message_of message kind HasTable found = record { written = refl; table = found.header_at; header = refl; has_table = found.header }
 
@@ -74,7 +74,7 @@ one_more IsThat before after x xs message header others readable is follow rest 
 }
 
 -- a batch's message, however many dictionaries stand before it
-pub batch_more : {X : Type 0} (IsThat : X → Framed → Type 0) (before : ℕ) (x : X) (xs : List X) (message : Written) (HasTable : Table → Type 0)
+pub batch_more : {X : Type 0} (IsThat : X → Framed → Type 0) (before : ℕ) (x : X) (xs : List X) (message : Written) (HasTable : TablePlace → Type 0)
     (others : List Written) (found : ReadsBack message grammar.record_batch HasTable) → fits_limit message ≡ true
     → IsThat x (read_of message (grammar.record_batch found.header_at))
     → ReadLater 0 others (AreThoseOf IsThat xs) → ReadLater before (message ∷ others) (AreThoseOf IsThat (x ∷ xs))
@@ -84,7 +84,7 @@ batch_more IsThat before x xs message HasTable others found fits is rest =
 
 -- a dictionary's message, where not too many stand before it
 pub dictionary_more : {X : Type 0} (IsThat : X → Framed → Type 0) (before : ℕ) (x : X) (xs : List X) (message : Written)
-    (HasTable : Table → Type 0) (others : List Written) (found : ReadsBack message grammar.dictionary_batch HasTable) → fits_limit message ≡ true
+    (HasTable : TablePlace → Type 0) (others : List Written) (found : ReadsBack message grammar.dictionary_batch HasTable) → fits_limit message ≡ true
     → IsThat x (read_of message (grammar.dictionary_batch found.header_at)) → before < most_dictionaries
     → ReadLater (before + 1) others (AreThoseOf IsThat xs) → ReadLater before (message ∷ others) (AreThoseOf IsThat (x ∷ xs))
 dictionary_more IsThat before x xs message HasTable others found fits is few rest =
