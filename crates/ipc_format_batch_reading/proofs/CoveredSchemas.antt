@@ -1,5 +1,5 @@
 -- A schema that metadata gives has dictionary ids beside each field, at every depth.
-use Rattle.std.proofs.Common.{◌≡◌, ◌∙◌, ℕ, zero, suc, ◌+◌, ℤ, pos, negsuc, Bool, true, false, List, [], ◌∷◌, length, map, refl, sym, ap, subst}
+use Rattle.std.proofs.Common.{◌≡◌, ◌∙◌, ℕ, zero, suc, ◌+◌, ℤ, pos, Bool, true, false, List, [], ◌∷◌, length, map, refl, sym, ap, subst}
 use Rattle.std.specs.Prelude.{Option, Some, None, nat_le, if◌then◌else◌}
 use Rattle.std.specs.Ordering.{int_eq}
 use Rattle.std.specs.Int.{w8, w16, w32, w64}
@@ -139,10 +139,9 @@ decimal_leaf bits precision scale t e =
 
 date_leaf : (unit : ℤ) (t : DataType) → date_of unit ≡ Some t → IsLeaf t
 unfolding roll-DataType denote.Hole.Carrier.roll
-date_leaf (pos zero) t e = is_shown IsLeaf types.Date32 t (leaf layer.Date32 (λ here. refl)) e
-date_leaf (pos (suc zero)) t e = is_shown IsLeaf types.Date64 t (leaf layer.Date64 (λ here. refl)) e
-date_leaf (pos (suc (suc n))) t e = absurd cc
-date_leaf (negsuc n) t e = absurd cc
+date_leaf unit t e =
+    either_is IsLeaf (int_eq unit (pos 0)) _ _ t e (is_shown IsLeaf types.Date32 t (leaf layer.Date32 (λ here. refl))) (λ other.
+    either_is IsLeaf (int_eq unit (pos 1)) _ _ t other (is_shown IsLeaf types.Date64 t (leaf layer.Date64 (λ here. refl))) (λ none. absurd cc))
 
 short_leaf : (unit : TimeUnit) (t : DataType) → short_time_of unit ≡ Some t → IsLeaf t
 unfolding roll-DataType denote.Hole.Carrier.roll
@@ -165,14 +164,13 @@ time_leaf bits unit t e =
 
 interval_leaf : (unit : ℤ) (t : DataType) → interval_of unit ≡ Some t → IsLeaf t
 unfolding roll-DataType denote.Hole.Carrier.roll
-interval_leaf (pos zero) t e =
-    is_shown IsLeaf (types.Interval intervals.YearMonth) t (leaf (layer.Interval intervals.YearMonth) (λ here. refl)) e
-interval_leaf (pos (suc zero)) t e =
-    is_shown IsLeaf (types.Interval intervals.DayTime) t (leaf (layer.Interval intervals.DayTime) (λ here. refl)) e
-interval_leaf (pos (suc (suc zero))) t e =
-    is_shown IsLeaf (types.Interval intervals.MonthDayNano) t (leaf (layer.Interval intervals.MonthDayNano) (λ here. refl)) e
-interval_leaf (pos (suc (suc (suc n)))) t e = absurd cc
-interval_leaf (negsuc n) t e = absurd cc
+interval_leaf unit t e =
+    either_is IsLeaf (int_eq unit (pos 0)) _ _ t e
+    (is_shown IsLeaf (types.Interval intervals.YearMonth) t (leaf (layer.Interval intervals.YearMonth) (λ here. refl))) (λ first.
+    either_is IsLeaf (int_eq unit (pos 1)) _ _ t first
+    (is_shown IsLeaf (types.Interval intervals.DayTime) t (leaf (layer.Interval intervals.DayTime) (λ here. refl))) (λ second.
+    either_is IsLeaf (int_eq unit (pos 2)) _ _ t second
+    (is_shown IsLeaf (types.Interval intervals.MonthDayNano) t (leaf (layer.Interval intervals.MonthDayNano) (λ here. refl))) (λ none. absurd cc)))
 
 decimals_leaf : (bytes : List ℕ) (table : TablePlace) (t : DataType) → decimal_in bytes table ≡ Some t → IsLeaf t
 unfolding decimal_in

@@ -1,6 +1,8 @@
 -- Schemas in metadata (Schema.fbs): fields, their types, dictionaries and custom metadata.
 -- A schema's fields form a tree of Field tables. At most as many of them are visited as the message has bytes, and fields nest at most 64 deep.
 use Rattle.std.specs.Prelude.{ℕ, zero, suc, ◌+◌, ℤ, pos, Bool, true, false, List, [], ◌∷◌, length, map, codes, Option, Some, None, nat_le}
+use Rattle.std.specs.Prelude.{if◌then◌else◌}
+use Rattle.std.specs.Ordering.{int_eq}
 use Rattle.std.specs.Int.{w8, w16, w32, w64}
 use Rattle.ipc_format_flatbuffers.specs.Reading.{◌>>=◌, guard}
 use Rattle.ipc_format_flatbuffers.specs.FlatBuffers.{TablePlace, Vector, number_field, signed_field, truth_field, table_field, vector_field}
@@ -14,6 +16,7 @@ use Rattle.ipc_format_grammar.specs.Types as kind
 use Rattle.ipc_format_grammar.specs.Types.{Tag, tag_of, integer_in, type_of_integer, size_of, decimal_in, date_of, time_in, timestamp_in}
 use Rattle.ipc_format_grammar.specs.Types.{interval_of, time_unit_of, union_in}
 use Rattle.ipc_format_grammar.specs.SlotNumbers as slots
+use Rattle.ipc_format_grammar.specs.TagNumbers as tags
 use Rattle.ipc_format_grammar.specs.Limits.{most_levels}
 
 mutual
@@ -235,9 +238,8 @@ pub record SchemaIn : Type 0 where
 
 -- the byte order by its number
 abbrev pub is_little_of : ℤ → Option Bool
-is_little_of (pos zero) = Some true
-is_little_of (pos (suc zero)) = Some false
-is_little_of _ = None
+is_little_of number =
+    if int_eq number (pos tags.little) then Some true else if int_eq number (pos tags.big) then Some false else None
 
 -- the schema of a Schema table, before it is tested whether it is one that is written; its features are not looked at
 unfoldable pub any_schema_in : Option DataType → List ℕ → TablePlace → Option SchemaIn

@@ -1,5 +1,5 @@
 -- The types of columns in metadata (Schema.fbs, union Type and its tables).
-use Rattle.std.specs.Prelude.{ℕ, zero, suc, ◌+◌, ℤ, pos, Bool, true, false, List, [], ◌∷◌, Option, Some, None, slice_get, if◌then◌else◌}
+use Rattle.std.specs.Prelude.{ℕ, zero, suc, ◌+◌, ◌==◌, ℤ, pos, Bool, true, false, List, [], ◌∷◌, Option, Some, None, if◌then◌else◌}
 use Rattle.std.specs.Ordering.{int_eq}
 use Rattle.std.specs.Int.{w16, w32}
 use Rattle.ipc_format_flatbuffers.specs.Reading.{◌>>=◌}
@@ -15,6 +15,7 @@ use Rattle.nested_arrays_columns.specs.columnar_memory.declared.UnionMode.{Union
 use Rattle.nested_arrays_columns.specs.columnar_memory.declared.UnionMode.TheVariants as modes
 use Rattle.ipc_format_grammar.specs.Messages.{natural}
 use Rattle.ipc_format_grammar.specs.SlotNumbers as slots
+use Rattle.ipc_format_grammar.specs.TagNumbers as tags
 
 -- the tags of the union Type
 pub data Tag : Type 0 where
@@ -40,22 +41,37 @@ pub data Tag : Type 0 where
   large_utf8 : Tag
   large_list : Tag
 
--- the tags in the order of their numbers, from 1 on; another number is no type
-abbrev pub tags : List Tag
-tags = null ∷ int ∷ floating_point ∷ binary ∷ utf8 ∷ bool ∷ decimal ∷ date ∷ time ∷ timestamp ∷ interval ∷ list ∷ struct ∷ union ∷ fixed_size_binary
-    ∷ fixed_size_list ∷ map ∷ duration ∷ large_binary ∷ large_utf8 ∷ large_list ∷ []
-
+-- the tags by their numbers; another number is no type
 abbrev pub tag_of : ℕ → Option Tag
-tag_of zero = None
-tag_of (suc n) = slice_get tags n
+tag_of number =
+    if number == tags.null then Some null else
+    if number == tags.int then Some int else
+    if number == tags.floating_point then Some floating_point else
+    if number == tags.binary then Some binary else
+    if number == tags.utf8 then Some utf8 else
+    if number == tags.bool then Some bool else
+    if number == tags.decimal then Some decimal else
+    if number == tags.date then Some date else
+    if number == tags.time then Some time else
+    if number == tags.timestamp then Some timestamp else
+    if number == tags.interval then Some interval else
+    if number == tags.list then Some list else
+    if number == tags.struct then Some struct else
+    if number == tags.union then Some union else
+    if number == tags.fixed_size_binary then Some fixed_size_binary else
+    if number == tags.fixed_size_list then Some fixed_size_list else
+    if number == tags.map then Some map else
+    if number == tags.duration then Some duration else
+    if number == tags.large_binary then Some large_binary else
+    if number == tags.large_utf8 then Some large_utf8 else
+    if number == tags.large_list then Some large_list else None
 
 -- the units of time by their numbers
 abbrev pub time_unit_of : ℤ → Option TimeUnit
-time_unit_of (pos zero) = Some units.Second
-time_unit_of (pos (suc zero)) = Some units.Millisecond
-time_unit_of (pos (suc (suc zero))) = Some units.Microsecond
-time_unit_of (pos (suc (suc (suc zero)))) = Some units.Nanosecond
-time_unit_of _ = None
+time_unit_of number =
+    if int_eq number (pos tags.second) then Some units.Second else if int_eq number (pos tags.millisecond) then Some units.Millisecond else
+    if int_eq number (pos tags.microsecond) then Some units.Microsecond else
+    if int_eq number (pos tags.nanosecond) then Some units.Nanosecond else None
 
 -- the whole numbers by their bits, signed and unsigned
 abbrev pub signed_of : ℤ → Option IntegerType
@@ -112,9 +128,9 @@ decimal_in bytes table = do
 
 -- dates by their unit: days or milliseconds
 abbrev pub date_of : ℤ → Option DataType
-date_of (pos zero) = Some types.Date32
-date_of (pos (suc zero)) = Some types.Date64
-date_of _ = None
+date_of number =
+    if int_eq number (pos tags.date_day) then Some types.Date32 else if int_eq number (pos tags.date_millisecond) then Some types.Date64 else
+    None
 
 -- the time of a day: seconds and milliseconds in 32 bits, microseconds and nanoseconds in 64
 abbrev pub short_time_of : TimeUnit → Option DataType
@@ -147,16 +163,15 @@ timestamp_in bytes table = do
 
 -- intervals by their unit
 abbrev pub interval_of : ℤ → Option DataType
-interval_of (pos zero) = Some (types.Interval intervals.YearMonth)
-interval_of (pos (suc zero)) = Some (types.Interval intervals.DayTime)
-interval_of (pos (suc (suc zero))) = Some (types.Interval intervals.MonthDayNano)
-interval_of _ = None
+interval_of number =
+    if int_eq number (pos tags.year_month) then Some (types.Interval intervals.YearMonth) else
+    if int_eq number (pos tags.day_time) then Some (types.Interval intervals.DayTime) else
+    if int_eq number (pos tags.month_day_nano) then Some (types.Interval intervals.MonthDayNano) else None
 
 -- unions by their mode
 abbrev pub mode_of : ℤ → Option UnionMode
-mode_of (pos zero) = Some modes.Sparse
-mode_of (pos (suc zero)) = Some modes.Dense
-mode_of _ = None
+mode_of number =
+    if int_eq number (pos tags.sparse) then Some modes.Sparse else if int_eq number (pos tags.dense) then Some modes.Dense else None
 
 -- n signed numbers of four bytes from a place on
 abbrev pub numbers_from : List ℕ → ℕ → ℕ → Option (List ℤ)

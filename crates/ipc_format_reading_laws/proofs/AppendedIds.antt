@@ -125,9 +125,9 @@ decimal_gives bytes table =
 
 date_gives : (unit : ℤ) → Gives FitsPlain (date_of unit)
 unfolding roll-DataType denote.Hole.Carrier.roll
-date_gives (pos zero) = at_roll layer.Date32 refl
-date_gives (pos (suc zero)) = at_roll layer.Date64 refl
-date_gives _ = tt
+date_gives unit =
+    either_gives FitsPlain (int_eq unit (pos 0)) (Some types.Date32) _ (at_roll layer.Date32 refl)
+    (either_gives FitsPlain (int_eq unit (pos 1)) (Some types.Date64) None (at_roll layer.Date64 refl) tt)
 
 short_gives : (unit : TimeUnit) → Gives FitsPlain (short_time_of unit)
 unfolding roll-DataType denote.Hole.Carrier.roll
@@ -159,10 +159,11 @@ timestamp_gives bytes table =
 
 interval_gives : (unit : ℤ) → Gives FitsPlain (interval_of unit)
 unfolding roll-DataType denote.Hole.Carrier.roll
-interval_gives (pos zero) = at_roll (layer.Interval intervals.YearMonth) refl
-interval_gives (pos (suc zero)) = at_roll (layer.Interval intervals.DayTime) refl
-interval_gives (pos (suc (suc zero))) = at_roll (layer.Interval intervals.MonthDayNano) refl
-interval_gives _ = tt
+interval_gives unit =
+    either_gives FitsPlain (int_eq unit (pos 0)) (Some (types.Interval intervals.YearMonth)) _ (at_roll (layer.Interval intervals.YearMonth) refl)
+    (either_gives FitsPlain (int_eq unit (pos 1)) (Some (types.Interval intervals.DayTime)) _ (at_roll (layer.Interval intervals.DayTime) refl)
+    (either_gives FitsPlain (int_eq unit (pos 2)) (Some (types.Interval intervals.MonthDayNano)) None
+    (at_roll (layer.Interval intervals.MonthDayNano) refl) tt))
 
 -- ---- types over fields
 
