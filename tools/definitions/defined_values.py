@@ -406,8 +406,9 @@ class Defined:
 
     # ---- fresh columns and rows
 
-    def why_not_fresh(self, field, spec, slots, expected, random):
-        """What a column that stores some slots, which fit, does not keep of them, or None; it is to have the parts of another one."""
+    def why_not_fresh(self, field, spec, slots, expected, turned, random):
+        """What a column that stores some slots, which fit, does not keep of them, or None; it is to have the parts of another one, and in the
+        other byte order buffers that are turned."""
         data_type, terms = self.terms.data_type(field.data_type), list(map(self.terms.slot, slots))
         ids, values = self.terms.ids((spec,))[1], Slots()
         if not called(self.is_buildable, data_type) or not called(self.fits, data_type, terms):
@@ -422,10 +423,16 @@ class Defined:
             "the slots": lambda: list(map(values.value, called(self.slots, column))) == slots,
             "soundness": lambda: called(self.is_sound, column),
             "the encoding": lambda: same(called(self.encode_stored, True, column), called(self.encode, data_type, terms)),
+            "the big-endian encoding": lambda: self.is_turned(column, turned),
             "the dictionaries": lambda: same(called(self.given_stored, ids, column), called(self.given_by, data_type, ids, terms)),
             "a cut": lambda: called(self.is_sound, cut) and list(map(values.value, called(self.slots, cut))) == slots[offset:],
         }
         return next((name for name, is_kept in kept.items() if not is_kept()), None)
+
+    def is_turned(self, column, turned):
+        """Whether a column has the same nodes in the other byte order, and the buffers with their numbers turned around."""
+        nodes, buffers = self.defined_stored_encoding(column)
+        return self.defined_stored_encoding(column, False) == (nodes, turned(buffers))
 
     def fits_column(self, data_type, slots):
         return called(self.fits, self.terms.data_type(data_type), list(map(self.terms.slot, slots)))

@@ -6,7 +6,7 @@ Written from the public formats and the profile of this project, apart from the 
 from arrow_sealed import distinct, is_of_type
 from arrow_stored import StoredColumns
 from arrow_trees import numbered
-from arrow_types import BYTES, INTEGERS, KINDS, TEXTS, Field, child_fields, holds_union, kind_of, storage_of
+from arrow_types import BYTES, INTEGERS, KINDS, LISTS, TEXTS, Field, child_fields, holds_union, kind_of, storage_of
 
 # Values of several types, most of which do not fit a column, and values out of their kind's range.
 OTHER_CELLS = (
@@ -148,6 +148,34 @@ class ColumnsOfSlots(StoredColumns):
         return self.terms.plain("dictionary", whole, self.mask(slots), keys, self.column(data_type[2], values))
 
 
+def number_widths(data_type):
+    """For each buffer of a column, in pre-order, the bytes of the numbers of an element; none where it is of marks or bytes."""
+    data_type = storage_of(data_type)
+    name = data_type[0]
+    if name == "Null":
+        return []
+    if name in LISTS:
+        return [(), (LISTS[name],), *number_widths(data_type[1].data_type)]
+    if name in ("FixedSizeList", "Struct"):
+        return [(), *(widths for field in child_fields(data_type) for widths in number_widths(field.data_type))]
+    if name in BYTES:
+        return [(), (BYTES[name],), ()]
+    if name in ("Boolean", "FixedSizeBinary"):
+        return [(), ()]
+    kind = data_type[1] if name == "Dictionary" else kind_of(data_type)
+    return [(), tuple(width for width, _ in KINDS[kind])]
+
+
+def turned(widths, buffer):
+    """A buffer in the other byte order: each number of each element turned around by itself."""
+    out, at = [], 0
+    while widths and at < len(buffer):
+        for width in widths:
+            out += reversed(buffer[at : at + width])
+            at += width
+    return type(buffer)(out) if widths else buffer
+
+
 class RowComparison:
     """Compares columns of slots and rows of cells; each comparison says what differs, or None."""
 
@@ -170,7 +198,9 @@ class RowComparison:
         if not fits_column(field.data_type, slots):
             return None
         self.counts["columns of slots that keep all"] += 1
-        why = self.defined.why_not_fresh(field, spec, slots, ColumnsOfSlots(self.defined.terms).column(field.data_type, slots), random)
+        expected = ColumnsOfSlots(self.defined.terms).column(field.data_type, slots)
+        turn = lambda buffers: list(map(turned, number_widths(field.data_type), buffers))
+        why = self.defined.why_not_fresh(field, spec, slots, expected, turn, random)
         return why and "the column of %s that stores %s does not keep %s" % (field, slots, why)
 
     def compare_row(self, fields, rows, row):

@@ -1,5 +1,6 @@
 """Random stored columns of given values, as arrays have them: with values under nulls, offsets that do not begin at 0, values of a
-dictionary that no key names, and children that are longer than what they show. They are terms of the definitions (`Column`)."""
+dictionary that no key names or that stand twice, and children that are longer than what they show. They are terms of the definitions
+(`Column`)."""
 
 from arrow_types import BYTES, KINDS, LISTS, TEXTS, INTEGERS, kind_of, storage_of
 
@@ -134,13 +135,17 @@ class StoredColumns:
 
     def dictionary(self, whole, data_type, slots):
         key, value_type = data_type[1:3]
+        most = 2 ** (INTEGERS[key][0] - 1) - 1
         values = list(dict.fromkeys(slot for slot in slots if slot is not None))
         known = [list(found) for other, found in self.standing if other == value_type and set(values) <= set(found)]
         if known:
             values = self.random.choice(known)
         else:
             values += self.fillers(value_type, 2)
+            values += self.random.choices(values, k=min(self.random.randint(0, 2), max(0, most - len(values)))) if values else []
             self.random.shuffle(values)
-        most = 2 ** (INTEGERS[key][0] - 1) - 1
-        keys = [self.random.randint(0, min(most, 9)) if slot is None else values.index(slot) for slot in slots]
+        places = {}
+        for place, value in enumerate(values):
+            places.setdefault(value, []).append(place)
+        keys = [self.random.randint(0, min(most, 9)) if slot is None else self.random.choice(places[slot]) for slot in slots]
         return self.terms.plain("dictionary", whole, self.mask(slots), keys, self.column(value_type, values))

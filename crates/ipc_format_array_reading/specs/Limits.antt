@@ -11,5 +11,5 @@ IsBig None = ⊥
 IsBig (Some limit) = 2 ^ 63 ≤ limit
 
 -- limits that take the same of each column: one limit, or two that are above all lengths
-abbrev pub Agree : List FieldNode → Option ℕ → Option ℕ → Type 0
-Agree nodes old new = (old ≡ new) ⊎ (AreSmall nodes × IsBig old × IsBig new)
+abbrev pub AlikeLimits : List FieldNode → Option ℕ → Option ℕ → Type 0
+AlikeLimits nodes old new = (old ≡ new) ⊎ (AreSmall nodes × IsBig old × IsBig new)

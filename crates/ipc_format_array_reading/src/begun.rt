@@ -10,7 +10,7 @@ ghost use Rattle.ipc_format_column_writing.specs.column_reading.Buffers.{node_of
 ghost use Rattle.ipc_format_column_writing.specs.column_reading.Queues.{TakesOff};
 ghost use Rattle.ipc_format_column_writing.specs.column_reading.Rooms.{ReadsAs};
 ghost use Rattle.ipc_format_array_reading.specs.ArrayReads.{Takes};
-ghost use Rattle.ipc_format_array_reading.specs.Limits.{Agree, AreSmall};
+ghost use Rattle.ipc_format_array_reading.specs.Limits.{AlikeLimits, AreSmall};
 ghost use Rattle.ipc_format_array_reading.specs.Parts.{AreParts, HasPlaces, beginning_of, choices, fixed_size, has_children, limit_below, next_choices};
 ghost use Rattle.ipc_format_array_reading.specs.Parts.{next_parts, next_places, next_spans, own_buffers, parts_in, place_buffers, spans};
 
@@ -299,7 +299,7 @@ fn read_lengths(field_nodes: &VecDeque<FieldNode>)
 
 /// A limit that many times; past 64 bits the greatest number, which is above every length.
 fn times(field_nodes: &VecDeque<FieldNode>, limit: Option<usize>, size: usize) -> Option<usize>
-    ensures { Agree (map node_of field_nodes.now.items) (limit_times limit size) result }
+    ensures { AlikeLimits (map node_of field_nodes.now.items) (limit_times limit size) result }
 {
     let Some(most) = limit else {
         return None;
@@ -331,7 +331,7 @@ pub fn limit_below(
     limit: Option<usize>,
     begun: &Begun,
 ) -> Option<usize>
-    ensures { Agree (map node_of field_nodes.now.items) (limit_below (type_layer data_type.now) limit (parts_in begun.now)) result }
+    ensures { AlikeLimits (map node_of field_nodes.now.items) (limit_below (type_layer data_type.now) limit (parts_in begun.now)) result }
 {
     match begun {
         Begun::Small(_, offsets) => Some(offsets.last().to_usize()),

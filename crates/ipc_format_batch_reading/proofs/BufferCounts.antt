@@ -9,7 +9,7 @@ use Rattle.ipc_format_reading.specs.Queues.{TakesOff}
 use Rattle.ipc_format_reading.specs.columnar_memory.declared.Error.{Error}
 use Rattle.ipc_format_reading.specs.childless_reading.array_reading.column_writing.column_reading.column_bytes.streams.Queues.{MakesQueues, buffer_of, fits_by, source_with}
 use Rattle.ipc_format_reading.specs.childless_reading.array_reading.column_writing.column_reading.column_bytes.streams.declared.queues.BatchQueues.{BatchQueues}
-use Rattle.ipc_format_reading.specs.flatbuffers.FlatBuffers.{Table, Vector, if_present, number_at, reference_field, table_field, vector_at}
+use Rattle.ipc_format_reading.specs.flatbuffers.FlatBuffers.{TablePlace, Vector, if_present, number_at, reference_field, table_field, vector_at}
 use Rattle.ipc_format_reading.specs.flatbuffers.FlatBuffers.{vector_field}
 use Rattle.ipc_format_reading.specs.flatbuffers.Reading.{◌>>=◌, guard}
 use Rattle.ipc_format_reading.specs.grammar.Columns.{Source}
@@ -65,7 +65,7 @@ vector_present bytes width (Some place) v is =
     let found = came_of (vector_at bytes width place) _ (Some v) is in
     vector_within bytes width place v (found.1 ∙ ap Some (same_value found.0 v (same_value (Some found.0) (Some v) found.2)))
 
-field_within : (bytes : List ℕ) (table : Table) (slot width : ℕ) (v : Vector) → vector_field bytes table slot width ≡ Some (Some v)
+field_within : (bytes : List ℕ) (table : TablePlace) (slot width : ℕ) (v : Vector) → vector_field bytes table slot width ≡ Some (Some v)
     → v.place + v.count * width ≤ length bytes
 unfolding vector_field
 field_within bytes table slot width v is =
@@ -93,7 +93,8 @@ within_sum bytes size place (suc n) sum xs stated small is =
 -- ---- the buffers of a batch
 
 -- no more buffers are stated than the message has bytes
-stated_count : (bytes : List ℕ) (table : Table) (buffers : List Buffer) → stated_buffers bytes table ≡ Some buffers → length buffers ≤ length bytes
+stated_count : (bytes : List ℕ) (table : TablePlace) (buffers : List Buffer) → stated_buffers bytes table ≡ Some buffers
+    → length buffers ≤ length bytes
 unfolding record_batch_in structs_in
 stated_count bytes table buffers is =
     let batch = came_of (record_batch_in bytes table) (λ batch. structs_in as_buffer bytes batch.buffers) buffers is in
@@ -101,7 +102,7 @@ stated_count bytes table buffers is =
     let count = structs_count as_buffer bytes batch.0.buffers.place batch.0.buffers.count buffers batch.2 in
     omega (arith, within, count)
   where
-    buffers_within : (bytes : List ℕ) (table : Table) (batch : RecordBatch) → record_batch_in bytes table ≡ Some batch
+    buffers_within : (bytes : List ℕ) (table : TablePlace) (batch : RecordBatch) → record_batch_in bytes table ≡ Some batch
         → batch.buffers.place + batch.buffers.count * 16 ≤ length bytes
     buffers_within bytes table batch is =
         let found_nodes = came_of (vector_field bytes table 1 16) _ batch is in
@@ -125,13 +126,13 @@ most_of size most (Some buffers) old new few are =
     omega (arith, few_bytes, are.1)
 
 -- there are no more steps than the message has bytes
-pub no_more_than_bytes : (size : ℕ) (bytes : List ℕ) (table : Table) (old new : ℕ) → AreStated size (stated_buffers bytes table) old new
+pub no_more_than_bytes : (size : ℕ) (bytes : List ℕ) (table : TablePlace) (old new : ℕ) → AreStated size (stated_buffers bytes table) old new
     → new ≤ old + length bytes
 no_more_than_bytes size bytes table old new are =
     most_of size (length bytes) (stated_buffers bytes table) old new (stated_count bytes table) are
 
 -- the buffers of what is read of a batch are those that its message states, each within the room
-pub source_states : (little : Bool) (entry : Entry) (table : Table) (source : Source) → source_in little entry table ≡ Some source
+pub source_states : (little : Bool) (entry : Entry) (table : TablePlace) (source : Source) → source_in little entry table ≡ Some source
     → (stated_buffers entry.metadata table ≡ Some source.buffers) × (are_within (length entry.room) source.buffers ≡ true)
 unfolding source_in lengths_sum structs_in
 source_states little entry table source is =
@@ -177,7 +178,7 @@ steps_stated size n old new stated buffers (Err error) are within counts =
     subst (λ (stated : Option (List Buffer)). AreStated size stated old new) (sym are) (counts.0, counts.1, λ more. within)
 
 -- what is read of the queues of a batch
-pub queue_stated : {A : Type 0} (bytes : List ℕ) (table : Table) (size : ℕ) (queues : BatchQueues) (n old new : ℕ) (r : Result A Error)
+pub queue_stated : {A : Type 0} (bytes : List ℕ) (table : TablePlace) (size : ℕ) (queues : BatchQueues) (n old new : ℕ) (r : Result A Error)
     → MakesQueues bytes table size (Ok queues) → CountsTaken n (length queues.buffers.items) old new r
     → AreStated size (stated_buffers bytes table) old new
 queue_stated bytes table size queues n old new r made counts =

@@ -1,5 +1,5 @@
 -- A schema that metadata gives has dictionary ids beside each field, at every depth.
-use Rattle.std.proofs.Common.{◌≡◌, ◌∙◌, ℕ, zero, suc, ◌+◌, ℤ, pos, negsuc, Bool, true, false, List, [], ◌∷◌, length, map, refl, sym, ap, subst}
+use Rattle.std.proofs.Common.{◌≡◌, ◌∙◌, ℕ, zero, suc, ◌+◌, ℤ, pos, Bool, true, false, List, [], ◌∷◌, length, map, refl, sym, ap, subst}
 use Rattle.std.specs.Prelude.{Option, Some, None, nat_le, if◌then◌else◌}
 use Rattle.std.specs.Ordering.{int_eq}
 use Rattle.std.specs.Int.{w8, w16, w32, w64}
@@ -17,12 +17,12 @@ use Rattle.ipc_format_reading.specs.columnar_memory.declared.IntervalUnit.TheVar
 use Rattle.ipc_format_reading.specs.columnar_memory.declared.TimeUnit.{TimeUnit}
 use Rattle.ipc_format_reading.specs.columnar_memory.declared.TimeUnit.TheVariants as units
 use Rattle.ipc_format_reading.specs.columnar_memory.Pairs.{value_at}
-use Rattle.ipc_format_reading.specs.flatbuffers.FlatBuffers.{Table, Vector, element_at, number_field}
+use Rattle.ipc_format_reading.specs.flatbuffers.FlatBuffers.{TablePlace, Vector, element_at, number_field}
 use Rattle.ipc_format_reading.specs.flatbuffers.FlatBuffers.{signed_field}
 use Rattle.ipc_format_reading.specs.flatbuffers.FlatBuffers.{string_field, table_field, truth_field}
 use Rattle.ipc_format_reading.specs.flatbuffers.FlatBuffers.{vector_field}
 use Rattle.ipc_format_reading.specs.flatbuffers.Reading.{◌>>=◌, guard}
-use Rattle.ipc_format_reading.specs.grammar.Schemas.{Encoded, FieldIn, Ids, IdsList, SchemaIn, TypeIn}
+use Rattle.ipc_format_reading.specs.grammar.Schemas.{EncodedType, FieldIn, Ids, IdsList, SchemaIn, TypeIn}
 use Rattle.ipc_format_reading.specs.grammar.Schemas.{Visits, any_schema_in, child_in, children_in}
 use Rattle.ipc_format_reading.specs.grammar.Schemas.{each_of}
 use Rattle.ipc_format_reading.specs.grammar.Schemas.{encoded_by, extended, extended_by}
@@ -139,10 +139,9 @@ decimal_leaf bits precision scale t e =
 
 date_leaf : (unit : ℤ) (t : DataType) → date_of unit ≡ Some t → IsLeaf t
 unfolding roll-DataType denote.Hole.Carrier.roll
-date_leaf (pos zero) t e = is_shown IsLeaf types.Date32 t (leaf layer.Date32 (λ here. refl)) e
-date_leaf (pos (suc zero)) t e = is_shown IsLeaf types.Date64 t (leaf layer.Date64 (λ here. refl)) e
-date_leaf (pos (suc (suc n))) t e = absurd cc
-date_leaf (negsuc n) t e = absurd cc
+date_leaf unit t e =
+    either_is IsLeaf (int_eq unit (pos 0)) _ _ t e (is_shown IsLeaf types.Date32 t (leaf layer.Date32 (λ here. refl))) (λ other.
+    either_is IsLeaf (int_eq unit (pos 1)) _ _ t other (is_shown IsLeaf types.Date64 t (leaf layer.Date64 (λ here. refl))) (λ none. absurd cc))
 
 short_leaf : (unit : TimeUnit) (t : DataType) → short_time_of unit ≡ Some t → IsLeaf t
 unfolding roll-DataType denote.Hole.Carrier.roll
@@ -165,16 +164,15 @@ time_leaf bits unit t e =
 
 interval_leaf : (unit : ℤ) (t : DataType) → interval_of unit ≡ Some t → IsLeaf t
 unfolding roll-DataType denote.Hole.Carrier.roll
-interval_leaf (pos zero) t e =
-    is_shown IsLeaf (types.Interval intervals.YearMonth) t (leaf (layer.Interval intervals.YearMonth) (λ here. refl)) e
-interval_leaf (pos (suc zero)) t e =
-    is_shown IsLeaf (types.Interval intervals.DayTime) t (leaf (layer.Interval intervals.DayTime) (λ here. refl)) e
-interval_leaf (pos (suc (suc zero))) t e =
-    is_shown IsLeaf (types.Interval intervals.MonthDayNano) t (leaf (layer.Interval intervals.MonthDayNano) (λ here. refl)) e
-interval_leaf (pos (suc (suc (suc n)))) t e = absurd cc
-interval_leaf (negsuc n) t e = absurd cc
+interval_leaf unit t e =
+    either_is IsLeaf (int_eq unit (pos 0)) _ _ t e
+    (is_shown IsLeaf (types.Interval intervals.YearMonth) t (leaf (layer.Interval intervals.YearMonth) (λ here. refl))) (λ first.
+    either_is IsLeaf (int_eq unit (pos 1)) _ _ t first
+    (is_shown IsLeaf (types.Interval intervals.DayTime) t (leaf (layer.Interval intervals.DayTime) (λ here. refl))) (λ second.
+    either_is IsLeaf (int_eq unit (pos 2)) _ _ t second
+    (is_shown IsLeaf (types.Interval intervals.MonthDayNano) t (leaf (layer.Interval intervals.MonthDayNano) (λ here. refl))) (λ none. absurd cc)))
 
-decimals_leaf : (bytes : List ℕ) (table : Table) (t : DataType) → decimal_in bytes table ≡ Some t → IsLeaf t
+decimals_leaf : (bytes : List ℕ) (table : TablePlace) (t : DataType) → decimal_in bytes table ≡ Some t → IsLeaf t
 unfolding decimal_in
 decimals_leaf bytes table t e =
     let stated_precision = came_of {A = ℤ} (signed_field w32 bytes table slots.decimal_precision (pos 0)) _ t e in
@@ -184,7 +182,7 @@ decimals_leaf bytes table t e =
     let bits = came_of {A = ℤ} (signed_field w32 bytes table slots.decimal_bit_width (pos 128)) _ t scale.2 in
     decimal_leaf bits.0 precision.0 scale.0 t bits.2
 
-times_leaf : (bytes : List ℕ) (table : Table) (t : DataType) → time_in bytes table ≡ Some t → IsLeaf t
+times_leaf : (bytes : List ℕ) (table : TablePlace) (t : DataType) → time_in bytes table ≡ Some t → IsLeaf t
 unfolding time_in
 times_leaf bytes table t e =
     let number = came_of {A = ℤ} (signed_field w16 bytes table slots.time_unit (pos 1)) _ t e in
@@ -192,7 +190,7 @@ times_leaf bytes table t e =
     let bits = came_of {A = ℤ} (signed_field w32 bytes table slots.time_bit_width (pos 32)) _ t unit.2 in
     time_leaf bits.0 unit.0 t bits.2
 
-timestamps_leaf : (bytes : List ℕ) (table : Table) (t : DataType) → timestamp_in bytes table ≡ Some t → IsLeaf t
+timestamps_leaf : (bytes : List ℕ) (table : TablePlace) (t : DataType) → timestamp_in bytes table ≡ Some t → IsLeaf t
 unfolding timestamp_in
 timestamps_leaf bytes table t e =
     let number = came_of {A = ℤ} (signed_field w16 bytes table slots.timestamp_unit (pos 0)) _ t e in
@@ -212,38 +210,39 @@ abbrev AreCovered : List FieldIn → Type 0
 AreCovered found = cover_each (map cover_field (fields_of found)) (ids_of found) ≡ true
 
 -- what reads a field gives ids beside each field below it
-abbrev ReadsCovered : (Table → Visits FieldIn) → Type 0
-ReadsCovered read = (table : Table) (left : ℕ) (found : FieldIn × ℕ) → read table left ≡ Some found → IsCovered found.0
+abbrev ReadsCovered : (TablePlace → Visits FieldIn) → Type 0
+ReadsCovered read = (table : TablePlace) (left : ℕ) (found : FieldIn × ℕ) → read table left ≡ Some found → IsCovered found.0
 
 field_covered : (found : FieldIn) → IsCovered found → cover_field found.field found.ids ≡ true
 field_covered found is = ap (λ (test : Test). test found.ids) (by_type found.field) ∙ is
 
-each_covered : (read : Table → Visits FieldIn) → ReadsCovered read → (bytes : List ℕ) (vector : Vector) (n k left : ℕ)
+each_covered : (read : TablePlace → Visits FieldIn) → ReadsCovered read → (bytes : List ℕ) (vector : Vector) (n k left : ℕ)
     (found : List FieldIn × ℕ) → each_of read bytes vector n k left ≡ Some found → AreCovered found.0
 each_covered read all bytes vector zero k left found e =
     is_shown (λ (found : List FieldIn × ℕ). AreCovered found.0) ([], left) found refl e
 each_covered read all bytes vector (suc n) k left found e =
-    let table = came_of {A = Table} (element_at bytes vector k) _ found e in
+    let table = came_of {A = TablePlace} (element_at bytes vector k) _ found e in
     let first = came_of {A = FieldIn × ℕ} (read table.0 left) _ found table.2 in
     let others = came_of {A = List FieldIn × ℕ} (each_of read bytes vector n (k + 1) first.0.1) _ found first.2 in
     is_shown (λ (found : List FieldIn × ℕ). AreCovered found.0) (first.0.0 ∷ others.0.0, others.0.1) found
     (and_from (cover_field first.0.0.field first.0.0.ids) (cover_each (map cover_field (fields_of others.0.0)) (ids_of others.0.0))
     (field_covered first.0.0 (all table.0 left first.0 first.1)) (each_covered read all bytes vector n (k + 1) first.0.1 others.0 others.1)) others.2
 
-children_covered : (read : Table → Visits FieldIn) → ReadsCovered read → (bytes : List ℕ) (field : Table) (left : ℕ) (found : List FieldIn × ℕ)
+children_covered : (read : TablePlace → Visits FieldIn) → ReadsCovered read
+    → (bytes : List ℕ) (field : TablePlace) (left : ℕ) (found : List FieldIn × ℕ)
     → children_in read bytes field left ≡ Some found → AreCovered found.0
 children_covered read all bytes field left found e =
     let vectors = came_of {A = Option Vector} (vector_field bytes field slots.field_children slots.reference_size) _ found e in
     let vector = came_of {A = Vector} (vectors.0) _ found vectors.2 in
     each_covered read all bytes vector.0 vector.0.count 0 left found vector.2
 
-child_covered : (read : Table → Visits FieldIn) → ReadsCovered read → (bytes : List ℕ) (field : Table) (left : ℕ) (found : FieldIn × ℕ)
+child_covered : (read : TablePlace → Visits FieldIn) → ReadsCovered read → (bytes : List ℕ) (field : TablePlace) (left : ℕ) (found : FieldIn × ℕ)
     → child_in read bytes field left ≡ Some found → IsCovered found.0
 child_covered read all bytes field left found e =
     let vectors = came_of {A = Option Vector} (vector_field bytes field slots.field_children slots.reference_size) _ found e in
     let vector = came_of {A = Vector} (vectors.0) _ found vectors.2 in
     let some = came_of {A = Bool} (guard (nat_le 1 vector.0.count)) _ found vector.2 in
-    let table = came_of {A = Table} (element_at bytes vector.0 0) _ found some.2 in
+    let table = came_of {A = TablePlace} (element_at bytes vector.0 0) _ found some.2 in
     all table.0 left found table.2
 
 -- one child
@@ -251,7 +250,7 @@ one_covered : (found : FieldIn) → IsCovered found → cover_each (cover_field 
 one_covered found is = and_from (cover_field found.field found.ids) true (field_covered found is) refl
 
 -- a type over one child
-over_covered : (make : Field → DataType) (read : Table → Visits FieldIn) → ReadsCovered read → (bytes : List ℕ) (field : Table) (left : ℕ)
+over_covered : (make : Field → DataType) (read : TablePlace → Visits FieldIn) → ReadsCovered read → (bytes : List ℕ) (field : TablePlace) (left : ℕ)
     (found : TypeIn × ℕ)
     → ((item : Field) (below : IdsList) → covers (make item) (ids None below) ≡ cover_each (cover_field item ∷ []) below)
     → (child_in read bytes field left >>= (λ child. Some (with_child make child))) ≡ Some found → IsTypeCovered found
@@ -295,7 +294,7 @@ flat_covered : (t : DataType) (left : ℕ) (found : TypeIn × ℕ) → IsLeaf t
     → Some (record { data_type = t; below = no_ids }, left) ≡ Some found → IsTypeCovered found
 flat_covered t left found all e = is_shown IsTypeCovered (record { data_type = t; below = no_ids }, left) found (all (ids None no_ids)) e
 
-type_covered : (read : Table → Visits FieldIn) → ReadsCovered read → (bytes : List ℕ) (tag : Tag) (field table : Table) (left : ℕ)
+type_covered : (read : TablePlace → Visits FieldIn) → ReadsCovered read → (bytes : List ℕ) (tag : Tag) (field table : TablePlace) (left : ℕ)
     (found : TypeIn × ℕ) → type_in None read bytes tag field table left ≡ Some found → IsTypeCovered found
 unfolding type_in
 type_covered read all bytes kind.null field table left found e = flat_covered types.Null left found null_leaf e
@@ -368,17 +367,17 @@ unfolding roll-DataType denote.Hole.Carrier.roll
 dictionary_covered key t is_ordered own below is =
     ap (λ (test : Test). test (ids own below)) (at_layer (layer.Dictionary key t is_ordered)) ∙ is
 
-encoded_covered : (bytes : List ℕ) (dictionary : Option Table) (t : DataType) (below : IdsList) (encoded : Encoded)
+encoded_covered : (bytes : List ℕ) (dictionary : Option TablePlace) (t : DataType) (below : IdsList) (encoded : EncodedType)
     → covers t (ids None below) ≡ true → encoded_by bytes dictionary t ≡ Some encoded → covers encoded.data_type (ids encoded.id below) ≡ true
 encoded_covered bytes None t below encoded is e =
-    is_shown (λ (encoded : Encoded). covers encoded.data_type (ids encoded.id below) ≡ true) (record { data_type = t; id = None }) encoded is e
+    is_shown (λ (encoded : EncodedType). covers encoded.data_type (ids encoded.id below) ≡ true) (record { data_type = t; id = None }) encoded is e
 encoded_covered bytes (Some table) t below encoded is e =
     let id = came_of {A = ℤ} (signed_field w64 bytes table slots.dictionary_encoding_id (pos 0)) _ encoded e in
-    let found = came_of {A = Option Table} (table_field bytes table slots.dictionary_encoding_index_type) _ encoded id.2 in
-    let keys = came_of {A = Table} (found.0) _ encoded found.2 in
+    let found = came_of {A = Option TablePlace} (table_field bytes table slots.dictionary_encoding_index_type) _ encoded id.2 in
+    let keys = came_of {A = TablePlace} (found.0) _ encoded found.2 in
     let integer = came_of {A = IntegerType} (integer_in bytes keys.0) _ encoded keys.2 in
     let is_ordered = came_of {A = Bool} (truth_field bytes table slots.dictionary_encoding_is_ordered) _ encoded integer.2 in
-    is_shown (λ (encoded : Encoded). covers encoded.data_type (ids encoded.id below) ≡ true)
+    is_shown (λ (encoded : EncodedType). covers encoded.data_type (ids encoded.id below) ≡ true)
     (record { data_type = types.Dictionary integer.0 t is_ordered.0; id = Some id.0 }) encoded
     (dictionary_covered integer.0 t is_ordered.0 (Some id.0) below is) is_ordered.2
 
@@ -388,7 +387,7 @@ abbrev IsFieldCovered : FieldIn × ℕ → Type 0
 IsFieldCovered found = IsCovered found.0
 
 -- a field by its type, with what stands beside it
-abbrev completed : List ℕ → Table → List ℕ → Bool → TypeIn × ℕ → Option (FieldIn × ℕ)
+abbrev completed : List ℕ → TablePlace → List ℕ → Bool → TypeIn × ℕ → Option (FieldIn × ℕ)
 completed bytes table name is_nullable found = do
   dictionary ← table_field bytes table slots.field_dictionary
   metadata ← metadata_in bytes table slots.field_custom_metadata
@@ -401,13 +400,13 @@ completed bytes table name is_nullable found = do
     found.1,
   )
 
-completed_covered : (bytes : List ℕ) (table : Table) (name : List ℕ) (is_nullable : Bool) (below : TypeIn × ℕ) (found : FieldIn × ℕ)
+completed_covered : (bytes : List ℕ) (table : TablePlace) (name : List ℕ) (is_nullable : Bool) (below : TypeIn × ℕ) (found : FieldIn × ℕ)
     → IsTypeCovered below → completed bytes table name is_nullable below ≡ Some found → IsFieldCovered found
 completed_covered bytes table name is_nullable below found is e =
-    comes {A = Option Table} IsFieldCovered (table_field bytes table slots.field_dictionary) _ found e (λ dictionary at_dictionary e_dictionary.
+    comes {A = Option TablePlace} IsFieldCovered (table_field bytes table slots.field_dictionary) _ found e (λ dictionary at_dictionary e_dictionary.
     comes {A = List (List ℕ × List ℕ)} IsFieldCovered (metadata_in bytes table slots.field_custom_metadata) _ found e_dictionary
     (λ metadata at_metadata e_metadata.
-    comes {A = Encoded} IsFieldCovered (encoded_by bytes dictionary (extended metadata below.0.data_type)) _ found e_metadata
+    comes {A = EncodedType} IsFieldCovered (encoded_by bytes dictionary (extended metadata below.0.data_type)) _ found e_metadata
     (λ encoded at_encoded e_encoded.
     is_shown IsFieldCovered (
       record {
@@ -431,14 +430,14 @@ fields_covered bytes (suc levels) table left found e =
     comes {A = Bool} IsFieldCovered (truth_field bytes table slots.field_nullable) _ found e_name (λ is_nullable at_nullable e_nullable.
     comes {A = ℕ} IsFieldCovered (number_field w8 bytes table slots.field_type_type 0) _ found e_nullable (λ number at_number e_number.
     comes {A = Tag} IsFieldCovered (tag_of number) _ found e_number (λ tag at_tag e_tag.
-    comes {A = Option Table} IsFieldCovered (table_field bytes table slots.field_type) _ found e_tag (λ found_type at_found_type e_found_type.
-    comes {A = Table} IsFieldCovered found_type _ found e_found_type (λ type_table at_table e_table.
+    comes {A = Option TablePlace} IsFieldCovered (table_field bytes table slots.field_type) _ found e_tag (λ found_type at_found_type e_found_type.
+    comes {A = TablePlace} IsFieldCovered found_type _ found e_found_type (λ type_table at_table e_table.
     comes {A = TypeIn × ℕ} IsFieldCovered (type_in None (field_in None bytes levels) bytes tag table type_table visited) _ found e_table
     (λ below at_below e_below.
     completed_covered bytes table name is_nullable below found
     (type_covered (field_in None bytes levels) (fields_covered bytes levels) bytes tag table type_table visited below at_below) e_below)))))))))
 
-pub schemas_covered : (bytes : List ℕ) (table : Table) (found : SchemaIn) → any_schema_in None bytes table ≡ Some found
+pub schemas_covered : (bytes : List ℕ) (table : TablePlace) (found : SchemaIn) → any_schema_in None bytes table ≡ Some found
     → cover_each (map cover_field found.schema.fields) found.ids ≡ true
 unfolding any_schema_in
 schemas_covered bytes table found e =

@@ -13,7 +13,7 @@ use Rattle.ipc_format_reading.specs.Rooms.{ForBytes, IsRefusal, ReadsAs, Told}
 use Rattle.ipc_format_reading.specs.columnar_memory.declared.Error.{Error}
 use Rattle.ipc_format_reading.specs.columns.Slots.{Slot}
 use Rattle.ipc_format_reading.specs.columns.StoredColumns.{Column, column_type, slots}
-use Rattle.ipc_format_reading.specs.flatbuffers.FlatBuffers.{Table}
+use Rattle.ipc_format_reading.specs.flatbuffers.FlatBuffers.{TablePlace}
 use Rattle.ipc_format_reading.specs.flatbuffers.Reading.{◌>>=◌, guard}
 use Rattle.ipc_format_reading.specs.grammar.Columns.{Dictionary, Place, Source}
 use Rattle.ipc_format_reading.specs.grammar.Dictionaries.{Entry, Layout, Values, source_in, values_of}
@@ -80,26 +80,26 @@ values_at layout one id at old new r same read = subst (λ (id : ℤ). ReadsAs f
 
 -- which header carries a batch says nothing of it
 any_header : (layout : Layout) (standing : List Dictionary) (id : ℤ) (metadata : List ℕ) (one other : Header) (version : Version) (origin : ℕ)
-    (room : List ℕ) (table : Table)
+    (room : List ℕ) (table : TablePlace)
     → stated_dictionary layout standing id (entry_in metadata one version origin room) table
     ≡ stated_dictionary layout standing id (entry_in metadata other version origin room) table
 unfolding source_in
 any_header layout standing id metadata one other version origin room table = refl
 
 -- a message that is no dictionary batch
-pub no_batch : (layout : Layout) (standing : List Dictionary) (entry : Entry) (table : Table) → dictionary_batch_in entry.metadata table ≡ None
+pub no_batch : (layout : Layout) (standing : List Dictionary) (entry : Entry) (table : TablePlace) → dictionary_batch_in entry.metadata table ≡ None
     → dictionary_array layout standing entry table ≡ None
 no_batch layout standing entry table none = ap (λ (batch : Option DictionaryBatch). batch >>= (λ batch. guard (not batch.is_delta) >>= (λ _.
     stated_dictionary layout standing batch.id entry batch.values))) none
 
 -- a dictionary batch is read where it adds to no dictionary and is not compressed
-pub unread_is : (metadata : List ℕ) (table : Table) (batch : DictionaryBatch) → dictionary_batch_in metadata table ≡ Some batch
+pub unread_is : (metadata : List ℕ) (table : TablePlace) (batch : DictionaryBatch) → dictionary_batch_in metadata table ≡ Some batch
     → is_unread metadata table ≡ (batch.is_delta || is_compressed metadata batch.values)
 unread_is metadata table batch found = ap (λ (batch : Option DictionaryBatch). is_unread_by metadata batch) found
 
 -- what is given of a dictionary that adds to none
 array_is : (layout : Layout) (standing : List Dictionary) (metadata : List ℕ) (one other : Header) (version : Version) (origin : ℕ) (room : List ℕ)
-    (table : Table) (batch : DictionaryBatch) → dictionary_batch_in metadata table ≡ Some batch → batch.is_delta ≡ false
+    (table : TablePlace) (batch : DictionaryBatch) → dictionary_batch_in metadata table ≡ Some batch → batch.is_delta ≡ false
     → dictionary_array layout standing (entry_in metadata one version origin room) table
     ≡ stated_dictionary layout standing batch.id (entry_in metadata other version origin room) batch.values
 array_is layout standing metadata one other version origin room table batch found plain =
@@ -120,7 +120,7 @@ reads_for one other old new view given whole (Err error) same is read =
 
 -- what is read of a batch that adds to no dictionary is what is read of the values that it states
 pub message_read : (layout : Layout) (standing : List Dictionary) (metadata : List ℕ) (one other : Header) (version : Version) (origin : ℕ)
-    (table : Table) (batch : DictionaryBatch) (old new : Told) (r : Result Column Error) → dictionary_batch_in metadata table ≡ Some batch
+    (table : TablePlace) (batch : DictionaryBatch) (old new : Told) (r : Result Column Error) → dictionary_batch_in metadata table ≡ Some batch
     → batch.is_delta ≡ false
     → ReadsAs (is_compressed metadata batch.values) old new (λ array. dictionary_of (batch.id, array))
     (λ room. stated_dictionary layout standing batch.id (entry_in metadata other version origin room) batch.values) r
@@ -135,7 +135,7 @@ message_read layout standing metadata one other version origin table batch old n
 
 -- the same of values that are stated in the same metadata
 pub stated_read : (layout : Layout) (standing : List Dictionary) (metadata inner : List ℕ) (one other : Header) (version : Version) (origin : ℕ)
-    (table : Table) (batch : DictionaryBatch) (old new : Told) (r : Result Column Error) → inner ≡ metadata
+    (table : TablePlace) (batch : DictionaryBatch) (old new : Told) (r : Result Column Error) → inner ≡ metadata
     → dictionary_batch_in metadata table ≡ Some batch → batch.is_delta ≡ false
     → ReadsAs (is_compressed inner batch.values) old new (λ array. dictionary_of (batch.id, array))
     (λ room. stated_dictionary layout standing batch.id (entry_in inner other version origin room) batch.values) r
@@ -148,7 +148,7 @@ stated_read layout standing metadata inner one other version origin table batch 
 
 -- the same of one id
 pub stated_read_at : (layout : Layout) (standing : List Dictionary) (metadata inner : List ℕ) (one other : Header) (version : Version)
-    (origin : ℕ) (table : Table) (batch : DictionaryBatch) (old new : Told) (r : Result Column Error) (number : ℤ) → number ≡ batch.id
+    (origin : ℕ) (table : TablePlace) (batch : DictionaryBatch) (old new : Told) (r : Result Column Error) (number : ℤ) → number ≡ batch.id
     → inner ≡ metadata → dictionary_batch_in metadata table ≡ Some batch → batch.is_delta ≡ false
     → ReadsAs (is_compressed inner batch.values) old new (λ array. dictionary_of (number, array))
     (λ room. stated_dictionary layout standing number (entry_in inner other version origin room) batch.values) r

@@ -8,7 +8,7 @@ use Rattle.std.proofs.lemmas.Bool.Decides.{Decides-eqb}
 use Rattle.std.proofs.lemmas.Option.{get_or_from_slice_get, none-some, same_Some, slice_get-get_or, slice_get_within}
 use Rattle.ipc_format_reading.specs.childless_reading.array_reading.ArrayReads.{array_slots}
 use Rattle.ipc_format_reading.specs.columns.Slots.{Slot}
-use Rattle.ipc_format_reading.specs.flatbuffers.FlatBuffers.{Table}
+use Rattle.ipc_format_reading.specs.flatbuffers.FlatBuffers.{TablePlace}
 use Rattle.ipc_format_reading.specs.flatbuffers.Reading.{◌>>=◌, guard}
 use Rattle.ipc_format_reading.specs.grammar.Columns.{Dictionary, Source, have_length}
 use Rattle.ipc_format_reading.specs.grammar.Dictionaries.{Entry, Layout, source_in}

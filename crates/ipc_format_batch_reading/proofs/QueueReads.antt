@@ -5,7 +5,7 @@ use Rattle.std.proofs.lemmas.Bool.Decides.{Decides-eqb}
 use Rattle.ipc_format_reading.specs.Rooms.{ForBytes, IsRefusal, ReadsAs, Stays, Told}
 use Rattle.ipc_format_reading.specs.columnar_memory.declared.Error.{Error}
 use Rattle.ipc_format_reading.specs.columnar_memory.declared.Error.TheVariants as errors
-use Rattle.ipc_format_reading.specs.flatbuffers.FlatBuffers.{Table}
+use Rattle.ipc_format_reading.specs.flatbuffers.FlatBuffers.{TablePlace}
 use Rattle.ipc_format_reading.specs.flatbuffers.Reading.{◌>>=◌, guard}
 use Rattle.ipc_format_reading.specs.grammar.Columns.{Source}
 use Rattle.ipc_format_reading.specs.grammar.Dictionaries.{source_in}
@@ -47,11 +47,11 @@ sized_refusal size old new Cause Other compressed errors.Overflow plain follows 
 -- ---- at the fronts of queues
 
 -- what is given by the batch of a message
-abbrev given_by : {B : Type 0} → Bool → List ℕ → Header → Version → ℕ → Table → (Source → Option B) → List ℕ → Option B
+abbrev given_by : {B : Type 0} → Bool → List ℕ → Header → Version → ℕ → TablePlace → (Source → Option B) → List ℕ → Option B
 given_by little metadata header version origin table next room = source_in little (entry_in metadata header version origin room) table >>= next
 
 -- a batch without queues
-pub queues_refused : {A B : Type 0} (metadata : List ℕ) (table : Table) (size : ℕ) (told : Told) (little : Bool) (header : Header)
+pub queues_refused : {A B : Type 0} (metadata : List ℕ) (table : TablePlace) (size : ℕ) (told : Told) (little : Bool) (header : Header)
     (version : Version) (origin : ℕ) (next : Source → Option B) (view : A → B) (error : Error) → MakesQueues metadata table size (Err error)
     → ReadsAs (is_compressed metadata table) (sized size told) (sized size told) view (given_by little metadata header version origin table next)
     (Err error)
@@ -69,7 +69,7 @@ queues_refused metadata table size told little header version origin next view (
 queues_refused metadata table size told little header version origin next view errors.Overflow made = absurd made
 
 -- what is read of a batch is what is read of its queues
-pub queues_read : {A B : Type 0} (metadata : List ℕ) (table : Table) (size : ℕ) (old new : Told) (little : Bool) (header : Header)
+pub queues_read : {A B : Type 0} (metadata : List ℕ) (table : TablePlace) (size : ℕ) (old new : Told) (little : Bool) (header : Header)
     (version : Version) (origin : ℕ) (queues : BatchQueues) (next : Source → Option B) (view : A → B) (r : Result A Error)
     → MakesQueues metadata table size (Ok queues)
     → ReadsAs false old new view (λ room. next (source_with queues little (entry_in metadata header version origin room))) r

@@ -7,7 +7,7 @@ use Rattle.ipc_format_reading.specs.childless_reading.array_reading.ArrayReads.{
 use Rattle.ipc_format_reading.specs.columnar_memory.declared.Field.{Field}
 use Rattle.ipc_format_reading.specs.columnar_memory.declared.Schema.{Schema}
 use Rattle.ipc_format_reading.specs.columns.Slots.{Slot}
-use Rattle.ipc_format_reading.specs.flatbuffers.FlatBuffers.{Table}
+use Rattle.ipc_format_reading.specs.flatbuffers.FlatBuffers.{TablePlace}
 use Rattle.ipc_format_reading.specs.flatbuffers.Reading.{◌>>=◌, guard}
 use Rattle.ipc_format_reading.specs.grammar.Columns.{Dictionary, Source}
 use Rattle.ipc_format_reading.specs.grammar.Dictionaries.{Entry, Layout, Values, dictionary_in}
@@ -36,7 +36,7 @@ use Rattle.ipc_format_batch_reading.proofs.ReadableTypes.{AreReadable, allowed_f
 abbrev FindsReadable : Layout → Type 0
 FindsReadable layout = (id : ℤ) (values : Values) → values_of layout.fields id layout.below ≡ Some values → AreReadable values
 
-batches_are : (layout : Layout) → are_readable layout.fields layout.below ≡ true → (standing : List Dictionary) (entry : Entry) (table : Table)
+batches_are : (layout : Layout) → are_readable layout.fields layout.below ≡ true → (standing : List Dictionary) (entry : Entry) (table : TablePlace)
     → record_arrays layout standing None entry table ≡ batch_in layout standing entry table
 unfolding batch_in
 batches_are layout all standing entry table =
@@ -44,7 +44,7 @@ batches_are layout all standing entry table =
     both_same _ _ _ _ (all_columns_are layout standing source all) (λ (columns : List (List Slot)). refl))
 
 limited_are : (layout : Layout) → are_readable layout.fields layout.below ≡ true → (standing : List Dictionary) (limit : Option ℕ) (entry : Entry)
-    (table : Table) → record_arrays layout standing limit entry table ≡ chosen_batch_in layout standing entry limit (all_of layout.fields) table
+    (table : TablePlace) → record_arrays layout standing limit entry table ≡ chosen_batch_in layout standing entry limit (all_of layout.fields) table
 unfolding chosen_batch_in
 limited_are layout all standing limit entry table =
     both_same (source_in layout.is_little_endian entry table) (source_in layout.is_little_endian entry table) _ _ refl (λ (source : Source).
@@ -76,14 +76,14 @@ chosen_are layout all standing source limit (k ∷ columns) =
     both_same _ _ _ _ (chosen_are layout all standing source limit columns) (λ (others : List (List Slot)). refl)))
 
 choices_are : (layout : Layout) → are_readable layout.fields layout.below ≡ true → (standing : List Dictionary) (limit : Option ℕ)
-    (columns : List ℕ) (entry : Entry) (table : Table)
+    (columns : List ℕ) (entry : Entry) (table : TablePlace)
     → chosen_record_arrays layout standing limit columns entry table ≡ chosen_batch_in layout standing entry limit columns table
 unfolding chosen_batch_in
 choices_are layout all standing limit columns entry table =
     both_same (source_in layout.is_little_endian entry table) (source_in layout.is_little_endian entry table) _ _ refl (λ (source : Source).
     both_same _ _ _ _ (chosen_are layout all standing source limit columns) (λ (columns : List (List Slot)). refl))
 
-dictionaries_are : (layout : Layout) → FindsReadable layout → (standing : List Dictionary) (entry : Entry) (table : Table)
+dictionaries_are : (layout : Layout) → FindsReadable layout → (standing : List Dictionary) (entry : Entry) (table : TablePlace)
     → dictionary_array layout standing entry table ≡ dictionary_in layout standing entry table
 unfolding dictionary_in
 dictionaries_are layout finds standing entry table =

@@ -12,7 +12,7 @@ use Rattle.ipc_format_reading.specs.columnar_memory.declared.Field.{Field}
 use Rattle.ipc_format_reading.specs.columns.Slots.{Slot}
 use Rattle.ipc_format_reading.specs.columns.StoredColumns.{Column}
 use Rattle.ipc_format_reading.specs.columns.Tables.{rows_of_columns}
-use Rattle.ipc_format_reading.specs.flatbuffers.FlatBuffers.{Table}
+use Rattle.ipc_format_reading.specs.flatbuffers.FlatBuffers.{TablePlace}
 use Rattle.ipc_format_reading.specs.flatbuffers.Reading.{◌>>=◌, guard}
 use Rattle.ipc_format_reading.specs.grammar.Columns.{Dictionary, Place, Source, slots_in}
 use Rattle.ipc_format_reading.specs.grammar.Columns.{standing_for}
@@ -49,7 +49,7 @@ columns_look layout old new source k (field ∷ fields) alike =
     both_same _ _ _ _ (column_look layout old new source None k field alike) (λ (column : List Slot).
     both_same _ _ _ _ (columns_look layout old new source (k + 1) fields alike) (λ (columns : List (List Slot)). refl))
 
-batches_look : (layout : Layout) (old new : List Dictionary) (entry : Entry) (table : Table) → StandAlike old new
+batches_look : (layout : Layout) (old new : List Dictionary) (entry : Entry) (table : TablePlace) → StandAlike old new
     → batch_in layout old entry table ≡ batch_in layout new entry table
 unfolding batch_in
 batches_look layout old new entry table alike =
@@ -64,14 +64,14 @@ choice_look layout old new source limit (k ∷ columns) alike =
     both_same _ _ _ _ (column_look layout old new source limit k field alike) (λ (column : List Slot).
     both_same _ _ _ _ (choice_look layout old new source limit columns alike) (λ (others : List (List Slot)). refl)))
 
-choices_look : (layout : Layout) (old new : List Dictionary) (entry : Entry) (limit : Option ℕ) (columns : List ℕ) (table : Table)
+choices_look : (layout : Layout) (old new : List Dictionary) (entry : Entry) (limit : Option ℕ) (columns : List ℕ) (table : TablePlace)
     → StandAlike old new → chosen_batch_in layout old entry limit columns table ≡ chosen_batch_in layout new entry limit columns table
 unfolding chosen_batch_in
 choices_look layout old new entry limit columns table alike =
     both_same (source_in layout.is_little_endian entry table) (source_in layout.is_little_endian entry table) _ _ refl (λ (source : Source).
     both_same _ _ _ _ (choice_look layout old new source limit columns alike) (λ (found : List (List Slot)). refl))
 
-dictionaries_look : (layout : Layout) (old new : List Dictionary) (entry : Entry) (table : Table) → StandAlike old new
+dictionaries_look : (layout : Layout) (old new : List Dictionary) (entry : Entry) (table : TablePlace) → StandAlike old new
     → dictionary_in layout old entry table ≡ dictionary_in layout new entry table
 unfolding dictionary_in
 dictionaries_look layout old new entry table alike =

@@ -11,7 +11,7 @@ use Rattle.ipc_format_reading.specs.columnar_memory.declared.Field.{Field}
 use Rattle.ipc_format_reading.specs.columns.Slots.{Slot}
 use Rattle.ipc_format_reading.specs.columns.StoredColumns.{Column, slots}
 use Rattle.ipc_format_reading.specs.columns.Tables.{chosen}
-use Rattle.ipc_format_reading.specs.flatbuffers.FlatBuffers.{Table}
+use Rattle.ipc_format_reading.specs.flatbuffers.FlatBuffers.{TablePlace}
 use Rattle.ipc_format_reading.specs.flatbuffers.Reading.{◌>>=◌, guard}
 use Rattle.ipc_format_reading.specs.grammar.Columns.{Dictionary, Place, Source}
 use Rattle.ipc_format_reading.specs.grammar.Dictionaries.{Entry, Layout, source_in}
@@ -37,7 +37,7 @@ placed_arrays fields below at = do
 
 -- The slots of the arrays of a record batch's columns, under a limit: those that the format gives, all of one length, where there are arrays
 -- of each type.
-abbrev pub record_arrays : Layout → List Dictionary → Option ℕ → Entry → Table → Option (List (List Slot))
+abbrev pub record_arrays : Layout → List Dictionary → Option ℕ → Entry → TablePlace → Option (List (List Slot))
 record_arrays layout standing limit entry table = do
   source ← source_in layout.is_little_endian entry table
   placed_arrays layout.fields layout.below
@@ -62,7 +62,7 @@ chosen_arrays layout standing source limit (k ∷ columns) = do
   Some (column ∷ others)
 
 -- The slots of the arrays of a record batch's chosen columns, under a limit: all of one length, where there are arrays of each type.
-abbrev pub chosen_record_arrays : Layout → List Dictionary → Option ℕ → List ℕ → Entry → Table → Option (List (List Slot))
+abbrev pub chosen_record_arrays : Layout → List Dictionary → Option ℕ → List ℕ → Entry → TablePlace → Option (List (List Slot))
 chosen_record_arrays layout standing limit columns entry table = do
   source ← source_in layout.is_little_endian entry table
   arrays ← chosen_arrays layout standing source limit columns
@@ -70,7 +70,7 @@ chosen_record_arrays layout standing limit columns entry table = do
   Some arrays
 
 -- of all columns, or of chosen ones
-abbrev pub asked_arrays : Option (List ℕ) → Layout → List Dictionary → Option ℕ → Entry → Table → Option (List (List Slot))
+abbrev pub asked_arrays : Option (List ℕ) → Layout → List Dictionary → Option ℕ → Entry → TablePlace → Option (List (List Slot))
 asked_arrays None layout standing limit entry table = record_arrays layout standing limit entry table
 asked_arrays (Some columns) layout standing limit entry table = chosen_record_arrays layout standing limit columns entry table
 

@@ -3,7 +3,7 @@ use Rattle.std.specs.Prelude.{◌≡◌, ◌+◌, ◌≤◌, ◌<◌, ℕ, Bool,
 use Rattle.std.specs.List.{list_all}
 use Rattle.ipc_format_reading.specs.childless_reading.array_reading.column_writing.column_reading.column_bytes.streams.Queues.{fits_by}
 use Rattle.ipc_format_reading.specs.columnar_memory.declared.Error.{Error}
-use Rattle.ipc_format_reading.specs.flatbuffers.FlatBuffers.{Table}
+use Rattle.ipc_format_reading.specs.flatbuffers.FlatBuffers.{TablePlace}
 use Rattle.ipc_format_reading.specs.flatbuffers.Reading.{◌>>=◌}
 use Rattle.ipc_format_reading.specs.grammar.Messages.{Buffer, as_buffer, natural, record_batch_in, structs_in}
 
@@ -14,7 +14,7 @@ CountsTaken count had old new (Ok found) = (count ≤ had) × (new ≡ old + cou
 CountsTaken count had old new (Err error) = (old ≤ new) × (new ≤ old + had)
 
 -- the buffers that a batch states, where all of them stand in its message
-abbrev pub stated_buffers : List ℕ → Table → Option (List Buffer)
+abbrev pub stated_buffers : List ℕ → TablePlace → Option (List Buffer)
 stated_buffers bytes table = do
   batch ← record_batch_in bytes table
   structs_in as_buffer bytes batch.buffers

@@ -7,7 +7,7 @@ use Rattle.ipc_format_reading.specs.childless_reading.array_reading.ArrayReads.{
 use Rattle.ipc_format_reading.specs.Rooms.{Told, ReadsAs}
 use Rattle.ipc_format_reading.specs.columnar_memory.declared.Error.{Error}
 use Rattle.ipc_format_reading.specs.columns.StoredColumns.{Column}
-use Rattle.ipc_format_reading.specs.flatbuffers.FlatBuffers.{Table}
+use Rattle.ipc_format_reading.specs.flatbuffers.FlatBuffers.{TablePlace}
 use Rattle.ipc_format_reading.specs.flatbuffers.Reading.{◌>>=◌, guard}
 use Rattle.ipc_format_reading.specs.grammar.Columns.{Dictionary, Place}
 use Rattle.ipc_format_reading.specs.grammar.Dictionaries.{Entry, Layout, source_in, values_of}
@@ -24,7 +24,7 @@ placed_dictionary layout id at = do
   Some (record { id = id; data_type = values.data_type; slots = slots })
 
 -- the dictionary of an id whose values a record batch states
-abbrev pub stated_dictionary : Layout → List Dictionary → ℤ → Entry → Table → Option Dictionary
+abbrev pub stated_dictionary : Layout → List Dictionary → ℤ → Entry → TablePlace → Option Dictionary
 stated_dictionary layout standing id entry table = do
   source ← source_in layout.is_little_endian entry table
   placed_dictionary layout id
@@ -32,7 +32,7 @@ stated_dictionary layout standing id entry table = do
 
 -- The dictionary of a message, where there are arrays of its values' type: one column of the value type of its id, read under the dictionaries
 -- that stand before it. One that adds to an earlier one is refused.
-abbrev pub dictionary_array : Layout → List Dictionary → Entry → Table → Option Dictionary
+abbrev pub dictionary_array : Layout → List Dictionary → Entry → TablePlace → Option Dictionary
 dictionary_array layout standing entry table = do
   batch ← dictionary_batch_in entry.metadata table
   _ ← guard (not batch.is_delta)
@@ -43,7 +43,7 @@ abbrev pub is_unread_by : List ℕ → Option DictionaryBatch → Bool
 is_unread_by metadata None = false
 is_unread_by metadata (Some batch) = batch.is_delta || is_compressed metadata batch.values
 
-abbrev pub is_unread : List ℕ → Table → Bool
+abbrev pub is_unread : List ℕ → TablePlace → Bool
 is_unread metadata table = is_unread_by metadata (dictionary_batch_in metadata table)
 
 -- What is read of a dictionary batch: the array of its values stands under its id, and under each other id what stood there before. Where the

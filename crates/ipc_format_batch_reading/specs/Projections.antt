@@ -8,7 +8,7 @@ use Rattle.std.specs.declared.alloc.Global.{Global}
 use Rattle.std.specs.declared.vec.Vec.{Vec}
 use Rattle.ipc_format_reading.specs.columnar_memory.declared.Field.{Field}
 use Rattle.ipc_format_reading.specs.columns.Tables.{chosen}
-use Rattle.ipc_format_reading.specs.flatbuffers.FlatBuffers.{Table}
+use Rattle.ipc_format_reading.specs.flatbuffers.FlatBuffers.{TablePlace}
 use Rattle.ipc_format_reading.specs.grammar.Columns.{Dictionary}
 use Rattle.ipc_format_reading.specs.grammar.Dictionaries.{Entry, Layout}
 use Rattle.ipc_format_batch_reading.specs.BatchReads.{chosen_record_arrays, rise_below}
@@ -101,7 +101,7 @@ pub record SelectsNext {A I : Type 0} (gives : I → Option A → I → Type 0) 
 -- Where columns that are asked for are put back from the rising ones, all of them asked for, what is read of the rising ones and then put back is
 -- what is read of those that are asked for, and where nothing is read of the one, nothing is of the other.
 abbrev pub ChoicesArePutBack : Type 0
-ChoicesArePutBack = (layout : Layout) (standing : List Dictionary) (limit : Option ℕ) (entry : Entry) (table : Table) (columns rising : List ℕ)
+ChoicesArePutBack = (layout : Layout) (standing : List Dictionary) (limit : Option ℕ) (entry : Entry) (table : TablePlace) (columns rising : List ℕ)
     (entries : List (ℕ × ℕ)) → put_back entries rising ≡ columns → All (Contains columns) rising
     → chosen_record_arrays layout standing limit columns entry table
     ≡ option_map (put_back entries) (chosen_record_arrays layout standing limit rising entry table)

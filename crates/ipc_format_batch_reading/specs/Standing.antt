@@ -7,7 +7,7 @@ use Rattle.ipc_format_reading.specs.childless_reading.ReadArrays.{dictionary_of,
 use Rattle.ipc_format_reading.specs.childless_reading.array_reading.ArrayReads.{array_slots}
 use Rattle.ipc_format_reading.specs.columnar_memory.declared.DataType.{DataType}
 use Rattle.ipc_format_reading.specs.columns.StoredColumns.{Column}
-use Rattle.ipc_format_reading.specs.flatbuffers.FlatBuffers.{Table}
+use Rattle.ipc_format_reading.specs.flatbuffers.FlatBuffers.{TablePlace}
 use Rattle.ipc_format_reading.specs.grammar.Columns.{Dictionary, Place, slots_in, standing_for}
 use Rattle.ipc_format_reading.specs.grammar.Dictionaries.{Entry, Layout, dictionary_in}
 use Rattle.ipc_format_reading.specs.grammar.Tables.{batch_in, batches_of, chosen_batch_in}
@@ -29,11 +29,11 @@ pub record ByLookUps : Type 0 where
       → slots_in data_type at ≡ slots_in data_type (record at { standing = standing })
   pub arrays : (data_type : DataType) (at : Place) (standing : List Dictionary) → StandAlike at.standing standing
       → array_slots data_type at ≡ array_slots data_type (record at { standing = standing })
-  pub batches : (layout : Layout) (old new : List Dictionary) (entry : Entry) (table : Table) → StandAlike old new
+  pub batches : (layout : Layout) (old new : List Dictionary) (entry : Entry) (table : TablePlace) → StandAlike old new
       → batch_in layout old entry table ≡ batch_in layout new entry table
-  pub dictionaries : (layout : Layout) (old new : List Dictionary) (entry : Entry) (table : Table) → StandAlike old new
+  pub dictionaries : (layout : Layout) (old new : List Dictionary) (entry : Entry) (table : TablePlace) → StandAlike old new
       → dictionary_in layout old entry table ≡ dictionary_in layout new entry table
-  pub choices : (layout : Layout) (old new : List Dictionary) (entry : Entry) (limit : Option ℕ) (columns : List ℕ) (table : Table)
+  pub choices : (layout : Layout) (old new : List Dictionary) (entry : Entry) (limit : Option ℕ) (columns : List ℕ) (table : TablePlace)
       → StandAlike old new → chosen_batch_in layout old entry limit columns table ≡ chosen_batch_in layout new entry limit columns table
   pub messages : (layout : Layout) (old new : List Dictionary) (entries : List Entry) → StandAlike old new
       → batches_of layout old entries ≡ batches_of layout new entries

@@ -14,7 +14,7 @@ use Rattle.columnar_memory_types.specs.Error.{IsOutOfMemory}
 use Rattle.ipc_format_batch_reading.specs.columnar_memory.declared.Error.{Error}
 use Rattle.ipc_format_batch_reading.specs.columnar_memory.declared.Error.TheVariants as errors
 use Rattle.ipc_format_batch_reading.specs.columns.StoredColumns.{Column, column_len, slots}
-use Rattle.ipc_format_batch_reading.specs.grammar.Encoding.{Encoded, joined}
+use Rattle.ipc_format_batch_reading.specs.grammar.Encoding.{Encoded, joined_columns}
 use Rattle.ipc_format_batch_reading.specs.grammar.GivenDictionaries.{Given, last_under, to_write, written_after}
 use Rattle.ipc_format_batch_reading.specs.grammar.Schemas.{IdsList}
 use Rattle.ipc_format_batch_reading.specs.grammar.StoredEncoding.{encode_stored}
@@ -114,7 +114,7 @@ dictionaries_not error old now new below columns given sent own is all past kept
     let answer = all told tells in
     let given_is : given ≡ batch.given = is ∙ sym (batch_is below columns) in (
       barred_by error old.1 told batch (ap (may_tell (form_by old.1) told) (sym given_is) ∙ answer.may)
-          (not_both error (list_all is_given_within (to_write told batch.given)) (is_within (joined batch.columns)
+          (not_both error (list_all is_given_within (to_write told batch.given)) (is_within (joined_columns batch.columns)
           (record_message batch.rows batch.columns))
           (subst (λ (them : List Given). IsNotEncoded error (list_all is_given_within them))
           (answer.written ∙ ap (to_write told) given_is) past)),
@@ -124,17 +124,18 @@ dictionaries_not error old now new below columns given sent own is all past kept
 pub record_not : (error : Error) (old now new : List (ℤ × Column) × Bool) (below : IdsList) (columns : List Column) (rows : ℕ)
     (given sent : List Given) (own : Written) → given ≡ given_of_stored below columns → rows ≡ rows_of_stored columns
     → TellsAll old now given (Ok sent)
-    → IsNotEncoded error (is_within (joined (map (encode_stored true) columns)) (record_message rows (map (encode_stored true) columns))) → new ≡ old
+    → IsNotEncoded error (is_within (joined_columns (map (encode_stored true) columns)) (record_message rows (map (encode_stored true) columns)))
+    → new ≡ old
     → Encodes old new (batch_of_stored below columns) (Err error) own
 record_not error old now new below columns rows given sent own is count all past kept told tells =
     let batch = batch_of_stored below columns in
     let answer = all told tells in
     let given_is : given ≡ batch.given = is ∙ sym (batch_is below columns) in (
       barred_by error old.1 told batch (ap (may_tell (form_by old.1) told) (sym given_is) ∙ answer.may)
-          (not_second error (list_all is_given_within (to_write told batch.given)) (is_within (joined batch.columns)
+          (not_second error (list_all is_given_within (to_write told batch.given)) (is_within (joined_columns batch.columns)
           (record_message batch.rows batch.columns))
           (subst (λ (it : Bool). IsNotEncoded error it)
-          (λ i. is_within (joined (sym (columns_are below columns) i))
+          (λ i. is_within (joined_columns (sym (columns_are below columns) i))
           (record_message ((count ∙ sym (rows_are below columns)) i) (sym (columns_are below columns) i))) past)),
       kept,
     )
@@ -143,7 +144,7 @@ record_not error old now new below columns rows given sent own is count all past
 pub all_encoded : (old now new : List (ℤ × Column) × Bool) (below : IdsList) (columns : List Column) (rows : ℕ) (given sent : List Given)
     (messages : List Written) (own : Written) → given ≡ given_of_stored below columns → rows ≡ rows_of_stored columns
     → TellsAll old now given (Ok sent) → EncodesDictionaries (Ok messages) sent
-    → EncodesMessage (Ok tt) own (joined (map (encode_stored true) columns)) (record_message rows (map (encode_stored true) columns))
+    → EncodesMessage (Ok tt) own (joined_columns (map (encode_stored true) columns)) (record_message rows (map (encode_stored true) columns))
     → new.0 ≡ now.0 → new.1 ≡ old.1 → Encodes old new (batch_of_stored below columns) (Ok messages) own
 all_encoded old now new below columns rows given sent messages own is count all dictionaries encoded entries kind told tells =
     let batch = batch_of_stored below columns in
@@ -154,9 +155,10 @@ all_encoded old now new below columns rows given sent messages own is count all 
     record {
       may = ap (may_tell (form_by old.1) told) (sym given_is) ∙ answer.may;
       within = and_from (list_all is_given_within (to_write told batch.given))
-          (is_within (joined batch.columns) (record_message batch.rows batch.columns))
+          (is_within (joined_columns batch.columns) (record_message batch.rows batch.columns))
           (ap (list_all is_given_within) (sym sent_is) ∙ dictionaries.1)
-          ((λ i. is_within (joined (columns_are below columns i)) (record_message (sym rows_is i) (columns_are below columns i))) ∙ encoded.1);
+          ((λ i. is_within (joined_columns (columns_are below columns i)) (record_message (sym rows_is i) (columns_are below columns i)))
+          ∙ encoded.1);
       sent = dictionaries.0 ∙ ap (map dictionary_message) sent_is;
       own = encoded.0 ∙ (λ i. record_message (rows_is i) (sym (columns_are below columns) i));
       tells = λ id. ap (λ (them : List (ℤ × Column)). last_under id (told_by them)) entries ∙ answer.tells id

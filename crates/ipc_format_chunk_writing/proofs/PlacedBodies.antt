@@ -13,7 +13,7 @@ use Rattle.ipc_format_batch_reading.specs.Placing.{AreSignedNodes, IsNotEncoded,
 use Rattle.ipc_format_batch_reading.specs.Placing.{is_within, no_parts}
 use Rattle.ipc_format_batch_reading.specs.columnar_memory.declared.Error.{Error}
 use Rattle.ipc_format_batch_reading.specs.columns.StoredColumns.{Column, place_of}
-use Rattle.ipc_format_batch_reading.specs.grammar.Encoding.{Encoded, joined}
+use Rattle.ipc_format_batch_reading.specs.grammar.Encoding.{Encoded, joined_columns}
 use Rattle.ipc_format_batch_reading.specs.grammar.GivenDictionaries.{Given}
 use Rattle.ipc_format_batch_reading.specs.grammar.Limits.{length_limit}
 use Rattle.ipc_format_batch_reading.specs.grammar.StoredEncoding.{encode_stored}
@@ -44,24 +44,24 @@ columns_whole all k next inside is =
 
 -- what stands once the columns before a place are placed
 abbrev pub placed_before : List Column → ℕ → Parts
-placed_before all k = with_column no_parts (joined (encoded_of (take k all)))
+placed_before all k = with_column no_parts (joined_columns (encoded_of (take k all)))
 
 pub column_placed : (all : List Column) (k : ℕ) (next : Column) (q s : Parts) → k < length all → next ≡ get_or all k next
     → q ≡ placed_before all k → s ≡ with_column q (encode_stored true next) → s ≡ placed_before all (k + 1)
 column_placed all k next q s inside is so_far added =
     one_placed (encoded_of (take k all)) (encode_stored true next) q s so_far added
-    ∙ ap (λ (columns : List Encoded). with_column no_parts (joined columns)) (columns_more all k next inside is)
+    ∙ ap (λ (columns : List Encoded). with_column no_parts (joined_columns columns)) (columns_more all k next inside is)
 
 pub column_refused : (error : Error) (all : List Column) (k : ℕ) (next : Column) (q s : Parts) → k < length all → next ≡ get_or all k next
-    → q ≡ placed_before all k → Settles (Err error) q s (encode_stored true next) → IsRefused error 0 (joined (encoded_of all))
+    → q ≡ placed_before all k → Settles (Err error) q s (encode_stored true next) → IsRefused error 0 (joined_columns (encoded_of all))
 column_refused error all k next q s inside is so_far refused =
-    subst (λ (columns : List Encoded). IsRefused error 0 (joined columns)) (columns_whole all k next inside is)
+    subst (λ (columns : List Encoded). IsRefused error 0 (joined_columns columns)) (columns_whole all k next inside is)
     (one_refused error (encoded_of (take k all)) (encoded_of (drop (k + 1) all)) (encode_stored true next) q s so_far refused)
 
 pub columns_placed : (all : List Column) (k : ℕ) (q : Parts) → length all ≤ k → q ≡ placed_before all k
-    → q ≡ with_column no_parts (joined (encoded_of all))
+    → q ≡ with_column no_parts (joined_columns (encoded_of all))
 columns_placed all k q end so_far =
-    so_far ∙ ap (λ (columns : List Column). with_column no_parts (joined (encoded_of columns))) (take_all k all end)
+    so_far ∙ ap (λ (columns : List Column). with_column no_parts (joined_columns (encoded_of columns))) (take_all k all end)
 
 -- a column behind others, where the offset is the body's length
 pub settles_placed : (result : Result (Unit {0}) Error) (nodes : List FieldNode) (buffers : List Buffer) (body : List ℕ) (more_nodes : List FieldNode)
@@ -101,27 +101,28 @@ room_of placed body column stand signed = nodes_fit column.nodes (subst AreSigne
 
 -- the message of columns that are placed
 pub record_encoded : (placed : Placed) (body : List ℕ) (rows : ℕ) (columns : List Encoded) (metadata : Vec ℕ Global) (encoded : Written)
-    → IsPlaced placed body (joined columns) → AreSignedNodes placed.nodes.items
-    → WritesMetadata (Ok metadata) body (batch_of_column rows (joined columns)) → encoded ≡ record { metadata = metadata.items; body = body }
-    → EncodesMessage (Ok tt) encoded (joined columns) (record_message rows columns)
+    → IsPlaced placed body (joined_columns columns) → AreSignedNodes placed.nodes.items
+    → WritesMetadata (Ok metadata) body (batch_of_column rows (joined_columns columns)) → encoded ≡ record { metadata = metadata.items; body = body }
+    → EncodesMessage (Ok tt) encoded (joined_columns columns) (record_message rows columns)
 record_encoded placed body rows columns metadata encoded stand signed written is = (
   is ∙ written.1 ∙ record_is rows columns,
-  and_from (has_nodes_in_room (joined columns)) (fits_limit (record_message rows columns)) (room_of placed body (joined columns) stand signed)
+  and_from (has_nodes_in_room (joined_columns columns)) (fits_limit (record_message rows columns))
+      (room_of placed body (joined_columns columns) stand signed)
       (ap fits_limit (sym (record_is rows columns)) ∙ written.0),
 )
 
-pub record_not_placed : (error : Error) (rows : ℕ) (columns : List Encoded) (encoded : Written) → IsRefused error 0 (joined columns)
-    → EncodesMessage (Err error) encoded (joined columns) (record_message rows columns)
+pub record_not_placed : (error : Error) (rows : ℕ) (columns : List Encoded) (encoded : Written) → IsRefused error 0 (joined_columns columns)
+    → EncodesMessage (Err error) encoded (joined_columns columns) (record_message rows columns)
 record_not_placed error rows columns encoded refused =
-    subst (λ (message : Written). IsNotEncoded error (is_within (joined columns) message)) (record_is rows columns)
-    (not_placed error (joined columns) (batch_of_column rows (joined columns)) refl refused)
+    subst (λ (message : Written). IsNotEncoded error (is_within (joined_columns columns) message)) (record_is rows columns)
+    (not_placed error (joined_columns columns) (batch_of_column rows (joined_columns columns)) refl refused)
 
 pub record_not_written : (error : Error) (body : List ℕ) (rows : ℕ) (columns : List Encoded) (encoded : Written)
-    → WritesMetadata (Err error) body (batch_of_column rows (joined columns))
-    → EncodesMessage (Err error) encoded (joined columns) (record_message rows columns)
+    → WritesMetadata (Err error) body (batch_of_column rows (joined_columns columns))
+    → EncodesMessage (Err error) encoded (joined_columns columns) (record_message rows columns)
 record_not_written error body rows columns encoded refused =
-    subst (λ (message : Written). IsNotEncoded error (is_within (joined columns) message)) (record_is rows columns)
-    (not_written error body (joined columns) (batch_of_column rows (joined columns)) refused)
+    subst (λ (message : Written). IsNotEncoded error (is_within (joined_columns columns) message)) (record_is rows columns)
+    (not_written error body (joined_columns columns) (batch_of_column rows (joined_columns columns)) refused)
 
 -- the message of a dictionary that is placed
 pub dictionary_encoded : (placed : Placed) (body : List ℕ) (rows : ℕ) (given : Given) (metadata : Vec ℕ Global) (encoded : Written)

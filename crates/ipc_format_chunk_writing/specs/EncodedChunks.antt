@@ -8,7 +8,7 @@ use Rattle.ipc_format_batch_reading.specs.Placing.{IsNotEncoded, is_within}
 use Rattle.ipc_format_batch_reading.specs.columnar_memory.declared.Error.{Error}
 use Rattle.ipc_format_batch_reading.specs.columnar_memory.declared.Error.TheVariants as errors
 use Rattle.ipc_format_batch_reading.specs.columns.StoredColumns.{Column}
-use Rattle.ipc_format_batch_reading.specs.grammar.Encoding.{Encoded, joined}
+use Rattle.ipc_format_batch_reading.specs.grammar.Encoding.{Encoded, joined_columns}
 use Rattle.ipc_format_batch_reading.specs.grammar.GivenDictionaries.{Given, to_write, written_after}
 use Rattle.ipc_format_batch_reading.specs.grammar.Schemas.{IdsList}
 use Rattle.ipc_format_batch_reading.specs.grammar.WriterRuns.{may_tell}
@@ -49,7 +49,7 @@ EncodesDictionaries (Err error) given = IsNotEncoded error (list_all is_given_wi
 -- so are those of the dictionaries that are written before a batch where some are told, and those of the batch
 abbrev pub is_batch_within : List Given → Batch → Bool
 is_batch_within told batch =
-    list_all is_given_within (to_write told batch.given) && is_within (joined batch.columns) (record_message batch.rows batch.columns)
+    list_all is_given_within (to_write told batch.given) && is_within (joined_columns batch.columns) (record_message batch.rows batch.columns)
 
 -- Where some dictionaries are told, the messages of a batch are these: of the dictionaries that are to be written before it, and its own. The
 -- tracker is told of these.

@@ -2,7 +2,7 @@
 ghost use Rattle.std.specs.Prelude.{◌≡◌, [], map, true};
 ghost use Rattle.ipc_format_batch_reading.specs.Bodies.{Settles};
 ghost use Rattle.ipc_format_batch_reading.specs.Placing.{Places};
-ghost use Rattle.ipc_format_batch_reading.specs.grammar.Encoding.{joined};
+ghost use Rattle.ipc_format_batch_reading.specs.grammar.Encoding.{joined_columns};
 ghost use Rattle.ipc_format_batch_reading.specs.grammar.StoredEncoding.{encode_stored};
 ghost use Rattle.ipc_format_batch_reading.specs.grammar.WrittenMessages.{record_message};
 ghost use Rattle.ipc_format_chunk_writing.specs.EncodedChunks.{EncodesDictionaries, EncodesDictionary, EncodesMessage, dictionaries_in, message_in};
@@ -47,7 +47,7 @@ fn place_next(array: &AnyArray, placed: &mut Placed, body: &mut Vec<u8>) -> Resu
 /// Writes columns into a body of their own, one behind the other.
 fn place(alloc: Global, arrays: &[AnyArray], body: &mut Vec<u8>) -> Result<Placed>
     requires { body.old.items ≡ [] }
-    ensures { Places result body.new.items (joined (map (encode_stored true) arrays.now)) }
+    ensures { Places result body.new.items (joined_columns (map (encode_stored true) arrays.now)) }
 {
     let mut placed = none_placed(alloc);
     for array in arrays {
@@ -86,7 +86,7 @@ pub(crate) fn encode_record(
     arrays: &[AnyArray],
     encoded: &mut EncodedData,
 ) -> Result<()>
-    ensures { EncodesMessage result (message_in encoded.new) (joined (map (encode_stored true) arrays.now))
+    ensures { EncodesMessage result (message_in encoded.new) (joined_columns (map (encode_stored true) arrays.now))
         (record_message rows (map (encode_stored true) arrays.now)) }
 {
     encoded.arrow_data.clear();

@@ -9,41 +9,41 @@ use Rattle.ipc_format_column_bytes.proofs.Bodies.{adds_refused, adds_then, same_
 use Rattle.ipc_format_streams.specs.columnar_memory.declared.Error.{Error}
 use Rattle.ipc_format_streams.specs.messages.declared.FieldNode.{FieldNode}
 use Rattle.ipc_format_streams.specs.messages.declared.Buffer.{Buffer}
-use Rattle.ipc_format_streams.specs.grammar.Encoding.{Encoded, joined}
+use Rattle.ipc_format_streams.specs.grammar.Encoding.{Encoded, joined_columns}
 use Rattle.ipc_format_streams.specs.grammar.WrittenMessages.{body_bytes}
 use Rattle.ipc_format_column_bytes.specs.Placing.{IsPlaced, no_parts}
 use Rattle.ipc_format_column_bytes.specs.declared.placed.Placed.{Placed}
 
-joined_more : (xs : List Encoded) (x : Encoded) → both (joined xs) x ≡ joined (xs ++ x ∷ [])
+joined_more : (xs : List Encoded) (x : Encoded) → both (joined_columns xs) x ≡ joined_columns (xs ++ x ∷ [])
 joined_more xs x =
     let nodes = flat_map_more (λ (column : Encoded). column.nodes) [] xs x in
     let buffers = flat_map_more (λ (column : Encoded). column.buffers) [] xs x in
     λ i. record { nodes = nodes i; buffers = buffers i }
 
-joined_both : (xs ys : List Encoded) → both (joined xs) (joined ys) ≡ joined (xs ++ ys)
+joined_both : (xs ys : List Encoded) → both (joined_columns xs) (joined_columns ys) ≡ joined_columns (xs ++ ys)
 joined_both xs ys =
     let nodes = sym (flat_map-append (λ (column : Encoded). column.nodes) xs ys) in
     let buffers = sym (flat_map-append (λ (column : Encoded). column.buffers) xs ys) in
     λ i. record { nodes = nodes i; buffers = buffers i }
 
 -- nothing was placed
-pub none_placed : (body : List ℕ) → body ≡ [] → parts [] [] body (pos 0) ≡ with_column no_parts (joined [])
+pub none_placed : (body : List ℕ) → body ≡ [] → parts [] [] body (pos 0) ≡ with_column no_parts (joined_columns [])
 none_placed body empty = λ i. parts [] [] (empty i) (pos 0)
 
 -- one more column
-pub one_placed : (xs : List Encoded) (x : Encoded) (q s : Parts) → q ≡ with_column no_parts (joined xs) → s ≡ with_column q x
-    → s ≡ with_column no_parts (joined (xs ++ x ∷ []))
+pub one_placed : (xs : List Encoded) (x : Encoded) (q s : Parts) → q ≡ with_column no_parts (joined_columns xs) → s ≡ with_column q x
+    → s ≡ with_column no_parts (joined_columns (xs ++ x ∷ []))
 one_placed xs x q s so_far added =
-    added ∙ ap (λ (p : Parts). with_column p x) so_far ∙ with_both [] [] [] 0 (joined xs) x ∙ ap (with_column no_parts) (joined_more xs x)
+    added ∙ ap (λ (p : Parts). with_column p x) so_far ∙ with_both [] [] [] 0 (joined_columns xs) x ∙ ap (with_column no_parts) (joined_more xs x)
 
 -- it is refused, and more were to come
-pub one_refused : (error : Error) (xs ys : List Encoded) (x : Encoded) (q s : Parts) → q ≡ with_column no_parts (joined xs)
-    → Settles (Err error) q s x → IsRefused error 0 (joined ((xs ++ x ∷ []) ++ ys))
+pub one_refused : (error : Error) (xs ys : List Encoded) (x : Encoded) (q s : Parts) → q ≡ with_column no_parts (joined_columns xs)
+    → Settles (Err error) q s x → IsRefused error 0 (joined_columns ((xs ++ x ∷ []) ++ ys))
 one_refused error xs ys x q s so_far refused =
-    let here : Adds (Err error) no_parts q (both (joined xs) x) =
-    adds_then (Err error) [] [] [] 0 q q (joined xs) x so_far (refused.0, same_begins q) in
-    let all = adds_refused error no_parts q (both (joined xs) x) (joined ys) here in
-    subst (IsRefused error 0) (ap (λ (front : Encoded). both front (joined ys)) (joined_more xs x) ∙ joined_both (xs ++ x ∷ []) ys) all.0
+    let here : Adds (Err error) no_parts q (both (joined_columns xs) x) =
+    adds_then (Err error) [] [] [] 0 q q (joined_columns xs) x so_far (refused.0, same_begins q) in
+    let all = adds_refused error no_parts q (both (joined_columns xs) x) (joined_columns ys) here in
+    subst (IsRefused error 0) (ap (λ (front : Encoded). both front (joined_columns ys)) (joined_more xs x) ∙ joined_both (xs ++ x ∷ []) ys) all.0
 
 -- where the next buffer begins is not negative
 pub place_low : (column : Encoded) (nodes : List FieldNode) (buffers : List Buffer) (body : List ℕ) (offset : ℤ)

@@ -6,7 +6,7 @@ use Rattle.std.proofs.lemmas.Bool.{le-ltb, leb-true, false≢true}
 use Rattle.ipc_format_column_bytes.specs.Bodies.{IsRefused, IsTooLong, is_long_node, signed_limit}
 use Rattle.ipc_format_streams.specs.columnar_memory.declared.Error.{Error}
 use Rattle.ipc_format_streams.specs.columnar_memory.declared.Error.TheVariants.{Overflow, OutOfMemory}
-use Rattle.ipc_format_streams.specs.grammar.Encoding.{Encoded, joined}
+use Rattle.ipc_format_streams.specs.grammar.Encoding.{Encoded, joined_columns}
 use Rattle.ipc_format_streams.specs.grammar.GivenDictionaries.{Given}
 use Rattle.ipc_format_streams.specs.grammar.Limits.{length_limit}
 use Rattle.ipc_format_streams.specs.grammar.WrittenMessages.{Written, body_bytes, body_limit, fits_limit, record_message, dictionary_message}
@@ -16,7 +16,7 @@ use Rattle.ipc_format_column_bytes.specs.Placing.{WritesMetadata, IsNotEncoded, 
 
 -- ---- the definitions' messages
 
-pub record_is : (rows : ℕ) (columns : List Encoded) → batch_of_column rows (joined columns) ≡ record_message rows columns
+pub record_is : (rows : ℕ) (columns : List Encoded) → batch_of_column rows (joined_columns columns) ≡ record_message rows columns
 unfolding record_message
 record_is rows columns = refl
 

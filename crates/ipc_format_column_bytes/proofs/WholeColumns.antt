@@ -25,7 +25,7 @@ use Rattle.ipc_format_streams.specs.columns.StoredColumns.{nulls, flat, lists, f
 use Rattle.ipc_format_streams.specs.columns.StoredColumns.{cut_list, cut_mask, cut_stored, column_len, column_type, in_columns, stored_len}
 use Rattle.ipc_format_streams.specs.columns.StoredColumns.{type_layer}
 use Rattle.ipc_format_streams.proofs.columns_lemmas.Conditions.{parts_of_3, parts_of_4, parts_of_5}
-use Rattle.ipc_format_streams.specs.grammar.Encoding.{Encoded, column_over, joined}
+use Rattle.ipc_format_streams.specs.grammar.Encoding.{Encoded, column_over, joined_columns}
 use Rattle.ipc_format_streams.specs.grammar.StoredEncoding.{encode_range, encode_ranges, encode_stored, encode_wholes, integer_bytes, key_bytes}
 use Rattle.ipc_format_streams.specs.grammar.StoredEncoding.{last_offset, mask_bytes, moved_bytes, node_over, offset_width, stored_buffers}
 use Rattle.ipc_format_column_bytes.specs.Bodies.{both, of_buffers, of_node}
@@ -141,20 +141,21 @@ node_then little c slots unset sound is_slots is_nulls =
     (λ i. both (of_node (is_slots i) (is_nulls i)) (behind_own little c)) ∙ sym (whole_column little c sound)
 
 -- one column below, and none
-pub joined_one : (e : Encoded) → joined (e ∷ []) ≡ e
+pub joined_one : (e : Encoded) → joined_columns (e ∷ []) ≡ e
 joined_one e = λ i. record { nodes = append-nil e.nodes i; buffers = append-nil e.buffers i }
 
-pub none_below : (buffers : List (List ℕ)) → both (of_buffers buffers) (joined []) ≡ of_buffers buffers
+pub none_below : (buffers : List (List ℕ)) → both (of_buffers buffers) (joined_columns []) ≡ of_buffers buffers
 none_below buffers = λ i. record { nodes = []; buffers = append-nil buffers i }
 
 -- one column more below
 pub one_more_below : (little : Bool) (cs : List Column) (c : Column)
-    → both (joined (encode_wholes little (in_columns cs))) (encode_stored little c) ≡ joined (encode_wholes little (in_columns (cs ++ c ∷ [])))
+    → both (joined_columns (encode_wholes little (in_columns cs))) (encode_stored little c)
+    ≡ joined_columns (encode_wholes little (in_columns (cs ++ c ∷ [])))
 one_more_below little [] c =
     let e = encode_stored little c in λ i. record { nodes = sym (append-nil e.nodes) i; buffers = sym (append-nil e.buffers) i }
 one_more_below little (first ∷ cs) c =
     let e = encode_stored little first in
-    let more = joined (encode_wholes little (in_columns cs)) in
+    let more = joined_columns (encode_wholes little (in_columns cs)) in
     let last = encode_stored little c in
     let rest = one_more_below little cs c in
     let nodes = append_assoc e.nodes more.nodes last.nodes in

@@ -2,7 +2,7 @@
 use Rattle.std.specs.Prelude.{ℕ, ◌-◌, Bool, List, [], ◌∷◌, drop, Some, None, slice_index}
 use Rattle.std.specs.Int.{w8, w32}
 use Rattle.ipc_format_streams.specs.columns.StoredColumns.{Column, nulls, flat, lists, fixed_lists, records, unions, dictionary, type_layer}
-use Rattle.ipc_format_streams.specs.grammar.Encoding.{Encoded, joined}
+use Rattle.ipc_format_streams.specs.grammar.Encoding.{Encoded, joined_columns}
 use Rattle.ipc_format_streams.specs.grammar.StoredEncoding.{encode_range, encode_stored, encode_wholes, integer_bytes, key_bytes, last_offset}
 use Rattle.ipc_format_streams.specs.grammar.StoredEncoding.{mask_bytes, mask_nulls, moved_bytes, offset_width, stored_buffers}
 use Rattle.ipc_format_column_bytes.specs.Bodies.{both, of_buffers}
@@ -45,4 +45,4 @@ behind_node column = record { nodes = drop 1 column.nodes; buffers = column.buff
 
 -- what stands behind the node of a column: its own buffers, and the columns below it
 abbrev pub behind_own : Bool → Column → Encoded
-behind_own little column = both (of_buffers (own_buffers little column)) (joined (below little column))
+behind_own little column = both (of_buffers (own_buffers little column)) (joined_columns (below little column))

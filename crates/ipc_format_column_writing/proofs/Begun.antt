@@ -10,7 +10,7 @@ use Rattle.ipc_format_column_reading.specs.column_bytes.columnar_memory.declared
 use Rattle.ipc_format_column_reading.specs.column_bytes.columnar_memory.declared.Error.{Error}
 use Rattle.ipc_format_column_reading.specs.column_bytes.columns.StoredColumns.{Column, Columns, lists, fixed_lists, records, cut_list, cut_mask, type_layer}
 use Rattle.ipc_format_column_reading.specs.column_bytes.declared.body.Body.{Body}
-use Rattle.ipc_format_column_reading.specs.column_bytes.grammar.Encoding.{Encoded, column_over, joined}
+use Rattle.ipc_format_column_reading.specs.column_bytes.grammar.Encoding.{Encoded, column_over, joined_columns}
 use Rattle.ipc_format_column_reading.specs.column_bytes.grammar.StoredEncoding.{encode_range, encode_ranges, last_offset, mask_bytes, moved_bytes, node_over}
 use Rattle.ipc_format_column_reading.specs.column_bytes.grammar.StoredEncoding.{offset_width}
 use Rattle.ipc_format_column_reading.proofs.bytes_lemmas.Bodies.{added_then, refused_first, with_both}
@@ -126,10 +126,10 @@ fixed_lists_whole little t mask copied size child o n same =
 
 -- the fields of structs behind their slots
 pub records_whole : (little : Bool) (t : DataType) (mask copied : Option (List Bool)) (count : ℕ) (children : Columns) (o n : ℕ) → copied ≡ mask
-    → both (of_slots n (cut_mask copied o n)) (joined (encode_ranges little children o n))
+    → both (of_slots n (cut_mask copied o n)) (joined_columns (encode_ranges little children o n))
     ≡ encode_range little (records t mask count children) o n
 records_whole little t mask copied count children o n same =
-    ap (λ (m : Option (List Bool)). both (of_slots n (cut_mask m o n)) (joined (encode_ranges little children o n))) same
+    ap (λ (m : Option (List Bool)). both (of_slots n (cut_mask m o n)) (joined_columns (encode_ranges little children o n))) same
 
 -- where the items of lists end
 pub spans_within : (r : Result (ℕ × ℕ) Error) (q s : Parts) (little : Bool) (w : Width) (spans : Spans) (o n limit : ℕ)
@@ -176,14 +176,15 @@ fixed_refused a e p s little t mask copied size child o n is same refused =
 pub records_begun : (r : Result (Unit {0}) Error) (a : Column) (p : Body) (q : Parts) (little : Bool) (t : DataType)
     (mask copied : Option (List Bool)) (len : ℕ) (children : Columns) (o n : ℕ) → a ≡ records t mask len children → copied ≡ mask
     → Adds r (parts_of p) q (of_slots n (cut_mask copied o n))
-    → Begins r (parts_of p) q (λ answer. joined (encode_ranges little (column_children a) o n)) (encode_range little a o n)
+    → Begins r (parts_of p) q (λ answer. joined_columns (encode_ranges little (column_children a) o n)) (encode_range little a o n)
 records_begun (Ok x) a p q little t mask copied len children o n is same begun =
-    subst (λ (b : Column). IsBegun (parts_of p) q (joined (encode_ranges little (column_children b) o n)) (encode_range little b o n)) (sym is)
-    (stands_alone p q (of_slots n (cut_mask copied o n)) (joined (encode_ranges little children o n))
+    subst (λ (b : Column). IsBegun (parts_of p) q (joined_columns (encode_ranges little (column_children b) o n)) (encode_range little b o n))
+    (sym is)
+    (stands_alone p q (of_slots n (cut_mask copied o n)) (joined_columns (encode_ranges little children o n))
     (encode_range little (records t mask len children) o n) begun (records_whole little t mask copied len children o n same))
 records_begun (Err e) a p q little t mask copied len children o n is same refused =
     subst (λ (b : Column). Adds (Err e) (parts_of p) q (encode_range little b o n)) (sym is)
-    (refused_whole e p q (of_slots n (cut_mask copied o n)) (joined (encode_ranges little children o n))
+    (refused_whole e p q (of_slots n (cut_mask copied o n)) (joined_columns (encode_ranges little children o n))
     (encode_range little (records t mask len children) o n) refused (records_whole little t mask copied len children o n same))
 
 -- the rest of a column that is known by another name

@@ -7,7 +7,7 @@ use Rattle.ipc_format_column_reading.specs.column_bytes.columnar_memory.declared
 use Rattle.ipc_format_column_reading.specs.column_bytes.columns.StoredColumns.{Column, Columns, column_size, columns_size, column_then, in_columns}
 use Rattle.ipc_format_column_reading.specs.column_bytes.columns.StoredColumns.{no_column}
 use Rattle.ipc_format_column_reading.specs.column_bytes.declared.body.Body.{Body}
-use Rattle.ipc_format_column_reading.specs.column_bytes.grammar.Encoding.{Encoded, joined}
+use Rattle.ipc_format_column_reading.specs.column_bytes.grammar.Encoding.{Encoded, joined_columns}
 use Rattle.ipc_format_column_reading.proofs.bytes_lemmas.Bodies.{added_then, refused_first}
 use Rattle.ipc_format_column_writing.specs.Parts.{HasPart, HaveParts, encode_part, encode_parts}
 use Rattle.ipc_format_column_writing.specs.declared.parts.Part.{Part}
@@ -17,8 +17,8 @@ use Rattle.ipc_format_column_writing.specs.declared.parts.Part.TheVariants.{All,
 abbrev pub LeftToWrite : Bool → Part → List Column → Body → Body → ℕ → Type 0
 LeftToWrite little part arrays before now k =
     (r : Result (Unit {0}) Error) (after : Parts)
-    → Adds r (parts_of now) after (joined (encode_parts little (in_columns (drop k arrays)) part))
-    → Adds r (parts_of before) after (joined (encode_parts little (in_columns arrays) part))
+    → Adds r (parts_of now) after (joined_columns (encode_parts little (in_columns (drop k arrays)) part))
+    → Adds r (parts_of before) after (joined_columns (encode_parts little (in_columns arrays) part))
 
 first_part : (c : Column) (cs : Columns) (part : Part) → HaveParts (column_then c cs) part → HasPart c part
 first_part c cs All have = tt
@@ -46,24 +46,24 @@ one_size (c ∷ cs) zero d small = omega arith
 one_size (c ∷ cs) (suc k) d small = omega (arith, one_size cs k d (omega arith))
 
 one_more : (little : Bool) (c : Column) (cs : Columns) (part : Part)
-    → both (encode_part little c part) (joined (encode_parts little cs part)) ≡ joined (encode_parts little (column_then c cs) part)
+    → both (encode_part little c part) (joined_columns (encode_parts little cs part)) ≡ joined_columns (encode_parts little (column_then c cs) part)
 one_more little c cs All = refl
 one_more little c cs (Range o n) = refl
 
 -- the k-th array and those behind it
 all_from : (little : Bool) (arrays : List Column) (k : ℕ) (c : Column) (part : Part) → k < length arrays → c ≡ get_or arrays k c
-    → both (encode_part little c part) (joined (encode_parts little (in_columns (drop (k + 1) arrays)) part))
-    ≡ joined (encode_parts little (in_columns (drop k arrays)) part)
+    → both (encode_part little c part) (joined_columns (encode_parts little (in_columns (drop (k + 1) arrays)) part))
+    ≡ joined_columns (encode_parts little (in_columns (drop k arrays)) part)
 all_from little arrays k c part small is =
     let from : drop k arrays ≡ c ∷ drop (k + 1) arrays = drop_more arrays k c small ∙ ap (λ (x : Column). x ∷ drop (k + 1) arrays) (sym is) in
     one_more little c (in_columns (drop (k + 1) arrays)) part
-    ∙ sym (ap (λ (xs : List Column). joined (encode_parts little (in_columns xs) part)) from)
+    ∙ sym (ap (λ (xs : List Column). joined_columns (encode_parts little (in_columns xs) part)) from)
 
 none_left : (little : Bool) (part : Part) → encode_parts little no_column part ≡ []
 none_left little All = refl
 none_left little (Range o n) = refl
 
-nothing_added : (p : Body) → parts_of p ≡ with_column (parts_of p) (joined [])
+nothing_added : (p : Body) → parts_of p ≡ with_column (parts_of p) (joined_columns [])
 nothing_added p =
     let end : p.offset ≡ p.offset + 0 = omega arith in
     λ i. record {
@@ -79,21 +79,23 @@ pub one_written : (little : Bool) (part : Part) (arrays : List Column) (p q s : 
     → LeftToWrite little part arrays p s (k + 1)
 one_written little part arrays p q s k c small is left written r after added =
     left r after (added_then r q (parts_of s) after (encode_part little c part)
-    (joined (encode_parts little (in_columns (drop (k + 1) arrays)) part)) (joined (encode_parts little (in_columns (drop k arrays)) part)) written
+    (joined_columns (encode_parts little (in_columns (drop (k + 1) arrays)) part))
+    (joined_columns (encode_parts little (in_columns (drop k arrays)) part)) written
     added (all_from little arrays k c part small is))
 
 -- one that is refused
 pub one_refused : (little : Bool) (part : Part) (arrays : List Column) (p q s : Body) (k : ℕ) (c : Column) (e : Error) → k < length arrays
     → c ≡ get_or arrays k c → LeftToWrite little part arrays p q k → Adds (Err e) (parts_of q) (parts_of s) (encode_part little c part)
-    → Adds (Err e) (parts_of p) (parts_of s) (joined (encode_parts little (in_columns arrays) part))
+    → Adds (Err e) (parts_of p) (parts_of s) (joined_columns (encode_parts little (in_columns arrays) part))
 one_refused little part arrays p q s k c e small is left refused =
     left (Err e) (parts_of s) (refused_first e q (parts_of s) (encode_part little c part)
-    (joined (encode_parts little (in_columns (drop (k + 1) arrays)) part)) (joined (encode_parts little (in_columns (drop k arrays)) part)) refused
+    (joined_columns (encode_parts little (in_columns (drop (k + 1) arrays)) part))
+    (joined_columns (encode_parts little (in_columns (drop k arrays)) part)) refused
     (all_from little arrays k c part small is))
 
 -- all of them
 pub all_written : (little : Bool) (part : Part) (arrays : List Column) (p q : Body) (k : ℕ) → drop k arrays ≡ []
-    → LeftToWrite little part arrays p q k → Adds (Ok tt) (parts_of p) (parts_of q) (joined (encode_parts little (in_columns arrays) part))
+    → LeftToWrite little part arrays p q k → Adds (Ok tt) (parts_of p) (parts_of q) (joined_columns (encode_parts little (in_columns arrays) part))
 all_written little part arrays p q k over left =
-    left (Ok tt) (parts_of q) (nothing_added q ∙ sym (ap (λ (columns : List Encoded). with_column (parts_of q) (joined columns))
+    left (Ok tt) (parts_of q) (nothing_added q ∙ sym (ap (λ (columns : List Encoded). with_column (parts_of q) (joined_columns columns))
     (ap (λ (xs : List Column). encode_parts little (in_columns xs) part) over ∙ none_left little part)))

@@ -14,7 +14,7 @@ use Rattle.ipc_format_column_reading.specs.column_bytes.columnar_memory.declared
 use Rattle.ipc_format_column_reading.specs.column_bytes.columns.SoundColumns.{is_sound}
 use Rattle.ipc_format_column_reading.specs.column_bytes.columns.StoredColumns.{Column, Columns, unions, column_len, cut_list}
 use Rattle.ipc_format_column_reading.specs.column_bytes.declared.body.Body.{Body}
-use Rattle.ipc_format_column_reading.specs.column_bytes.grammar.Encoding.{Encoded, joined}
+use Rattle.ipc_format_column_reading.specs.column_bytes.grammar.Encoding.{Encoded, joined_columns}
 use Rattle.ipc_format_column_reading.specs.column_bytes.grammar.StoredEncoding.{encode_range, encode_ranges, encode_wholes}
 use Rattle.ipc_format_column_reading.proofs.bytes_lemmas.Bodies.{added_then, refused_first, with_both}
 use Rattle.ipc_format_column_writing.specs.Parts.{encode_parts}
@@ -32,18 +32,18 @@ abbrev pub places_in : Bool → List ℤ → Encoded
 places_in little places = of_buffers (flat_map (λ n. value_bytes little kinds.Int32 (one n)) places ∷ [])
 
 sparse_whole : (little : Bool) (t : DataType) (ids : List ℤ) (children : Columns) (o n : ℕ)
-    → both (ids_of little (cut_list ids o n)) (joined (encode_ranges little children o n))
+    → both (ids_of little (cut_list ids o n)) (joined_columns (encode_ranges little children o n))
     ≡ behind_node (encode_range little (unions t ids None children) o n)
 sparse_whole little t ids children o n =
-    let below = joined (encode_ranges little children o n) in
+    let below = joined_columns (encode_ranges little children o n) in
     let same = id_bytes little (cut_list ids o n) in
     λ i. record { nodes = below.nodes; buffers = same i ∷ below.buffers }
 
 dense_whole : (little : Bool) (t : DataType) (ids places : List ℤ) (children : Columns) (o n : ℕ)
-    → both (both (ids_of little (cut_list ids o n)) (places_in little (cut_list places o n))) (joined (encode_wholes little children))
+    → both (both (ids_of little (cut_list ids o n)) (places_in little (cut_list places o n))) (joined_columns (encode_wholes little children))
     ≡ behind_node (encode_range little (unions t ids (Some places) children) o n)
 dense_whole little t ids places children o n =
-    let below = joined (encode_wholes little children) in
+    let below = joined_columns (encode_wholes little children) in
     let same = id_bytes little (cut_list ids o n) in
     let at = place_bytes little (cut_list places o n) in
     λ i. record { nodes = below.nodes; buffers = same i ∷ at i ∷ below.buffers }
@@ -52,30 +52,34 @@ dense_whole little t ids places children o n =
 pub dense_begun : (a : Column) (p : Body) (q s : Parts) (little : Bool) (t : DataType) (ids places some_ids some_places : List ℤ)
     (children : Columns) (o n : ℕ) → a ≡ unions t ids (Some places) children → some_ids ≡ cut_list ids o n → some_places ≡ cut_list places o n
     → q ≡ with_column (parts_of p) (ids_of little some_ids) → s ≡ with_column q (places_in little some_places)
-    → IsBegun (parts_of p) s (joined (encode_parts little (column_children a) All)) (behind_node (encode_range little a o n))
+    → IsBegun (parts_of p) s (joined_columns (encode_parts little (column_children a) All)) (behind_node (encode_range little a o n))
 dense_begun a p q s little t ids places some_ids some_places children o n is is_ids is_places first second =
     let own = both (ids_of little some_ids) (places_in little some_places) in
-    let whole : both own (joined (encode_wholes little children)) ≡ behind_node (encode_range little (unions t ids (Some places) children) o n) =
-    (λ i. both (both (ids_of little (is_ids i)) (places_in little (is_places i))) (joined (encode_wholes little children)))
+    let whole : both own (joined_columns (encode_wholes little children))
+    ≡ behind_node (encode_range little (unions t ids (Some places) children) o n) =
+    (λ i. both (both (ids_of little (is_ids i)) (places_in little (is_places i))) (joined_columns (encode_wholes little children)))
     ∙ dense_whole little t ids places children o n in
-    subst (λ (b : Column). IsBegun (parts_of p) s (joined (encode_wholes little (column_children b))) (behind_node (encode_range little b o n)))
+    subst (λ (b : Column). IsBegun (parts_of p) s (joined_columns (encode_wholes little (column_children b)))
+    (behind_node (encode_range little b o n)))
     (sym is)
-    (stands_alone p s own (joined (encode_wholes little children)) (behind_node (encode_range little (unions t ids (Some places) children) o n))
+    (stands_alone p s own (joined_columns (encode_wholes little children))
+    (behind_node (encode_range little (unions t ids (Some places) children) o n))
     (second ∙ ap (λ (parts : Parts). with_column parts (places_in little some_places)) first
     ∙ with_both p.nodes.items p.buffers.items p.bytes.items p.offset (ids_of little some_ids) (places_in little some_places)) whole)
 
 -- and a sparse one's
 pub sparse_begun : (a : Column) (p : Body) (q : Parts) (little : Bool) (t : DataType) (ids some_ids : List ℤ) (children : Columns) (o n : ℕ)
     → a ≡ unions t ids None children → some_ids ≡ cut_list ids o n → q ≡ with_column (parts_of p) (ids_of little some_ids)
-    → IsBegun (parts_of p) q (joined (encode_parts little (column_children a) (Range o n))) (behind_node (encode_range little a o n))
+    → IsBegun (parts_of p) q (joined_columns (encode_parts little (column_children a) (Range o n))) (behind_node (encode_range little a o n))
 sparse_begun a p q little t ids some_ids children o n is is_ids first =
-    let whole : both (ids_of little some_ids) (joined (encode_ranges little children o n))
+    let whole : both (ids_of little some_ids) (joined_columns (encode_ranges little children o n))
     ≡ behind_node (encode_range little (unions t ids None children) o n) =
-    ap (λ (part : List ℤ). both (ids_of little part) (joined (encode_ranges little children o n))) is_ids
+    ap (λ (part : List ℤ). both (ids_of little part) (joined_columns (encode_ranges little children o n))) is_ids
     ∙ sparse_whole little t ids children o n in
-    subst (λ (b : Column). IsBegun (parts_of p) q (joined (encode_ranges little (column_children b) o n)) (behind_node (encode_range little b o n)))
+    subst (λ (b : Column). IsBegun (parts_of p) q (joined_columns (encode_ranges little (column_children b) o n))
+    (behind_node (encode_range little b o n)))
     (sym is)
-    (stands_alone p q (ids_of little some_ids) (joined (encode_ranges little children o n))
+    (stands_alone p q (ids_of little some_ids) (joined_columns (encode_ranges little children o n))
     (behind_node (encode_range little (unions t ids None children) o n)) first whole)
 
 -- ---- refusals
@@ -85,12 +89,12 @@ ids_first : (e : Error) (p : Body) (s : Parts) (little : Bool) (t : DataType) (i
     (o n : ℕ) → Adds (Err e) (parts_of p) s (ids_of little (cut_list ids o n))
     → Adds (Err e) (parts_of p) s (behind_node (encode_range little (unions t ids places children) o n))
 ids_first e p s little t ids None children o n refused =
-    refused_first e p s (ids_of little (cut_list ids o n)) (joined (encode_ranges little children o n)) _ refused
+    refused_first e p s (ids_of little (cut_list ids o n)) (joined_columns (encode_ranges little children o n)) _ refused
     (sparse_whole little t ids children o n)
 ids_first e p s little t ids (Some places) children o n refused =
     let first = ids_of little (cut_list ids o n) in
     let second = places_in little (cut_list places o n) in
-    let below = joined (encode_wholes little children) in
+    let below = joined_columns (encode_wholes little children) in
     refused_first e p s first (both second below) _ refused (sym (both_assoc first second below) ∙ dense_whole little t ids places children o n)
 
 pub ids_refused : (a : Column) (e : Error) (p : Body) (s : Parts) (little : Bool) (t : DataType) (ids some_ids : List ℤ)
@@ -109,7 +113,7 @@ pub places_refused : (a : Column) (e : Error) (p : Body) (q s : Parts) (little :
 places_refused a e p q s little t ids places some_ids some_places children o n is is_ids is_places begun refused =
     let first = ids_of little some_ids in
     let second = places_in little some_places in
-    let below = joined (encode_wholes little children) in
+    let below = joined_columns (encode_wholes little children) in
     let whole : both (both first second) below ≡ behind_node (encode_range little (unions t ids (Some places) children) o n) =
     (λ i. both (both (ids_of little (is_ids i)) (places_in little (is_places i))) below) ∙ dense_whole little t ids places children o n in
     subst (λ (b : Column). Adds (Err e) (parts_of p) s (behind_node (encode_range little b o n))) (sym is)

@@ -3,7 +3,7 @@ ghost use Rattle.std.specs.Prelude.{◌+◌, ◌≤◌};
 ghost use Rattle.nested_arrays.specs.AnyColumns.{column_of, IsWhole};
 ghost use Rattle.nested_arrays.specs.StoredColumns.{column_len, in_columns};
 ghost use Rattle.ipc_format_column_reading.specs.column_bytes.Bodies.{Adds, parts_of};
-ghost use Rattle.ipc_format_column_reading.specs.column_bytes.grammar.Encoding.{joined};
+ghost use Rattle.ipc_format_column_reading.specs.column_bytes.grammar.Encoding.{joined_columns};
 ghost use Rattle.ipc_format_column_reading.specs.column_bytes.grammar.StoredEncoding.{encode_range};
 ghost use Rattle.ipc_format_column_writing.specs.Parts.{HasPart, HaveParts, encode_part, encode_parts};
 
@@ -94,7 +94,7 @@ pub(crate) fn write_children(
     is_little_endian: bool,
 ) -> Result<()>
     requires { HaveParts (in_columns arrays.now) part }
-    ensures { Adds result (parts_of body.old) (parts_of body.new) (joined (encode_parts is_little_endian (in_columns arrays.now) part)) }
+    ensures { Adds result (parts_of body.old) (parts_of body.new) (joined_columns (encode_parts is_little_endian (in_columns arrays.now) part)) }
 {
     for array in arrays {
         write_part(array, part, body, is_little_endian)?;

@@ -9,7 +9,7 @@ ghost use Rattle.nested_arrays.specs.declared.Node.TheVariants as nodes;
 ghost use Rattle.ipc_format_column_reading.specs.column_bytes.Bodies.{parts_of};
 ghost use Rattle.ipc_format_column_reading.specs.column_bytes.Numbers.{width_of};
 ghost use Rattle.ipc_format_column_reading.specs.column_bytes.WholeColumns.{behind_node};
-ghost use Rattle.ipc_format_column_reading.specs.column_bytes.grammar.Encoding.{joined};
+ghost use Rattle.ipc_format_column_reading.specs.column_bytes.grammar.Encoding.{joined_columns};
 ghost use Rattle.ipc_format_column_reading.specs.column_bytes.grammar.StoredEncoding.{encode_range, encode_ranges};
 ghost use Rattle.ipc_format_column_writing.specs.Parts.{HaveParts, encode_parts, items_column};
 ghost use Rattle.ipc_format_column_writing.specs.Written.{AddsSpans, Begins, list_width};
@@ -125,7 +125,7 @@ pub(crate) fn begin_structs(
 ) -> Result<()>
     requires { first + count ≤ column_len array.now }
     ensures begun { Begins result (parts_of body.old) (parts_of body.new)
-        (λ answer. joined (encode_ranges is_little_endian (column_children array.now) first count))
+        (λ answer. joined_columns (encode_ranges is_little_endian (column_children array.now) first count))
         (encode_range is_little_endian array.now first count) }
     ensures fields { HaveRange (column_children array.now) first count }
 {
@@ -145,7 +145,7 @@ pub(crate) fn add_union_buffers(
 ) -> Result<Part>
     requires { first + count ≤ column_len array.now }
     ensures begun { Begins result (parts_of body.old) (parts_of body.new)
-        (λ part. joined (encode_parts is_little_endian (column_children array.now) part))
+        (λ part. joined_columns (encode_parts is_little_endian (column_children array.now) part))
         (behind_node (encode_range is_little_endian array.now first count)) }
     ensures fields { IfOk result (λ part. HaveParts (column_children array.now) part) }
 {
@@ -173,7 +173,8 @@ pub(crate) fn begin_unions(
 ) -> Result<Part>
     requires { first + count ≤ column_len array.now }
     ensures begun { Begins result (parts_of body.old) (parts_of body.new)
-        (λ part. joined (encode_parts is_little_endian (column_children array.now) part)) (encode_range is_little_endian array.now first count) }
+        (λ part. joined_columns (encode_parts is_little_endian (column_children array.now) part))
+        (encode_range is_little_endian array.now first count) }
     ensures fields { IfOk result (λ part. HaveParts (column_children array.now) part) }
 {
     let _fields = array.fields();

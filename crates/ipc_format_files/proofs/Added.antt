@@ -21,7 +21,8 @@ use Rattle.ipc_format_stream_writer.specs.reader.chunk_writing.grammar.WrittenMe
 use Rattle.ipc_format_stream_writer.specs.reader.chunk_writing.grammar.WrittenStreams.{Batch, batch_messages, batch_of_stored, stored_columns}
 use Rattle.ipc_format_files.specs.Adding.{AddsAfter, AddsBatch, IsBehind, IsNotAdded, with_batch}
 use Rattle.ipc_format_files.specs.Phases.{Progress}
-use Rattle.ipc_format_files.specs.Placing.{IsPastLimits, IsWithinLimits, PlacesBatch, blocks_of, joined, no_blocks, place_behind, placed_blocks}
+use Rattle.ipc_format_files.specs.Placing.{IsPastLimits, IsWithinLimits, PlacesBatch, blocks_of, joined_blocks, no_blocks, place_behind}
+use Rattle.ipc_format_files.specs.Placing.{placed_blocks}
 use Rattle.ipc_format_files.specs.Placing.{with_messages}
 use Rattle.ipc_format_files.proofs.Placed.{place_next}
 
@@ -30,14 +31,14 @@ use Rattle.ipc_format_files.proofs.Placed.{place_next}
 -- the blocks of dictionaries, and then those that come of the place behind them
 pub dictionaries_are : (place : ℕ) (given : List Given) (rest : ℕ → Blocks)
     → dictionary_blocks place given rest
-    ≡ joined (record { dictionaries = blocks_of place (map dictionary_message given); record_batches = [] })
+    ≡ joined_blocks (record { dictionaries = blocks_of place (map dictionary_message given); record_batches = [] })
     (rest (place_behind place (map dictionary_message given)))
 dictionaries_are place [] rest = ap rest (sym (add-zero place))
 dictionaries_are place (next ∷ given) rest =
     let here = place_after place (dictionary_message next) in
     let blocks = blocks_of place (map dictionary_message (next ∷ given)) in
     ap (with_dictionary (block_of place (dictionary_message next))) (dictionaries_are here given rest)
-    ∙ ap (λ (behind : ℕ). joined (record { dictionaries = blocks; record_batches = [] }) (rest behind))
+    ∙ ap (λ (behind : ℕ). joined_blocks (record { dictionaries = blocks; record_batches = [] }) (rest behind))
     (sym (place_next place (dictionary_message next) (map dictionary_message given)))
 
 -- the blocks of one batch
@@ -67,7 +68,7 @@ pub with_them : (old : Progress) (told : List Given) (batch : Batch) (messages :
     → messages ++ own ∷ [] ≡ batch_messages told batch → with_messages old messages own ≡ with_batch old told batch
 with_them old told batch messages own sent = λ j. record old {
   place = place_behind old.place (sent j);
-  blocks = joined old.blocks (message_blocks old.place told batch messages own sent j);
+  blocks = joined_blocks old.blocks (message_blocks old.place told batch messages own sent j);
 }
 
 -- messages that are placed and told are those of a batch behind what was written

@@ -38,7 +38,7 @@ use Rattle.ipc_format_files.specs.Adding.{IsAdded, IsNotAdded, with_batch}
 use Rattle.ipc_format_files.specs.Appending.{AreAppended, AreNotAppended, HasLongArray, IsAppended, batches_of, with_batches}
 use Rattle.ipc_format_files.specs.Growing.{StandBehind}
 use Rattle.ipc_format_files.specs.Phases.{Progress}
-use Rattle.ipc_format_files.specs.Placing.{IsPastLimits, joined, place_behind}
+use Rattle.ipc_format_files.specs.Placing.{IsPastLimits, joined_blocks, place_behind}
 use Rattle.ipc_format_files.specs.Runs.{told_with}
 use Rattle.ipc_format_files.proofs.Placed.{place_grows}
 use Rattle.ipc_format_files.proofs.RunBytes.{blocks_more}
@@ -165,8 +165,8 @@ past_stays old told batches behind (inl past) =
 past_stays old told batches behind (inr many) =
     let first = batch_blocks old.place told batches in
     let all = batch_blocks old.place told (batches ++ behind) in
-    let past = leb-false (count (joined old.blocks first)) most_dictionaries many in
-    inr (lt-leb (count (joined old.blocks all)) most_dictionaries (omega (
+    let past = leb-false (count (joined_blocks old.blocks first)) most_dictionaries many in
+    inr (lt-leb (count (joined_blocks old.blocks all)) most_dictionaries (omega (
       arith,
       past,
       length-append old.blocks.dictionaries first.dictionaries,

@@ -33,7 +33,7 @@ use Rattle.ipc_format_files.specs.Appending.{AppendsFile, AreAppended, AreNotApp
 use Rattle.ipc_format_files.specs.Appending.{ToldAlike, batches_of, with_batches}
 use Rattle.ipc_format_files.specs.Ends.{HasNoFooter, IsFooter, end_of, end_with, footer_of, has_room, zeros_before}
 use Rattle.ipc_format_files.specs.Phases.{Progress}
-use Rattle.ipc_format_files.specs.Placing.{IsPastLimits, joined, place_behind}
+use Rattle.ipc_format_files.specs.Placing.{IsPastLimits, joined_blocks, place_behind}
 use Rattle.ipc_format_files.proofs.ToldAlike.{blocks_alike, messages_alike, once_alike}
 
 -- ---- lengths
@@ -127,7 +127,7 @@ stands_behind metadata end before bytes base batches kept =
     record {
       place = λ j. place_behind (kept.place j) (messages j);
       size = kept.size;
-      blocks = λ j. joined (kept.blocks j) (new j);
+      blocks = λ j. joined_blocks (kept.blocks j) (new j);
     }
 
 -- under the file's own schema and ids

@@ -16,7 +16,7 @@ use Rattle.ipc_format_stream_writer.specs.reader.chunk_writing.grammar.AppendedF
 use Rattle.ipc_format_stream_writer.specs.reader.chunk_writing.grammar.AppendedFiles.{block_past_end, is_empty, is_negative, kept_block}
 use Rattle.ipc_format_stream_writer.specs.reader.chunk_writing.grammar.AppendedFiles.{natural_or_0, negative_body, no_record_batch}
 use Rattle.ipc_format_stream_writer.specs.reader.chunk_writing.grammar.Files as read
-use Rattle.ipc_format_stream_writer.specs.reader.chunk_writing.grammar.WrittenFiles.{Block}
+use Rattle.ipc_format_stream_writer.specs.reader.chunk_writing.grammar.WrittenFiles.{WrittenBlock}
 use Rattle.ipc_format_stream_writer.specs.reader.declared.blocks.MessageBlock.{MessageBlock}
 use Rattle.ipc_format_stream_writer.specs.reader.streams.messages.declared.Block as owned
 use Rattle.ipc_format_stream_writer.specs.reader.streams.owned.writing.FooterWriting as footer
@@ -24,7 +24,7 @@ use Rattle.ipc_format_files.specs.Growing.{EndWithin, IsFaultBar, has_negative, 
 
 -- ---- where blocks end
 
-pub greatest_both : (some others : List Block) → greatest_end (some ++ others) ≡ max (greatest_end some) (greatest_end others)
+pub greatest_both : (some others : List WrittenBlock) → greatest_end (some ++ others) ≡ max (greatest_end some) (greatest_end others)
 greatest_both [] others = omega arith
 greatest_both (block ∷ some) others = omega (arith, greatest_both some others)
 
@@ -124,7 +124,7 @@ pub kept_more : (all : List MessageBlock) (i : ℕ) (block : MessageBlock) (old 
     → footer.block_view its ≡ kept_block (block_view block) → map footer.block_view new ≡ kept (map block_view (take (i + 1) all))
 kept_more all i block old new its inside it before pushed is =
     ap (map footer.block_view) pushed ∙ map-append footer.block_view old (its ∷ [])
-    ∙ ap₂ (λ (some others : List Block). some ++ others) before (ap (λ (x : Block). x ∷ []) is)
+    ∙ ap₂ (λ (some others : List WrittenBlock). some ++ others) before (ap (λ (x : WrittenBlock). x ∷ []) is)
     ∙ sym (ap kept (first_more all i block inside it) ∙ map-append kept_block (map block_view (take i all)) (block_view block ∷ []))
 
 -- ---- what bars a file

@@ -45,7 +45,7 @@ pub blocks_more : (place : ℕ) (messages : List Written) (next : Written)
     → blocks_of place (messages ++ next ∷ []) ≡ blocks_of place messages ++ block_of (place_behind place messages) next ∷ []
 blocks_more place [] next = ap (λ (here : ℕ). block_of here next ∷ []) (sym (add-zero place))
 blocks_more place (message ∷ messages) next =
-    ap (λ (blocks : List files.Block). block_of place message ∷ blocks) (blocks_more (place_after place message) messages next)
+    ap (λ (blocks : List files.WrittenBlock). block_of place message ∷ blocks) (blocks_more (place_after place message) messages next)
     ∙ ap (λ (here : ℕ). block_of place message ∷ (blocks_of (place_after place message) messages ++ block_of here next ∷ []))
     (sym (place_next place message messages))
 
@@ -59,7 +59,8 @@ module _ {A : Type 0} (message : A → Written) where
       ∙ map-append message (take i all) (x ∷ [])
 
   -- one more has its block
-  pub block_more : (place at behind : ℕ) (all : List A) (i : ℕ) (x : A) (blocks : List files.Block) (block : files.Block) → i < length all
+  pub block_more : (place at behind : ℕ) (all : List A) (i : ℕ) (x : A) (blocks : List files.WrittenBlock) (block : files.WrittenBlock)
+      → i < length all
       → get_or all i x ≡ x → blocks ≡ blocks_of place (FirstMessages message all i) → at ≡ place_behind place (FirstMessages message all i)
       → block ≡ block_of at (message x) → behind ≡ place_after at (message x)
       → (blocks ++ block ∷ [] ≡ blocks_of place (FirstMessages message all (i + 1)))

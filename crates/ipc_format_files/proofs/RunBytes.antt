@@ -15,7 +15,7 @@ use Rattle.ipc_format_stream_writer.specs.reader.chunk_writing.grammar.WrittenMe
 use Rattle.ipc_format_stream_writer.specs.reader.chunk_writing.grammar.WrittenStreams.{Batch, batch_messages, bytes_of_messages, messages_after}
 use Rattle.ipc_format_stream_writer.specs.reader.chunk_writing.grammar.WrittenStreams.{stream_bytes, stream_messages}
 use Rattle.ipc_format_files.specs.Ends.{end_with, start_bytes}
-use Rattle.ipc_format_files.specs.Placing.{joined, place_behind, placed_blocks}
+use Rattle.ipc_format_files.specs.Placing.{joined_blocks, place_behind, placed_blocks}
 use Rattle.ipc_format_files.specs.Runs.{bytes_so_far, first_place, told_with}
 use Rattle.ipc_format_files.proofs.Added.{blocks_are, dictionaries_are}
 use Rattle.ipc_format_files.proofs.Placed.{place_both, place_more}
@@ -55,7 +55,7 @@ place_is schema ids batches =
 
 -- ---- blocks
 
-pub joined_thrice : (a b c : Blocks) → joined (joined a b) c ≡ joined a (joined b c)
+pub joined_thrice : (a b c : Blocks) → joined_blocks (joined_blocks a b) c ≡ joined_blocks a (joined_blocks b c)
 joined_thrice a b c = λ j. record {
   dictionaries = append_assoc a.dictionaries b.dictionaries c.dictionaries j;
   record_batches = append_assoc a.record_batches b.record_batches c.record_batches j;
@@ -64,7 +64,7 @@ joined_thrice a b c = λ j. record {
 -- those of a batch, and then those of the others
 blocks_first : (place : ℕ) (told : List Given) (batch : Batch) (others : List Batch)
     → batch_blocks place told (batch ∷ others)
-    ≡ joined (batch_blocks place told (batch ∷ []))
+    ≡ joined_blocks (batch_blocks place told (batch ∷ []))
     (batch_blocks (place_behind place (batch_messages told batch)) (written_after told batch.given) others)
 blocks_first place told batch others =
     let messages = map dictionary_message (to_write told batch.given) in
@@ -72,13 +72,13 @@ blocks_first place told batch others =
     let later = written_after told batch.given in
     dictionaries_are place (to_write told batch.given)
     (λ at. with_record_batch (block_of at own) (batch_blocks (place_after at own) later others))
-    ∙ ap (λ (behind : ℕ). joined (placed_blocks place messages own) (batch_blocks behind later others)) (sym (place_more place messages own))
-    ∙ ap (λ (head : Blocks). joined head (batch_blocks (place_behind place (batch_messages told batch)) later others))
+    ∙ ap (λ (behind : ℕ). joined_blocks (placed_blocks place messages own) (batch_blocks behind later others)) (sym (place_more place messages own))
+    ∙ ap (λ (head : Blocks). joined_blocks head (batch_blocks (place_behind place (batch_messages told batch)) later others))
     (sym (blocks_are place told batch))
 
 pub blocks_more : (place : ℕ) (told : List Given) (batches : List Batch) (batch : Batch)
     → batch_blocks place told (batches ++ batch ∷ [])
-    ≡ joined (batch_blocks place told batches)
+    ≡ joined_blocks (batch_blocks place told batches)
     (batch_blocks (place_behind place (messages_after told batches)) (told_with told batches) (batch ∷ []))
 blocks_more place told [] batch = ap (λ (here : ℕ). batch_blocks here told (batch ∷ [])) (sym (add-zero place))
 blocks_more place told (first ∷ batches) batch =
@@ -87,9 +87,9 @@ blocks_more place told (first ∷ batches) batch =
     let tail = λ (at : ℕ). batch_blocks at (told_with later batches) (batch ∷ []) in
     let head = batch_blocks place told (first ∷ []) in
     blocks_first place told first (batches ++ batch ∷ [])
-    ∙ ap (joined head) (blocks_more here later batches batch)
+    ∙ ap (joined_blocks head) (blocks_more here later batches batch)
     ∙ sym (joined_thrice head (batch_blocks here later batches) (tail (place_behind here (messages_after later batches))))
-    ∙ (λ j. joined (sym (blocks_first place told first batches) j)
+    ∙ (λ j. joined_blocks (sym (blocks_first place told first batches) j)
     (tail (sym (place_both place (batch_messages told first) (messages_after later batches)) j)))
 
 -- ---- the whole file

@@ -16,7 +16,7 @@ use Rattle.ipc_format_stream_writer.specs.reader.chunk_writing.metadata.Views.{i
 use Rattle.ipc_format_stream_writer.proofs.reader_lemmas.chunk_lemmas.Appending.{appends_both, appends_same}
 use Rattle.ipc_format_files.specs.Ends.{end_of, end_with, start_bytes}
 use Rattle.ipc_format_files.specs.Phases.{Phase, Progress, Writer, broken, finished, fresh, started}
-use Rattle.ipc_format_files.specs.Placing.{joined}
+use Rattle.ipc_format_files.specs.Placing.{joined_blocks}
 use Rattle.ipc_format_files.specs.Runs.{FilesAreWritten, FinishesFile, HasWritten, StartsNone, WritesMore, bytes_so_far, first_place}
 use Rattle.ipc_format_files.specs.Runs.{told_with}
 use Rattle.ipc_format_files.specs.Writing.{FinishesIn, IsStarted, IsWritten, StartsIn, WritesIn, WritesUnder}
@@ -78,7 +78,7 @@ module _ {W : Type 0} (contents : W → Option (List ℕ)) (failures : W → ℕ
             ∙ ap (λ (bytes : List ℕ). length bytes) (sym more);
         size = does.behind.size ∙ before.size;
         blocks = does.behind.blocks
-            ∙ (λ j. joined (before.blocks j)
+            ∙ (λ j. joined_blocks (before.blocks j)
             (batch_blocks ((before.place ∙ place_is old.schema (ids_views old.ids) batches) j) (told_with [] batches) (batch ∷ [])))
             ∙ sym (blocks_more (first_place old.schema (ids_views old.ids)) [] batches batch);
       }

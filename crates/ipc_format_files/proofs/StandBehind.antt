@@ -11,7 +11,7 @@ use Rattle.ipc_format_stream_writer.specs.reader.chunk_writing.grammar.WrittenSt
 use Rattle.ipc_format_files.specs.Adding.{IsBehind}
 use Rattle.ipc_format_files.specs.Growing.{StandBehind}
 use Rattle.ipc_format_files.specs.Phases.{Progress}
-use Rattle.ipc_format_files.specs.Placing.{joined, place_behind}
+use Rattle.ipc_format_files.specs.Placing.{joined_blocks, place_behind}
 use Rattle.ipc_format_files.specs.Runs.{told_with}
 use Rattle.ipc_format_files.proofs.Placed.{place_both}
 use Rattle.ipc_format_files.proofs.RunBytes.{blocks_more, joined_thrice, messages_more, told_more}
@@ -57,13 +57,13 @@ module _ (before now : Progress) (told : List Given) (batches : List Batch) (bat
       ∙ sym (place_both before.place (messages_after told batches) next)
       ∙ ap (place_behind before.place) (sym (messages_more told batches batch))
 
-  pub blocks_with : joined now.blocks (batch_blocks now.place (told_with told batches) (batch ∷ []))
-      ≡ joined before.blocks (batch_blocks before.place told (batches ++ batch ∷ []))
+  pub blocks_with : joined_blocks now.blocks (batch_blocks now.place (told_with told batches) (batch ∷ []))
+      ≡ joined_blocks before.blocks (batch_blocks before.place told (batches ++ batch ∷ []))
   blocks_with =
       let next = λ (place : ℕ). batch_blocks place (told_with told batches) (batch ∷ []) in
-      (λ j. joined (stand.blocks j) (next (stand.place j)))
+      (λ j. joined_blocks (stand.blocks j) (next (stand.place j)))
       ∙ joined_thrice before.blocks (batch_blocks before.place told batches) (next (place_behind before.place (messages_after told batches)))
-      ∙ ap (joined before.blocks) (sym (blocks_more before.place told batches batch))
+      ∙ ap (joined_blocks before.blocks) (sym (blocks_more before.place told batches batch))
 
   pub one_stands : (after : Progress) → IsBehind now after (told_with told batches) batch → StandBehind before after told (batches ++ batch ∷ [])
   one_stands after behind = record {

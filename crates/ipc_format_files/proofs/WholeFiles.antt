@@ -22,7 +22,7 @@ use Rattle.ipc_format_stream_writer.specs.reader.chunk_writing.columnar_memory.d
 use Rattle.ipc_format_stream_writer.specs.reader.chunk_writing.columnar_memory.declared.Schema.{Schema}
 use Rattle.ipc_format_stream_writer.specs.reader.chunk_writing.columns.Slots.{Slot}
 use Rattle.ipc_format_stream_writer.specs.reader.chunk_writing.columns.StoredColumns.{Column, slots}
-use Rattle.ipc_format_stream_writer.specs.reader.chunk_writing.flatbuffers.FlatBuffers.{Table}
+use Rattle.ipc_format_stream_writer.specs.reader.chunk_writing.flatbuffers.FlatBuffers.{TablePlace}
 use Rattle.ipc_format_stream_writer.specs.reader.chunk_writing.flatbuffers.Reading.{◌>>=◌}
 use Rattle.ipc_format_stream_writer.specs.reader.chunk_writing.grammar.Columns.{Dictionary}
 use Rattle.ipc_format_stream_writer.specs.reader.chunk_writing.grammar.Dictionaries.{Layout}
@@ -180,7 +180,7 @@ dictionaries_refused metadata bytes error refused =
 -- ---- the schema
 
 -- a schema that is read is one that is written
-pub schema_written : (bytes : List ℕ) (table : Table) (found : SchemaIn) → schema_in bytes table ≡ Some found → is_writable found.schema ≡ true
+pub schema_written : (bytes : List ℕ) (table : TablePlace) (found : SchemaIn) → schema_in bytes table ≡ Some found → is_writable found.schema ≡ true
 unfolding schema_in
 schema_written bytes table found e =
     let any = came_of {A = SchemaIn} (any_schema_in None bytes table) _ found e in

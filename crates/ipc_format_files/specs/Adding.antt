@@ -16,13 +16,13 @@ use Rattle.ipc_format_stream_writer.specs.reader.chunk_writing.grammar.WrittenFi
 use Rattle.ipc_format_stream_writer.specs.reader.chunk_writing.grammar.WrittenMessages.{Written, fits_limit}
 use Rattle.ipc_format_stream_writer.specs.reader.chunk_writing.grammar.WrittenStreams.{Batch, batch_messages, batch_of_stored, stored_columns}
 use Rattle.ipc_format_files.specs.Phases.{Progress}
-use Rattle.ipc_format_files.specs.Placing.{IsPastLimits, IsWithinLimits, joined, place_behind}
+use Rattle.ipc_format_files.specs.Placing.{IsPastLimits, IsWithinLimits, joined_blocks, place_behind}
 
 -- what is written of a file with a batch behind it, where some dictionaries were told: where the next message stands then, and the blocks
 abbrev pub with_batch : Progress → List Given → Batch → Progress
 with_batch before told batch = record before {
   place = place_behind before.place (batch_messages told batch);
-  blocks = joined before.blocks (batch_blocks before.place told (batch ∷ []));
+  blocks = joined_blocks before.blocks (batch_blocks before.place told (batch ∷ []));
 }
 
 -- A batch stands behind what is written of a file, where some dictionaries are told: its dictionaries are told, the place behind its messages
@@ -31,7 +31,7 @@ pub record IsBehind (before after : Progress) (told : List Given) (batch : Batch
   pub tells : Tells after.told (written_after told batch.given)
   pub place : after.place ≡ place_behind before.place (batch_messages told batch)
   pub size : after.size ≡ before.size
-  pub blocks : after.blocks ≡ joined before.blocks (batch_blocks before.place told (batch ∷ []))
+  pub blocks : after.blocks ≡ joined_blocks before.blocks (batch_blocks before.place told (batch ∷ []))
   pub within : IsWithinLimits after
 
 -- a batch may be written, but the file would be past its limits with its messages: too long, or of too many dictionaries

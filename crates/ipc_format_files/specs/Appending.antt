@@ -29,7 +29,7 @@ use Rattle.ipc_format_files.specs.Adding.{IsBehind, IsNotAdded}
 use Rattle.ipc_format_files.specs.Ends.{HasNoFooter, IsFooter, end_of}
 use Rattle.ipc_format_files.specs.Growing.{StandBehind}
 use Rattle.ipc_format_files.specs.Phases.{Progress, progress_of}
-use Rattle.ipc_format_files.specs.Placing.{IsPastLimits, joined, place_behind}
+use Rattle.ipc_format_files.specs.Placing.{IsPastLimits, joined_blocks, place_behind}
 use Rattle.ipc_format_files.specs.declared.state as kept_state
 
 -- the batches that are written of stored columns under some ids
@@ -40,7 +40,7 @@ batches_of ids chunks = map (batch_of_stored ids) chunks
 abbrev pub with_batches : Progress → List Given → List Batch → Progress
 with_batches before told batches = record before {
   place = place_behind before.place (messages_after told batches);
-  blocks = joined before.blocks (batch_blocks before.place told batches);
+  blocks = joined_blocks before.blocks (batch_blocks before.place told batches);
 }
 
 -- Dictionaries are told alike where the same is written after either of them: under each id the last one, if there is one, says the same.

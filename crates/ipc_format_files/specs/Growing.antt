@@ -18,7 +18,7 @@ use Rattle.ipc_format_stream_writer.specs.reader.chunk_writing.grammar.AppendedF
 use Rattle.ipc_format_stream_writer.specs.reader.chunk_writing.grammar.Files as read
 use Rattle.ipc_format_stream_writer.specs.reader.chunk_writing.grammar.GivenDictionaries.{Given}
 use Rattle.ipc_format_stream_writer.specs.reader.chunk_writing.grammar.Limits.{file_limit}
-use Rattle.ipc_format_stream_writer.specs.reader.chunk_writing.grammar.WrittenFiles.{Block, Blocks, batch_blocks}
+use Rattle.ipc_format_stream_writer.specs.reader.chunk_writing.grammar.WrittenFiles.{WrittenBlock, Blocks, batch_blocks}
 use Rattle.ipc_format_stream_writer.specs.reader.chunk_writing.grammar.WrittenStreams.{Batch, messages_after}
 use Rattle.ipc_format_stream_writer.specs.reader.declared.blocks.MessageBlock.{MessageBlock}
 use Rattle.ipc_format_stream_writer.specs.reader.declared.file_metadata.FileMetadata.{FileMetadata}
@@ -26,7 +26,7 @@ use Rattle.ipc_format_stream_writer.specs.reader.streams.messages.declared.Block
 use Rattle.ipc_format_stream_writer.specs.reader.streams.owned.writing.FooterWriting as footer
 use Rattle.ipc_format_files.specs.Phases.{Progress, progress_of}
 use Rattle.ipc_format_files.specs.declared.state as kept_state
-use Rattle.ipc_format_files.specs.Placing.{joined, place_behind}
+use Rattle.ipc_format_files.specs.Placing.{joined_blocks, place_behind}
 use Rattle.ipc_format_files.specs.Runs.{told_with}
 
 -- ---- the file as it was
@@ -37,7 +37,7 @@ bar_of metadata = let start = start_view metadata in
     append_bar start.schema.is_little_endian metadata.size start.dictionaries start.record_batches
 
 -- blocks as they are written again
-abbrev pub kept : List read.Block → List Block
+abbrev pub kept : List read.Block → List WrittenBlock
 kept blocks = map kept_block blocks
 
 abbrev pub kept_blocks : FileMetadata → Blocks
@@ -61,7 +61,7 @@ grown metadata told = record {
 -- ---- steps
 
 -- where a block's body ends; nothing where that is past 64 bits
-abbrev pub EndsAt : Option ℕ → Block → Type 0
+abbrev pub EndsAt : Option ℕ → WrittenBlock → Type 0
 EndsAt None block = 2 ^ 64 ≤ block_end block
 EndsAt (Some end) block = end ≡ block_end block
 
@@ -107,4 +107,4 @@ pub record StandBehind (before after : Progress) (told : List Given) (batches : 
   pub tells : Tells after.told (told_with told batches)
   pub place : after.place ≡ place_behind before.place (messages_after told batches)
   pub size : after.size ≡ before.size
-  pub blocks : after.blocks ≡ joined before.blocks (batch_blocks before.place told batches)
+  pub blocks : after.blocks ≡ joined_blocks before.blocks (batch_blocks before.place told batches)

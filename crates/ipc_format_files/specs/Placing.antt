@@ -20,7 +20,7 @@ abbrev pub place_behind : ℕ → List Written → ℕ
 place_behind place messages = place + length (bytes_of_messages messages)
 
 -- the blocks of messages from a place on
-abbrev pub blocks_of : ℕ → List Written → List files.Block
+abbrev pub blocks_of : ℕ → List Written → List files.WrittenBlock
 blocks_of place [] = []
 blocks_of place (message ∷ messages) = block_of place message ∷ blocks_of (place_after place message) messages
 
@@ -30,8 +30,8 @@ placed_blocks place dictionaries batch =
     record { dictionaries = blocks_of place dictionaries; record_batches = block_of (place_behind place dictionaries) batch ∷ [] }
 
 -- some blocks, and others behind them
-abbrev pub joined : Blocks → Blocks → Blocks
-joined first others = record {
+abbrev pub joined_blocks : Blocks → Blocks → Blocks
+joined_blocks first others = record {
   dictionaries = first.dictionaries ++ others.dictionaries;
   record_batches = first.record_batches ++ others.record_batches;
 }
@@ -56,11 +56,11 @@ StandAt (Err errors.OutOfMemory) place messages = Unit {0}
 StandAt (Err _) place messages = ⊥
 
 -- blocks of dictionaries and one of a batch are added; or memory ran out, and nothing is changed
-abbrev pub with_blocks : Progress → List files.Block → files.Block → Progress
+abbrev pub with_blocks : Progress → List files.WrittenBlock → files.WrittenBlock → Progress
 with_blocks progress dictionaries batch =
-    record progress { blocks = joined progress.blocks (record { dictionaries = dictionaries; record_batches = batch ∷ [] }) }
+    record progress { blocks = joined_blocks progress.blocks (record { dictionaries = dictionaries; record_batches = batch ∷ [] }) }
 
-abbrev pub JoinsBlocks : Progress → Progress → List files.Block → files.Block → Result (Unit {0}) Error → Type 0
+abbrev pub JoinsBlocks : Progress → Progress → List files.WrittenBlock → files.WrittenBlock → Result (Unit {0}) Error → Type 0
 JoinsBlocks old new dictionaries batch (Ok _) = new ≡ with_blocks old dictionaries batch
 JoinsBlocks old new dictionaries batch (Err error) = IsOutOfMemory error × (new ≡ old)
 
@@ -70,7 +70,7 @@ with_messages progress dictionaries batch = record {
   told = progress.told;
   place = place_behind progress.place (dictionaries ++ batch ∷ []);
   size = progress.size;
-  blocks = joined progress.blocks (placed_blocks progress.place dictionaries batch);
+  blocks = joined_blocks progress.blocks (placed_blocks progress.place dictionaries batch);
 }
 
 -- a footer can state the place behind the last message, and no more dictionaries stand in the file than are read of one

@@ -8,17 +8,18 @@ use Rattle.ipc_format_stream_writer.specs.reader.chunk_writing.columnar_memory.d
 use Rattle.ipc_format_stream_writer.specs.reader.chunk_writing.columns.ColumnCodes.{column_code}
 use Rattle.ipc_format_stream_writer.specs.reader.chunk_writing.columns.StoredColumns.{Column}
 use Rattle.ipc_format_stream_writer.specs.reader.chunk_writing.declared.Compression.{Compression}
-use Rattle.ipc_format_stream_writer.specs.reader.chunk_writing.grammar.WrittenFiles.{Block, Blocks}
+use Rattle.ipc_format_stream_writer.specs.reader.chunk_writing.grammar.WrittenFiles.{WrittenBlock, Blocks}
 use Rattle.ipc_format_stream_writer.specs.reader.chunk_writing.metadata.contracts.ipc_schema.IpcField as field_row
 use Rattle.ipc_format_stream_writer.specs.reader.chunk_writing.metadata.declared.ipc_schema.IpcField.{IpcField}
 use Rattle.ipc_format_files.specs.Phases.{Phase, Progress, Writer, broken, finished, fresh, started}
 
-abbrev pub block_code : Coded Block
+abbrev pub block_code : Coded WrittenBlock
 block_code = code_by (ℕ × (ℕ × ℕ)) (coded× coded_ℕ (coded× coded_ℕ coded_ℕ)) (λ b. (b.offset, (b.metadata_length, b.body_length)))
     (λ p. record { offset = p.0; metadata_length = p.1.0; body_length = p.1.1 }) (λ _. refl)
 
 abbrev pub blocks_code : Coded Blocks
-blocks_code = code_by (List Block × List Block) (coded× (coded_list block_code) (coded_list block_code)) (λ b. (b.dictionaries, b.record_batches))
+blocks_code = code_by (List WrittenBlock × List WrittenBlock) (coded× (coded_list block_code) (coded_list block_code))
+    (λ b. (b.dictionaries, b.record_batches))
     (λ p. record { dictionaries = p.0; record_batches = p.1 }) (λ _. refl)
 
 abbrev pub progress_code : Coded Progress

@@ -18,7 +18,7 @@ signed_at w bytes place = do
   Some (cast_signed w n)
 
 -- a table: its place, its vtable's place, the vtable's size in bytes, and the table's own size
-pub record Table : Type 0 where
+pub record TablePlace : Type 0 where
   pub place : ℕ
   pub vtable : ℕ
   pub vtable_size : ℕ
@@ -31,7 +31,7 @@ before size place (negsuc n) = if nat_le (place + (n + 1)) size then Some (place
 
 -- A table begins with a signed number, by which its vtable stands before it. A vtable begins with its own size, which is even and
 -- at least 4, and the table's size, which is at least 4. Both lie in the message.
-unfoldable pub table_at : List ℕ → ℕ → Option Table
+unfoldable pub table_at : List ℕ → ℕ → Option TablePlace
 table_at bytes place = do
   back ← signed_at w32 bytes place
   vtable ← before (length bytes) place back
@@ -43,7 +43,7 @@ table_at bytes place = do
 
 -- Where a table's field of some bytes stands. The vtable's entry for the slot is counted from the table's place; an entry past the
 -- vtable, or 0, says that the field is absent (Some None). A field begins behind the table's first four bytes and lies in the table.
-unfoldable pub field_at : List ℕ → Table → ℕ → ℕ → Option (Option ℕ)
+unfoldable pub field_at : List ℕ → TablePlace → ℕ → ℕ → Option (Option ℕ)
 field_at bytes table slot width =
     if nat_le (4 + 2 * slot + 2) table.vtable_size then (do
       entry ← number_at w16 bytes (table.vtable + 4 + 2 * slot)
@@ -65,19 +65,19 @@ if_present read (Some place) = do
   Some (Some x)
 
 -- the unsigned number of a field
-unfoldable pub number_field : Width → List ℕ → Table → ℕ → ℕ → Option ℕ
+unfoldable pub number_field : Width → List ℕ → TablePlace → ℕ → ℕ → Option ℕ
 number_field w bytes table slot absent = do
   field ← field_at bytes table slot (byte_len w)
   or_default absent (number_at w bytes) field
 
 -- the signed number of a field
-unfoldable pub signed_field : Width → List ℕ → Table → ℕ → ℤ → Option ℤ
+unfoldable pub signed_field : Width → List ℕ → TablePlace → ℕ → ℤ → Option ℤ
 signed_field w bytes table slot absent = do
   field ← field_at bytes table slot (byte_len w)
   or_default absent (signed_at w bytes) field
 
 -- the truth value of a field: any byte but 0 is true, and an absent field is false
-unfoldable pub truth_field : List ℕ → Table → ℕ → Option Bool
+unfoldable pub truth_field : List ℕ → TablePlace → ℕ → Option Bool
 truth_field bytes table slot = do
   n ← number_field w8 bytes table slot 0
   Some (nat_le 1 n)
@@ -89,13 +89,13 @@ reference_at bytes place = do
   if nat_le (place + distance) (length bytes) then Some (place + distance) else None
 
 -- where the reference of a field points
-unfoldable pub reference_field : List ℕ → Table → ℕ → Option (Option ℕ)
+unfoldable pub reference_field : List ℕ → TablePlace → ℕ → Option (Option ℕ)
 reference_field bytes table slot = do
   field ← field_at bytes table slot 4
   if_present (reference_at bytes) field
 
 -- the table that a field refers to
-unfoldable pub table_field : List ℕ → Table → ℕ → Option (Option Table)
+unfoldable pub table_field : List ℕ → TablePlace → ℕ → Option (Option TablePlace)
 table_field bytes table slot = do
   target ← reference_field bytes table slot
   if_present (table_at bytes) target
@@ -113,33 +113,33 @@ vector_at bytes width place = do
   Some (record { place = place + 4; count = count })
 
 -- the vector that a field refers to
-unfoldable pub vector_field : List ℕ → Table → ℕ → ℕ → Option (Option Vector)
+unfoldable pub vector_field : List ℕ → TablePlace → ℕ → ℕ → Option (Option Vector)
 vector_field bytes table slot width = do
   target ← reference_field bytes table slot
   if_present (vector_at bytes width) target
 
 -- a string: a count of bytes, and that many bytes of UTF-8, in the message; the zero behind them isn't looked at
-unfoldable pub string_at : List ℕ → ℕ → Option (List ℕ)
-string_at bytes place = do
+unfoldable pub text_at : List ℕ → ℕ → Option (List ℕ)
+text_at bytes place = do
   count ← number_at w32 bytes place
   text ← window_at bytes (place + 4) count
   _ ← guard (is_utf8 text)
   Some text
 
 -- the string that a field refers to
-unfoldable pub string_field : List ℕ → Table → ℕ → Option (Option (List ℕ))
+unfoldable pub string_field : List ℕ → TablePlace → ℕ → Option (Option (List ℕ))
 string_field bytes table slot = do
   target ← reference_field bytes table slot
-  if_present (string_at bytes) target
+  if_present (text_at bytes) target
 
 -- the table that stands at place k of a vector of references
-unfoldable pub element_at : List ℕ → Vector → ℕ → Option Table
+unfoldable pub element_at : List ℕ → Vector → ℕ → Option TablePlace
 element_at bytes vector k = do
   target ← reference_at bytes (vector.place + 4 * k)
   table_at bytes target
 
 -- the root of a message: the table to which its first four bytes refer
-unfoldable pub root_of : List ℕ → Option Table
+unfoldable pub root_of : List ℕ → Option TablePlace
 root_of bytes = do
   target ← reference_at bytes 0
   table_at bytes target

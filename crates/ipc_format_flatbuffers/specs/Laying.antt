@@ -10,10 +10,10 @@ pub record Piece : Type 0 where
   pub entry : ℕ
 
 -- a slot of a table: absent, a number of a width, or a reference to an object
-pub data Slot : Type 0 where
-  absent : Slot
-  number : Width → ℕ → Slot
-  refers : Piece → Slot
+pub data TableSlot : Type 0 where
+  absent : TableSlot
+  number : Width → ℕ → TableSlot
+  refers : Piece → TableSlot
 
 -- zeros up to the next multiple of 8
 abbrev pub padded : List ℕ → List ℕ
@@ -24,54 +24,54 @@ abbrev pub field_start : ℕ → Width → ℕ
 field_start at w = next_multiple_of at (byte_len w)
 
 -- the vtable's entry for a slot, where the fields before it end at a place
-abbrev pub entry_of : ℕ → Slot → ℕ
+abbrev pub entry_of : ℕ → TableSlot → ℕ
 entry_of at absent = 0
 entry_of at (number w n) = field_start at w
 entry_of at (refers piece) = field_start at w32
 
 -- where the fields end with that slot
-abbrev pub after : ℕ → Slot → ℕ
+abbrev pub after : ℕ → TableSlot → ℕ
 after at absent = at
 after at (number w n) = field_start at w + byte_len w
 after at (refers piece) = field_start at w32 + 4
 
 -- where the fields end with all slots
-abbrev pub table_end : ℕ → List Slot → ℕ
+abbrev pub table_end : ℕ → List TableSlot → ℕ
 table_end at [] = at
 table_end at (slot ∷ slots) = table_end (after at slot) slots
 
 -- the vtable's entries
-abbrev pub entries : ℕ → List Slot → List ℕ
+abbrev pub entries : ℕ → List TableSlot → List ℕ
 entries at [] = []
 entries at (slot ∷ slots) = to_le_bytes w16 (entry_of at slot) ++ entries (after at slot) slots
 
 -- a field's bytes and the zeros before it; child is where the next object that the table refers to begins, counted from the table
-abbrev pub field_bytes : ℕ → ℕ → Slot → List ℕ
+abbrev pub field_bytes : ℕ → ℕ → TableSlot → List ℕ
 field_bytes at child absent = []
 field_bytes at child (number w n) = replicate (field_start at w - at) 0 ++ to_le_bytes w n
 field_bytes at child (refers piece) = replicate (field_start at w32 - at) 0 ++ to_le_bytes w32 (child + piece.entry - field_start at w32)
 
 -- the bytes of the object that a slot refers to
-abbrev pub child_bytes : Slot → List ℕ
+abbrev pub child_bytes : TableSlot → List ℕ
 child_bytes absent = []
 child_bytes (number w n) = []
 child_bytes (refers piece) = piece.bytes
 
 -- the fields of all slots
-abbrev pub fields : ℕ → ℕ → List Slot → List ℕ
+abbrev pub fields : ℕ → ℕ → List TableSlot → List ℕ
 fields at child [] = []
 fields at child (slot ∷ slots) = field_bytes at child slot ++ fields (after at slot) (child + length (child_bytes slot)) slots
 
 -- a table's vtable: its size, the table's size, and an entry a slot
-abbrev pub vtable : List Slot → List ℕ
+abbrev pub vtable : List TableSlot → List ℕ
 vtable slots = padded (to_le_bytes w16 (4 + 2 * length slots) ++ to_le_bytes w16 (table_end 4 slots) ++ entries 4 slots)
 
 -- the table behind it: the distance back to the vtable, and the fields
-abbrev pub table_bytes : List Slot → List ℕ
+abbrev pub table_bytes : List TableSlot → List ℕ
 table_bytes slots = padded (to_le_bytes w32 (length (vtable slots)) ++ fields 4 (next_multiple_of (table_end 4 slots) 8) slots)
 
 -- a table: vtable, table, and what it refers to in the order of the slots
-unfoldable pub table_piece : List Slot → Piece
+unfoldable pub table_piece : List TableSlot → Piece
 table_piece slots = record { bytes = vtable slots ++ table_bytes slots ++ flat_map child_bytes slots; entry = length (vtable slots) }
 
 -- the references of a vector, each counted from its own place; child is where the next object begins

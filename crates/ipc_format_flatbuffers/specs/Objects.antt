@@ -1,7 +1,7 @@
 -- The values of FlatBuffers as trees, and their laying.
 use Rattle.std.specs.Prelude.{ℕ, List, [], ◌∷◌}
 use Rattle.std.specs.Int.{Width}
-use Rattle.ipc_format_flatbuffers.specs.Laying.{Piece, Slot, absent, number, refers, table_piece, references_piece, elements_piece}
+use Rattle.ipc_format_flatbuffers.specs.Laying.{Piece, TableSlot, absent, number, refers, table_piece, references_piece, elements_piece}
 use Rattle.ipc_format_flatbuffers.specs.Laying.{text_piece, message_bytes}
 
 mutual
@@ -32,7 +32,7 @@ abbrev mutual
   piece_of (elements count content) = elements_piece count content
   piece_of (text bytes) = text_piece bytes
 
-  pub slots_of : Fields → List Slot
+  pub slots_of : Fields → List TableSlot
   slots_of no_field = []
   slots_of (absent_then fields) = absent ∷ slots_of fields
   slots_of (number_then w n fields) = number w n ∷ slots_of fields

@@ -11,7 +11,7 @@ use Rattle.ipc_format_flatbuffers.specs.declared.laying.LayError.{LayError}
 use Rattle.ipc_format_flatbuffers.specs.declared.laying.LayError.TheVariants as errors
 use Rattle.ipc_format_flatbuffers.specs.declared.laying.Slot.TheVariants.{Absent, Byte, Short, Int, Long, Refers}
 
-abbrev pub table_of : Table → format.Table
+abbrev pub table_of : Table → format.TablePlace
 table_of t = record { place = t.place; vtable = t.vtable; vtable_size = t.vtable_size; table_size = t.table_size }
 
 abbrev pub vector_of : Vector → format.Vector
@@ -22,7 +22,7 @@ abbrev pub piece_view : Laid → layout.Piece
 piece_view laid = record { bytes = laid.bytes.items; entry = laid.entry }
 
 -- a slot: absent, a number of a width, or a reference to a laid object
-abbrev pub slot_view : Slot → layout.Slot
+abbrev pub slot_view : Slot → layout.TableSlot
 slot_view Absent = layout.absent
 slot_view (Byte n) = layout.number w8 n
 slot_view (Short n) = layout.number w16 n

@@ -261,9 +261,9 @@ pub fn vector_field(bytes: &[u8], table: &Table, slot: u8, width: u8) -> Option<
 }
 
 /// The string at a place.
-#[tactic(auto, using(crate::proofs::Text::is_text, crate::proofs::Text::is_no_text), unfolding(crate::specs::FlatBuffers::string_at))]
+#[tactic(auto, using(crate::proofs::Text::is_text, crate::proofs::Text::is_no_text), unfolding(crate::specs::FlatBuffers::text_at))]
 pub fn string_at(bytes: &[u8], place: usize) -> Option<&str>
-    ensures { option_copied result ≡ format.string_at bytes.now place }
+    ensures { option_copied result ≡ format.text_at bytes.now place }
 {
     let count = u32_at(bytes, place)? as usize;
     let text = window(bytes, place + 4, count)?;

@@ -15,11 +15,11 @@ use Rattle.ipc_format_grammar.specs.Dictionaries.{Entry, Layout, dictionary_in}
 use Rattle.ipc_format_grammar.specs.Files as read
 use Rattle.ipc_format_grammar.specs.Files.{footer_in, entries_at, is_dictionary}
 use Rattle.ipc_format_grammar.specs.Tables.{layout_of}
-use Rattle.ipc_format_grammar.specs.Encoding.{joined}
+use Rattle.ipc_format_grammar.specs.Encoding.{joined_columns}
 use Rattle.ipc_format_grammar.specs.GivenDictionaries.{Given}
 use Rattle.ipc_format_grammar.specs.WrittenMessages.{fits_limit, end_mark}
 use Rattle.ipc_format_grammar.specs.WrittenStreams.{Batch, Chunk, messages_after, bytes_of_messages, batches_written, belongs}
-use Rattle.ipc_format_grammar.specs.WrittenFiles.{Block, Blocks, batch_blocks, footer_object, is_footer, file_end, fits_file_limit}
+use Rattle.ipc_format_grammar.specs.WrittenFiles.{WrittenBlock, Blocks, batch_blocks, footer_object, is_footer, file_end, fits_file_limit}
 use Rattle.ipc_format_grammar.specs.WrittenFiles.{none_replaced, all_given}
 
 -- ---- the file as it was
@@ -33,16 +33,16 @@ natural_or_0 (pos n) = n
 natural_or_0 (negsuc n) = 0
 
 -- a block as it is written again
-abbrev pub kept_block : read.Block → Block
+abbrev pub kept_block : read.Block → WrittenBlock
 kept_block block =
     record { offset = block.offset; metadata_length = block.metadata_length; body_length = natural_or_0 block.body_length }
 
 -- where a block's body ends
-abbrev pub block_end : Block → ℕ
+abbrev pub block_end : WrittenBlock → ℕ
 block_end block = block.offset + block.metadata_length + block.body_length
 
 -- the greatest end of some blocks
-abbrev pub greatest_end : List Block → ℕ
+abbrev pub greatest_end : List WrittenBlock → ℕ
 greatest_end [] = 0
 greatest_end (block ∷ blocks) = max (block_end block) (greatest_end blocks)
 
@@ -85,13 +85,13 @@ standing_behind layout standing (entry ∷ others) =
 
 -- a dictionary that stands in the file, as one that was told; its column is not written again
 abbrev pub as_told : Dictionary → Given
-as_told dictionary = record { id = dictionary.id; data_type = dictionary.data_type; slots = dictionary.slots; column = joined [] }
+as_told dictionary = record { id = dictionary.id; data_type = dictionary.data_type; slots = dictionary.slots; column = joined_columns [] }
 
 -- what is kept of a file: its schema, its blocks, and its dictionaries, the latest first
 pub record Base : Type 0 where
   pub found : SchemaIn
-  pub dictionaries : List Block
-  pub record_batches : List Block
+  pub dictionaries : List WrittenBlock
+  pub record_batches : List WrittenBlock
   pub told : List Given
 
 -- a file to which batches may be appended

@@ -79,7 +79,7 @@ pub record Layout : Type 0 where
 
 -- The batch of a message, which isn't compressed. None of its buffers has a negative length, and together they state no more bytes than
 -- the room has, whether they are read or not.
-unfoldable pub source_in : Bool → Entry → flat.Table → Option Source
+unfoldable pub source_in : Bool → Entry → flat.TablePlace → Option Source
 source_in is_little_endian entry table = do
   vectors ← record_batch_in entry.metadata table
   _ ← guard (not vectors.is_compressed)
@@ -98,7 +98,7 @@ source_in is_little_endian entry table = do
 
 -- The dictionary of a message: one column of the value type of its id, read under the dictionaries that stand before it. One that adds to
 -- an earlier one is refused.
-unfoldable pub dictionary_in : Layout → List Dictionary → Entry → flat.Table → Option Dictionary
+unfoldable pub dictionary_in : Layout → List Dictionary → Entry → flat.TablePlace → Option Dictionary
 dictionary_in layout standing entry table = do
   batch ← dictionary_batch_in entry.metadata table
   _ ← guard (not batch.is_delta)

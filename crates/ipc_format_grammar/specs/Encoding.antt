@@ -21,15 +21,15 @@ pub record Encoded : Type 0 where
   pub buffers : List (List ℕ)
 
 -- columns, one after another
-abbrev pub joined : List Encoded → Encoded
-joined columns = record {
+abbrev pub joined_columns : List Encoded → Encoded
+joined_columns columns = record {
   nodes = flat_map (λ (column : Encoded). column.nodes) columns;
   buffers = flat_map (λ (column : Encoded). column.buffers) columns;
 }
 
 -- a column of its own node and buffers, and of the columns below it
 abbrev pub column_over : ℕ × ℕ → List (List ℕ) → List Encoded → Encoded
-column_over node buffers below = record { nodes = node ∷ (joined below).nodes; buffers = buffers ++ (joined below).buffers }
+column_over node buffers below = record { nodes = node ∷ (joined_columns below).nodes; buffers = buffers ++ (joined_columns below).buffers }
 
 abbrev pub node_of : List Slot → ℕ × ℕ
 node_of slots = (length slots, null_count slots)
@@ -85,7 +85,7 @@ encode_step (layer.LargeList item) slots = list_column w64 item slots
 encode_step (layer.FixedSizeList item size) slots =
     column_over (node_of slots) (validity_bytes slots ∷ []) (item (joined_fixed_items size slots) ∷ [])
 encode_step (layer.Struct children) slots = column_over (node_of slots) (validity_bytes slots ∷ []) (field_columns children slots 0)
-encode_step (layer.Union children type_ids mode) slots = joined []
+encode_step (layer.Union children type_ids mode) slots = joined_columns []
 encode_step (layer.Dictionary key value is_ordered) slots = dictionary_column key slots
 encode_step (layer.Extension name inner metadata) slots = inner slots
 encode_step type_layer slots = number_column (kind_of type_layer) slots

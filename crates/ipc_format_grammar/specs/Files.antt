@@ -3,7 +3,7 @@ use Rattle.std.specs.Prelude.{ℕ, zero, suc, ◌+◌, ◌-◌, ℤ, Bool, true,
 use Rattle.std.specs.Cmp.Lexicographic.{pointwise}
 use Rattle.std.specs.Int.{w8, w32, w64}
 use Rattle.ipc_format_flatbuffers.specs.Reading.{◌>>=◌, guard, window_at}
-use Rattle.ipc_format_flatbuffers.specs.FlatBuffers.{Table, Vector, signed_at, number_field, table_field, vector_field, root_of}
+use Rattle.ipc_format_flatbuffers.specs.FlatBuffers.{TablePlace, Vector, signed_at, number_field, table_field, vector_field, root_of}
 use Rattle.ipc_format_grammar.specs.Messages as message
 use Rattle.ipc_format_grammar.specs.Messages.{natural, version_in, header_of}
 use Rattle.ipc_format_grammar.specs.Framing.{Frame, truncated, end_mark, metadata_then, frame_at}
@@ -58,13 +58,13 @@ blocks_if bytes (Some vector) = blocks_of bytes vector
 -- a file's footer: its bytes, the schema's table there, and the blocks of dictionaries and of record batches
 pub record Footer : Type 0 where
   pub bytes : List ℕ
-  pub schema : Table
+  pub schema : TablePlace
   pub dictionaries : List Block
   pub record_batches : List Block
 
 -- The footer's bytes: they stand before their length and the mark at the end, behind the mark at the beginning.
-unfoldable pub footer_bytes : List ℕ → Option (List ℕ)
-footer_bytes bytes = do
+unfoldable pub footer_bytes_in : List ℕ → Option (List ℕ)
+footer_bytes_in bytes = do
   _ ← guard (nat_le 10 (length bytes))
   _ ← guard (stands_at file_mark bytes 0)
   _ ← guard (stands_at file_mark bytes (length bytes - 6))
@@ -74,9 +74,9 @@ footer_bytes bytes = do
   window_at bytes (length bytes - 10 - size) size
 
 -- the footer's bytes and its schema's table, whatever else stands in the footer
-unfoldable pub footer_schema : List ℕ → Option (List ℕ × Table)
+unfoldable pub footer_schema : List ℕ → Option (List ℕ × TablePlace)
 footer_schema bytes = do
-  footer ← footer_bytes bytes
+  footer ← footer_bytes_in bytes
   root ← root_of footer
   found ← table_field footer root slots.footer_schema
   schema ← found

@@ -51,8 +51,8 @@ framed_by bytes metadata place header body_length = do
   body ← window_at bytes place size
   Some (record { metadata = metadata; header = header; body = body }, place + size)
 
-abbrev pub framed : List ℕ → List ℕ → ℕ → Option (Framed × ℕ)
-framed bytes metadata place = do
+abbrev pub framed_at : List ℕ → List ℕ → ℕ → Option (Framed × ℕ)
+framed_at bytes metadata place = do
   found ← message_in metadata
   framed_by bytes metadata place found.header found.body_length
 
@@ -66,7 +66,7 @@ abbrev pub next_of : List ℕ → Frame → Option Next
 next_of bytes truncated = Some nothing_whole
 next_of bytes end_mark = Some at_end
 next_of bytes (metadata_then metadata place) = do
-  found ← framed bytes metadata place
+  found ← framed_at bytes metadata place
   Some (message_then found.0 found.1)
 
 abbrev pub next_at : List ℕ → ℕ → Option Next

@@ -1,12 +1,14 @@
 -- Messages and record batches in their metadata (Arrow IPC, "Encapsulated message format", "RecordBatch message", "Dictionary Messages";
 -- Message.fbs). Each word gives nothing where the bytes break a rule of the format; what has to be there and is absent breaks one.
 use Rattle.std.specs.Prelude.{ℕ, zero, suc, ◌+◌, ◌*◌, ℤ, pos, negsuc, Bool, List, [], ◌∷◌, Option, Some, None}
-use Rattle.std.specs.Prelude.{nat_lt, is_some, if◌then◌else◌}
+use Rattle.std.specs.Prelude.{◌==◌, nat_lt, is_some, if◌then◌else◌}
+use Rattle.std.specs.Ordering.{int_eq}
 use Rattle.std.specs.Int.{w8, w16, w64}
 use Rattle.ipc_format_flatbuffers.specs.Reading.{◌>>=◌}
-use Rattle.ipc_format_flatbuffers.specs.FlatBuffers.{Table, Vector, number_field, signed_field, truth_field, signed_at, table_field}
+use Rattle.ipc_format_flatbuffers.specs.FlatBuffers.{TablePlace, Vector, number_field, signed_field, truth_field, signed_at, table_field}
 use Rattle.ipc_format_flatbuffers.specs.FlatBuffers.{vector_field, root_of}
 use Rattle.ipc_format_grammar.specs.SlotNumbers as slots
+use Rattle.ipc_format_grammar.specs.TagNumbers as tags
 
 -- a version of Arrow's metadata
 pub data Version : Type 0 where
@@ -18,25 +20,22 @@ pub data Version : Type 0 where
 
 -- the versions by their numbers
 abbrev pub version_of : ℤ → Option Version
-version_of (pos zero) = Some V1
-version_of (pos (suc zero)) = Some V2
-version_of (pos (suc (suc zero))) = Some V3
-version_of (pos (suc (suc (suc zero)))) = Some V4
-version_of (pos (suc (suc (suc (suc zero))))) = Some V5
-version_of _ = None
+version_of number =
+    if int_eq number (pos tags.version_1) then Some V1 else if int_eq number (pos tags.version_2) then Some V2 else
+    if int_eq number (pos tags.version_3) then Some V3 else if int_eq number (pos tags.version_4) then Some V4 else
+    if int_eq number (pos tags.version_5) then Some V5 else None
 
 -- what a message carries, by the table of its header
 pub data Header : Type 0 where
-  schema : Table → Header
-  dictionary_batch : Table → Header
-  record_batch : Table → Header
+  schema : TablePlace → Header
+  dictionary_batch : TablePlace → Header
+  record_batch : TablePlace → Header
 
 -- the kinds of header by their tags; any other is refused
-abbrev pub header_of : ℕ → Table → Option Header
-header_of (suc zero) table = Some (schema table)
-header_of (suc (suc zero)) table = Some (dictionary_batch table)
-header_of (suc (suc (suc zero))) table = Some (record_batch table)
-header_of _ table = None
+abbrev pub header_of : ℕ → TablePlace → Option Header
+header_of number table =
+    if number == tags.schema_tag then Some (schema table) else if number == tags.dictionary_tag then Some (dictionary_batch table) else
+    if number == tags.record_tag then Some (record_batch table) else None
 
 -- a message's header, and how many bytes its body has
 pub record Message : Type 0 where
@@ -44,7 +43,7 @@ pub record Message : Type 0 where
   pub body_length : ℤ
 
 -- how many bytes the body has; a schema has none, and what its message states is not looked at
-abbrev pub body_length_of : List ℕ → Table → Header → Option ℤ
+abbrev pub body_length_of : List ℕ → TablePlace → Header → Option ℤ
 body_length_of bytes root (schema table) = Some (pos 0)
 body_length_of bytes root (dictionary_batch table) = signed_field w64 bytes root slots.message_body_length (pos 0)
 body_length_of bytes root (record_batch table) = signed_field w64 bytes root slots.message_body_length (pos 0)
@@ -74,7 +73,7 @@ pub record RecordBatch : Type 0 where
   pub is_compressed : Bool
 
 -- a record batch; both vectors must be there, each with structs of 16 bytes
-unfoldable pub record_batch_in : List ℕ → Table → Option RecordBatch
+unfoldable pub record_batch_in : List ℕ → TablePlace → Option RecordBatch
 record_batch_in bytes table = do
   found_nodes ← vector_field bytes table slots.record_batch_nodes slots.pair_size
   nodes ← found_nodes
@@ -86,10 +85,10 @@ record_batch_in bytes table = do
 -- a dictionary's id, its values as a record batch, and whether they are added to earlier ones
 pub record DictionaryBatch : Type 0 where
   pub id : ℤ
-  pub values : Table
+  pub values : TablePlace
   pub is_delta : Bool
 
-unfoldable pub dictionary_batch_in : List ℕ → Table → Option DictionaryBatch
+unfoldable pub dictionary_batch_in : List ℕ → TablePlace → Option DictionaryBatch
 dictionary_batch_in bytes table = do
   id ← signed_field w64 bytes table slots.dictionary_batch_id (pos 0)
   found ← table_field bytes table slots.dictionary_batch_data

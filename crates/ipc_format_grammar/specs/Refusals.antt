@@ -3,7 +3,7 @@ use Rattle.std.specs.Prelude.{◌≡◌, ◌⊎◌, ◌≤◌, ℕ, zero, suc, �
 use Rattle.std.specs.Prelude.{codes, Option, Some, None, IsSome, IsSomeAnd, nat_lt, slice_get}
 use Rattle.std.specs.Int.{w8}
 use Rattle.ipc_format_flatbuffers.specs.Reading.{◌>>=◌, guard}
-use Rattle.ipc_format_flatbuffers.specs.FlatBuffers.{Table, number_field, truth_field, table_field, vector_field, element_at}
+use Rattle.ipc_format_flatbuffers.specs.FlatBuffers.{TablePlace, number_field, truth_field, table_field, vector_field, element_at}
 use Rattle.ipc_format_grammar.specs.Messages as message
 use Rattle.ipc_format_grammar.specs.Messages.{version_in}
 use Rattle.ipc_format_grammar.specs.SchemaGrammar.{schema_in}
@@ -19,7 +19,7 @@ use Rattle.ipc_format_grammar.specs.TagNumbers as tags
 -- ---- a float field (Schema.fbs, FloatingPoint)
 
 -- table k of the vector that a slot refers to
-abbrev pub child_at : List ℕ → Table → ℕ → ℕ → Option Table
+abbrev pub child_at : List ℕ → TablePlace → ℕ → ℕ → Option TablePlace
 child_at bytes table slot k = do
   found ← vector_field bytes table slot slots.reference_size
   vector ← found
@@ -27,31 +27,31 @@ child_at bytes table slot k = do
   element_at bytes vector k
 
 -- the Field table at a path below another: at each step the place of a child
-abbrev pub field_at_path : List ℕ → Table → List ℕ → Option Table
+abbrev pub field_at_path : List ℕ → TablePlace → List ℕ → Option TablePlace
 field_at_path bytes field [] = Some field
 field_at_path bytes field (k ∷ path) = do
   child ← child_at bytes field slots.field_children k
   field_at_path bytes child path
 
 -- the Field table at a path of a schema
-abbrev pub field_of_schema : List ℕ → Table → ℕ → List ℕ → Option Table
+abbrev pub field_of_schema : List ℕ → TablePlace → ℕ → List ℕ → Option TablePlace
 field_of_schema bytes schema k path = do
   field ← child_at bytes schema slots.schema_fields k
   field_at_path bytes field path
 
-abbrev pub IsFloat : List ℕ → Table → Type 0
+abbrev pub IsFloat : List ℕ → TablePlace → Type 0
 IsFloat bytes field = number_field w8 bytes field slots.field_type_type 0 ≡ Some tags.floating_point
 
 -- a float field stands in a schema, at some path
-abbrev pub HasFloatField : List ℕ → Table → Type 0
+abbrev pub HasFloatField : List ℕ → TablePlace → Type 0
 HasFloatField bytes schema = (k : ℕ) × (path : List ℕ) × IsSomeAnd (field_of_schema bytes schema k path) (IsFloat bytes)
 
 -- the metadata with the schema, and the schema's table
-abbrev pub schema_in_message : Framed → message.Header → Option (List ℕ × Table)
+abbrev pub schema_in_message : Framed → message.Header → Option (List ℕ × TablePlace)
 schema_in_message framed (message.schema table) = Some (framed.metadata, table)
 schema_in_message framed _ = None
 
-abbrev pub schema_table : Form → List ℕ → Option (List ℕ × Table)
+abbrev pub schema_table : Form → List ℕ → Option (List ℕ × TablePlace)
 schema_table stream bytes = do
   first ← first_of bytes
   schema_in_message first.0 first.0.header
@@ -104,14 +104,14 @@ message_at file bytes among_dictionaries k = do
   message_of_block bytes block
 
 -- the table of a message's record batch, which for a dictionary holds its values
-abbrev pub batch_table : List ℕ → message.Header → Option Table
+abbrev pub batch_table : List ℕ → message.Header → Option TablePlace
 batch_table metadata (message.schema table) = None
 batch_table metadata (message.record_batch table) = Some table
 batch_table metadata (message.dictionary_batch table) = do
   found ← table_field metadata table slots.dictionary_batch_data
   found
 
-abbrev pub compression_in : List ℕ × message.Header → Option Table
+abbrev pub compression_in : List ℕ × message.Header → Option TablePlace
 compression_in found = do
   batch ← batch_table found.0 found.1
   compression ← table_field found.0 batch slots.record_batch_compression

@@ -34,19 +34,19 @@ refers_if (Some object) fields = refers_then object fields
 -- ---- types
 
 abbrev pub unit_number : TimeUnit → ℕ
-unit_number units.Second = 0
-unit_number units.Millisecond = 1
-unit_number units.Microsecond = 2
-unit_number units.Nanosecond = 3
+unit_number units.Second = tags.second
+unit_number units.Millisecond = tags.millisecond
+unit_number units.Microsecond = tags.microsecond
+unit_number units.Nanosecond = tags.nanosecond
 
 abbrev pub interval_number : IntervalUnit → ℕ
-interval_number intervals.YearMonth = 0
-interval_number intervals.DayTime = 1
-interval_number intervals.MonthDayNano = 2
+interval_number intervals.YearMonth = tags.year_month
+interval_number intervals.DayTime = tags.day_time
+interval_number intervals.MonthDayNano = tags.month_day_nano
 
 abbrev pub mode_number : UnionMode → ℕ
-mode_number modes.Sparse = 0
-mode_number modes.Dense = 1
+mode_number modes.Sparse = tags.sparse
+mode_number modes.Dense = tags.dense
 
 -- an Int table: how many bits, and whether signed
 abbrev pub int_object : ℕ → Bool → Object
@@ -128,8 +128,8 @@ told_step layer.Utf8 = flat tags.utf8 empty_table
 told_step layer.Boolean = flat tags.bool empty_table
 told_step (layer.Decimal precision scale) = flat tags.decimal (decimal_object precision scale 128)
 told_step (layer.Decimal256 precision scale) = flat tags.decimal (decimal_object precision scale 256)
-told_step layer.Date32 = flat tags.date (short_table tags.day)
-told_step layer.Date64 = flat tags.date (short_table tags.millisecond)
+told_step layer.Date32 = flat tags.date (short_table tags.date_day)
+told_step layer.Date64 = flat tags.date (short_table tags.date_millisecond)
 told_step (layer.Time32 unit) = flat tags.time (time_object (unit_number unit) 32)
 told_step (layer.Time64 unit) = flat tags.time (time_object (unit_number unit) 64)
 told_step (layer.Timestamp unit timezone) = flat tags.timestamp (table (number_then w16 (unit_number unit) (refers_if (text_if timezone) no_field)))

@@ -1,9 +1,11 @@
 -- Schemas in metadata (Schema.fbs): fields, their types, dictionaries and custom metadata.
 -- A schema's fields form a tree of Field tables. At most as many of them are visited as the message has bytes, and fields nest at most 64 deep.
 use Rattle.std.specs.Prelude.{ℕ, zero, suc, ◌+◌, ℤ, pos, Bool, true, false, List, [], ◌∷◌, length, map, codes, Option, Some, None, nat_le}
+use Rattle.std.specs.Prelude.{if◌then◌else◌}
+use Rattle.std.specs.Ordering.{int_eq}
 use Rattle.std.specs.Int.{w8, w16, w32, w64}
 use Rattle.ipc_format_flatbuffers.specs.Reading.{◌>>=◌, guard}
-use Rattle.ipc_format_flatbuffers.specs.FlatBuffers.{Table, Vector, number_field, signed_field, truth_field, table_field, vector_field}
+use Rattle.ipc_format_flatbuffers.specs.FlatBuffers.{TablePlace, Vector, number_field, signed_field, truth_field, table_field, vector_field}
 use Rattle.ipc_format_flatbuffers.specs.FlatBuffers.{string_field, element_at}
 use Rattle.nested_arrays_columns.specs.columnar_memory.declared.DataType.{DataType}
 use Rattle.nested_arrays_columns.specs.columnar_memory.declared.DataType.TheVariants as types
@@ -14,6 +16,7 @@ use Rattle.ipc_format_grammar.specs.Types as kind
 use Rattle.ipc_format_grammar.specs.Types.{Tag, tag_of, integer_in, type_of_integer, size_of, decimal_in, date_of, time_in, timestamp_in}
 use Rattle.ipc_format_grammar.specs.Types.{interval_of, time_unit_of, union_in}
 use Rattle.ipc_format_grammar.specs.SlotNumbers as slots
+use Rattle.ipc_format_grammar.specs.TagNumbers as tags
 use Rattle.ipc_format_grammar.specs.Limits.{most_levels}
 
 mutual
@@ -52,7 +55,7 @@ visit zero = None
 visit (suc left) = Some left
 
 -- the tables of n references of a vector, from the k-th on, each read in turn
-abbrev pub each_of : {A : Type 0} → (Table → Visits A) → List ℕ → Vector → ℕ → ℕ → Visits (List A)
+abbrev pub each_of : {A : Type 0} → (TablePlace → Visits A) → List ℕ → Vector → ℕ → ℕ → Visits (List A)
 each_of read bytes vector zero k left = Some ([], left)
 each_of read bytes vector (suc n) k left = do
   table ← element_at bytes vector k
@@ -65,14 +68,14 @@ abbrev pub flat : DataType → Visits TypeIn
 flat data_type left = Some (record { data_type = data_type; below = no_ids }, left)
 
 -- all children of a field
-abbrev pub children_in : (Table → Visits FieldIn) → List ℕ → Table → Visits (List FieldIn)
+abbrev pub children_in : (TablePlace → Visits FieldIn) → List ℕ → TablePlace → Visits (List FieldIn)
 children_in read bytes field left = do
   found ← vector_field bytes field slots.field_children slots.reference_size
   vector ← found
   each_of read bytes vector vector.count 0 left
 
 -- the first child of a field, which counts alone for lists and maps
-abbrev pub child_in : (Table → Visits FieldIn) → List ℕ → Table → Visits FieldIn
+abbrev pub child_in : (TablePlace → Visits FieldIn) → List ℕ → TablePlace → Visits FieldIn
 child_in read bytes field left = do
   found ← vector_field bytes field slots.field_children slots.reference_size
   vector ← found
@@ -85,7 +88,7 @@ with_child make found = (record { data_type = make found.0.field; below = ids_th
 
 -- The type of a field, by the tag of its type and the type's own table. What FloatingPoint gives is an argument: the grammar has nothing
 -- for it. The tables of types without fields of their own are not looked at.
-unfoldable pub type_in : Option DataType → (Table → Visits FieldIn) → List ℕ → Tag → Table → Table → Visits TypeIn
+unfoldable pub type_in : Option DataType → (TablePlace → Visits FieldIn) → List ℕ → Tag → TablePlace → TablePlace → Visits TypeIn
 type_in floats read bytes kind.null field table left = flat types.Null left
 type_in floats read bytes kind.bool field table left = flat types.Boolean left
 type_in floats read bytes kind.binary field table left = flat types.Binary left
@@ -166,7 +169,7 @@ pairs_of bytes None = Some []
 pairs_of bytes (Some vector) = pairs_from bytes vector vector.count 0 []
 
 -- the custom metadata that a slot of a table refers to, in the order of the keys
-unfoldable pub metadata_in : List ℕ → Table → ℕ → Option (List (List ℕ × List ℕ))
+unfoldable pub metadata_in : List ℕ → TablePlace → ℕ → Option (List (List ℕ × List ℕ))
 metadata_in bytes table slot = do
   vector ← vector_field bytes table slot slots.reference_size
   pairs_of bytes vector
@@ -187,12 +190,12 @@ abbrev pub extended : List (List ℕ × List ℕ) → DataType → DataType
 extended pairs data_type = extended_by (value_at extension_name_key pairs) (value_at extension_metadata_key pairs) data_type
 
 -- the type as the values of a dictionary, if the field has one; its ids
-pub record Encoded : Type 0 where
+pub record EncodedType : Type 0 where
   pub data_type : DataType
   pub id : Option ℤ
 
 -- DictionaryEncoding: an id, the type of the keys, which must be there, and whether the values are ordered; its kind is not looked at
-abbrev pub encoded_by : List ℕ → Option Table → DataType → Option Encoded
+abbrev pub encoded_by : List ℕ → Option TablePlace → DataType → Option EncodedType
 encoded_by bytes None data_type = Some (record { data_type = data_type; id = None })
 encoded_by bytes (Some table) data_type = do
   id ← signed_field w64 bytes table slots.dictionary_encoding_id (pos 0)
@@ -204,7 +207,7 @@ encoded_by bytes (Some table) data_type = do
 
 -- The field of a Field table, where fields may nest so many levels deep from here on. The reader keeps the keys of an extension in the
 -- metadata. An extension stands under the field's dictionary.
-unfoldable pub field_in : Option DataType → List ℕ → ℕ → Table → Visits FieldIn
+unfoldable pub field_in : Option DataType → List ℕ → ℕ → TablePlace → Visits FieldIn
 field_in floats bytes zero table left = None
 field_in floats bytes (suc levels) table left = do
   visited ← visit left
@@ -235,12 +238,11 @@ pub record SchemaIn : Type 0 where
 
 -- the byte order by its number
 abbrev pub is_little_of : ℤ → Option Bool
-is_little_of (pos zero) = Some true
-is_little_of (pos (suc zero)) = Some false
-is_little_of _ = None
+is_little_of number =
+    if int_eq number (pos tags.little) then Some true else if int_eq number (pos tags.big) then Some false else None
 
 -- the schema of a Schema table, before it is tested whether it is one that is written; its features are not looked at
-unfoldable pub any_schema_in : Option DataType → List ℕ → Table → Option SchemaIn
+unfoldable pub any_schema_in : Option DataType → List ℕ → TablePlace → Option SchemaIn
 any_schema_in floats bytes table = do
   number ← signed_field w16 bytes table slots.schema_endianness (pos 0)
   is_little_endian ← is_little_of number

@@ -60,7 +60,7 @@ agree_in_length [] = true
 agree_in_length (column ∷ columns) = have_length (length column) columns
 
 -- the columns of a record batch
-unfoldable pub batch_in : Layout → List Dictionary → Entry → flat.Table → Option (List (List Slot))
+unfoldable pub batch_in : Layout → List Dictionary → Entry → flat.TablePlace → Option (List (List Slot))
 batch_in layout standing entry table = do
   source ← source_in layout.is_little_endian entry table
   columns ← columns_from layout standing source 0 layout.fields
@@ -147,7 +147,7 @@ chosen_columns layout standing source limit (k ∷ columns) = do
   others ← chosen_columns layout standing source limit columns
   Some (column ∷ others)
 
-unfoldable pub chosen_batch_in : Layout → List Dictionary → Entry → Option ℕ → List ℕ → flat.Table → Option (List (List Slot))
+unfoldable pub chosen_batch_in : Layout → List Dictionary → Entry → Option ℕ → List ℕ → flat.TablePlace → Option (List (List Slot))
 chosen_batch_in layout standing entry limit columns table = do
   source ← source_in layout.is_little_endian entry table
   found ← chosen_columns layout standing source limit columns

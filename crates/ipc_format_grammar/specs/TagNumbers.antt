@@ -80,12 +80,27 @@ record_tag = 3
 -- ---- enums
 
 -- MetadataVersion
+abbrev pub version_1 : ℕ
+version_1 = 0
+
+abbrev pub version_2 : ℕ
+version_2 = 1
+
+abbrev pub version_3 : ℕ
+version_3 = 2
+
+abbrev pub version_4 : ℕ
+version_4 = 3
+
 abbrev pub version_5 : ℕ
 version_5 = 4
 
 -- Endianness
 abbrev pub little : ℕ
 little = 0
+
+abbrev pub big : ℕ
+big = 1
 
 -- DictionaryKind
 abbrev pub dense_array : ℕ
@@ -102,8 +117,38 @@ abbrev pub double : ℕ
 double = 2
 
 -- DateUnit
-abbrev pub day : ℕ
-day = 0
+abbrev pub date_day : ℕ
+date_day = 0
+
+abbrev pub date_millisecond : ℕ
+date_millisecond = 1
+
+-- TimeUnit
+abbrev pub second : ℕ
+second = 0
 
 abbrev pub millisecond : ℕ
 millisecond = 1
+
+abbrev pub microsecond : ℕ
+microsecond = 2
+
+abbrev pub nanosecond : ℕ
+nanosecond = 3
+
+-- IntervalUnit
+abbrev pub year_month : ℕ
+year_month = 0
+
+abbrev pub day_time : ℕ
+day_time = 1
+
+abbrev pub month_day_nano : ℕ
+month_day_nano = 2
+
+-- UnionMode
+abbrev pub sparse : ℕ
+sparse = 0
+
+abbrev pub dense : ℕ
+dense = 1

@@ -1,9 +1,9 @@
 -- The types of columns in metadata (Schema.fbs, union Type and its tables).
-use Rattle.std.specs.Prelude.{ℕ, zero, suc, ◌+◌, ℤ, pos, Bool, true, false, List, [], ◌∷◌, Option, Some, None, slice_get, if◌then◌else◌}
+use Rattle.std.specs.Prelude.{ℕ, zero, suc, ◌+◌, ◌==◌, ℤ, pos, Bool, true, false, List, [], ◌∷◌, Option, Some, None, if◌then◌else◌}
 use Rattle.std.specs.Ordering.{int_eq}
 use Rattle.std.specs.Int.{w16, w32}
 use Rattle.ipc_format_flatbuffers.specs.Reading.{◌>>=◌}
-use Rattle.ipc_format_flatbuffers.specs.FlatBuffers.{Table, Vector, signed_field, truth_field, signed_at, string_field, vector_field}
+use Rattle.ipc_format_flatbuffers.specs.FlatBuffers.{TablePlace, Vector, signed_field, truth_field, signed_at, string_field, vector_field}
 use Rattle.nested_arrays_columns.specs.columnar_memory.declared.DataType.{DataType}
 use Rattle.nested_arrays_columns.specs.columnar_memory.declared.DataType.TheVariants as types
 use Rattle.nested_arrays_columns.specs.columnar_memory.declared.TimeUnit.{TimeUnit}
@@ -15,6 +15,7 @@ use Rattle.nested_arrays_columns.specs.columnar_memory.declared.UnionMode.{Union
 use Rattle.nested_arrays_columns.specs.columnar_memory.declared.UnionMode.TheVariants as modes
 use Rattle.ipc_format_grammar.specs.Messages.{natural}
 use Rattle.ipc_format_grammar.specs.SlotNumbers as slots
+use Rattle.ipc_format_grammar.specs.TagNumbers as tags
 
 -- the tags of the union Type
 pub data Tag : Type 0 where
@@ -40,22 +41,37 @@ pub data Tag : Type 0 where
   large_utf8 : Tag
   large_list : Tag
 
--- the tags in the order of their numbers, from 1 on; another number is no type
-abbrev pub tags : List Tag
-tags = null ∷ int ∷ floating_point ∷ binary ∷ utf8 ∷ bool ∷ decimal ∷ date ∷ time ∷ timestamp ∷ interval ∷ list ∷ struct ∷ union ∷ fixed_size_binary
-    ∷ fixed_size_list ∷ map ∷ duration ∷ large_binary ∷ large_utf8 ∷ large_list ∷ []
-
+-- the tags by their numbers; another number is no type
 abbrev pub tag_of : ℕ → Option Tag
-tag_of zero = None
-tag_of (suc n) = slice_get tags n
+tag_of number =
+    if number == tags.null then Some null else
+    if number == tags.int then Some int else
+    if number == tags.floating_point then Some floating_point else
+    if number == tags.binary then Some binary else
+    if number == tags.utf8 then Some utf8 else
+    if number == tags.bool then Some bool else
+    if number == tags.decimal then Some decimal else
+    if number == tags.date then Some date else
+    if number == tags.time then Some time else
+    if number == tags.timestamp then Some timestamp else
+    if number == tags.interval then Some interval else
+    if number == tags.list then Some list else
+    if number == tags.struct then Some struct else
+    if number == tags.union then Some union else
+    if number == tags.fixed_size_binary then Some fixed_size_binary else
+    if number == tags.fixed_size_list then Some fixed_size_list else
+    if number == tags.map then Some map else
+    if number == tags.duration then Some duration else
+    if number == tags.large_binary then Some large_binary else
+    if number == tags.large_utf8 then Some large_utf8 else
+    if number == tags.large_list then Some large_list else None
 
 -- the units of time by their numbers
 abbrev pub time_unit_of : ℤ → Option TimeUnit
-time_unit_of (pos zero) = Some units.Second
-time_unit_of (pos (suc zero)) = Some units.Millisecond
-time_unit_of (pos (suc (suc zero))) = Some units.Microsecond
-time_unit_of (pos (suc (suc (suc zero)))) = Some units.Nanosecond
-time_unit_of _ = None
+time_unit_of number =
+    if int_eq number (pos tags.second) then Some units.Second else if int_eq number (pos tags.millisecond) then Some units.Millisecond else
+    if int_eq number (pos tags.microsecond) then Some units.Microsecond else
+    if int_eq number (pos tags.nanosecond) then Some units.Nanosecond else None
 
 -- the whole numbers by their bits, signed and unsigned
 abbrev pub signed_of : ℤ → Option IntegerType
@@ -73,7 +89,7 @@ integer_of bits true = signed_of bits
 integer_of bits false = unsigned_of bits
 
 -- an Int table: how many bits, and whether signed
-unfoldable pub integer_in : List ℕ → Table → Option IntegerType
+unfoldable pub integer_in : List ℕ → TablePlace → Option IntegerType
 integer_in bytes table = do
   bits ← signed_field w32 bytes table slots.int_bit_width (pos 0)
   is_signed ← truth_field bytes table slots.int_is_signed
@@ -101,7 +117,7 @@ decimal_of bits precision scale =
     if int_eq bits (pos 128) then Some (types.Decimal precision scale) else
     if int_eq bits (pos 256) then Some (types.Decimal256 precision scale) else None
 
-unfoldable pub decimal_in : List ℕ → Table → Option DataType
+unfoldable pub decimal_in : List ℕ → TablePlace → Option DataType
 decimal_in bytes table = do
   stated_precision ← signed_field w32 bytes table slots.decimal_precision (pos 0)
   precision ← natural stated_precision
@@ -112,9 +128,9 @@ decimal_in bytes table = do
 
 -- dates by their unit: days or milliseconds
 abbrev pub date_of : ℤ → Option DataType
-date_of (pos zero) = Some types.Date32
-date_of (pos (suc zero)) = Some types.Date64
-date_of _ = None
+date_of number =
+    if int_eq number (pos tags.date_day) then Some types.Date32 else if int_eq number (pos tags.date_millisecond) then Some types.Date64 else
+    None
 
 -- the time of a day: seconds and milliseconds in 32 bits, microseconds and nanoseconds in 64
 abbrev pub short_time_of : TimeUnit → Option DataType
@@ -131,14 +147,14 @@ abbrev pub time_of : ℤ → TimeUnit → Option DataType
 time_of bits unit =
     if int_eq bits (pos 32) then short_time_of unit else if int_eq bits (pos 64) then long_time_of unit else None
 
-unfoldable pub time_in : List ℕ → Table → Option DataType
+unfoldable pub time_in : List ℕ → TablePlace → Option DataType
 time_in bytes table = do
   number ← signed_field w16 bytes table slots.time_unit (pos 1)
   unit ← time_unit_of number
   bits ← signed_field w32 bytes table slots.time_bit_width (pos 32)
   time_of bits unit
 
-unfoldable pub timestamp_in : List ℕ → Table → Option DataType
+unfoldable pub timestamp_in : List ℕ → TablePlace → Option DataType
 timestamp_in bytes table = do
   number ← signed_field w16 bytes table slots.timestamp_unit (pos 0)
   unit ← time_unit_of number
@@ -147,16 +163,15 @@ timestamp_in bytes table = do
 
 -- intervals by their unit
 abbrev pub interval_of : ℤ → Option DataType
-interval_of (pos zero) = Some (types.Interval intervals.YearMonth)
-interval_of (pos (suc zero)) = Some (types.Interval intervals.DayTime)
-interval_of (pos (suc (suc zero))) = Some (types.Interval intervals.MonthDayNano)
-interval_of _ = None
+interval_of number =
+    if int_eq number (pos tags.year_month) then Some (types.Interval intervals.YearMonth) else
+    if int_eq number (pos tags.day_time) then Some (types.Interval intervals.DayTime) else
+    if int_eq number (pos tags.month_day_nano) then Some (types.Interval intervals.MonthDayNano) else None
 
 -- unions by their mode
 abbrev pub mode_of : ℤ → Option UnionMode
-mode_of (pos zero) = Some modes.Sparse
-mode_of (pos (suc zero)) = Some modes.Dense
-mode_of _ = None
+mode_of number =
+    if int_eq number (pos tags.sparse) then Some modes.Sparse else if int_eq number (pos tags.dense) then Some modes.Dense else None
 
 -- n signed numbers of four bytes from a place on
 abbrev pub numbers_from : List ℕ → ℕ → ℕ → Option (List ℤ)
@@ -177,7 +192,7 @@ pub record UnionTable : Type 0 where
   pub mode : UnionMode
   pub ids : Option (List ℤ)
 
-unfoldable pub union_in : List ℕ → Table → Option UnionTable
+unfoldable pub union_in : List ℕ → TablePlace → Option UnionTable
 union_in bytes table = do
   number ← signed_field w16 bytes table slots.union_mode (pos 0)
   mode ← mode_of number

@@ -21,7 +21,7 @@ use Rattle.ipc_format_grammar.specs.Values.{kind_size, key_size}
 use Rattle.ipc_format_grammar.specs.Columns.{Source, Place, taken_in, offsets_in, last_of, first_below, behind_column, limit_times}
 use Rattle.ipc_format_grammar.specs.Columns.{first_ids, other_ids, ids_below}
 use Rattle.ipc_format_grammar.specs.Dictionaries.{Entry, Layout, source_in, values_of}
-use Rattle.ipc_format_grammar.specs.Files.{footer_bytes}
+use Rattle.ipc_format_grammar.specs.Files.{footer_bytes_in}
 use Rattle.ipc_format_grammar.specs.Tables.{Form, stream, file, Contents, column_place, contents_of, layout_of}
 
 -- some bytes of a room: where they begin, and how many they are
@@ -152,13 +152,13 @@ column_windows layout source k = or_none (do
   Some (windows_in field.data_type (column_place layout [] source None k)))
 
 -- the chosen columns of a record batch
-abbrev pub batch_windows : Layout → List ℕ → Entry → flat.Table → List Window
+abbrev pub batch_windows : Layout → List ℕ → Entry → flat.TablePlace → List Window
 batch_windows layout columns entry table = or_none (do
   source ← source_in layout.is_little_endian entry table
   Some (flat_map (column_windows layout source) columns))
 
 -- all values of a dictionary
-abbrev pub dictionary_windows : Layout → Entry → flat.Table → List Window
+abbrev pub dictionary_windows : Layout → Entry → flat.TablePlace → List Window
 dictionary_windows layout entry table = or_none (do
   batch ← dictionary_batch_in entry.metadata table
   source ← source_in layout.is_little_endian entry batch.values
@@ -202,7 +202,7 @@ SameEntries layout columns _ _ = ⊥
 -- a file's footer; a stream has none
 abbrev pub footer_of : Form → List ℕ → Option (List ℕ)
 footer_of stream bytes = None
-footer_of file bytes = footer_bytes bytes
+footer_of file bytes = footer_bytes_in bytes
 
 -- Two inputs of one form and one length agree on some columns: they have one schema and the same messages, up to the bytes outside of the
 -- windows of the columns and of dictionaries; files have the same footer.

@@ -16,17 +16,17 @@ use Rattle.ipc_format_grammar.specs.WrittenStreams.{Batch, Chunk, stream_message
 use Rattle.ipc_format_grammar.specs.TagNumbers as tags
 
 -- where a message stands in a file: its place, how many bytes stand before its body, and how many its body has
-pub record Block : Type 0 where
+pub record WrittenBlock : Type 0 where
   pub offset : ℕ
   pub metadata_length : ℕ
   pub body_length : ℕ
 
 -- the blocks of a file, of dictionaries and of record batches
 pub record Blocks : Type 0 where
-  pub dictionaries : List Block
-  pub record_batches : List Block
+  pub dictionaries : List WrittenBlock
+  pub record_batches : List WrittenBlock
 
-abbrev pub block_of : ℕ → Written → Block
+abbrev pub block_of : ℕ → Written → WrittenBlock
 block_of place message =
     record { offset = place; metadata_length = prefix_size + length message.metadata; body_length = length message.body }
 
@@ -34,10 +34,10 @@ block_of place message =
 abbrev pub place_after : ℕ → Written → ℕ
 place_after place message = place + length (message_bytes message)
 
-abbrev pub with_dictionary : Block → Blocks → Blocks
+abbrev pub with_dictionary : WrittenBlock → Blocks → Blocks
 with_dictionary block blocks = record blocks { dictionaries = block ∷ blocks.dictionaries }
 
-abbrev pub with_record_batch : Block → Blocks → Blocks
+abbrev pub with_record_batch : WrittenBlock → Blocks → Blocks
 with_record_batch block blocks = record blocks { record_batches = block ∷ blocks.record_batches }
 
 -- the blocks of dictionaries from a place on, and then those that come of the place behind them
@@ -57,10 +57,10 @@ batch_blocks place written (batch ∷ batches) =
 -- ---- the footer
 
 -- a block: its offset, the length of its metadata, four bytes of padding, and the length of its body
-abbrev pub block_bytes : Block → List ℕ
+abbrev pub block_bytes : WrittenBlock → List ℕ
 block_bytes block = to_le_bytes w64 block.offset ++ to_le_bytes w32 block.metadata_length ++ replicate 4 0 ++ to_le_bytes w64 block.body_length
 
-abbrev pub blocks_object : List Block → Object
+abbrev pub blocks_object : List WrittenBlock → Object
 blocks_object blocks = elements (length blocks) (flat_map block_bytes blocks)
 
 -- the footer, in version V5

@@ -6,7 +6,7 @@ use Rattle.ipc_format_flatbuffers.specs.Objects.{Object, laid}
 use Rattle.nested_arrays_columns.specs.columnar_memory.declared.Schema.{Schema}
 use Rattle.ipc_format_grammar.specs.Schemas.{IdsList}
 use Rattle.ipc_format_grammar.specs.SchemaObjects.{message_object, schema_message, record_batch_object, dictionary_batch_object}
-use Rattle.ipc_format_grammar.specs.Encoding.{Encoded, joined}
+use Rattle.ipc_format_grammar.specs.Encoding.{Encoded, joined_columns}
 use Rattle.ipc_format_grammar.specs.GivenDictionaries.{Given}
 use Rattle.ipc_format_grammar.specs.TagNumbers.{dictionary_tag, record_tag}
 
@@ -71,7 +71,7 @@ message_of tag header buffers = record {
 }
 
 unfoldable pub record_message : ℕ → List Encoded → Written
-record_message rows columns = message_of record_tag (batch_object rows (joined columns)) (joined columns).buffers
+record_message rows columns = message_of record_tag (batch_object rows (joined_columns columns)) (joined_columns columns).buffers
 
 unfoldable pub dictionary_message : Given → Written
 dictionary_message given =

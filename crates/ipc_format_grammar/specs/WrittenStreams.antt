@@ -17,7 +17,7 @@ use Rattle.ipc_format_grammar.specs.Limits.{length_limit}
 use Rattle.ipc_format_grammar.specs.Schemas.{IdsList}
 use Rattle.ipc_format_grammar.specs.Writable.{is_writable, normalised_type}
 use Rattle.ipc_format_grammar.specs.Columns.{first_ids, other_ids}
-use Rattle.ipc_format_grammar.specs.Encoding.{Encoded, encode, joined, has_union}
+use Rattle.ipc_format_grammar.specs.Encoding.{Encoded, encode, joined_columns, has_union}
 use Rattle.ipc_format_grammar.specs.StoredEncoding.{encode_stored}
 use Rattle.ipc_format_grammar.specs.Ids.{ids_fit_fields, all_are_ids}
 use Rattle.ipc_format_grammar.specs.GivenDictionaries.{Given, given_by, given_stored, to_write, written_after, agree}
@@ -146,7 +146,7 @@ has_nodes_in_room column = list_all is_node column.nodes
 
 -- a batch's rows, its nodes and those of its dictionaries are within the lengths of arrays
 abbrev pub is_in_room : Batch → Bool
-is_in_room batch = nat_lt batch.rows length_limit && has_nodes_in_room (joined batch.columns)
+is_in_room batch = nat_lt batch.rows length_limit && has_nodes_in_room (joined_columns batch.columns)
     && list_all (λ (given : Given). has_nodes_in_room given.column && nat_lt (length given.slots) length_limit) batch.given
 
 -- A batch belongs to a schema: a column a field, all of one length, each of its field's type, and none longer than an array may be. Another

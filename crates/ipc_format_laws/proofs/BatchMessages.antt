@@ -7,7 +7,8 @@ use Rattle.std.specs.Int.{w8, w16, w64, to_le_bytes, cast_signed, cast_unsigned}
 use Rattle.std.proofs.lemmas.Int.{to_z_pos}
 use Rattle.std.proofs.Math.Facts.{Fits-of_z, Fits-lt-pow}
 use Rattle.std.proofs.lemmas.List.Sums.{sum_by-cons}
-use Rattle.ipc_format_grammar.specs.flatbuffers.FlatBuffers.{Table, Vector, signed_at, number_field, signed_field, table_field, vector_field, root_of}
+use Rattle.ipc_format_grammar.specs.flatbuffers.FlatBuffers.{TablePlace, Vector, signed_at, number_field, signed_field, table_field, vector_field}
+use Rattle.ipc_format_grammar.specs.flatbuffers.FlatBuffers.{root_of}
 use Rattle.ipc_format_grammar.specs.flatbuffers.Objects.{Object, Fields, table, laid, no_field, absent_then, number_then, refers_then}
 use Rattle.ipc_format_laws.specs.Spelling.{Spells, SpellsFields, SpellsReference}
 use Rattle.ipc_format_laws.specs.Theorem.{Fits, SpellsRoot}
@@ -86,12 +87,12 @@ pairs_stand bytes place pairs small s = record {
 }
 
 -- a slot that refers to pairs: the vector, of structs of 16 bytes
-record PairsAnswers (bytes : List ℕ) (found : Table) (slot : ℕ) (pairs : List (ℕ × ℕ)) : Type 0 where
+record PairsAnswers (bytes : List ℕ) (found : TablePlace) (slot : ℕ) (pairs : List (ℕ × ℕ)) : Type 0 where
   vector_at : Vector
   vector : vector_field bytes found slot 16 ≡ Some (Some vector_at)
   has_pairs : HasPairs bytes vector_at pairs
 
-pairs_read : (bytes : List ℕ) (found : Table) (slot : ℕ) (pairs : List (ℕ × ℕ)) → AreSigned pairs
+pairs_read : (bytes : List ℕ) (found : TablePlace) (slot : ℕ) (pairs : List (ℕ × ℕ)) → AreSigned pairs
     → SpellsReference bytes found slot (λ (place : ℕ). Spells bytes place (structs_object pairs)) → PairsAnswers bytes found slot pairs
 pairs_read bytes found slot pairs small h =
     let read = elements_read bytes found slot (length pairs) (flat_map pair_bytes pairs) h in
@@ -109,7 +110,7 @@ abbrev batch_fields : ℕ → List (ℕ × ℕ) → List (ℕ × ℕ) → Fields
 batch_fields rows nodes buffers = number_then w64 rows (refers_then (structs_object nodes)
     (refers_then (structs_object buffers) (absent_then no_field)))
 
-pub record_batch_reads : (bytes : List ℕ) (found : Table) (rows : ℕ) (nodes buffers : List (ℕ × ℕ)) → AreSigned nodes → AreSigned buffers
+pub record_batch_reads : (bytes : List ℕ) (found : TablePlace) (rows : ℕ) (nodes buffers : List (ℕ × ℕ)) → AreSigned nodes → AreSigned buffers
     → SpellsFields bytes found 0 (batch_fields rows nodes buffers) → IsRecordBatch bytes found nodes buffers
 unfolding record_batch_in
 record_batch_reads bytes found rows nodes buffers small-nodes small-buffers s =
@@ -130,7 +131,7 @@ abbrev dictionary_fields : ℤ → ℕ → List (ℕ × ℕ) → List (ℕ × �
 dictionary_fields id rows nodes buffers =
     number_then w64 (cast_unsigned w64 id) (refers_then (record_batch_object rows nodes buffers) (number_then w8 0 no_field))
 
-pub dictionary_batch_reads : (bytes : List ℕ) (found : Table) (id : ℤ) (rows : ℕ) (nodes buffers : List (ℕ × ℕ)) → FitsSigned w64 id
+pub dictionary_batch_reads : (bytes : List ℕ) (found : TablePlace) (id : ℤ) (rows : ℕ) (nodes buffers : List (ℕ × ℕ)) → FitsSigned w64 id
     → AreSigned nodes → AreSigned buffers → SpellsFields bytes found 0 (dictionary_fields id rows nodes buffers)
     → IsDictionaryBatch bytes found id nodes buffers
 unfolding dictionary_batch_in
@@ -148,10 +149,10 @@ dictionary_batch_reads bytes found id rows nodes buffers fits small-nodes small-
 
 -- what a message tells before its header is looked at
 pub record MessageAnswers (bytes : List ℕ) (tag : ℕ) (header : Fields) (body_length : ℕ) : Type 0 where
-  pub header_at : Table
+  pub header_at : TablePlace
   pub slots : SpellsFields bytes header_at 0 header
   pub version : version_in bytes ≡ Some V5
-  pub root : Table
+  pub root : TablePlace
   pub root_is : root_of bytes ≡ Some root
   pub tag_is : number_field w8 bytes root 1 0 ≡ Some tag
   pub header_is : table_field bytes root 2 ≡ Some (Some header_at)
@@ -181,20 +182,20 @@ message_reads bytes tag header body_length small s =
     }
 
 -- a message whose header is of a kind
-as_message : (bytes : List ℕ) (tag : ℕ) (kind : Table → grammar.Header) (header : Fields) (body_length : ℕ) (IsHeader : Table → Type 0)
+as_message : (bytes : List ℕ) (tag : ℕ) (kind : TablePlace → grammar.Header) (header : Fields) (body_length : ℕ) (IsHeader : TablePlace → Type 0)
     (m : MessageAnswers bytes tag header body_length)
     → message_in bytes ≡ Some (record { header = kind m.header_at; body_length = pos body_length })
     → IsHeader m.header_at → IsMessage bytes kind body_length IsHeader
 as_message bytes tag kind header body_length IsHeader m message h =
     record { header_at = m.header_at; version = m.version; message = message; header = h }
 
-record_message : (bytes : List ℕ) (header : Fields) (body_length : ℕ) (IsHeader : Table → Type 0) (m : MessageAnswers bytes 3 header body_length)
+record_message : (bytes : List ℕ) (header : Fields) (body_length : ℕ) (IsHeader : TablePlace → Type 0) (m : MessageAnswers bytes 3 header body_length)
     → IsHeader m.header_at → IsMessage bytes grammar.record_batch body_length IsHeader
 unfolding message_in
 record_message bytes header body_length IsHeader m =
     as_message bytes 3 grammar.record_batch header body_length IsHeader m (rw (m.root_is, m.tag_is, m.header_is, m.body_is) refl)
 
-dictionary_message : (bytes : List ℕ) (header : Fields) (body_length : ℕ) (IsHeader : Table → Type 0)
+dictionary_message : (bytes : List ℕ) (header : Fields) (body_length : ℕ) (IsHeader : TablePlace → Type 0)
     (m : MessageAnswers bytes 2 header body_length)
     → IsHeader m.header_at → IsMessage bytes grammar.dictionary_batch body_length IsHeader
 unfolding message_in
@@ -233,7 +234,7 @@ record_batches_read_back rows nodes buffers body_length small small-nodes small-
     (record_batch_fits rows nodes buffers small) short in
     let read = message_reads bytes 3 (batch_fields rows nodes buffers) body_length short
     (laid_reads_back (message_object 3 (record_batch_object rows nodes buffers) body_length) fits within) in
-    record_message bytes (batch_fields rows nodes buffers) body_length (λ (found : Table). IsRecordBatch bytes found nodes buffers) read
+    record_message bytes (batch_fields rows nodes buffers) body_length (λ (found : TablePlace). IsRecordBatch bytes found nodes buffers) read
     (record_batch_reads bytes read.header_at rows nodes buffers small-nodes small-buffers read.slots)
 
 dictionary_batch_fits : (id : ℤ) (rows : ℕ) (nodes buffers : List (ℕ × ℕ)) → FitsSigned w64 id → rows < 2 ^ 64
@@ -254,5 +255,5 @@ dictionary_batches_read_back id rows nodes buffers body_length fits-id small sma
     let header = dictionary_fields id rows nodes buffers in
     let fits = message_fits 2 batch body_length (omega arith) (dictionary_batch_fits id rows nodes buffers fits-id small) short in
     let read = message_reads bytes 2 header body_length short (laid_reads_back (message_object 2 batch body_length) fits within) in
-    dictionary_message bytes header body_length (λ (found : Table). IsDictionaryBatch bytes found id nodes buffers) read
+    dictionary_message bytes header body_length (λ (found : TablePlace). IsDictionaryBatch bytes found id nodes buffers) read
     (dictionary_batch_reads bytes read.header_at id rows nodes buffers fits-id small-nodes small-buffers read.slots)

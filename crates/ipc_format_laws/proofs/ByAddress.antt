@@ -7,8 +7,9 @@ use Rattle.std.proofs.lemmas.Int.{to_z_pos}
 use Rattle.std.proofs.lemmas.Bool.{le-leb, lt-leb, ne_eqb}
 use Rattle.std.specs.Str.{is_utf8}
 use Rattle.ipc_format_grammar.specs.flatbuffers.Reading.{window_at}
-use Rattle.ipc_format_grammar.specs.flatbuffers.FlatBuffers.{Table, number_at, signed_at, table_at, field_at, reference_at, reference_field, vector_at}
-use Rattle.ipc_format_grammar.specs.flatbuffers.FlatBuffers.{string_at}
+use Rattle.ipc_format_grammar.specs.flatbuffers.FlatBuffers.{TablePlace, number_at, signed_at, table_at, field_at, reference_at, reference_field}
+use Rattle.ipc_format_grammar.specs.flatbuffers.FlatBuffers.{vector_at}
+use Rattle.ipc_format_grammar.specs.flatbuffers.FlatBuffers.{text_at}
 use Rattle.ipc_format_laws.specs.Theorem.{FitsWidth}
 use Rattle.ipc_format_laws.proofs.Places.{Stands, window_stands}
 
@@ -54,7 +55,7 @@ table_stands bytes start place count end distance small least reach near place-i
     rw (back-is, back-pos, le-place, start-is, size-is, end-is, vtable-least, even, vtable-inside, end-least, end-inside) refl
 
 -- a slot past the end of the vtable
-pub past_the_vtable : (bytes : List ℕ) (found : Table) (count slot width : ℕ) → found.vtable_size ≡ 4 + 2 * count → count ≤ slot
+pub past_the_vtable : (bytes : List ℕ) (found : TablePlace) (count slot width : ℕ) → found.vtable_size ≡ 4 + 2 * count → count ≤ slot
     → field_at bytes found slot width ≡ Some None
 unfolding field_at
 past_the_vtable bytes found count slot width size-is past =
@@ -62,7 +63,7 @@ past_the_vtable bytes found count slot width size-is past =
     rw outside refl
 
 -- a slot whose entry is 0
-pub absent_slot : (bytes : List ℕ) (found : Table) (slot width : ℕ) → 4 + 2 * slot + 2 ≤ found.vtable_size
+pub absent_slot : (bytes : List ℕ) (found : TablePlace) (slot width : ℕ) → 4 + 2 * slot + 2 ≤ found.vtable_size
     → number_at w16 bytes (found.vtable + 4 + 2 * slot) ≡ Some 0 → field_at bytes found slot width ≡ Some None
 unfolding field_at
 absent_slot bytes found slot width within entry-is =
@@ -70,7 +71,7 @@ absent_slot bytes found slot width within entry-is =
     rw (inside, entry-is) refl
 
 -- a slot with a field
-pub present_slot : (bytes : List ℕ) (found : Table) (slot width entry : ℕ) → 4 + 2 * slot + 2 ≤ found.vtable_size
+pub present_slot : (bytes : List ℕ) (found : TablePlace) (slot width entry : ℕ) → 4 + 2 * slot + 2 ≤ found.vtable_size
     → number_at w16 bytes (found.vtable + 4 + 2 * slot) ≡ Some entry → 4 ≤ entry → entry + width ≤ found.table_size
     → field_at bytes found slot width ≡ Some (Some (found.place + entry))
 unfolding field_at
@@ -90,7 +91,7 @@ reference_stands bytes place distance target distance-is target-is within =
     rw (distance-is, target-is, inside) refl
 
 -- a field that refers
-pub reference_field_stands : (bytes : List ℕ) (found : Table) (slot place target : ℕ) → field_at bytes found slot 4 ≡ Some (Some place)
+pub reference_field_stands : (bytes : List ℕ) (found : TablePlace) (slot place target : ℕ) → field_at bytes found slot 4 ≡ Some (Some place)
     → reference_at bytes place ≡ Some target → reference_field bytes found slot ≡ Some (Some target)
 unfolding reference_field
 reference_field_stands bytes found slot place target field-is target-is = rw (field-is, target-is) refl
@@ -105,6 +106,6 @@ vector_stands bytes width place count count-is within =
 
 -- a string
 pub string_stands : (bytes : List ℕ) (place : ℕ) (content : List ℕ) → number_at w32 bytes place ≡ Some (length content)
-    → window_at bytes (place + 4) (length content) ≡ Some content → is_utf8 content ≡ true → string_at bytes place ≡ Some content
-unfolding string_at
+    → window_at bytes (place + 4) (length content) ≡ Some content → is_utf8 content ≡ true → text_at bytes place ≡ Some content
+unfolding text_at
 string_stands bytes place content count-is window-is text-is = rw (count-is, window-is, text-is) refl

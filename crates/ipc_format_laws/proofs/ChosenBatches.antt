@@ -172,7 +172,7 @@ rows_chosen limit columns k ks agree there =
 -- ---- batches
 
 -- what is chosen of a batch that reads
-pub batch_chosen : (layout : Layout) (standing : List Dictionary) (entry : Entry) (limit : Option ℕ) (ks : List ℕ) (table : flat.Table)
+pub batch_chosen : (layout : Layout) (standing : List Dictionary) (entry : Entry) (limit : Option ℕ) (ks : List ℕ) (table : flat.TablePlace)
     (columns : List (List Slot)) → batch_in layout standing entry table ≡ Some columns
     → list_all (λ k. nat_lt k (length layout.fields)) ks ≡ true
     → (chosen_batch_in layout standing entry limit ks table ≡ Some (cut_columns limit columns ks))

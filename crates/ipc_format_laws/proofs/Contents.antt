@@ -1,7 +1,6 @@
 -- What stands in the content of a vector of numbers or structs.
-use Rattle.std.proofs.Common.{◌≡◌, ℕ, zero, suc, ◌+◌, ◌*◌, ◌≤◌, ◌<◌, List, [], ◌∷◌, ◌++◌, length, get_or, take, drop, refl, sym, ap, ◌∙◌, arith}
+use Rattle.std.proofs.Common.{◌≡◌, ℕ, ◌+◌, ◌≤◌, List, ◌++◌, length, take, drop, refl, sym, ap, ◌∙◌, arith}
 use Rattle.std.specs.Prelude.{Some, nat_le}
-use Rattle.std.specs.List.{flat_map}
 use Rattle.std.specs.Int.{Width, to_le_bytes, cast_signed}
 use Rattle.std.proofs.lemmas.Bool.{leb-true}
 use Rattle.std.proofs.lemmas.Option.{cond_some}
@@ -25,19 +24,6 @@ stands_window {bytes} {place} n part e =
           (sym (take-append-drop n (drop place bytes)) ∙ ap (λ (x : List ℕ). x ++ drop n (drop place bytes)) seen.1);
       at = length-take-le place bytes (omega arith);
     }
-
--- the k-th of structs of one width
-pub struct_stands : {bytes : List ℕ} {X : Type 0} (f : X → List ℕ) (width : ℕ) → ((x : X) → length (f x) ≡ width)
-    → (xs : List X) (k : ℕ) (d : X) (place : ℕ) → k < length xs → Stands bytes place (flat_map f xs)
-    → Stands bytes (place + width * k) (f (get_or xs k d))
-struct_stands f width each [] k d place inside s = absurd (omega arith)
-struct_stands f width each (x ∷ xs) zero d place inside s = back [] (f x) (place + width * zero) refl (omega arith)
-    (front (f x) (flat_map f xs) refl s)
-struct_stands f width each (x ∷ xs) (suc k) d place inside s =
-    let rest : Stands _ (place + width) (flat_map f xs) = back (f x) (flat_map f xs) (place + width) refl
-    (ap (λ (n : ℕ). place + n) (sym (each x))) s in
-    let found = struct_stands f width each xs k d (place + width) (omega arith) rest in
-    back [] (f (get_or xs k d)) (place + width * suc k) refl (omega arith) found
 
 -- a number, by its bits or as a signed one
 pub signed_stands : {bytes : List ℕ} {place : ℕ} (w : Width) (n : ℕ) → FitsWidth w n → Stands bytes place (to_le_bytes w n)

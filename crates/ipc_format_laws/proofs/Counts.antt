@@ -16,7 +16,7 @@ use Rattle.ipc_format_grammar.specs.columns.Slots.{Slot}
 use Rattle.ipc_format_grammar.specs.columns.Children.{items_of, joined_items, joined_fixed_items, field_slots}
 use Rattle.ipc_format_grammar.specs.Messages.{V5}
 use Rattle.ipc_format_grammar.specs.Layouts.{total, node_step, node_count, buffer_step, buffer_count}
-use Rattle.ipc_format_grammar.specs.Encoding.{Encoded, Encoder, encode, encode_step, joined, column_over, node_of, list_column, field_columns}
+use Rattle.ipc_format_grammar.specs.Encoding.{Encoded, Encoder, encode, encode_step, joined_columns, column_over, node_of, list_column, field_columns}
 use Rattle.ipc_format_grammar.specs.Buffers.{validity_bytes, offset_bytes}
 use Rattle.ipc_format_grammar.specs.WrittenStreams.{columns_of_slots}
 use Rattle.ipc_format_laws.specs.NormalForm.{all_of}
@@ -189,9 +189,9 @@ batch_counts (field ∷ fields) (column ∷ columns) h same =
     let here = column_counts field.data_type column parts.0 in
     let others = columns_of_slots fields columns in
     let rest = batch_counts fields columns parts.1 (one_less (length columns) (length fields) same) in (
-      length-append (encode field.data_type column).nodes (joined others).nodes ∙ (λ j. here.0 j + rest.0 j)
+      length-append (encode field.data_type column).nodes (joined_columns others).nodes ∙ (λ j. here.0 j + rest.0 j)
           ∙ sym (sum_by-cons (λ (field : Field). node_count field.data_type) field (take (length fields) fields)),
-      length-append (encode field.data_type column).buffers (joined others).buffers ∙ (λ j. here.1 j + rest.1 j)
+      length-append (encode field.data_type column).buffers (joined_columns others).buffers ∙ (λ j. here.1 j + rest.1 j)
           ∙ sym (sum_by-cons (λ (field : Field). buffer_count V5 field.data_type) field (take (length fields) fields)),
     )
 

@@ -3,7 +3,7 @@ use Rattle.std.proofs.Common.{◌≡◌, ℕ, suc, ◌+◌, ◌-◌, ◌≤◌, 
 use Rattle.std.proofs.Common.{arith}
 use Rattle.std.specs.Prelude.{Option, Some, None}
 use Rattle.std.specs.Int.{w8, w16, w64, cast_unsigned}
-use Rattle.ipc_format_grammar.specs.flatbuffers.FlatBuffers.{Table, Vector, signed_field, table_field}
+use Rattle.ipc_format_grammar.specs.flatbuffers.FlatBuffers.{TablePlace, Vector, signed_field, table_field}
 use Rattle.ipc_format_grammar.specs.flatbuffers.Objects.{Object, Fields, Objects, table, references, text, no_field, number_then, refers_then, no_object}
 use Rattle.ipc_format_grammar.specs.flatbuffers.Objects.{object_then}
 use Rattle.ipc_format_laws.specs.Spelling.{Spells, SpellsFields, SpellsObjects, SpellsNumber, SpellsReference, SpellsElement, count_of}
@@ -37,19 +37,19 @@ id_read None id = None
 id_read (Some encoding) None = Some (pos 0)
 id_read (Some encoding) (Some id) = Some id
 
-record KeysAnswers (bytes : List ℕ) (found : Table) (key : IntegerType) : Type 0 where
-  keys : Table
+record KeysAnswers (bytes : List ℕ) (found : TablePlace) (key : IntegerType) : Type 0 where
+  keys : TablePlace
   table : table_field bytes found 1 ≡ Some (Some keys)
   integer : integer_in bytes keys ≡ Some key
 
-keys_of_bits : (bytes : List ℕ) (found : Table) (key : IntegerType) (bits : ℕ) (is_signed : Bool) → bits < 2 ^ 31
+keys_of_bits : (bytes : List ℕ) (found : TablePlace) (key : IntegerType) (bits : ℕ) (is_signed : Bool) → bits < 2 ^ 31
     → integer_of (pos bits) is_signed ≡ Some key
     → SpellsReference bytes found 1 (λ (place : ℕ). Spells bytes place (table (int_fields bits is_signed))) → KeysAnswers bytes found key
 keys_of_bits bytes found key bits is_signed small e s =
     let read = tables_read bytes found 1 (int_fields bits is_signed) s in
     record { keys = read.child; table = read.table; integer = int_reads bytes read.child bits is_signed small read.slots ∙ e }
 
-keys_read : (bytes : List ℕ) (found : Table) (key : IntegerType)
+keys_read : (bytes : List ℕ) (found : TablePlace) (key : IntegerType)
     → SpellsReference bytes found 1 (λ (place : ℕ). Spells bytes place (integer_object key)) → KeysAnswers bytes found key
 keys_read bytes found integers.Int8 s = keys_of_bits bytes found integers.Int8 8 true (omega arith) refl s
 keys_read bytes found integers.Int16 s = keys_of_bits bytes found integers.Int16 16 true (omega arith) refl s
@@ -60,19 +60,19 @@ keys_read bytes found integers.UInt16 s = keys_of_bits bytes found integers.UInt
 keys_read bytes found integers.UInt32 s = keys_of_bits bytes found integers.UInt32 32 false (omega arith) refl s
 keys_read bytes found integers.UInt64 s = keys_of_bits bytes found integers.UInt64 64 false (omega arith) refl s
 
-record EncodingAnswers (bytes : List ℕ) (found : Table) (dictionary : Option (IntegerType × Bool)) (id : Option ℤ) : Type 0 where
-  child : Option Table
+record EncodingAnswers (bytes : List ℕ) (found : TablePlace) (dictionary : Option (IntegerType × Bool)) (id : Option ℤ) : Type 0 where
+  child : Option TablePlace
   table : table_field bytes found 4 ≡ Some child
   encoded : (data_type : DataType)
       → encoded_by bytes child data_type ≡ Some (record { data_type = encode dictionary data_type; id = id_read dictionary id })
 
-id_reads : (bytes : List ℕ) (found : Table) (encoding : IntegerType × Bool) (id : Option ℤ) → FitsId id
+id_reads : (bytes : List ℕ) (found : TablePlace) (encoding : IntegerType × Bool) (id : Option ℤ) → FitsId id
     → SpellsNumber bytes found 0 w64 (id_number id)
     → (number : ℤ) × (signed_field w64 bytes found 0 (pos 0) ≡ Some number) × (id_read (Some encoding) id ≡ Some number)
 id_reads bytes found encoding None fit s = (pos 0, (numbers_read bytes found 0 w64 0 s).signed (pos 0), refl)
 id_reads bytes found encoding (Some id) fit s = (id, (numbers_read bytes found 0 w64 (cast_unsigned w64 id) s).value (pos 0) id fit refl, refl)
 
-encoding_reads : (bytes : List ℕ) (found : Table) (dictionary : Option (IntegerType × Bool)) (id : Option ℤ) (fields : Fields) → FitsId id
+encoding_reads : (bytes : List ℕ) (found : TablePlace) (dictionary : Option (IntegerType × Bool)) (id : Option ℤ) (fields : Fields) → FitsId id
     → SpellsFields bytes found 4 (refers_if (encoding_object dictionary id) fields) → EncodingAnswers bytes found dictionary id
 encoding_reads bytes found None id fields fit s = record {
   child = None;
@@ -101,7 +101,7 @@ pub record TypeReads (told : Told) (stripped : DataType) (below : IdsList) (deep
   pub tag_is : tag_of told.tag ≡ Some tag
   pub type_fields : Fields
   pub table_is : told.type_table ≡ table type_fields
-  pub reads : (bytes : List ℕ) (levels : ℕ) (field found : Table) (total left : ℕ) → deep ≤ levels → total ≡ visits + left
+  pub reads : (bytes : List ℕ) (levels : ℕ) (field found : TablePlace) (total left : ℕ) → deep ≤ levels → total ≡ visits + left
       → SpellsFields bytes found 0 type_fields → SpellsReference bytes field 5 (λ place. Spells bytes place (references told.children))
       → type_in None (field_in None bytes levels) bytes tag field found total ≡ Some (record { data_type = stripped; below = below }, left)
 
@@ -109,7 +109,7 @@ pub record TypeReads (told : Told) (stripped : DataType) (below : IdsList) (deep
 pub record FieldReads (object : Object) (result : FieldIn) (deep visits : ℕ) : Type 0 where
   pub fields : Fields
   pub table_is : object ≡ table fields
-  pub reads : (bytes : List ℕ) (levels : ℕ) (found : Table) (total left : ℕ) → deep ≤ levels → total ≡ visits + left
+  pub reads : (bytes : List ℕ) (levels : ℕ) (found : TablePlace) (total left : ℕ) → deep ≤ levels → total ≡ visits + left
       → SpellsFields bytes found 0 fields → field_in None bytes levels found total ≡ Some (result, left)
 
 -- objects read back as fields
@@ -163,7 +163,7 @@ field_fields name is_nullable pairs told id =
     (refers_if (metadata_object (written_pairs told.extension pairs)) no_field))))))
 
 -- the slots behind a dictionary's
-skip_encoding : (bytes : List ℕ) (found : Table) (slot : ℕ) (object : Option Object) (fields : Fields)
+skip_encoding : (bytes : List ℕ) (found : TablePlace) (slot : ℕ) (object : Option Object) (fields : Fields)
     → SpellsFields bytes found slot (refers_if object fields) → SpellsFields bytes found (slot + 1) fields
 skip_encoding bytes found slot None fields s = s.rest
 skip_encoding bytes found slot (Some object) fields s = s.rest
@@ -171,7 +171,7 @@ skip_encoding bytes found slot (Some object) fields s = s.rest
 field_at_levels : (name : List ℕ) (is_nullable : Bool) (pairs : List (List ℕ × List ℕ)) (told : Told) (id : Option ℤ) (stripped : DataType)
     (below : IdsList) (deep visits : ℕ)
     → FitsId id → extended (read_pairs told.extension pairs) stripped ≡ extend told.extension stripped → TypeReads told stripped below deep visits
-    → (bytes : List ℕ) (levels : ℕ) (found : Table) (total left : ℕ) → deep ≤ levels → total ≡ visits + left → SpellsFields bytes found 0
+    → (bytes : List ℕ) (levels : ℕ) (found : TablePlace) (total left : ℕ) → deep ≤ levels → total ≡ visits + left → SpellsFields bytes found 0
     (field_fields name is_nullable pairs told id)
     → field_in None bytes (suc levels) found (suc total) ≡ Some (field_read name is_nullable pairs told id stripped below, left)
 unfolding field_in
@@ -210,7 +210,7 @@ pub field_reads : (name : List ℕ) (is_nullable : Bool) (pairs : List (List ℕ
 field_reads name is_nullable pairs told id stripped below deep visits fit-id is-extended h = record {
   fields = field_fields name is_nullable pairs told id;
   table_is = refl;
-  reads = λ (bytes : List ℕ) (levels : ℕ) (found : Table) (total left : ℕ) (enough : deep + 1 ≤ levels) (e : total ≡ visits + 1 + left)
+  reads = λ (bytes : List ℕ) (levels : ℕ) (found : TablePlace) (total left : ℕ) (enough : deep + 1 ≤ levels) (e : total ≡ visits + 1 + left)
       (s : SpellsFields bytes found 0 (field_fields name is_nullable pairs told id)).
       let levels-is : levels ≡ suc (levels - 1) = omega arith in
       let total-is : total ≡ suc (visits + left) = omega arith in

@@ -8,7 +8,7 @@ use Rattle.std.specs.Prelude.{Option, Some, nat_le}
 use Rattle.std.specs.List.{flat_map}
 use Rattle.std.specs.Int.{w16, w32, w64, to_le_bytes}
 use Rattle.ipc_format_grammar.specs.flatbuffers.Reading.{window_at}
-use Rattle.ipc_format_grammar.specs.flatbuffers.FlatBuffers.{Table, Vector, signed_at, signed_field, table_field, vector_field, root_of}
+use Rattle.ipc_format_grammar.specs.flatbuffers.FlatBuffers.{TablePlace, Vector, signed_at, signed_field, table_field, vector_field, root_of}
 use Rattle.ipc_format_grammar.specs.flatbuffers.Objects.{Object, Fields, Objects, table, references, no_field, absent_then, number_then, refers_then}
 use Rattle.ipc_format_grammar.specs.flatbuffers.Objects.{piece_of, laid}
 use Rattle.ipc_format_laws.specs.Spelling.{Spells, SpellsFields, SpellsReference}
@@ -23,8 +23,8 @@ use Rattle.ipc_format_grammar.specs.Schemas.{IdsList}
 use Rattle.ipc_format_grammar.specs.SchemaObjects.{schema_object, objects_of, field_object, refers_if, metadata_object}
 use Rattle.ipc_format_grammar.specs.Writable.{is_writable, normalised}
 use Rattle.ipc_format_grammar.proofs.NormalReports.{writable_normal}
-use Rattle.ipc_format_grammar.specs.Files.{file_mark, stands_at, block_at, blocks_from, blocks_of, footer_bytes, footer_schema, footer_in}
-use Rattle.ipc_format_grammar.specs.WrittenFiles.{Block, Blocks, block_bytes, blocks_object, file_start}
+use Rattle.ipc_format_grammar.specs.Files.{file_mark, stands_at, block_at, blocks_from, blocks_of, footer_bytes_in, footer_schema, footer_in}
+use Rattle.ipc_format_grammar.specs.WrittenFiles.{WrittenBlock, Blocks, block_bytes, blocks_object, file_start}
 use Rattle.ipc_format_laws.specs.Schemas.{IsSchema, ids_read}
 use Rattle.ipc_format_laws.specs.Footers.{FitsBlock, FitBlocks, block_read, file_with, HasFooter, FootersReadBack}
 use Rattle.ipc_format_laws.proofs.SchemaParts.{tables_among, few_tables}
@@ -32,7 +32,7 @@ use Rattle.ipc_format_laws.proofs.SchemaMessages.{schema_fields, fields_back, as
 
 -- ---- blocks
 
-block_stands : {bytes : List ℕ} {place : ℕ} (block : Block) → FitsBlock block → Stands bytes place (block_bytes block)
+block_stands : {bytes : List ℕ} {place : ℕ} (block : WrittenBlock) → FitsBlock block → Stands bytes place (block_bytes block)
     → block_at bytes place ≡ Some (block_read block)
 unfolding block_at
 block_stands {bytes} {place} block fits s =
@@ -51,7 +51,7 @@ block_stands {bytes} {place} block fits s =
     ∙ ap Some (to_z_pos w64 block.body_length fits.body_fits) in
     rw (first, second, third) refl
 
-blocks_stand : (bytes : List ℕ) (blocks : List Block) (place : ℕ) → FitBlocks blocks → Stands bytes place (flat_map block_bytes blocks)
+blocks_stand : (bytes : List ℕ) (blocks : List WrittenBlock) (place : ℕ) → FitBlocks blocks → Stands bytes place (flat_map block_bytes blocks)
     → blocks_from bytes place (length blocks) ≡ Some (map block_read blocks)
 blocks_stand bytes [] place fit s = refl
 blocks_stand bytes (block ∷ blocks) place fit s =
@@ -59,17 +59,17 @@ blocks_stand bytes (block ∷ blocks) place fit s =
     let others = blocks_stand bytes blocks (place + 24) fit.1 (back (block_bytes block) (flat_map block_bytes blocks) (place + 24) refl refl s) in
     rw (first, others) refl
 
-blocks_length : (blocks : List Block) → length (flat_map block_bytes blocks) ≡ 24 * length blocks
+blocks_length : (blocks : List WrittenBlock) → length (flat_map block_bytes blocks) ≡ 24 * length blocks
 blocks_length [] = refl
 blocks_length (block ∷ blocks) = omega (arith, blocks_length blocks)
 
 -- a slot that refers to blocks
-record BlocksAnswers (bytes : List ℕ) (found : Table) (slot : ℕ) (blocks : List Block) : Type 0 where
+record BlocksAnswers (bytes : List ℕ) (found : TablePlace) (slot : ℕ) (blocks : List WrittenBlock) : Type 0 where
   vector_at : Vector
   vector : vector_field bytes found slot 24 ≡ Some (Some vector_at)
   has_blocks : blocks_of bytes vector_at ≡ Some (map block_read blocks)
 
-blocks_read : (bytes : List ℕ) (found : Table) (slot : ℕ) (blocks : List Block) → FitBlocks blocks
+blocks_read : (bytes : List ℕ) (found : TablePlace) (slot : ℕ) (blocks : List WrittenBlock) → FitBlocks blocks
     → SpellsReference bytes found slot (λ (place : ℕ). Spells bytes place (blocks_object blocks)) → BlocksAnswers bytes found slot blocks
 blocks_read bytes found slot blocks fit h =
     let read = elements_read bytes found slot (length blocks) (flat_map block_bytes blocks) h in
@@ -85,8 +85,8 @@ blocks_read bytes found slot blocks fit h =
 mark_stands : {bytes : List ℕ} {place : ℕ} → Stands bytes place file_mark → stands_at file_mark bytes place ≡ true
 mark_stands s = rw (window_stands 6 refl s) refl
 
-footer_stands : (messages footer : List ℕ) → length footer < 2 ^ 31 → footer_bytes (file_with messages footer) ≡ Some footer
-unfolding footer_bytes
+footer_stands : (messages footer : List ℕ) → length footer < 2 ^ 31 → footer_bytes_in (file_with messages footer) ≡ Some footer
+unfolding footer_bytes_in
 footer_stands messages footer short =
     let bytes = file_with messages footer in
     let size = to_le_bytes w32 (length footer) in
@@ -122,7 +122,7 @@ footer_fields schema below blocks =
     number_then w16 4 (refers_then (table (schema_fields schema below)) (refers_then (blocks_object blocks.dictionaries)
     (refers_then (blocks_object blocks.record_batches) (absent_then no_field))))
 
-blocks_fit : (blocks : List Block) → Fits (blocks_object blocks)
+blocks_fit : (blocks : List WrittenBlock) → Fits (blocks_object blocks)
 blocks_fit blocks = omega (arith, blocks_length blocks)
 
 footer_fits : (schema : Schema) (below : IdsList) (blocks : Blocks) → Fits (table (schema_fields schema below))
@@ -154,10 +154,10 @@ few_in_footer objects metadata blocks =
 
 -- what a footer tells before its schema is read
 record FooterAnswers (footer : List ℕ) (schema : Schema) (below : IdsList) (blocks : Blocks) : Type 0 where
-  root : Table
+  root : TablePlace
   root_is : root_of footer ≡ Some root
   version : version_in footer ≡ Some V5
-  schema_at : Table
+  schema_at : TablePlace
   schema_is : table_field footer root 1 ≡ Some (Some schema_at)
   has_schema : IsSchema footer (normalised schema) (ids_read schema below) schema_at
   dictionaries : BlocksAnswers footer root 2 blocks.dictionaries
@@ -193,7 +193,7 @@ footer_found messages footer schema below blocks short answers =
 
 footer_answers : (footer : List ℕ) (schema : Schema) (below : IdsList) (blocks : Blocks) → FitBlocks blocks.dictionaries
     → FitBlocks blocks.record_batches
-    → ((found : Table) → SpellsFields footer found 0 (schema_fields schema below)
+    → ((found : TablePlace) → SpellsFields footer found 0 (schema_fields schema below)
     → IsSchema footer (normalised schema) (ids_read schema below) found)
     → SpellsRoot footer (table (footer_fields schema below blocks)) → FooterAnswers footer schema below blocks
 unfolding version_in
@@ -227,6 +227,6 @@ footers_read_back schema below blocks messages writable has fit fit-dictionaries
     let within : length (laid object) < 2 ^ 32 = omega (arith, short) in
     footer_found messages (laid object) schema below blocks short
     (footer_answers (laid object) schema below blocks fit-dictionaries fit-batches
-    (λ (found : Table) (s : SpellsFields (laid object) found 0 (schema_fields schema below)).
+    (λ (found : TablePlace) (s : SpellsFields (laid object) found 0 (schema_fields schema below)).
     schema_reads (laid object) found schema below h ask.shallow few writable-too has.ascending s)
     (laid_reads_back object fits within))

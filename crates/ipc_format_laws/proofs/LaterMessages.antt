@@ -1,21 +1,19 @@
 -- The messages behind a schema's, as they are read.
-use Rattle.std.proofs.Common.{◌≡◌, ℕ, ◌+◌, ◌<◌, ◌≤◌, ◌^◌, pos, true, List, [], ◌∷◌, ◌++◌, length, map, refl, ap, ◌∙◌, arith}
+use Rattle.std.proofs.Common.{◌≡◌, ℕ, ◌+◌, ◌<◌, ◌≤◌, ◌^◌, pos, true, List, [], ◌∷◌, length, map, refl, ap, arith}
 use Rattle.std.specs.Prelude.{Some, nat_le, nat_lt}
-use Rattle.std.specs.List.{All, list_all}
+use Rattle.std.specs.List.{All}
 use Rattle.std.proofs.lemmas.Bool.{leb-true, ltb-true, lt-ltb}
-use Rattle.std.proofs.lemmas.List.Elements.{All-head, All-tail, All-nil, All-cons}
-use Rattle.ipc_format_grammar.specs.flatbuffers.FlatBuffers.{Table}
+use Rattle.std.proofs.lemmas.List.Elements.{All-nil, All-cons}
+use Rattle.ipc_format_grammar.specs.flatbuffers.FlatBuffers.{TablePlace}
 use Rattle.ipc_format_grammar.specs.Messages as grammar
 use Rattle.ipc_format_grammar.specs.Messages.{Header, message_in}
 use Rattle.ipc_format_grammar.specs.Framing.{Framed}
 use Rattle.ipc_format_grammar.specs.Limits.{most_dictionaries}
-use Rattle.ipc_format_grammar.specs.GivenDictionaries.{Given, to_write, written_after}
-use Rattle.ipc_format_grammar.specs.WrittenMessages.{Written, fits_limit, prefix_size, most_metadata, body_limit, dictionary_message}
-use Rattle.ipc_format_grammar.specs.WrittenStreams.{Batch, messages_after}
+use Rattle.ipc_format_grammar.specs.WrittenMessages.{Written, fits_limit, prefix_size, most_metadata, body_limit}
 use Rattle.ipc_format_laws.specs.BatchMessages.{IsMessage}
 use Rattle.ipc_format_laws.proofs.SchemaParts.{both}
 use Rattle.ipc_format_laws.specs.Messages.{as_written, IsReadable, MayFollow}
-use Rattle.ipc_format_laws.specs.Contents.{IsMessageOf, AreThoseOf, batch_message}
+use Rattle.ipc_format_laws.specs.Contents.{IsMessageOf, AreThoseOf}
 
 -- ---- limits
 
@@ -38,14 +36,14 @@ abbrev pub read_of : Written → Header → Framed
 read_of message header = record { metadata = message.metadata; header = header; body = message.body }
 
 -- a message's metadata is read with a header of a kind, which has something
-abbrev pub ReadsBack : Written → (Table → Header) → (Table → Type 0) → Type 0
+abbrev pub ReadsBack : Written → (TablePlace → Header) → (TablePlace → Type 0) → Type 0
 ReadsBack message kind HasTable = IsMessage message.metadata kind (length message.body) HasTable
 
 is_readable : (message : Written) (header : Header) → message_in message.metadata
     ≡ Some (record { header = header; body_length = pos (length message.body) }) → fits_limit message ≡ true → IsReadable (read_of message header)
 is_readable message header tells fits = record { tells = tells; is_short = (has_room message fits).metadata }
 
-pub is_message_of : (message : Written) (kind : Table → Header) (HasTable : Table → Type 0) (found : ReadsBack message kind HasTable)
+pub is_message_of : (message : Written) (kind : TablePlace → Header) (HasTable : TablePlace → Type 0) (found : ReadsBack message kind HasTable)
     → IsMessageOf message kind HasTable (read_of message (kind found.header_at))
 is_message_of message kind HasTable found = record { written = refl; table = found.header_at; header = refl; has_table = found.header }
 
@@ -76,7 +74,7 @@ one_more IsThat before after x xs message header others readable is follow rest 
 }
 
 -- a batch's message, however many dictionaries stand before it
-pub batch_more : {X : Type 0} (IsThat : X → Framed → Type 0) (before : ℕ) (x : X) (xs : List X) (message : Written) (HasTable : Table → Type 0)
+pub batch_more : {X : Type 0} (IsThat : X → Framed → Type 0) (before : ℕ) (x : X) (xs : List X) (message : Written) (HasTable : TablePlace → Type 0)
     (others : List Written) (found : ReadsBack message grammar.record_batch HasTable) → fits_limit message ≡ true
     → IsThat x (read_of message (grammar.record_batch found.header_at))
     → ReadLater 0 others (AreThoseOf IsThat xs) → ReadLater before (message ∷ others) (AreThoseOf IsThat (x ∷ xs))
@@ -86,7 +84,7 @@ batch_more IsThat before x xs message HasTable others found fits is rest =
 
 -- a dictionary's message, where not too many stand before it
 pub dictionary_more : {X : Type 0} (IsThat : X → Framed → Type 0) (before : ℕ) (x : X) (xs : List X) (message : Written)
-    (HasTable : Table → Type 0) (others : List Written) (found : ReadsBack message grammar.dictionary_batch HasTable) → fits_limit message ≡ true
+    (HasTable : TablePlace → Type 0) (others : List Written) (found : ReadsBack message grammar.dictionary_batch HasTable) → fits_limit message ≡ true
     → IsThat x (read_of message (grammar.dictionary_batch found.header_at)) → before < most_dictionaries
     → ReadLater (before + 1) others (AreThoseOf IsThat xs) → ReadLater before (message ∷ others) (AreThoseOf IsThat (x ∷ xs))
 dictionary_more IsThat before x xs message HasTable others found fits is few rest =
@@ -94,30 +92,3 @@ dictionary_more IsThat before x xs message HasTable others found fits is few res
     one_more IsThat before (before + 1) x xs message (grammar.dictionary_batch found.header_at) others
     (is_readable message (grammar.dictionary_batch found.header_at) found.message fits) is
     (λ (ms : List Framed) (follow : MayFollow (before + 1) ms). rw test follow) rest
-
--- ---- the messages of some things, each of which is a batch's
-
-pub batches_more : {X : Type 0} (message : X → Written) (HasTable : X → Table → Type 0) (IsGood : X → Type 0)
-    → ((x : X) → IsGood x → fits_limit (message x) ≡ true → ReadsBack (message x) grammar.record_batch (HasTable x))
-    → (xs : List X) → All IsGood xs → list_all fits_limit (map message xs) ≡ true
-    → ReadLater 0 (map message xs) (AreThoseOf (λ x. IsMessageOf (message x) grammar.record_batch (HasTable x)) xs)
-batches_more message HasTable IsGood back [] good fit = no_more (λ x. IsMessageOf (message x) grammar.record_batch (HasTable x)) 0
-batches_more message HasTable IsGood back (x ∷ xs) good fit =
-    let tests = both (fits_limit (message x)) (list_all fits_limit (map message xs)) fit in
-    let found = back x (All-head IsGood x xs good) tests.0 in
-    batch_more (λ x. IsMessageOf (message x) grammar.record_batch (HasTable x)) 0 x xs (message x) (HasTable x) (map message xs) found tests.0
-    (is_message_of (message x) grammar.record_batch (HasTable x) found)
-    (batches_more message HasTable IsGood back xs (All-tail IsGood x xs good) tests.1)
-
--- batches without dictionaries are one message each
-one_message : (batch : Batch) (batches : List Batch) → batch.given ≡ []
-    → messages_after [] (batch ∷ batches) ≡ batch_message batch ∷ messages_after [] batches
-one_message batch batches none = ap (λ (given : List Given).
-    (map dictionary_message (to_write [] given) ++ batch_message batch ∷ []) ++ messages_after (written_after [] given) batches) none
-
-pub one_message_each : {X : Type 0} (batch : X → Batch) (IsGood : X → Type 0) → ((x : X) → IsGood x → (batch x).given ≡ []) → (xs : List X)
-    → All IsGood xs → messages_after [] (map batch xs) ≡ map (λ x. batch_message (batch x)) xs
-one_message_each batch IsGood none [] good = refl
-one_message_each batch IsGood none (x ∷ xs) good =
-    one_message (batch x) (map batch xs) (none x (All-head IsGood x xs good)) ∙ ap (λ (ms : List Written). batch_message (batch x) ∷ ms)
-    (one_message_each batch IsGood none xs (All-tail IsGood x xs good))

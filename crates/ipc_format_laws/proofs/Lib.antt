@@ -4,10 +4,8 @@ pub mod DefaultIds
 pub mod FlatColumns
 pub mod FreshBatches
 pub mod FreshBuffers
-pub mod FreshColumns
 pub mod FreshDictionaries
 pub mod FreshEncodings
-pub mod FreshStrings
 pub mod Layers
 pub mod NormalForms
 pub mod NormalPairs
@@ -36,14 +34,6 @@ pub mod Elements
 pub mod Bitmaps
 pub mod Values
 pub mod Buffers
-pub mod FixedColumns
-pub mod Offsets
-pub mod ByteColumns
-pub mod ListColumns
-pub mod StructColumns
-pub mod FlatTypes
-pub mod WholeTypes
-pub mod Batches
 pub mod Given
 pub mod MetadataTexts
 pub mod Texts
@@ -56,7 +46,6 @@ pub mod GivenIds
 pub mod SentMessages
 pub mod StreamContents
 pub mod NoDictionaries
-pub mod Int32Schemas
 pub mod StreamTables
 pub mod Firsts
 pub mod FirstBuffers
@@ -66,7 +55,6 @@ pub mod FirstChildren
 pub mod FirstTypes
 pub mod ChosenBatches
 pub mod Choices
-pub mod FlatBatches
 pub mod Runs
 pub use Rattle.ipc_format_grammar.proofs as grammar_lemmas
 pub use Rattle.ipc_format_grammar.proofs.columnar_memory_lemmas

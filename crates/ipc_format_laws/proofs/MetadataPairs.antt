@@ -1,7 +1,7 @@
 -- What the pairs of custom metadata give back.
 use Rattle.std.proofs.Common.{◌≡◌, ℕ, ◌+◌, List, [], ◌∷◌, refl, add-one}
 use Rattle.std.specs.Prelude.{Some}
-use Rattle.ipc_format_grammar.specs.flatbuffers.FlatBuffers.{Table, Vector}
+use Rattle.ipc_format_grammar.specs.flatbuffers.FlatBuffers.{TablePlace, Vector}
 use Rattle.ipc_format_grammar.specs.flatbuffers.Objects.{Fields, text, no_field, refers_then}
 use Rattle.ipc_format_laws.specs.Spelling.{SpellsFields, SpellsObjects, count_of}
 use Rattle.ipc_format_laws.proofs.Readers.{absent_reads, texts_read, each_read, references_read}
@@ -25,7 +25,7 @@ pairs_read bytes vector k before (pair ∷ pairs) s =
     rw (add-one, read.table, key, value) others
 
 -- a slot of custom metadata
-pub metadata_reads : (bytes : List ℕ) (found : Table) (slot : ℕ) (pairs : List (List ℕ × List ℕ)) (fields : Fields)
+pub metadata_reads : (bytes : List ℕ) (found : TablePlace) (slot : ℕ) (pairs : List (List ℕ × List ℕ)) (fields : Fields)
     → SpellsFields bytes found slot (refers_if (metadata_object pairs) fields) → metadata_in bytes found slot ≡ Some (joined [] pairs)
 unfolding metadata_in
 metadata_reads bytes found slot [] fields s = rw ((absent_reads bytes found slot s.here).vector 4) refl

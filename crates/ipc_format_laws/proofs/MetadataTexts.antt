@@ -9,7 +9,7 @@ use Rattle.std.specs.Str.{is_utf8}
 use Rattle.std.proofs.lemmas.Bool.{and_parts}
 use Rattle.ipc_format_grammar.specs.columnar_memory.Pairs.{value_at, with_pair}
 use Rattle.ipc_format_grammar.specs.flatbuffers.Reading.{◌>>=◌, guard, window_at}
-use Rattle.ipc_format_grammar.specs.flatbuffers.FlatBuffers.{Table, Vector, number_at, reference_field, string_at, string_field, element_at}
+use Rattle.ipc_format_grammar.specs.flatbuffers.FlatBuffers.{TablePlace, Vector, number_at, reference_field, text_at, string_field, element_at}
 use Rattle.ipc_format_grammar.specs.flatbuffers.FlatBuffers.{vector_field, if_present}
 use Rattle.std.specs.Int.{w32}
 use Rattle.ipc_format_grammar.specs.Schemas.{with_found, pairs_from, pairs_of, metadata_in}
@@ -27,22 +27,22 @@ guarded : (b : Bool) (text : List ℕ) → is_utf8 text ≡ b → Gives (λ foun
 guarded true text is = is
 guarded false text is = tt
 
-string_gives : (bytes : List ℕ) (place : ℕ) → Gives (λ text. is_utf8 text ≡ true) (string_at bytes place)
-unfolding string_at
+string_gives : (bytes : List ℕ) (place : ℕ) → Gives (λ text. is_utf8 text ≡ true) (text_at bytes place)
+unfolding text_at
 string_gives bytes place =
     each_gives (λ text. is_utf8 text ≡ true) (number_at w32 bytes place) _ (λ count.
     each_gives (λ text. is_utf8 text ≡ true) (window_at bytes (place + 4) count) _ (λ text.
     guarded (is_utf8 text) text refl))
 
 -- a string that a field refers to is UTF-8, if there is one
-pub field_gives_text : (bytes : List ℕ) (table : Table) (slot : ℕ) → Gives (λ text. is_text_or_none text ≡ true) (string_field bytes table slot)
+pub field_gives_text : (bytes : List ℕ) (table : TablePlace) (slot : ℕ) → Gives (λ text. is_text_or_none text ≡ true) (string_field bytes table slot)
 unfolding string_field
 field_gives_text bytes table slot =
     each_gives (λ text. is_text_or_none text ≡ true) (reference_field bytes table slot) _ (λ target. by target)
   where
-    by : (target : Option ℕ) → Gives (λ text. is_text_or_none text ≡ true) (if_present (string_at bytes) target)
+    by : (target : Option ℕ) → Gives (λ text. is_text_or_none text ≡ true) (if_present (text_at bytes) target)
     by None = refl
-    by (Some place) = then_gives (λ text. is_utf8 text ≡ true) (λ text. is_text_or_none text ≡ true) (string_at bytes place) _
+    by (Some place) = then_gives (λ text. is_utf8 text ≡ true) (λ text. is_text_or_none text ≡ true) (text_at bytes place) _
         (string_gives bytes place) (λ text is. is)
 
 -- ---- pairs
@@ -93,7 +93,7 @@ pairs_give bytes vector (suc n) k pairs h =
     (λ value is_value. pairs_give bytes vector n (k + 1) (with_found pairs key value) (found_kept pairs key value is_key is_value h))))
 
 -- the metadata that a slot of a table refers to
-pub metadata_gives : (bytes : List ℕ) (table : Table) (slot : ℕ) → Gives AreMetadata (metadata_in bytes table slot)
+pub metadata_gives : (bytes : List ℕ) (table : TablePlace) (slot : ℕ) → Gives AreMetadata (metadata_in bytes table slot)
 unfolding metadata_in
 metadata_gives bytes table slot = each_gives AreMetadata (vector_field bytes table slot 4) _ (λ vector. by vector)
   where

@@ -8,7 +8,7 @@ use Rattle.std.specs.Int.{w8, w32}
 use Rattle.std.specs.Str.{is_utf8}
 use denote.Hole.Carrier
 use Rattle.ipc_format_grammar.specs.flatbuffers.Objects.{Object, Objects, table, references, no_field, number_then, object_then}
-use Rattle.ipc_format_grammar.specs.flatbuffers.FlatBuffers.{Table}
+use Rattle.ipc_format_grammar.specs.flatbuffers.FlatBuffers.{TablePlace}
 use Rattle.ipc_format_laws.specs.Spelling.{Spells, SpellsReference}
 use Rattle.ipc_format_laws.specs.Theorem.{Fits, FitsObjects}
 use Rattle.ipc_format_grammar.specs.columnar_memory.declared.DataType.{DataType}
@@ -58,7 +58,7 @@ over_back n type_table x b told normal report its_ids below small fits is_bare h
 pub items_claim : (n : ℕ) (tag : Tag) (make : Field → DataType) (x : layer.DataType-F DataType Field) (told : Ids → Object) (normal : Field)
     (report : Report) (its_ids : Ids → Ids) (texts : Bool)
     → n < 2 ^ 8 → tag_of n ≡ Some tag → make normal ≡ roll-DataType x → IsBare x
-    → ((bytes : List ℕ) (read : Table → Visits FieldIn) (field found : Table) (total left : ℕ) (result : FieldIn)
+    → ((bytes : List ℕ) (read : TablePlace → Visits FieldIn) (field found : TablePlace) (total left : ℕ) (result : FieldIn)
     → child_in read bytes field total ≡ Some (result, left) → type_in None read bytes tag field found total ≡ Some (with_child make (result, left)))
     → FieldClaim told normal report its_ids texts
     → TypeClaim (nested n empty_table (told ∷ [])) (roll-DataType x) (over true report) (over_ids (its_ids ∷ [])) texts
@@ -244,7 +244,7 @@ retold {told} {other} tag-is table-is children-are h = record {
   tag_is = ap tag_of (sym tag-is) ∙ h.tag_is;
   type_fields = h.type_fields;
   table_is = sym table-is ∙ h.table_is;
-  reads = λ (bytes : List ℕ) (levels : ℕ) (field found : Table) (total left : ℕ) enough e s children.
+  reads = λ (bytes : List ℕ) (levels : ℕ) (field found : TablePlace) (total left : ℕ) enough e s children.
       h.reads bytes levels field found total left enough e s (subst
       (λ (objects : Objects). SpellsReference bytes field 5 (λ (place : ℕ). Spells bytes place (references objects)))
       (sym children-are) children);

@@ -1,12 +1,11 @@
 -- Columns of types without dictionaries bring none.
-use Rattle.std.proofs.Common.{◌≡◌, ℕ, suc, ◌+◌, Bool, true, false, List, [], ◌∷◌, map, refl, subst, arith}
+use Rattle.std.proofs.Common.{◌≡◌, ℕ, suc, ◌+◌, List, [], ◌∷◌, map, refl, subst, arith}
 use Rattle.std.specs.Prelude.{sum_by}
-use Rattle.std.specs.List.{list_all}
 use Rattle.std.proofs.lemmas.List.Sums.{sum_by-cons}
 use Rattle.ipc_format_grammar.specs.columnar_memory.declared.DataType.{DataType, map-DataType}
 use Rattle.ipc_format_grammar.specs.columnar_memory.declared.DataType.TheOpen as layer
 use Rattle.ipc_format_grammar.specs.columnar_memory.declared.DataType.TheViews.{roll-DataType, roll-Field}
-use Rattle.ipc_format_grammar.specs.columnar_memory.declared.DataType.TheFolds.{fold-Field, para-Field, ind-DataType, fold-roll-DataType, fold-roll-Field}
+use Rattle.ipc_format_grammar.specs.columnar_memory.declared.DataType.TheFolds.{para-Field, ind-DataType, fold-roll-DataType, fold-roll-Field}
 use Rattle.ipc_format_grammar.specs.columnar_memory.declared.DataType.TheFolds.{para-roll-DataType, para-roll-Field}
 use Rattle.ipc_format_grammar.specs.columnar_memory.declared.Field.{Field}
 use Rattle.ipc_format_grammar.specs.columns.Slots.{Slot}
@@ -14,11 +13,9 @@ use Rattle.ipc_format_grammar.specs.columns.Children.{joined_items, joined_fixed
 use Rattle.ipc_format_grammar.specs.Schemas.{Ids, IdsList}
 use Rattle.ipc_format_grammar.specs.Writable.{Report, report_of, report_step, field_step, reports_of}
 use Rattle.ipc_format_grammar.proofs.NormalReports.{report_field}
-use Rattle.ipc_format_laws.proofs.SchemaParts.{both}
 use Rattle.ipc_format_grammar.specs.Columns.{first_ids, other_ids, ids_below}
 use Rattle.ipc_format_grammar.specs.GivenDictionaries.{Giver, given_by, given_fields, givers, give_step, give_field_step}
 use Rattle.ipc_format_grammar.specs.WrittenStreams.{given_of_slots}
-use Rattle.ipc_format_laws.specs.Columns.{is_flat, is_flat_step}
 
 abbrev Layer : Type 0
 Layer = layer.DataType-F DataType Field
@@ -114,58 +111,3 @@ none_given (field ∷ fields) below [] none = refl
 none_given (field ∷ fields) below (column ∷ columns) none =
     let parts = one_more (report_of field.data_type) (reports_of fields) none in
     rw (type_gives_none field.data_type parts.0 (first_ids below) column) (none_given fields (other_ids below) columns parts.1)
-
--- ---- types whose slots take one size each have no dictionaries
-
-abbrev FlatHasNone : DataType → Type 0
-FlatHasNone t = is_flat t ≡ true → (report_of t).dictionaries ≡ 0
-
-abbrev flat_field : Field → Bool
-flat_field = fold-Field Bool Bool is_flat_step (λ field. field.data_type)
-
-at_flat : (x : Layer)
-    → (is_flat_step (map-DataType DataType Field Bool Bool is_flat flat_field x) ≡ true
-    → (report_step (map-DataType DataType Field Report Report report_of report_field x)).dictionaries ≡ 0) → FlatHasNone (roll-DataType x)
-at_flat x h = rw (
-  fold-roll-DataType Bool Bool is_flat_step (λ field. field.data_type) x,
-  fold-roll-DataType Report Report report_step field_step x,
-) h
-
-abbrev E : Type 0
-E = (t : DataType) × FlatHasNone t
-
-abbrev G : Type 0
-G = (u : Field) × Unit {0}
-
-abbrev bare_field : G → Field
-bare_field e = e.0
-
-unlike : false ≡ true → ⊥
-unlike e = absurd cc
-
-flat_step : (y : layer.DataType-F E G) → FlatHasNone (roll-DataType (map-DataType E G DataType Field (λ e. e.0) bare_field y))
-flat_step (layer.Extension name inner metadata) = at_flat (layer.Extension name inner.0 metadata) (λ flat. inner.1 flat)
-flat_step (layer.List item) = at_flat (layer.List item.0) (λ flat. absurd (unlike flat))
-flat_step (layer.LargeList item) = at_flat (layer.LargeList item.0) (λ flat. absurd (unlike flat))
-flat_step (layer.FixedSizeList item size) = at_flat (layer.FixedSizeList item.0 size) (λ flat. absurd (unlike flat))
-flat_step (layer.Map entry is_sorted) = at_flat (layer.Map entry.0 is_sorted) (λ flat. absurd (unlike flat))
-flat_step (layer.Struct children) = at_flat (layer.Struct (map bare_field children)) (λ flat. absurd (unlike flat))
-flat_step (layer.Union children numbers mode) = at_flat (layer.Union (map bare_field children) numbers mode) (λ flat. absurd (unlike flat))
-flat_step (layer.Dictionary key value is_ordered) = at_flat (layer.Dictionary key value.0 is_ordered) (λ flat. absurd (unlike flat))
-flat_step y = at_flat (map-DataType E G DataType Field (λ e. e.0) bare_field y) (λ flat. refl)
-
-flat_has_none : (t : DataType) → FlatHasNone t
-flat_has_none = ind-DataType FlatHasNone (λ u. Unit {0}) (λ x y is. subst (λ (x : Layer). FlatHasNone (roll-DataType x)) is (flat_step y))
-    (λ x y is. tt)
-
-pub flat_fields_have_none : (fields : List Field) → list_all (λ (field : Field). is_flat field.data_type) fields ≡ true
-    → dictionaries_of (reports_of fields) ≡ 0
-flat_fields_have_none [] flat = refl
-flat_fields_have_none (field ∷ fields) flat =
-    let parts = both (is_flat field.data_type) (list_all (λ (field : Field). is_flat field.data_type) fields) flat in
-    omega (
-      arith,
-      sum_by-cons (λ (report : Report). report.dictionaries) (report_of field.data_type) (reports_of fields),
-      flat_has_none field.data_type parts.0,
-      flat_fields_have_none fields parts.1,
-    )

@@ -2,7 +2,7 @@
 use Rattle.std.proofs.Common.{◌≡◌, ℕ, ◌+◌, ◌*◌, ◌≤◌, ◌<◌, ◌^◌, List, [], ◌++◌, length, replicate, refl, sym, arith, append-nil}
 use Rattle.std.specs.List.{flat_map}
 use Rattle.std.specs.Int.{w32, to_le_bytes, next_multiple_of}
-use Rattle.ipc_format_grammar.specs.flatbuffers.FlatBuffers.{Table, Vector}
+use Rattle.ipc_format_grammar.specs.flatbuffers.FlatBuffers.{TablePlace, Vector}
 use Rattle.ipc_format_grammar.specs.flatbuffers.Laying.{Piece, number, refers, after, table_end, child_bytes, message_bytes}
 use Rattle.ipc_format_grammar.specs.flatbuffers.Objects.{Object, Fields, Objects, table, references, elements, text, no_field, absent_then, number_then}
 use Rattle.ipc_format_grammar.specs.flatbuffers.Objects.{refers_then, no_object, object_then, piece_of, slots_of, pieces_of, laid}
@@ -27,7 +27,7 @@ pieces_count no_object = refl
 pieces_count (object_then object objects) = omega (arith, pieces_count objects)
 
 -- the piece of the first object of a reference's slot or element stands where its children do
-slot_object : {bytes : List ℕ} {found : Table} {slot at child : ℕ} (object : Object) (fields : Fields)
+slot_object : {bytes : List ℕ} {found : TablePlace} {slot at child : ℕ} (object : Object) (fields : Fields)
     → SlotsStand bytes found slot at child (slots_of (refers_then object fields)) → Stands bytes (found.place + child) (piece_of object).bytes
 slot_object object fields h = front (piece_of object).bytes (flat_map child_bytes (slots_of fields)) refl h.children
 
@@ -56,7 +56,7 @@ mutual
   spells_object (elements count content) bytes start fits short s = elements_stand count content fits short s
   spells_object (text content) bytes start fits short s = text_stands content fits short s
 
-  spells_fields : (fields : Fields) (bytes : List ℕ) (found : Table) (slot at child : ℕ) → FitsFields fields → length bytes < 2 ^ 32
+  spells_fields : (fields : Fields) (bytes : List ℕ) (found : TablePlace) (slot at child : ℕ) → FitsFields fields → length bytes < 2 ^ 32
       → SlotsStand bytes found slot at child (slots_of fields) → SpellsFields bytes found slot fields
   spells_fields no_field bytes found slot at child fits short h = no_slot h
   spells_fields (absent_then fields) bytes found slot at child fits short h = record {

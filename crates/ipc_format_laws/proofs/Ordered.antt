@@ -5,9 +5,6 @@ use Rattle.std.specs.Ordering.{is_lt, is_eq, nat_cmp, ordering_reverse}
 use Rattle.std.specs.declared.cmp.Ordering.TheVariants.{Less, Equal, Greater}
 use Rattle.std.specs.Cmp.{IsTotalOrder, tied_itself}
 use Rattle.std.specs.Cmp.Lexicographic.{slice_cmp, pointwise, texts_ties, bytes_decides, nat_list_cmp_total}
-use Rattle.std.specs.List.Sorted.{IsStrictlySortedBy}
-use Rattle.std.specs.List.{AllByRecursion}
-use Rattle.std.specs.Map.{keys_of}
 use Rattle.ipc_format_grammar.specs.columnar_memory.Pairs.{with_pair, value_at}
 use Rattle.ipc_format_grammar.specs.columnar_memory.declared.DataType.{DataType}
 use Rattle.ipc_format_grammar.specs.Schemas.{extension_name_key, extension_metadata_key, extended}
@@ -287,14 +284,3 @@ pub extension_is : (told : Option (List ℕ × Option (List ℕ))) (pairs : Pair
     → extended (read_pairs told pairs) data_type ≡ extend told data_type
 extension_is told pairs data_type e = ap (λ (ps : Pairs). extended ps data_type) (pairs_are told pairs e) ∙ extended_in told
     (others_of pairs) data_type (no_name pairs e) (no_metadata pairs e)
-
--- ---- keys in order, as maps have them
-
-below_all : (key : List ℕ) (pairs : Pairs) → AllByRecursion (λ (other : List ℕ). order key other ≡ Less) (keys_of pairs) → is_below key pairs ≡ true
-below_all key [] h = refl
-below_all key (pair ∷ pairs) h = rw (h.0, below_all key pairs h.1) refl
-
-pub ascending_from_sorted : (pairs : Pairs) → IsStrictlySortedBy order (keys_of pairs) → is_ascending pairs ≡ true
-unfolding IsStrictlySortedBy
-ascending_from_sorted [] h = refl
-ascending_from_sorted (pair ∷ pairs) h = rw (below_all pair.0 pairs h.0, ascending_from_sorted pairs h.1) refl

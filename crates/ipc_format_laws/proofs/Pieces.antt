@@ -5,8 +5,9 @@ use Rattle.std.specs.Prelude.{Some}
 use Rattle.std.specs.List.{flat_map}
 use Rattle.std.specs.Int.{w16, w32, to_le_bytes, next_multiple_of}
 use Rattle.std.specs.Str.{is_utf8}
-use Rattle.ipc_format_grammar.specs.flatbuffers.FlatBuffers.{Table, Vector, number_at, table_at, vector_at, string_at}
-use Rattle.ipc_format_grammar.specs.flatbuffers.Laying.{Slot, Piece, padded, table_end, entries, child_bytes, fields, vtable, table_bytes, table_piece}
+use Rattle.ipc_format_grammar.specs.flatbuffers.FlatBuffers.{TablePlace, Vector, number_at, table_at, vector_at, text_at}
+use Rattle.ipc_format_grammar.specs.flatbuffers.Laying.{TableSlot, Piece, padded, table_end, entries, child_bytes, fields, vtable, table_bytes}
+use Rattle.ipc_format_grammar.specs.flatbuffers.Laying.{table_piece}
 use Rattle.ipc_format_grammar.specs.flatbuffers.Laying.{reference_bytes, references_piece, elements_piece, text_piece}
 use Rattle.ipc_format_grammar.proofs.flatbuffers_lemmas.Numbers.{length-padded}
 use Rattle.ipc_format_grammar.proofs.flatbuffers_lemmas.Slots.{length-vtable, length-table_bytes, table_end_after}
@@ -23,7 +24,7 @@ unpadded part s = front part (replicate (next_multiple_of (length part) 8 - leng
 -- ---- tables
 
 -- the table of some slots, whose piece begins at a place
-abbrev pub table_from : ℕ → List Slot → Table
+abbrev pub table_from : ℕ → List TableSlot → TablePlace
 table_from start slots = record {
   place = start + length (vtable slots);
   vtable = start;
@@ -33,7 +34,7 @@ table_from start slots = record {
 }
 
 -- its vtable and its own bytes, without its children, stand where it does
-module _ {bytes : List ℕ} {start : ℕ} (slots : List Slot) (s : Stands bytes start (table_piece slots).bytes) where
+module _ {bytes : List ℕ} {start : ℕ} (slots : List TableSlot) (s : Stands bytes start (table_piece slots).bytes) where
   pub vtable_part : Stands bytes start (vtable slots)
   unfolding table_piece
   vtable_part = front (vtable slots) (table_bytes slots) refl (front (vtable slots ++ table_bytes slots) (flat_map child_bytes slots) refl s)
@@ -44,7 +45,7 @@ module _ {bytes : List ℕ} {start : ℕ} (slots : List Slot) (s : Stands bytes 
       (front (vtable slots ++ table_bytes slots) (flat_map child_bytes slots) refl s)
 
 -- it is found where its references point
-pub table_found : {bytes : List ℕ} {start : ℕ} (slots : List Slot) → 4 + 2 * length slots < 2 ^ 16 → table_end 4 slots < 2 ^ 16
+pub table_found : {bytes : List ℕ} {start : ℕ} (slots : List TableSlot) → 4 + 2 * length slots < 2 ^ 16 → table_end 4 slots < 2 ^ 16
     → Stands bytes start (table_piece slots).bytes → table_at bytes (start + (table_piece slots).entry) ≡ Some (table_from start slots)
 unfolding table_piece
 table_found {bytes} {start} slots small small-end s =
@@ -71,7 +72,7 @@ table_found {bytes} {start} slots small small-end s =
     (table_end_after 4 slots) small-end near refl inside own-inside size-is end-is back-is
 
 -- its slots stand in it
-pub table_slots : {bytes : List ℕ} {start : ℕ} (slots : List Slot) → table_end 4 slots < 2 ^ 16 → Stands bytes start (table_piece slots).bytes
+pub table_slots : {bytes : List ℕ} {start : ℕ} (slots : List TableSlot) → table_end 4 slots < 2 ^ 16 → Stands bytes start (table_piece slots).bytes
     → SlotsStand bytes (table_from start slots) 0 4 (next_multiple_of (table_end 4 slots) 8) slots
 unfolding table_piece
 table_slots {bytes} {start} slots small-end s =
@@ -121,7 +122,7 @@ elements_stand {bytes} {start} count content few short s =
 
 -- a string
 pub text_stands : {bytes : List ℕ} {start : ℕ} (content : List ℕ) → is_utf8 content ≡ true → length bytes < 2 ^ 32
-    → Stands bytes start (text_piece content).bytes → string_at bytes (start + (text_piece content).entry) ≡ Some content
+    → Stands bytes start (text_piece content).bytes → text_at bytes (start + (text_piece content).entry) ≡ Some content
 unfolding text_piece
 text_stands {bytes} {start} content is_text short s =
     let whole = front (replicate {A = ℕ} 4 0 ++ to_le_bytes w32 (length content) ++ content) (0 ∷ []) refl
@@ -206,7 +207,7 @@ element_stands {bytes} {start} {found} {k} {at} {child} piece {pieces} Target en
       target = target;
     }
 
-pub length-table_piece : (slots : List Slot)
+pub length-table_piece : (slots : List TableSlot)
     → length (table_piece slots).bytes ≡ length (vtable slots) + length (table_bytes slots) + length (flat_map child_bytes slots)
 unfolding table_piece
 length-table_piece slots = omega (
@@ -217,7 +218,7 @@ length-table_piece slots = omega (
 )
 
 -- references to a piece point into it
-pub table_entry : (slots : List Slot) → (table_piece slots).entry ≤ length (table_piece slots).bytes
+pub table_entry : (slots : List TableSlot) → (table_piece slots).entry ≤ length (table_piece slots).bytes
 unfolding table_piece
 table_entry slots = omega (arith, length-table_piece slots)
 

@@ -8,7 +8,7 @@ use Rattle.std.proofs.lemmas.List.Elements.{All-head, All-tail, All-nil, All-con
 use Rattle.ipc_format_grammar.specs.columns.Kinds.{is_signed}
 use Rattle.ipc_format_grammar.specs.Limits.{length_limit, most_dictionaries}
 use Rattle.ipc_format_grammar.specs.Schemas.{Ids, IdsList, ids, no_ids, ids_then}
-use Rattle.ipc_format_grammar.specs.Encoding.{joined}
+use Rattle.ipc_format_grammar.specs.Encoding.{joined_columns}
 use Rattle.ipc_format_grammar.specs.Ids.{is_id, are_ids, all_are_ids}
 use Rattle.ipc_format_grammar.specs.GivenDictionaries.{Given}
 use Rattle.ipc_format_grammar.specs.WrittenStreams.{Batch, is_node, has_nodes_in_room, is_in_room}
@@ -56,7 +56,7 @@ pub record HasRoomForValues (given : Given) : Type 0 where
 -- that it brings have room too, and are no more than may stand in a row.
 pub record HasRoomForColumns (batch : Batch) : Type 0 where
   pub rows : batch.rows < 2 ^ 64
-  pub nodes : AreSigned (joined batch.columns).nodes
+  pub nodes : AreSigned (joined_columns batch.columns).nodes
   pub given : All HasRoomForValues batch.given
   pub few : length batch.given ≤ most_dictionaries
 
@@ -81,16 +81,11 @@ rooms (next ∷ given) e its_ids =
 pub has_room_for_columns : (batch : Batch) → is_in_room batch ≡ true → All HasId batch.given → length batch.given ≤ most_dictionaries
     → HasRoomForColumns batch
 has_room_for_columns batch e its_ids few =
-    let first = both (nat_lt batch.rows length_limit && has_nodes_in_room (joined batch.columns)) (list_all has_room_for batch.given) e in
-    let tests = both (nat_lt batch.rows length_limit) (has_nodes_in_room (joined batch.columns)) first.0 in
+    let first = both (nat_lt batch.rows length_limit && has_nodes_in_room (joined_columns batch.columns)) (list_all has_room_for batch.given) e in
+    let tests = both (nat_lt batch.rows length_limit) (has_nodes_in_room (joined_columns batch.columns)) first.0 in
     record {
       rows = omega (arith, ltb-true batch.rows length_limit tests.0);
-      nodes = are_signed (joined batch.columns).nodes tests.1;
+      nodes = are_signed (joined_columns batch.columns).nodes tests.1;
       given = rooms batch.given first.1 its_ids;
       few = few;
     }
-
-pub rows_small : (batch : Batch) → is_in_room batch ≡ true → batch.rows < 2 ^ 63
-rows_small batch e =
-    let first = both (nat_lt batch.rows length_limit && has_nodes_in_room (joined batch.columns)) (list_all has_room_for batch.given) e in
-    ltb-true batch.rows length_limit (both (nat_lt batch.rows length_limit) (has_nodes_in_room (joined batch.columns)) first.0).0

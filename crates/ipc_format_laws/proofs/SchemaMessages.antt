@@ -6,7 +6,7 @@ use Rattle.std.specs.Int.{w16}
 use Rattle.std.proofs.lemmas.Bool.{leb-true}
 use Rattle.std.proofs.lemmas.List.{map-id}
 use denote.Hole.Carrier
-use Rattle.ipc_format_grammar.specs.flatbuffers.FlatBuffers.{Table}
+use Rattle.ipc_format_grammar.specs.flatbuffers.FlatBuffers.{TablePlace}
 use Rattle.ipc_format_grammar.specs.flatbuffers.Laying.{Piece, message_bytes}
 use Rattle.ipc_format_grammar.specs.flatbuffers.Objects.{Object, Fields, Objects, table, references, no_field, absent_then, number_then, refers_then}
 use Rattle.ipc_format_grammar.specs.flatbuffers.Objects.{piece_of, laid}
@@ -116,7 +116,7 @@ asked schema e =
     (nat_le (deepest (reports_of schema.fields)) 64) first.0 in
     record { allowed = second.0; shallow = leb-true (deepest (reports_of schema.fields)) 64 second.1 }
 
-pub schema_reads : (bytes : List ℕ) (found : Table) (schema : Schema) (below : IdsList)
+pub schema_reads : (bytes : List ℕ) (found : TablePlace) (schema : Schema) (below : IdsList)
     (h : ChildrenBack (objects_of (map field_object schema.fields) below) (map normalised_field schema.fields) (reports_of schema.fields)
     (ids_read schema below))
     → deepest (reports_of schema.fields) ≤ 64 → h.visits ≤ length bytes → is_writable (normalised schema) ≡ true
@@ -165,7 +165,7 @@ few_fields objects metadata =
     let object = message_object 1 (table (number_then w16 0 (refers_then (references objects) (refers_if metadata (absent_then no_field))))) 0 in
     omega (arith, few_tables object, message_longer (piece_of object))
 
-schema_message_is : (bytes : List ℕ) (header : Fields) (IsHeader : Table → Type 0) (m : MessageAnswers bytes 1 header 0) → IsHeader m.header_at
+schema_message_is : (bytes : List ℕ) (header : Fields) (IsHeader : TablePlace → Type 0) (m : MessageAnswers bytes 1 header 0) → IsHeader m.header_at
     → IsMessage bytes grammar.schema 0 IsHeader
 unfolding message_in
 schema_message_is bytes header IsHeader m h = record {

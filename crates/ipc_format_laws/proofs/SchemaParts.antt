@@ -5,7 +5,7 @@ use Rattle.std.specs.Int.{next_multiple_of}
 use Rattle.std.specs.Str.{is_utf8}
 use Rattle.std.specs.List.{flat_map}
 use Rattle.std.proofs.Math.Facts.{Fits-of_z, Fits-lt-pow}
-use Rattle.ipc_format_grammar.specs.flatbuffers.Laying.{Piece, Slot, child_bytes, table_piece, references_piece}
+use Rattle.ipc_format_grammar.specs.flatbuffers.Laying.{Piece, TableSlot, child_bytes, table_piece, references_piece}
 use Rattle.ipc_format_grammar.proofs.flatbuffers_lemmas.Slots.{length-vtable}
 use Rattle.ipc_format_grammar.proofs.flatbuffers_lemmas.References.{length-references_piece}
 use Rattle.ipc_format_grammar.specs.flatbuffers.Objects.{Object, Fields, Objects, table, references, elements, text, no_field, absent_then, number_then}
@@ -47,7 +47,7 @@ abbrev mutual
   tables_among no_object = 0
   tables_among (object_then object objects) = tables_in object + tables_among objects
 
-table_longer : (slots : List Slot) → 1 + length (flat_map child_bytes slots) ≤ length (table_piece slots).bytes
+table_longer : (slots : List TableSlot) → 1 + length (flat_map child_bytes slots) ≤ length (table_piece slots).bytes
 table_longer slots = omega (arith, length-table_piece slots, length-vtable slots (length slots) refl)
 
 references_longer : (pieces : List Piece) → length (flat_map (λ (piece : Piece). piece.bytes) pieces) ≤ length (references_piece pieces).bytes

@@ -3,7 +3,7 @@ use Rattle.std.proofs.Common.{◌≡◌, ℕ, ◌≤◌, ◌<◌, ◌^◌, pos, 
 use Rattle.std.specs.Prelude.{Option, Some, None, nat_le}
 use Rattle.std.proofs.lemmas.Bool.{leb-true, ltb-true}
 use Rattle.ipc_format_grammar.specs.columnar_memory.declared.IntegerType.{IntegerType}
-use Rattle.ipc_format_grammar.specs.flatbuffers.FlatBuffers.{Table}
+use Rattle.ipc_format_grammar.specs.flatbuffers.FlatBuffers.{TablePlace}
 use Rattle.ipc_format_grammar.specs.flatbuffers.Objects.{Object, Objects, no_object, table}
 use Rattle.ipc_format_laws.specs.Theorem.{Fits, FitsObjects}
 use Rattle.ipc_format_grammar.specs.columnar_memory.declared.DataType.{DataType}
@@ -95,7 +95,7 @@ short_fits n small = record { here = record { vtable_size = omega arith; table_s
 
 -- a type whose table has no slots
 pub empty_claim : (n : ℕ) (tag : Tag) (x : layer.DataType-F DataType Field) → n < 2 ^ 8 → tag_of n ≡ Some tag → IsBare x
-    → ((bytes : List ℕ) (read : Table → Visits FieldIn) (field found : Table) (total : ℕ) → type_in None read bytes tag field found total
+    → ((bytes : List ℕ) (read : TablePlace → Visits FieldIn) (field found : TablePlace) (total : ℕ) → type_in None read bytes tag field found total
     ≡ Some (record { data_type = roll-DataType x; below = no_ids }, total))
     → TypeClaim (flat n empty_table) (roll-DataType x) (leaf true) (record { is_encoded = false; below = λ below. no_ids }) true
 empty_claim n tag x small tag-is is_bare read =

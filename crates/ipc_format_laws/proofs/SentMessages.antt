@@ -7,7 +7,7 @@ use Rattle.std.proofs.lemmas.List.Elements.{All-head, All-tail, All-cons}
 use Rattle.std.proofs.lemmas.List.Folds.{list_all-append}
 use Rattle.ipc_format_grammar.specs.Messages as grammar
 use Rattle.ipc_format_grammar.specs.Limits.{most_dictionaries}
-use Rattle.ipc_format_grammar.specs.Encoding.{joined}
+use Rattle.ipc_format_grammar.specs.Encoding.{joined_columns}
 use Rattle.ipc_format_grammar.specs.GivenDictionaries.{Given, stands_for, last_under, to_write, written_after}
 use Rattle.ipc_format_grammar.specs.WrittenMessages.{Written, padded_buffer, buffer_places, body_bytes, fits_limit, record_message}
 use Rattle.ipc_format_grammar.specs.WrittenMessages.{dictionary_message}
@@ -38,7 +38,7 @@ batch_reads_back : (its_batch : Batch) → HasRoomForColumns its_batch → fits_
 unfolding record_message
 batch_reads_back its_batch is fits =
     let room = has_room (batch_message its_batch) fits in
-    let columns = joined its_batch.columns in
+    let columns = joined_columns its_batch.columns in
     record_batches_read_back its_batch.rows columns.nodes (buffer_places 0 columns.buffers) (length (body_bytes columns.buffers)) is.rows is.nodes
     (places_signed 0 columns.buffers (omega (arith, room.body))) room.body (omega (arith, room.metadata))
 

@@ -4,8 +4,9 @@ use Rattle.std.specs.Prelude.{Some}
 use Rattle.std.specs.List.{flat_map}
 use Rattle.std.specs.Int.{Width, w16, w32, byte_len, to_le_bytes}
 use Rattle.std.proofs.lemmas.List.{length-replicate}
-use Rattle.ipc_format_grammar.specs.flatbuffers.FlatBuffers.{Table, number_at, field_at, reference_at}
-use Rattle.ipc_format_grammar.specs.flatbuffers.Laying.{Slot, absent, number, refers, Piece, after, entry_of, table_end, entries, field_start, field_bytes}
+use Rattle.ipc_format_grammar.specs.flatbuffers.FlatBuffers.{TablePlace, number_at, field_at, reference_at}
+use Rattle.ipc_format_grammar.specs.flatbuffers.Laying.{TableSlot, absent, number, refers, Piece, after, entry_of, table_end, entries, field_start}
+use Rattle.ipc_format_grammar.specs.flatbuffers.Laying.{field_bytes}
 use Rattle.ipc_format_grammar.specs.flatbuffers.Laying.{child_bytes, fields}
 use Rattle.ipc_format_grammar.proofs.flatbuffers_lemmas.Numbers.{length-to_le_bytes}
 use Rattle.ipc_format_grammar.proofs.flatbuffers_lemmas.Slots.{length-field_bytes, table_end_after}
@@ -16,7 +17,7 @@ use Rattle.ipc_format_laws.proofs.ByAddress.{number_stands, past_the_vtable, abs
 use Rattle.ipc_format_laws.proofs.ByAddress.{reference_field_stands}
 
 -- the slots from one on stand in their table: entries in the vtable, fields in the table, and what they refer to behind it
-pub record SlotsStand (bytes : List ℕ) (found : Table) (slot at child : ℕ) (slots : List Slot) : Type 0 where
+pub record SlotsStand (bytes : List ℕ) (found : TablePlace) (slot at child : ℕ) (slots : List TableSlot) : Type 0 where
   pub vtable : Stands bytes (found.vtable + 4 + 2 * slot) (entries at slots)
   pub own : Stands bytes (found.place + at) (fields at child slots)
   pub children : Stands bytes (found.place + child) (flat_map child_bytes slots)
@@ -27,7 +28,7 @@ pub record SlotsStand (bytes : List ℕ) (found : Table) (slot at child : ℕ) (
   pub small : found.table_size < 2 ^ 16
 
 -- the slots behind the first
-pub slots_next : {bytes : List ℕ} {found : Table} {slot at child : ℕ} {s : Slot} {slots : List Slot}
+pub slots_next : {bytes : List ℕ} {found : TablePlace} {slot at child : ℕ} {s : TableSlot} {slots : List TableSlot}
     → SlotsStand bytes found slot at child (s ∷ slots) → SlotsStand bytes found (slot + 1) (after at s) (child + length (child_bytes s)) slots
 slots_next {bytes} {found} {slot} {at} {child} {s} {slots} h =
     let rest = child + length (child_bytes s) in
@@ -47,14 +48,14 @@ slots_next {bytes} {found} {slot} {at} {child} {s} {slots} h =
     }
 
 -- the entry of the first slot
-entry_stands : {bytes : List ℕ} {found : Table} {slot at child : ℕ} {s : Slot} {slots : List Slot}
+entry_stands : {bytes : List ℕ} {found : TablePlace} {slot at child : ℕ} {s : TableSlot} {slots : List TableSlot}
     → SlotsStand bytes found slot at child (s ∷ slots) → entry_of at s < 2 ^ 16
     → number_at w16 bytes (found.vtable + 4 + 2 * slot) ≡ Some (entry_of at s)
 entry_stands {at} {s} {slots} h small = number_stands w16 (entry_of at s) small
     (front (to_le_bytes w16 (entry_of at s)) (entries (after at s) slots) refl h.vtable)
 
 -- no slots are left
-pub no_slot : {bytes : List ℕ} {found : Table} {slot at child : ℕ} → SlotsStand bytes found slot at child [] → (k : ℕ) → slot ≤ k
+pub no_slot : {bytes : List ℕ} {found : TablePlace} {slot at child : ℕ} → SlotsStand bytes found slot at child [] → (k : ℕ) → slot ≤ k
     → SpellsAbsent bytes found k
 no_slot {bytes} {found} {slot} h k past = record {
   is_absent = λ (width : ℕ). past_the_vtable bytes found slot k width
@@ -62,14 +63,15 @@ no_slot {bytes} {found} {slot} h k past = record {
 }
 
 -- an absent slot
-pub absent_stands : {bytes : List ℕ} {found : Table} {slot at child : ℕ} {slots : List Slot} → SlotsStand bytes found slot at child (absent ∷ slots)
+pub absent_stands : {bytes : List ℕ} {found : TablePlace} {slot at child : ℕ} {slots : List TableSlot}
+    → SlotsStand bytes found slot at child (absent ∷ slots)
     → SpellsAbsent bytes found slot
 absent_stands {bytes} {found} {slot} {at} {slots} h =
     let inside : 4 + 2 * slot + 2 ≤ found.vtable_size = omega (arith, h.vtable_size) in
     record { is_absent = λ (width : ℕ). absent_slot bytes found slot width inside (entry_stands h (omega arith)) }
 
 -- a field of some bytes that ends in its table
-field_stands : {bytes : List ℕ} {found : Table} {slot at child : ℕ} {s : Slot} {slots : List Slot} (width : ℕ)
+field_stands : {bytes : List ℕ} {found : TablePlace} {slot at child : ℕ} {s : TableSlot} {slots : List TableSlot} (width : ℕ)
     → SlotsStand bytes found slot at child (s ∷ slots) → 4 ≤ entry_of at s
     → entry_of at s + width ≡ after at s → field_at bytes found slot width ≡ Some (Some (found.place + entry_of at s))
 field_stands {bytes} {found} {slot} {at} {child} {s} {slots} width h least end =
@@ -78,7 +80,7 @@ field_stands {bytes} {found} {slot} {at} {child} {s} {slots} width h least end =
     present_slot bytes found slot width (entry_of at s) inside (entry_stands h (omega (arith, h.small))) least within
 
 -- a number
-pub number_field_stands : {bytes : List ℕ} {found : Table} {slot at child : ℕ} (w : Width) (n : ℕ) {slots : List Slot} → FitsWidth w n
+pub number_field_stands : {bytes : List ℕ} {found : TablePlace} {slot at child : ℕ} (w : Width) (n : ℕ) {slots : List TableSlot} → FitsWidth w n
     → SlotsStand bytes found slot at child (number w n ∷ slots) → SpellsNumber bytes found slot w n
 number_field_stands {bytes} {found} {slot} {at} {child} w n {slots} fits h =
     let begin = field_start at w in
@@ -90,7 +92,7 @@ number_field_stands {bytes} {found} {slot} {at} {child} w n {slots} fits h =
     record { place = found.place + begin; stands = field_stands (byte_len w) h (omega (arith, h.least)) refl; holds = number_stands w n fits alone }
 
 -- a reference, where its object is spelled at its place
-pub reference_slot_stands : {bytes : List ℕ} {found : Table} {slot at child : ℕ} (piece : Piece) {slots : List Slot} (Target : ℕ → Type 0)
+pub reference_slot_stands : {bytes : List ℕ} {found : TablePlace} {slot at child : ℕ} (piece : Piece) {slots : List TableSlot} (Target : ℕ → Type 0)
     → piece.entry ≤ length piece.bytes → length bytes < 2 ^ 32 → SlotsStand bytes found slot at child (refers piece ∷ slots)
     → Target (found.place + child + piece.entry) → SpellsReference bytes found slot Target
 reference_slot_stands {bytes} {found} {slot} {at} {child} piece {slots} Target entry-inside short h target =

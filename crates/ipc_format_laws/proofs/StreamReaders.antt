@@ -3,7 +3,7 @@ use Rattle.std.proofs.Common.{◌≡◌, ℤ, pos, List, ℕ, refl, sym, ap, ◌
 use Rattle.std.specs.Prelude.{Option, Some, None}
 use Rattle.std.specs.Int.{w8}
 use Rattle.ipc_format_grammar.specs.flatbuffers.Reading.{◌>>=◌, guard}
-use Rattle.ipc_format_grammar.specs.flatbuffers.FlatBuffers.{Table, root_of, number_field, table_field}
+use Rattle.ipc_format_grammar.specs.flatbuffers.FlatBuffers.{TablePlace, root_of, number_field, table_field}
 use Rattle.ipc_format_grammar.specs.Messages as grammar
 use Rattle.ipc_format_grammar.specs.Messages.{Header, Message, message_in, header_of, body_length_of}
 
@@ -33,7 +33,7 @@ told_header other None = other
 told_header other (Some message) = message.header
 
 -- a message of a schema has no body
-schema_length : (bytes : List ℕ) (root table : Table) (header : Header) (found length : ℤ) → body_length_of bytes root header ≡ Some found
+schema_length : (bytes : List ℕ) (root table : TablePlace) (header : Header) (found length : ℤ) → body_length_of bytes root header ≡ Some found
     → told header found ≡ told (grammar.schema table) length
     → length ≡ pos 0
 schema_length bytes root table (grammar.schema other) found length is same =
@@ -45,15 +45,15 @@ schema_length bytes root table (grammar.dictionary_batch other) found length is 
 schema_length bytes root table (grammar.record_batch other) found length is same =
     let other_header : grammar.record_batch other ≡ grammar.schema table = ap (told_header (grammar.schema table)) same in absurd cc
 
-pub schema_has_no_body : (bytes : List ℕ) (table : Table) (length : ℤ)
+pub schema_has_no_body : (bytes : List ℕ) (table : TablePlace) (length : ℤ)
     → message_in bytes ≡ Some (record { header = grammar.schema table; body_length = length }) → length ≡ pos 0
 unfolding message_in
 schema_has_no_body bytes table length e =
     let message : Message = record { header = grammar.schema table; body_length = length } in
-    let root = came_of {A = Table} (root_of bytes) _ message e in
+    let root = came_of {A = TablePlace} (root_of bytes) _ message e in
     let tag = came_of {A = ℕ} (number_field w8 bytes root.0 1 0) _ message root.2 in
-    let found = came_of {A = Option Table} (table_field bytes root.0 2) _ message tag.2 in
-    let its_table = came_of {A = Table} found.0 _ message found.2 in
+    let found = came_of {A = Option TablePlace} (table_field bytes root.0 2) _ message tag.2 in
+    let its_table = came_of {A = TablePlace} found.0 _ message found.2 in
     let header = came_of {A = Header} (header_of tag.0 its_table.0) _ message its_table.2 in
     let its_length = came_of {A = ℤ} (body_length_of bytes root.0 header.0) _ message header.2 in
     schema_length bytes root.0 table header.0 its_length.0 length its_length.1 its_length.2

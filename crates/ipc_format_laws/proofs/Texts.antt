@@ -7,7 +7,8 @@ use Rattle.std.specs.Str.{is_utf8}
 use Rattle.std.proofs.lemmas.Bool.{and_from}
 use denote.Hole.Carrier
 use Rattle.ipc_format_grammar.specs.flatbuffers.Reading.{◌>>=◌, guard}
-use Rattle.ipc_format_grammar.specs.flatbuffers.FlatBuffers.{Table, Vector, number_field, signed_field, truth_field, table_field, vector_field, string_field}
+use Rattle.ipc_format_grammar.specs.flatbuffers.FlatBuffers.{TablePlace, Vector, number_field, signed_field, truth_field, table_field, vector_field}
+use Rattle.ipc_format_grammar.specs.flatbuffers.FlatBuffers.{string_field}
 use Rattle.ipc_format_grammar.specs.flatbuffers.FlatBuffers.{element_at}
 use Rattle.ipc_format_grammar.specs.columnar_memory.declared.DataType.{DataType, map-DataType}
 use Rattle.ipc_format_grammar.specs.columnar_memory.declared.DataType.TheOpen as layer
@@ -25,7 +26,7 @@ use Rattle.ipc_format_grammar.specs.Types as kind
 use Rattle.ipc_format_grammar.specs.Types.{Tag, UnionTable, tag_of, integer_in, type_of_integer, size_of, decimal_of, decimal_in, date_of}
 use Rattle.ipc_format_grammar.specs.Types.{time_of, time_in}
 use Rattle.ipc_format_grammar.specs.Types.{short_time_of, long_time_of, timestamp_in, interval_of, time_unit_of, union_in}
-use Rattle.ipc_format_grammar.specs.Schemas.{FieldIn, TypeIn, SchemaIn, Encoded, fields_of, visit, each_of, child_in, children_in, type_in}
+use Rattle.ipc_format_grammar.specs.Schemas.{FieldIn, TypeIn, SchemaIn, EncodedType, fields_of, visit, each_of, child_in, children_in, type_in}
 use Rattle.ipc_format_grammar.specs.Schemas.{metadata_in, extended, extended_by, extension_name_key, extension_metadata_key, encoded_by, field_in}
 use Rattle.ipc_format_grammar.specs.Schemas.{any_schema_in, is_little_of}
 use Rattle.ipc_format_grammar.specs.SchemaGrammar.{schema_in}
@@ -81,7 +82,7 @@ integer_texts integers.UInt16 = at_roll layer.UInt16 refl
 integer_texts integers.UInt32 = at_roll layer.UInt32 refl
 integer_texts integers.UInt64 = at_roll layer.UInt64 refl
 
-decimal_gives : (bytes : List ℕ) (table : Table) → Gives IsOfTexts (decimal_in bytes table)
+decimal_gives : (bytes : List ℕ) (table : TablePlace) → Gives IsOfTexts (decimal_in bytes table)
 unfolding decimal_in roll-DataType denote.Hole.Carrier.roll
 decimal_gives bytes table =
     each_gives IsOfTexts (signed_field w32 bytes table 0 (pos 0)) _ (λ stated_precision.
@@ -95,9 +96,9 @@ decimal_gives bytes table =
 
 date_gives : (unit : ℤ) → Gives IsOfTexts (date_of unit)
 unfolding roll-DataType denote.Hole.Carrier.roll
-date_gives (pos zero) = at_roll layer.Date32 refl
-date_gives (pos (suc zero)) = at_roll layer.Date64 refl
-date_gives _ = tt
+date_gives unit =
+    either_gives IsOfTexts (int_eq unit (pos 0)) (Some types.Date32) _ (at_roll layer.Date32 refl)
+    (either_gives IsOfTexts (int_eq unit (pos 1)) (Some types.Date64) None (at_roll layer.Date64 refl) tt)
 
 short_gives : (unit : TimeUnit) → Gives IsOfTexts (short_time_of unit)
 unfolding roll-DataType denote.Hole.Carrier.roll
@@ -111,7 +112,7 @@ long_gives units.Microsecond = at_roll (layer.Time64 units.Microsecond) refl
 long_gives units.Nanosecond = at_roll (layer.Time64 units.Nanosecond) refl
 long_gives _ = tt
 
-time_gives : (bytes : List ℕ) (table : Table) → Gives IsOfTexts (time_in bytes table)
+time_gives : (bytes : List ℕ) (table : TablePlace) → Gives IsOfTexts (time_in bytes table)
 unfolding time_in
 time_gives bytes table =
     each_gives IsOfTexts (signed_field w16 bytes table 0 (pos 1)) _ (λ number.
@@ -120,7 +121,7 @@ time_gives bytes table =
     either_gives IsOfTexts (int_eq bits (pos 32)) (short_time_of unit) _ (short_gives unit)
     (either_gives IsOfTexts (int_eq bits (pos 64)) (long_time_of unit) None (long_gives unit) tt))))
 
-timestamp_gives : (bytes : List ℕ) (table : Table) → Gives IsOfTexts (timestamp_in bytes table)
+timestamp_gives : (bytes : List ℕ) (table : TablePlace) → Gives IsOfTexts (timestamp_in bytes table)
 unfolding timestamp_in roll-DataType denote.Hole.Carrier.roll
 timestamp_gives bytes table =
     each_gives IsOfTexts (signed_field w16 bytes table 0 (pos 0)) _ (λ number.
@@ -130,18 +131,19 @@ timestamp_gives bytes table =
 
 interval_gives : (unit : ℤ) → Gives IsOfTexts (interval_of unit)
 unfolding roll-DataType denote.Hole.Carrier.roll
-interval_gives (pos zero) = at_roll (layer.Interval intervals.YearMonth) refl
-interval_gives (pos (suc zero)) = at_roll (layer.Interval intervals.DayTime) refl
-interval_gives (pos (suc (suc zero))) = at_roll (layer.Interval intervals.MonthDayNano) refl
-interval_gives _ = tt
+interval_gives unit =
+    either_gives IsOfTexts (int_eq unit (pos 0)) (Some (types.Interval intervals.YearMonth)) _ (at_roll (layer.Interval intervals.YearMonth) refl)
+    (either_gives IsOfTexts (int_eq unit (pos 1)) (Some (types.Interval intervals.DayTime)) _ (at_roll (layer.Interval intervals.DayTime) refl)
+    (either_gives IsOfTexts (int_eq unit (pos 2)) (Some (types.Interval intervals.MonthDayNano)) None
+    (at_roll (layer.Interval intervals.MonthDayNano) refl) tt))
 
 -- ---- types over fields
 
 -- what reads a Field table gives texts
-abbrev ReadsTexts : (Table → ℕ → Option (FieldIn × ℕ)) → Type 0
-ReadsTexts read = (table : Table) (left : ℕ) → Gives FieldOfTexts (read table left)
+abbrev ReadsTexts : (TablePlace → ℕ → Option (FieldIn × ℕ)) → Type 0
+ReadsTexts read = (table : TablePlace) (left : ℕ) → Gives FieldOfTexts (read table left)
 
-each_of_gives : (read : Table → ℕ → Option (FieldIn × ℕ)) (bytes : List ℕ) (vector : Vector) (n k left : ℕ) → ReadsTexts read
+each_of_gives : (read : TablePlace → ℕ → Option (FieldIn × ℕ)) (bytes : List ℕ) (vector : Vector) (n k left : ℕ) → ReadsTexts read
     → Gives FieldsOfTexts (each_of read bytes vector n k left)
 each_of_gives read bytes vector zero k left h = refl
 each_of_gives read bytes vector (suc n) k left h =
@@ -150,13 +152,13 @@ each_of_gives read bytes vector (suc n) k left h =
     then_gives FieldsOfTexts FieldsOfTexts (each_of read bytes vector n (k + 1) first.1) _ (each_of_gives read bytes vector n (k + 1) first.1 h)
     (λ others are_others. and_from (has_texts first.0.field) (are_true (map has_texts (fields_of others.0))) is_first are_others)))
 
-children_give : (read : Table → ℕ → Option (FieldIn × ℕ)) (bytes : List ℕ) (field : Table) (left : ℕ) → ReadsTexts read
+children_give : (read : TablePlace → ℕ → Option (FieldIn × ℕ)) (bytes : List ℕ) (field : TablePlace) (left : ℕ) → ReadsTexts read
     → Gives FieldsOfTexts (children_in read bytes field left)
 children_give read bytes field left h =
     each_gives FieldsOfTexts (vector_field bytes field 5 4) _ (λ found.
     each_gives FieldsOfTexts found _ (λ vector. each_of_gives read bytes vector vector.count 0 left h))
 
-child_gives : (read : Table → ℕ → Option (FieldIn × ℕ)) (bytes : List ℕ) (field : Table) (left : ℕ) → ReadsTexts read
+child_gives : (read : TablePlace → ℕ → Option (FieldIn × ℕ)) (bytes : List ℕ) (field : TablePlace) (left : ℕ) → ReadsTexts read
     → Gives FieldOfTexts (child_in read bytes field left)
 child_gives read bytes field left h =
     each_gives FieldOfTexts (vector_field bytes field 5 4) _ (λ found.
@@ -164,7 +166,7 @@ child_gives read bytes field left h =
     each_gives FieldOfTexts (guard (nat_le 1 vector.count)) _ (λ is_one.
     each_gives FieldOfTexts (element_at bytes vector 0) _ (λ table. h table left))))
 
-type_gives : (read : Table → ℕ → Option (FieldIn × ℕ)) (bytes : List ℕ) (tag : Tag) (field table : Table) (left : ℕ) → ReadsTexts read
+type_gives : (read : TablePlace → ℕ → Option (FieldIn × ℕ)) (bytes : List ℕ) (tag : Tag) (field table : TablePlace) (left : ℕ) → ReadsTexts read
     → Gives TypeOfTexts (type_in None read bytes tag field table left)
 unfolding type_in roll-DataType denote.Hole.Carrier.roll
 type_gives read bytes kind.null field table left h = at_roll layer.Null refl
@@ -229,16 +231,16 @@ extended_texts (Some name) metadata t is_name is_metadata h =
     (and_from (is_utf8 name) (is_text_or_none metadata) is_name is_metadata) h)
 
 -- the dictionary of a field
-encoded_gives : (bytes : List ℕ) (dictionary : Option Table) (t : DataType) → IsOfTexts t
-    → Gives (λ (found : Encoded). IsOfTexts found.data_type) (encoded_by bytes dictionary t)
+encoded_gives : (bytes : List ℕ) (dictionary : Option TablePlace) (t : DataType) → IsOfTexts t
+    → Gives (λ (found : EncodedType). IsOfTexts found.data_type) (encoded_by bytes dictionary t)
 unfolding roll-DataType denote.Hole.Carrier.roll
 encoded_gives bytes None t h = h
 encoded_gives bytes (Some table) t h =
-    each_gives (λ (found : Encoded). IsOfTexts found.data_type) (signed_field w64 bytes table 0 (pos 0)) _ (λ id.
-    each_gives (λ (found : Encoded). IsOfTexts found.data_type) (table_field bytes table 1) _ (λ found.
-    each_gives (λ (found : Encoded). IsOfTexts found.data_type) found _ (λ keys.
-    each_gives (λ (found : Encoded). IsOfTexts found.data_type) (integer_in bytes keys) _ (λ integer.
-    each_gives (λ (found : Encoded). IsOfTexts found.data_type) (truth_field bytes table 2) _ (λ is_ordered.
+    each_gives (λ (found : EncodedType). IsOfTexts found.data_type) (signed_field w64 bytes table 0 (pos 0)) _ (λ id.
+    each_gives (λ (found : EncodedType). IsOfTexts found.data_type) (table_field bytes table 1) _ (λ found.
+    each_gives (λ (found : EncodedType). IsOfTexts found.data_type) found _ (λ keys.
+    each_gives (λ (found : EncodedType). IsOfTexts found.data_type) (integer_in bytes keys) _ (λ integer.
+    each_gives (λ (found : EncodedType). IsOfTexts found.data_type) (truth_field bytes table 2) _ (λ is_ordered.
     at_roll (layer.Dictionary integer t is_ordered) h)))))
 
 present_gives : (found : Option (List ℕ)) → is_text_or_none found ≡ true → Gives (λ text. is_utf8 text ≡ true) found
@@ -262,7 +264,7 @@ field_gives bytes (suc levels) table left =
     (type_gives (field_in None bytes levels) bytes tag table type_table visited (field_gives bytes levels)) (λ found is_type.
     each_gives FieldOfTexts (table_field bytes table 4) _ (λ dictionary.
     then_gives AreMetadata FieldOfTexts (metadata_in bytes table 6) _ (metadata_gives bytes table 6) (λ metadata are_metadata.
-    then_gives (λ (e : Encoded). IsOfTexts e.data_type) FieldOfTexts
+    then_gives (λ (e : EncodedType). IsOfTexts e.data_type) FieldOfTexts
     (encoded_by bytes dictionary (extended metadata found.0.data_type)) _
     (encoded_gives bytes dictionary (extended metadata found.0.data_type)
     (extended_texts (value_at extension_name_key metadata) (value_at extension_metadata_key metadata) found.0.data_type
@@ -274,7 +276,7 @@ field_gives bytes (suc levels) table left =
 abbrev SchemaOfTexts : SchemaIn → Type 0
 SchemaOfTexts found = HasTexts found.schema
 
-schema_gives : (bytes : List ℕ) (table : Table) → Gives SchemaOfTexts (any_schema_in None bytes table)
+schema_gives : (bytes : List ℕ) (table : TablePlace) → Gives SchemaOfTexts (any_schema_in None bytes table)
 unfolding any_schema_in
 schema_gives bytes table =
     each_gives SchemaOfTexts (signed_field w16 bytes table 0 (pos 0)) _ (λ number.

@@ -6,7 +6,7 @@ use Rattle.std.specs.List.{flat_map}
 use Rattle.std.proofs.Math.Facts.{Fits-of_z, Fits-lt-pow}
 use Rattle.std.specs.Int.{w8, w16, w32, to_le_bytes, cast_unsigned}
 use Rattle.std.proofs.lemmas.Int.{to_z_pos}
-use Rattle.ipc_format_grammar.specs.flatbuffers.FlatBuffers.{Table, signed_at, signed_field, truth_field, string_field}
+use Rattle.ipc_format_grammar.specs.flatbuffers.FlatBuffers.{TablePlace, signed_at, signed_field, truth_field, string_field}
 use Rattle.ipc_format_grammar.specs.flatbuffers.Objects.{Fields, no_field, number_then}
 use Rattle.ipc_format_laws.specs.Spelling.{SpellsFields, SpellsNumber}
 use Rattle.ipc_format_laws.proofs.Places.{Stands, front, back}
@@ -22,15 +22,15 @@ use Rattle.ipc_format_grammar.specs.Types.{numbers_from, union_in}
 use Rattle.ipc_format_grammar.specs.SchemaObjects.{truth, unit_number, refers_if, text_if, mode_number, numbers_if}
 
 -- a number of a slot, as a signed one
-pub signed_reads : (bytes : List ℕ) (found : Table) (slot n : ℕ) (absent : ℤ) → n < 2 ^ 31 → SpellsNumber bytes found slot w32 n
+pub signed_reads : (bytes : List ℕ) (found : TablePlace) (slot n : ℕ) (absent : ℤ) → n < 2 ^ 31 → SpellsNumber bytes found slot w32 n
     → signed_field w32 bytes found slot absent ≡ Some (pos n)
 signed_reads bytes found slot n absent small s = (numbers_read bytes found slot w32 n s).signed absent ∙ ap Some (to_z_pos w32 n small)
 
-pub short_reads : (bytes : List ℕ) (found : Table) (slot n : ℕ) (absent : ℤ) → n < 2 ^ 15 → SpellsNumber bytes found slot w16 n
+pub short_reads : (bytes : List ℕ) (found : TablePlace) (slot n : ℕ) (absent : ℤ) → n < 2 ^ 15 → SpellsNumber bytes found slot w16 n
     → signed_field w16 bytes found slot absent ≡ Some (pos n)
 short_reads bytes found slot n absent small s = (numbers_read bytes found slot w16 n s).signed absent ∙ ap Some (to_z_pos w16 n small)
 
-pub truth_reads : (bytes : List ℕ) (found : Table) (slot : ℕ) (b : Bool) → SpellsNumber bytes found slot w8 (truth b)
+pub truth_reads : (bytes : List ℕ) (found : TablePlace) (slot : ℕ) (b : Bool) → SpellsNumber bytes found slot w8 (truth b)
     → truth_field bytes found slot ≡ Some b
 truth_reads bytes found slot true s = truths_read bytes found slot 1 s
 truth_reads bytes found slot false s = truths_read bytes found slot 0 s
@@ -39,7 +39,7 @@ truth_reads bytes found slot false s = truths_read bytes found slot 0 s
 abbrev pub int_fields : ℕ → Bool → Fields
 int_fields bits is_signed = number_then w32 bits (number_then w8 (truth is_signed) no_field)
 
-pub int_reads : (bytes : List ℕ) (found : Table) (bits : ℕ) (is_signed : Bool) → bits < 2 ^ 31
+pub int_reads : (bytes : List ℕ) (found : TablePlace) (bits : ℕ) (is_signed : Bool) → bits < 2 ^ 31
     → SpellsFields bytes found 0 (int_fields bits is_signed) → integer_in bytes found ≡ integer_of (pos bits) is_signed
 unfolding integer_in
 int_reads bytes found bits is_signed small s = rw (
@@ -51,7 +51,7 @@ int_reads bytes found bits is_signed small s = rw (
 abbrev pub decimal_fields : ℕ → ℕ → ℕ → Fields
 decimal_fields precision scale bits = number_then w32 precision (number_then w32 scale (number_then w32 bits no_field))
 
-pub decimal_reads : (bytes : List ℕ) (found : Table) (precision scale bits : ℕ) → precision < 2 ^ 31 → scale < 2 ^ 31 → bits < 2 ^ 31
+pub decimal_reads : (bytes : List ℕ) (found : TablePlace) (precision scale bits : ℕ) → precision < 2 ^ 31 → scale < 2 ^ 31 → bits < 2 ^ 31
     → SpellsFields bytes found 0 (decimal_fields precision scale bits) → decimal_in bytes found ≡ decimal_of (pos bits) precision scale
 unfolding decimal_in
 decimal_reads bytes found precision scale bits small small-too short s =
@@ -78,7 +78,7 @@ unit_back units.Nanosecond = refl
 abbrev pub time_fields : ℕ → ℕ → Fields
 time_fields unit bits = number_then w16 unit (number_then w32 bits no_field)
 
-pub time_reads : (bytes : List ℕ) (found : Table) (unit : TimeUnit) (bits : ℕ) → bits < 2 ^ 31
+pub time_reads : (bytes : List ℕ) (found : TablePlace) (unit : TimeUnit) (bits : ℕ) → bits < 2 ^ 31
     → SpellsFields bytes found 0 (time_fields (unit_number unit) bits) → time_in bytes found ≡ time_of (pos bits) unit
 unfolding time_in
 time_reads bytes found unit bits small s =
@@ -93,12 +93,12 @@ time_reads bytes found unit bits small s =
 abbrev pub timestamp_fields : TimeUnit → Option (List ℕ) → Fields
 timestamp_fields unit timezone = number_then w16 (unit_number unit) (refers_if (text_if timezone) no_field)
 
-text_slot_reads : (bytes : List ℕ) (found : Table) (slot : ℕ) (content : Option (List ℕ)) (fields : Fields)
+text_slot_reads : (bytes : List ℕ) (found : TablePlace) (slot : ℕ) (content : Option (List ℕ)) (fields : Fields)
     → SpellsFields bytes found slot (refers_if (text_if content) fields) → string_field bytes found slot ≡ Some content
 text_slot_reads bytes found slot None fields s = (absent_reads bytes found slot s.here).string
 text_slot_reads bytes found slot (Some content) fields s = texts_read bytes found slot content s.here
 
-pub timestamp_reads : (bytes : List ℕ) (found : Table) (unit : TimeUnit) (timezone : Option (List ℕ))
+pub timestamp_reads : (bytes : List ℕ) (found : TablePlace) (unit : TimeUnit) (timezone : Option (List ℕ))
     → SpellsFields bytes found 0 (timestamp_fields unit timezone) → timestamp_in bytes found ≡ Some (types.Timestamp unit timezone)
 unfolding timestamp_in
 timestamp_reads bytes found unit timezone s =
@@ -134,7 +134,7 @@ ids_length (z ∷ zs) = omega (arith, ids_length zs)
 abbrev pub union_fields : UnionMode → Option (List ℤ) → Fields
 union_fields mode numbers = number_then w16 (mode_number mode) (refers_if (numbers_if numbers) no_field)
 
-mode_reads : (bytes : List ℕ) (found : Table) (mode : UnionMode) → SpellsNumber bytes found 0 w16 (mode_number mode)
+mode_reads : (bytes : List ℕ) (found : TablePlace) (mode : UnionMode) → SpellsNumber bytes found 0 w16 (mode_number mode)
     → signed_field w16 bytes found 0 (pos 0) ≡ Some (pos (mode_number mode))
 mode_reads bytes found modes.Sparse s = short_reads bytes found 0 0 (pos 0) (omega arith) s
 mode_reads bytes found modes.Dense s = short_reads bytes found 0 1 (pos 0) (omega arith) s
@@ -147,7 +147,7 @@ abbrev pub FitIds : Option (List ℤ) → Type 0
 FitIds None = Unit {0}
 FitIds (Some zs) = (k : ℕ) (d : ℤ) → k < length zs → FitsSigned w32 (get_or zs k d)
 
-pub union_reads : (bytes : List ℕ) (found : Table) (mode : UnionMode) (numbers : Option (List ℤ)) → FitIds numbers
+pub union_reads : (bytes : List ℕ) (found : TablePlace) (mode : UnionMode) (numbers : Option (List ℤ)) → FitIds numbers
     → SpellsFields bytes found 0 (union_fields mode numbers) → union_in bytes found ≡ Some (record { mode = mode; ids = numbers })
 unfolding union_in
 union_reads bytes found mode None fit s = rw (

@@ -1,7 +1,7 @@
 -- What the readers of messages and batches answer where bytes spell the objects that are written for them.
 use Rattle.std.specs.Prelude.{◌≡◌, ℕ, ◌<◌, ◌^◌, ℤ, pos, false, List, length, map, get_or, Some, sum_by, FitsSigned}
 use Rattle.std.specs.Int.{w64}
-use Rattle.ipc_format_grammar.specs.flatbuffers.FlatBuffers.{Table, Vector}
+use Rattle.ipc_format_grammar.specs.flatbuffers.FlatBuffers.{TablePlace, Vector}
 use Rattle.ipc_format_grammar.specs.flatbuffers.Objects.{laid}
 use Rattle.ipc_format_grammar.specs.Messages as grammar
 use Rattle.ipc_format_grammar.specs.Messages.{Header, V5, FieldNode, Buffer, as_node, as_buffer, message_in, version_in, record_batch_in}
@@ -20,7 +20,7 @@ abbrev pub stated_buffer : ℕ × ℕ → Buffer
 stated_buffer pair = record { offset = pos pair.0; length = pos pair.1 }
 
 -- a table is a record batch with such nodes and buffers
-pub record IsRecordBatch (bytes : List ℕ) (found : Table) (nodes buffers : List (ℕ × ℕ)) : Type 0 where
+pub record IsRecordBatch (bytes : List ℕ) (found : TablePlace) (nodes buffers : List (ℕ × ℕ)) : Type 0 where
   pub nodes_at : Vector
   pub buffers_at : Vector
   pub batch : record_batch_in bytes found ≡ Some (record { nodes = nodes_at; buffers = buffers_at; is_compressed = false })
@@ -29,14 +29,14 @@ pub record IsRecordBatch (bytes : List ℕ) (found : Table) (nodes buffers : Lis
   pub sum_is : lengths_sum bytes buffers_at ≡ Some (sum_by (λ (pair : ℕ × ℕ). pair.1) buffers)
 
 -- a table is a dictionary batch of an id, whose values replace earlier ones and are a record batch
-pub record IsDictionaryBatch (bytes : List ℕ) (found : Table) (id : ℤ) (nodes buffers : List (ℕ × ℕ)) : Type 0 where
-  pub values_at : Table
+pub record IsDictionaryBatch (bytes : List ℕ) (found : TablePlace) (id : ℤ) (nodes buffers : List (ℕ × ℕ)) : Type 0 where
+  pub values_at : TablePlace
   pub batch : dictionary_batch_in bytes found ≡ Some (record { id = id; values = values_at; is_delta = false })
   pub values : IsRecordBatch bytes values_at nodes buffers
 
 -- bytes are a message of version V5, with such a header's table and so many bytes in its body
-pub record IsMessage (bytes : List ℕ) (header_of_table : Table → Header) (body_length : ℕ) (IsHeader : Table → Type 0) : Type 0 where
-  pub header_at : Table
+pub record IsMessage (bytes : List ℕ) (header_of_table : TablePlace → Header) (body_length : ℕ) (IsHeader : TablePlace → Type 0) : Type 0 where
+  pub header_at : TablePlace
   pub version : version_in bytes ≡ Some V5
   pub message : message_in bytes ≡ Some (record { header = header_of_table header_at; body_length = pos body_length })
   pub header : IsHeader header_at

@@ -1,7 +1,7 @@
 -- What a stream holds that was written of a schema and of batches (Arrow IPC, "IPC Streaming Format", "Dictionary Messages").
 use Rattle.std.specs.Prelude.{◌≡◌, ℕ, ◌≤◌, List, [], ◌∷◌, ◌++◌, length, map, true, Some}
 use Rattle.std.specs.List.{All}
-use Rattle.ipc_format_grammar.specs.flatbuffers.FlatBuffers.{Table}
+use Rattle.ipc_format_grammar.specs.flatbuffers.FlatBuffers.{TablePlace}
 use Rattle.ipc_format_grammar.specs.columnar_memory.declared.Schema.{Schema}
 use Rattle.ipc_format_grammar.specs.Messages as grammar
 use Rattle.ipc_format_grammar.specs.Messages.{Header, V5}
@@ -10,7 +10,7 @@ use Rattle.ipc_format_grammar.specs.Writable.{normalised}
 use Rattle.ipc_format_grammar.specs.Framing.{Framed, Stream, messages_of}
 use Rattle.ipc_format_grammar.specs.Limits.{most_dictionaries}
 use Rattle.ipc_format_grammar.specs.Tables.{stream, stream_entry, contents_of}
-use Rattle.ipc_format_grammar.specs.Encoding.{joined}
+use Rattle.ipc_format_grammar.specs.Encoding.{joined_columns}
 use Rattle.ipc_format_grammar.specs.GivenDictionaries.{Given, to_write, written_after}
 use Rattle.ipc_format_grammar.specs.WrittenMessages.{Written, buffer_places, record_message, dictionary_message}
 use Rattle.ipc_format_grammar.specs.WrittenStreams.{Batch, Chunk, batches_written, stream_messages, written_stream}
@@ -19,9 +19,9 @@ use Rattle.ipc_format_laws.specs.Schemas.{HasTexts, ids_read}
 use Rattle.ipc_format_laws.specs.Messages.{as_written, all_written}
 
 -- a message that is read is the one that was written, with a header of a kind, whose table has something
-pub record IsMessageOf (message : Written) (kind : Table → Header) (HasTable : Table → Type 0) (read : Framed) : Type 0 where
+pub record IsMessageOf (message : Written) (kind : TablePlace → Header) (HasTable : TablePlace → Type 0) (read : Framed) : Type 0 where
   pub written : as_written read ≡ message
-  pub table : Table
+  pub table : TablePlace
   pub header : read.header ≡ kind table
   pub has_table : HasTable table
 
@@ -52,12 +52,12 @@ abbrev pub batch_message : Batch → Written
 batch_message batch = record_message batch.rows batch.columns
 
 -- a table in a batch's message has the nodes of the batch's columns, and tells where their buffers stand in the body
-abbrev pub HasColumns : Batch → Table → Type 0
-HasColumns batch table = IsRecordBatch (batch_message batch).metadata table (joined batch.columns).nodes
-    (buffer_places 0 (joined batch.columns).buffers)
+abbrev pub HasColumns : Batch → TablePlace → Type 0
+HasColumns batch table = IsRecordBatch (batch_message batch).metadata table (joined_columns batch.columns).nodes
+    (buffer_places 0 (joined_columns batch.columns).buffers)
 
 -- a table in a dictionary's message has its id, the nodes of its values, and tells where their buffers stand in the body
-abbrev pub HasValues : Given → Table → Type 0
+abbrev pub HasValues : Given → TablePlace → Type 0
 HasValues given table =
     IsDictionaryBatch (dictionary_message given).metadata table given.id given.column.nodes (buffer_places 0 given.column.buffers)
 

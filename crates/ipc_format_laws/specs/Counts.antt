@@ -8,7 +8,7 @@ use Rattle.ipc_format_grammar.specs.columnar_memory.declared.Field.{Field}
 use Rattle.ipc_format_grammar.specs.columns.Slots.{Slot}
 use Rattle.ipc_format_grammar.specs.Messages.{Version, V5}
 use Rattle.ipc_format_grammar.specs.Layouts.{below, node_count, buffer_count, node_number, buffer_number}
-use Rattle.ipc_format_grammar.specs.Encoding.{Encoded, encode, joined}
+use Rattle.ipc_format_grammar.specs.Encoding.{Encoded, encode, joined_columns}
 use Rattle.ipc_format_grammar.specs.WrittenStreams.{columns_of_slots}
 use Rattle.ipc_format_laws.specs.NormalForm.{all_of}
 
@@ -31,7 +31,7 @@ ColumnCounts = (t : DataType) (slots : List Slot) → has_no_union t ≡ true �
 -- the columns of a batch have as many nodes and buffers as stand before the end of its fields
 abbrev pub BatchCounts : Type 0
 BatchCounts = (fields : List Field) (columns : List (List Slot)) → list_all (λ (field : Field). has_no_union field.data_type) fields ≡ true
-    → length columns ≡ length fields → HasCounts (joined (columns_of_slots fields columns)) (node_number fields (length fields))
+    → length columns ≡ length fields → HasCounts (joined_columns (columns_of_slots fields columns)) (node_number fields (length fields))
     (buffer_number V5 fields (length fields))
 
 -- past one more field stand its nodes and its buffers more

@@ -1,6 +1,5 @@
 pub mod Counts
 pub mod DefaultIds
-pub mod Fresh
 pub mod FreshEncodings
 pub mod NormalForm
 pub mod Spelling
@@ -10,8 +9,6 @@ pub mod BatchMessages
 pub mod Schemas
 pub mod Footers
 pub mod Columns
-pub mod WholeColumns
-pub mod Batches
 pub mod Texts
 pub mod Messages
 pub mod Contents

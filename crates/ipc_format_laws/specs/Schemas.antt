@@ -8,7 +8,7 @@ use Rattle.ipc_format_grammar.specs.columnar_memory.declared.Schema.{Schema}
 pub use Rattle.ipc_format_grammar.specs.columnar_memory.Texts.{is_text_or_none, are_texts, is_below, is_ascending}
 pub use Rattle.ipc_format_grammar.specs.columnar_memory.Texts.{are_true, texts_step, texts_field_step, has_texts}
 pub use Rattle.ipc_format_grammar.specs.columnar_memory.Texts.{HasTexts}
-use Rattle.ipc_format_grammar.specs.flatbuffers.FlatBuffers.{Table}
+use Rattle.ipc_format_grammar.specs.flatbuffers.FlatBuffers.{TablePlace}
 use Rattle.ipc_format_grammar.specs.flatbuffers.Objects.{laid}
 use Rattle.ipc_format_grammar.specs.Messages as grammar
 use Rattle.ipc_format_grammar.specs.Schemas.{Ids, IdsList, ids, no_ids, ids_then}
@@ -70,7 +70,7 @@ abbrev mutual
 -- ---- the theorems
 
 -- a table is this schema, little-endian, with these ids beside its fields
-abbrev pub IsSchema : List ℕ → Schema → IdsList → Table → Type 0
+abbrev pub IsSchema : List ℕ → Schema → IdsList → TablePlace → Type 0
 IsSchema bytes schema below found = schema_in bytes found ≡ Some (record { schema = schema; ids = below; is_little_endian = true })
 
 -- the ids that are read beside a schema's fields

@@ -1,5 +1,6 @@
 //! Laws of the format over its definitions, each the contract of a function without a body: what is laid as FlatBuffers reads back, and so do
-//! batches, schemas and footers; what columns and streams are written as reads back; numbers of nodes and buffers, default ids, normal forms.
+//! the metadata of batches, schemas and footers, and the messages of streams; what is written of slots is what is written of the column that
+//! stores them; a choice is read as the choice of the whole; numbers of nodes and buffers, default ids, normal forms.
 #![tactic(auto)]
 
 mod choice_laws;
@@ -13,18 +14,14 @@ mod spelling;
 mod stream_laws;
 
 pub use choice_laws::choices_are_of_the_whole;
-pub use column_laws::{
-    flat_batches_read_back, flat_columns_read_back, schemas_that_are_read_have_texts,
-    whole_batches_read_back, whole_columns_read_back,
-};
+pub use column_laws::schemas_that_are_read_have_texts;
 pub use count_laws::{
     a_written_batch_has_the_counts_of_its_fields, a_written_column_has_the_counts_of_its_type,
     one_more_field_adds_its_counts,
 };
 pub use fresh_laws::{
-    a_fresh_column_is_written_as_its_slots_are, a_writable_type_is_buildable,
-    rows_are_written_as_they_are_stored, slots_are_written_as_they_are_stored,
-    slots_bring_the_dictionaries_that_are_stored,
+    a_writable_type_is_buildable, rows_are_written_as_they_are_stored,
+    slots_are_written_as_they_are_stored, slots_bring_the_dictionaries_that_are_stored,
 };
 pub use id_laws::{default_ids_count_in_pre_order, default_ids_fit};
 pub use normal_form_laws::{
@@ -36,5 +33,4 @@ pub use round_trip::{
 pub use spelling::{laid_reads_back, spelled_reads};
 pub use stream_laws::{
     messages_read_back, no_dictionaries_given, runs_stand_for_their_messages, streams_read_back,
-    tables_read_back,
 };

@@ -5,7 +5,7 @@
 ghost use Rattle.ipc_format_laws.specs.Contents.{StreamsReadBack};
 ghost use Rattle.ipc_format_laws.specs.Messages.{MessagesReadBack};
 ghost use Rattle.ipc_format_laws.specs.Runs.{RunsAreStreams, RunsAreFiles};
-ghost use Rattle.ipc_format_laws.specs.Tables.{NoDictionariesGiven, FlatTablesReadBack, Int32TablesReadBack};
+ghost use Rattle.ipc_format_laws.specs.Tables.{NoDictionariesGiven};
 
 /// The messages of a stream that is written are its messages, whatever stands behind the end mark (Arrow IPC, "IPC Streaming Format").
 pub fn messages_read_back()
@@ -23,14 +23,6 @@ pub fn streams_read_back()
 /// Under a schema whose types have no dictionaries, no batch brings one, whatever its columns.
 pub fn no_dictionaries_given()
     ensures { NoDictionariesGiven }
-{}
-
-/// The table of a stream that is written is the table that it was written from, batch by batch, where each field's slots take one size each,
-/// as numbers, truth values and bytes of one size do. Of 32-bit integers, with the ids of dictionaries numbered from 0 on, it is so
-/// wherever each message is within its limit.
-pub fn tables_read_back()
-    ensures flat { FlatTablesReadBack }
-    ensures int32 { Int32TablesReadBack }
 {}
 
 /// A run of a writer's calls, start, writes and finish, stands for what is written of the chunks that were not refused: its messages, those

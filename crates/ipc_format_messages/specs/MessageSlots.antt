@@ -4,7 +4,7 @@ use Rattle.std.specs.Prelude.{ℕ, ◌+◌, ◌*◌, ℤ, pos, Bool, List, Optio
 use Rattle.std.specs.Option.{option_map}
 use Rattle.std.specs.Int.{w8, w16, w32, w64}
 use Rattle.ipc_format_metadata.specs.flatbuffers.Reading.{◌>>=◌}
-use Rattle.ipc_format_metadata.specs.flatbuffers.FlatBuffers.{Table, Vector, signed_at, number_field, signed_field, truth_field, table_field}
+use Rattle.ipc_format_metadata.specs.flatbuffers.FlatBuffers.{TablePlace, Vector, signed_at, number_field, signed_field, truth_field, table_field}
 use Rattle.ipc_format_metadata.specs.flatbuffers.FlatBuffers.{vector_field, root_of}
 use Rattle.ipc_format_metadata.specs.grammar.Messages as format
 use Rattle.ipc_format_metadata.specs.grammar.Messages.{Version, version_of}
@@ -13,7 +13,7 @@ use Rattle.ipc_format_metadata.specs.grammar.SlotNumbers as slots
 -- a table of a message, with the message's bytes
 pub record TableIn : Type 0 where
   pub bytes : List ℕ
-  pub table : Table
+  pub table : TablePlace
 
 -- a vector of a message, with the message's bytes
 pub record VectorIn : Type 0 where
@@ -35,7 +35,7 @@ root_in bytes = do
 abbrev pub table_in : TableIn → ℕ → Option (Option TableIn)
 table_in from slot = do
   found ← table_field from.bytes from.table slot
-  Some (option_map (λ (table : Table). record { bytes = from.bytes; table = table }) found)
+  Some (option_map (λ (table : TablePlace). record { bytes = from.bytes; table = table }) found)
 
 -- a vector whose elements have a width
 abbrev pub vector_in : TableIn → ℕ → ℕ → Option (Option VectorIn)

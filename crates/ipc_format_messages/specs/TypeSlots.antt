@@ -1,5 +1,6 @@
 -- What the slots of a field's type and of the types' tables give, each by itself (Schema.fbs, union Type and its tables).
-use Rattle.std.specs.Prelude.{ℕ, zero, suc, ℤ, pos, Bool, true, false, List, Option, Some, None}
+use Rattle.std.specs.Prelude.{ℕ, ℤ, pos, Bool, true, false, List, Option, Some, None, if◌then◌else◌}
+use Rattle.std.specs.Ordering.{int_eq}
 use Rattle.std.specs.Int.{w8, w16, w32}
 use Rattle.ipc_format_metadata.specs.columnar_memory.declared.TimeUnit.{TimeUnit}
 use Rattle.ipc_format_metadata.specs.columnar_memory.declared.UnionMode.{UnionMode}
@@ -12,6 +13,7 @@ use Rattle.ipc_format_metadata.specs.Leaves.{unit_in}
 use Rattle.ipc_format_messages.specs.MessageSlots.{TableIn, table_in}
 use Rattle.ipc_format_messages.specs.SchemaSlots.{text_in, truth_in}
 use Rattle.ipc_format_metadata.specs.grammar.SlotNumbers as slots
+use Rattle.ipc_format_metadata.specs.grammar.TagNumbers as tags
 
 -- a type: its kind, and its own table
 pub record TypeIn : Type 0 where
@@ -55,9 +57,8 @@ decimal_bit_width decimal = int_in decimal slots.decimal_bit_width 128
 -- ---- Date (whether the unit is the day)
 
 abbrev pub is_day_of : ℤ → Option Bool
-is_day_of (pos zero) = Some true
-is_day_of (pos (suc zero)) = Some false
-is_day_of _ = None
+is_day_of number =
+    if int_eq number (pos tags.date_day) then Some true else if int_eq number (pos tags.date_millisecond) then Some false else None
 
 abbrev pub date_is_day : TableIn → Option Bool
 date_is_day date = do
@@ -83,10 +84,10 @@ timestamp_timezone timestamp = text_in timestamp slots.timestamp_timezone
 -- ---- Interval
 
 abbrev pub interval_unit_of : ℤ → Option IntervalUnit
-interval_unit_of (pos zero) = Some intervals.YearMonth
-interval_unit_of (pos (suc zero)) = Some intervals.DayTime
-interval_unit_of (pos (suc (suc zero))) = Some intervals.MonthDayNano
-interval_unit_of _ = None
+interval_unit_of number =
+    if int_eq number (pos tags.year_month) then Some intervals.YearMonth else
+    if int_eq number (pos tags.day_time) then Some intervals.DayTime else
+    if int_eq number (pos tags.month_day_nano) then Some intervals.MonthDayNano else None
 
 abbrev pub interval_unit : TableIn → Option IntervalUnit
 interval_unit interval = do

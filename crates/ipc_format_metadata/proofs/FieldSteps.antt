@@ -3,7 +3,7 @@ use Rattle.std.proofs.Common.{◌≡◌, ◌∙◌, ℕ, zero, suc, List, Bool, 
 use Rattle.std.specs.Prelude.{Option, Some, None}
 use Rattle.std.specs.Int.{w8}
 use Rattle.ipc_format_grammar.specs.flatbuffers.Reading.{◌>>=◌}
-use Rattle.ipc_format_grammar.specs.flatbuffers.FlatBuffers.{Table, number_field, truth_field, table_field, string_field}
+use Rattle.ipc_format_grammar.specs.flatbuffers.FlatBuffers.{TablePlace, number_field, truth_field, table_field, string_field}
 use Rattle.ipc_format_grammar.specs.Types.{tag_of}
 use Rattle.ipc_format_grammar.specs.Schemas.{type_in, field_in}
 use Rattle.ipc_format_metadata.specs.Steps.{type_found, head_in, completed}
@@ -16,29 +16,29 @@ by_head (Some None) b H = refl
 by_head (Some (Some name)) None H = refl
 by_head (Some (Some name)) (Some z) H = refl
 
-by_type : {A B C : Type 0} (t : Option ℕ) (g : ℕ → Option A) (ty : Option (Option Table)) (R : A → Table → Option B) (K : B → Option C)
+by_type : {A B C : Type 0} (t : Option ℕ) (g : ℕ → Option A) (ty : Option (Option TablePlace)) (R : A → TablePlace → Option B) (K : B → Option C)
     → (t >>= (λ n. g n >>= (λ a. ty >>= (λ f. f >>= (λ table. R a table >>= K))))) ≡
     ((t >>= (λ n. g n >>= (λ a. ty >>= (λ f. f >>= (λ table. R a table))))) >>= K)
 by_type {A} None g ty R K = refl
 by_type {A} (Some n) g ty R K = inner (g n) ty
   where
-    inner : (a : Option A) (ty : Option (Option Table)) → (a >>= (λ a. ty >>= (λ f. f >>= (λ table. R a table >>= K)))) ≡
+    inner : (a : Option A) (ty : Option (Option TablePlace)) → (a >>= (λ a. ty >>= (λ f. f >>= (λ table. R a table >>= K)))) ≡
         ((a >>= (λ a. ty >>= (λ f. f >>= (λ table. R a table)))) >>= K)
     inner None ty = refl
     inner (Some a) None = refl
     inner (Some a) (Some None) = refl
     inner (Some a) (Some (Some table)) = refl
 
-pub field-no-level : (bytes : List ℕ) (table : Table) (left : ℕ) → field_in None bytes zero table left ≡ None
+pub field-no-level : (bytes : List ℕ) (table : TablePlace) (left : ℕ) → field_in None bytes zero table left ≡ None
 unfolding field_in
 field-no-level bytes table left = refl
 
-pub field-no-visit : (bytes : List ℕ) (levels : ℕ) (table : Table) → field_in None bytes levels table zero ≡ None
+pub field-no-visit : (bytes : List ℕ) (levels : ℕ) (table : TablePlace) → field_in None bytes levels table zero ≡ None
 unfolding field_in
 field-no-visit bytes zero table = refl
 field-no-visit bytes (suc levels) table = refl
 
-pub field-by : (bytes : List ℕ) (levels : ℕ) (table : Table) (left : ℕ)
+pub field-by : (bytes : List ℕ) (levels : ℕ) (table : TablePlace) (left : ℕ)
     → field_in None bytes (suc levels) table (suc left) ≡ (head_in bytes table >>=
     (λ head. type_found (field_in None bytes levels) bytes table left >>= completed bytes table head))
 unfolding field_in

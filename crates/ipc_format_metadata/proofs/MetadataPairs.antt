@@ -2,7 +2,7 @@
 use Rattle.std.proofs.Common.{◌≡◌, ◌∙◌, ℕ, suc, ◌+◌, ◌-◌, ◌<◌, List, [], refl, ap, arith}
 use Rattle.std.specs.Prelude.{Option, Some, None}
 use Rattle.ipc_format_grammar.specs.flatbuffers.Reading.{◌>>=◌}
-use Rattle.ipc_format_grammar.specs.flatbuffers.FlatBuffers.{Table, Vector, element_at, string_field, vector_field}
+use Rattle.ipc_format_grammar.specs.flatbuffers.FlatBuffers.{TablePlace, Vector, element_at, string_field, vector_field}
 use Rattle.ipc_format_grammar.specs.Schemas.{with_found, pairs_from, metadata_in}
 use Rattle.ipc_format_metadata.specs.Parts.{pair_in}
 
@@ -13,7 +13,7 @@ abbrev pub Metadata : Type 0
 Metadata = List (List ℕ × List ℕ)
 
 -- the definition reads a pair, and goes on with it
-by_pair : (table : Option Table) (key value : Table → Option Texts) (rest : Texts → Texts → Option Metadata)
+by_pair : (table : Option TablePlace) (key value : TablePlace → Option Texts) (rest : Texts → Texts → Option Metadata)
     → (table >>= (λ t. key t >>= (λ a. value t >>= (λ b. rest a b)))) ≡ ((table >>= (λ t. key t >>= (λ a. value t >>= (λ b. Some (a, b))))) >>=
     (λ (p : Texts × Texts). rest p.0 p.1))
 by_pair None key value rest = refl
@@ -34,7 +34,7 @@ pairs_from-by bytes v m k pairs = by_pair (element_at bytes v k) (λ t. string_f
 abbrev pub PairsLeft : List ℕ → Vector → Option Metadata → Metadata → ℕ → Type 0
 PairsLeft bytes v given pairs k = (m : ℕ) → k + m ≡ v.count → given ≡ pairs_from bytes v m k pairs
 
-pub pairs-init : (bytes : List ℕ) (table : Table) (slot : ℕ) (v : Vector) → vector_field bytes table slot 4 ≡ Some (Some v) → PairsLeft bytes v
+pub pairs-init : (bytes : List ℕ) (table : TablePlace) (slot : ℕ) (v : Vector) → vector_field bytes table slot 4 ≡ Some (Some v) → PairsLeft bytes v
     (metadata_in bytes table slot) [] 0
 unfolding metadata_in
 pairs-init bytes table slot v e m all =

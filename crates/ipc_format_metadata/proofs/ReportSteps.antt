@@ -5,9 +5,9 @@ use Rattle.std.specs.List.{list_all}
 use Rattle.std.proofs.lemmas.List.Folds.{list_all-append}
 use Rattle.std.proofs.lemmas.List.Sums.{sum_by-append}
 use Rattle.ipc_format_grammar.specs.Writable.{Report, plain, over_all, deepest}
-use Rattle.ipc_format_metadata.specs.Reports.{capped, joined}
+use Rattle.ipc_format_metadata.specs.Reports.{capped, joined_reports}
 
-capped-joined : (a c : Report) → capped (joined (capped a) (capped c)) ≡ capped (joined a c)
+capped-joined : (a c : Report) → capped (joined_reports (capped a) (capped c)) ≡ capped (joined_reports a c)
 capped-joined a c =
     let levels : min (max (min a.levels 65) (min c.levels 65 + 1)) 65 ≡ min (max a.levels (c.levels + 1)) 65 = omega arith in
     let dictionaries : min (min a.dictionaries 65537 + min c.dictionaries 65537) 65537 ≡ min (a.dictionaries + c.dictionaries) 65537 = omega arith in
@@ -19,7 +19,7 @@ deepest-append (y ∷ xs) x =
     let tail = deepest-append xs x in
     rw tail (omega arith)
 
-joined-more : (xs : List Report) (x : Report) → over_all true plain (xs ++ x ∷ []) ≡ joined (over_all true plain xs) x
+joined-more : (xs : List Report) (x : Report) → over_all true plain (xs ++ x ∷ []) ≡ joined_reports (over_all true plain xs) x
 joined-more xs x =
     let last : list_all (λ (child : Report). child.is_allowed) (x ∷ []) ≡ x.is_allowed = one x.is_allowed in
     let allowed = list_all-append (λ (child : Report). child.is_allowed) xs (x ∷ []) ∙ ap
@@ -35,7 +35,7 @@ joined-more xs x =
     one false = refl
 
 pub reports-more : (xs : List Report) (x before after child : Report) → before ≡ capped (over_all true plain xs) → child ≡ capped x → after ≡
-    capped (joined before child)
+    capped (joined_reports before child)
     → after ≡ capped (over_all true plain (xs ++ x ∷ []))
 reports-more xs x before after child b c a =
-    a ∙ (λ i. capped (joined (b i) (c i))) ∙ capped-joined (over_all true plain xs) x ∙ ap capped (sym (joined-more xs x))
+    a ∙ (λ i. capped (joined_reports (b i) (c i))) ∙ capped-joined (over_all true plain xs) x ∙ ap capped (sym (joined-more xs x))

@@ -6,7 +6,8 @@ use Rattle.ipc_format_grammar.specs.columnar_memory.declared.DataType.{DataType}
 use Rattle.ipc_format_grammar.specs.columnar_memory.declared.DataType.TheVariants as types
 use Rattle.ipc_format_grammar.specs.columnar_memory.declared.Field.{Field}
 use Rattle.ipc_format_grammar.specs.flatbuffers.Reading.{◌>>=◌, guard}
-use Rattle.ipc_format_grammar.specs.flatbuffers.FlatBuffers.{Table, Vector, number_field, signed_field, truth_field, table_field, vector_field, element_at}
+use Rattle.ipc_format_grammar.specs.flatbuffers.FlatBuffers.{TablePlace, Vector, number_field, signed_field, truth_field, table_field, vector_field}
+use Rattle.ipc_format_grammar.specs.flatbuffers.FlatBuffers.{element_at}
 use Rattle.ipc_format_grammar.specs.Types as kind
 use Rattle.ipc_format_grammar.specs.Types.{
   Tag,
@@ -33,7 +34,7 @@ two None f g h = refl
 two (Some a) f g h = sym (bind-assoc (f a) g h)
 
 -- the first child, before what is made of it
-child-by : {A C : Type 0} (v : Option (Option Vector)) (g : Vector → Option Bool) (e : Vector → Option Table) (read : Table → Option A)
+child-by : {A C : Type 0} (v : Option (Option Vector)) (g : Vector → Option Bool) (e : Vector → Option TablePlace) (read : TablePlace → Option A)
     (k : A → Option C)
     → ((v >>= (λ f. f >>= (λ v. g v >>= (λ _. e v >>= read)))) >>= k) ≡ (((v >>= (λ f. f)) >>= (λ v. g v >>= (λ _. e v))) >>= (λ t. read t >>= k))
 child-by None g e read k = refl
@@ -56,18 +57,19 @@ children-by {A} (Some (Some v)) each f k h same = by (each v)
     by None = refl
     by (Some a) = same a
 
-over-by : (read : Table → Visits FieldIn) (bytes : List ℕ) (make : Field → DataType) (field : Table) (left : ℕ)
+over-by : (read : TablePlace → Visits FieldIn) (bytes : List ℕ) (make : Field → DataType) (field : TablePlace) (left : ℕ)
     → (child_in read bytes field left >>= (λ child. Some (with_child make child))) ≡ by_layer (over make) read bytes field left
 over-by read bytes make field left = child-by (vector_field bytes field 5 4) (λ v. guard (nat_le 1 v.count)) (λ v. element_at bytes v 0)
     (λ t. read t left) (over_one make)
 
-over-all-by : (read : Table → Visits FieldIn) (bytes : List ℕ) (make : List Field → DataType) (field : Table) (left : ℕ)
+over-all-by : (read : TablePlace → Visits FieldIn) (bytes : List ℕ) (make : List Field → DataType) (field : TablePlace) (left : ℕ)
     → (children_in read bytes field left >>= (λ found. Some (record { data_type = make (fields_of found.0); below = ids_of found.0 }, found.1))) ≡
     by_layer (over_all make) read bytes field left
 over-all-by read bytes make field left = children-by (vector_field bytes field 5 4) (λ v. each_of read bytes v v.count 0 left) apart
     (over_each make) (λ found. Some (record { data_type = make (fields_of found.0); below = ids_of found.0 }, found.1)) (λ found. refl)
 
-type_in-by : (read : Table → Visits FieldIn) (bytes : List ℕ) (tag : Tag) (field table : Table) (left : ℕ) → type_in None read bytes tag field
+type_in-by : (read : TablePlace → Visits FieldIn) (bytes : List ℕ) (tag : Tag) (field table : TablePlace) (left : ℕ)
+    → type_in None read bytes tag field
     table left ≡ (layer_of bytes tag table >>= (λ l. by_layer l read bytes field left))
 unfolding type_in
 type_in-by read bytes kind.null field table left = refl
@@ -104,14 +106,14 @@ type_in-by read bytes kind.union field table left =
     (λ i. union_in bytes table >>= (λ (union : kind.UnionTable). over-all-by read bytes (λ fields. types.Union fields union.ids union.mode) field
     left i)) ∙ sym (bind-assoc (union_in bytes table) _ _)
 
-by_type : {A B C : Type 0} (t : Option ℕ) (g : ℕ → Option A) (ty : Option (Option Table)) (layer : A → Table → Option B)
-    (R : A → Table → Option C) (K : B → Option C) → ((a : A) (table : Table) → R a table ≡ (layer a table >>= K))
+by_type : {A B C : Type 0} (t : Option ℕ) (g : ℕ → Option A) (ty : Option (Option TablePlace)) (layer : A → TablePlace → Option B)
+    (R : A → TablePlace → Option C) (K : B → Option C) → ((a : A) (table : TablePlace) → R a table ≡ (layer a table >>= K))
     → (t >>= (λ n. g n >>= (λ a. ty >>= (λ f. f >>= (λ table. R a table))))) ≡
     ((t >>= (λ n. g n >>= (λ a. ty >>= (λ f. f >>= (λ table. layer a table))))) >>= K)
 by_type {A} None g ty layer R K same = refl
 by_type {A} (Some n) g ty layer R K same = inner (g n) ty
   where
-    inner : (a : Option A) (ty : Option (Option Table)) → (a >>= (λ a. ty >>= (λ f. f >>= (λ table. R a table)))) ≡
+    inner : (a : Option A) (ty : Option (Option TablePlace)) → (a >>= (λ a. ty >>= (λ f. f >>= (λ table. R a table)))) ≡
         ((a >>= (λ a. ty >>= (λ f. f >>= (λ table. layer a table)))) >>= K)
     inner None ty = refl
     inner (Some a) None = refl
@@ -119,7 +121,7 @@ by_type {A} (Some n) g ty layer R K same = inner (g n) ty
     inner (Some a) (Some (Some table)) = same a table
 
 -- the type of a field, by its layer
-pub type-by : (read : Table → Visits FieldIn) (bytes : List ℕ) (field : Table) (left : ℕ) → type_found read bytes field left ≡
+pub type-by : (read : TablePlace → Visits FieldIn) (bytes : List ℕ) (field : TablePlace) (left : ℕ) → type_found read bytes field left ≡
     (layer_in bytes field >>= (λ l. by_layer l read bytes field left))
 type-by read bytes field left =
     by_type (number_field w8 bytes field 2 0) tag_of (table_field bytes field 3) (layer_of bytes)

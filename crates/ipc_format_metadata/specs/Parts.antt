@@ -6,7 +6,7 @@ use Rattle.ipc_format_grammar.specs.columnar_memory.declared.DataType.TheVariant
 use Rattle.ipc_format_grammar.specs.columnar_memory.declared.Field.{Field}
 use Rattle.ipc_format_grammar.specs.columnar_memory.declared.IntegerType.{IntegerType}
 use Rattle.ipc_format_grammar.specs.flatbuffers.Reading.{◌>>=◌}
-use Rattle.ipc_format_grammar.specs.flatbuffers.FlatBuffers.{Table, Vector, signed_field, truth_field, table_field, string_field, element_at}
+use Rattle.ipc_format_grammar.specs.flatbuffers.FlatBuffers.{TablePlace, Vector, signed_field, truth_field, table_field, string_field, element_at}
 use Rattle.ipc_format_grammar.specs.Types as kind
 use Rattle.ipc_format_grammar.specs.Types.{Tag, tag_of, integer_in, type_of_integer, decimal_in, time_in, timestamp_in, union_in}
 use Rattle.ipc_format_metadata.specs.Leaves.{date_in, interval_in, unit_in, size_in}
@@ -30,7 +30,7 @@ flat_of found = do
   Some (flat data_type)
 
 -- the layer of a type by its tag and its own table
-abbrev pub layer_of : List ℕ → Tag → Table → Option Layer
+abbrev pub layer_of : List ℕ → Tag → TablePlace → Option Layer
 layer_of bytes kind.null table = Some (flat types.Null)
 layer_of bytes kind.bool table = Some (flat types.Boolean)
 layer_of bytes kind.binary table = Some (flat types.Binary)
@@ -79,7 +79,7 @@ pub record Encoding : Type 0 where
   pub keys : IntegerType
   pub is_ordered : Bool
 
-abbrev pub encoding_in : List ℕ → Table → Option Encoding
+abbrev pub encoding_in : List ℕ → TablePlace → Option Encoding
 encoding_in bytes table = do
   id ← signed_field w64 bytes table slots.dictionary_encoding_id (pos 0)
   found ← table_field bytes table slots.dictionary_encoding_index_type

@@ -37,8 +37,8 @@ abbrev pub field_report : Field → Report
 field_report = fold-Field Report Report report_step field_step
 
 -- some fields and one more
-abbrev pub joined : Report → Report → Report
-joined all child = record {
+abbrev pub joined_reports : Report → Report → Report
+joined_reports all child = record {
   is_allowed = all.is_allowed && child.is_allowed;
   levels = max all.levels (child.levels + 1);
   dictionaries =

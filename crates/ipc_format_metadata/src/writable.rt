@@ -1,7 +1,7 @@
 //! Which schemas are written and read: the limits are this library's own.
 ghost use Rattle.std.specs.Prelude.{◌≡◌, ◌+◌, ◌*◌, ◌<◌, min, max, map, length, not, ◌&&◌, true};
 ghost use Rattle.ipc_format_grammar.specs.Writable as writable;
-ghost use Rattle.ipc_format_metadata.specs.Reports.{capped, field_report, joined, report_view, shape_view, renamed, shape_by};
+ghost use Rattle.ipc_format_metadata.specs.Reports.{capped, field_report, joined_reports, report_view, shape_view, renamed, shape_by};
 ghost use Rattle.std.specs.List.{list_all, list_any};
 ghost use Rattle.std.specs.Ordering.{int_eq};
 
@@ -86,7 +86,7 @@ fn over(is_allowed: bool, child: Report) -> Report
 
 /// Some fields and one more.
 fn with_child(all: Report, child: Report) -> Report
-    ensures { report_view result ≡ capped (joined (report_view all) (report_view child)) }
+    ensures { report_view result ≡ capped (joined_reports (report_view all) (report_view child)) }
 {
     let levels = deeper(child.levels);
     let deepest = if all.levels < levels {

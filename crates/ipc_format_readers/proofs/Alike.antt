@@ -8,7 +8,7 @@ use Rattle.ipc_format_chunk_writing.specs.DictionaryReads.{dictionary_array}
 use Rattle.ipc_format_chunk_writing.specs.Standing.{ByLookUps, StandAlike}
 use Rattle.ipc_format_chunk_writing.specs.columns.Slots.{Slot}
 use Rattle.ipc_format_chunk_writing.specs.columnar_memory.declared.Field.{Field}
-use Rattle.ipc_format_chunk_writing.specs.flatbuffers.FlatBuffers.{Table}
+use Rattle.ipc_format_chunk_writing.specs.flatbuffers.FlatBuffers.{TablePlace}
 use Rattle.ipc_format_chunk_writing.specs.flatbuffers.Reading.{◌>>=◌, guard}
 use Rattle.ipc_format_chunk_writing.specs.grammar.Columns.{Dictionary, Place, Source, behind_column, standing_for}
 use Rattle.ipc_format_chunk_writing.specs.grammar.Dictionaries.{Entry, Layout, Values, source_in, values_of}
@@ -65,7 +65,7 @@ module _ (law : ByLookUps) where
       rest >>= (λ (others : List (List Slot)). Some (found ∷ others))))
       (chosen_alike layout old new source columns alike)))
 
-  batch_alike : (asked : Option (List ℕ)) (layout : Layout) (old new : List Dictionary) (entry : Entry) (table : Table) → StandAlike old new
+  batch_alike : (asked : Option (List ℕ)) (layout : Layout) (old new : List Dictionary) (entry : Entry) (table : TablePlace) → StandAlike old new
       → asked_arrays asked layout old None entry table ≡ asked_arrays asked layout new None entry table
   batch_alike (Some columns) layout old new entry table alike =
       bind_same (source_in layout.is_little_endian entry table) _ _ (λ (source : Source) is.
@@ -79,7 +79,7 @@ module _ (law : ByLookUps) where
       (below_alike layout.fields
       (record { source = source; standing = old; limit = None; node = 0; buffer = 0; ids = no_own_ids }) new layout.below alike))
 
-  dictionary_alike : (layout : Layout) (old new : List Dictionary) (entry : Entry) (table : Table) → StandAlike old new
+  dictionary_alike : (layout : Layout) (old new : List Dictionary) (entry : Entry) (table : TablePlace) → StandAlike old new
       → dictionary_array layout old entry table ≡ dictionary_array layout new entry table
   dictionary_alike layout old new entry table alike =
       bind_same (dictionary_batch_in entry.metadata table) _ _ (λ (batch : DictionaryBatch) is.

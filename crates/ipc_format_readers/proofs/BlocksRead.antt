@@ -14,7 +14,7 @@ use Rattle.ipc_format_chunk_writing.specs.columnar_memory.declared.Error.{Error}
 use Rattle.ipc_format_chunk_writing.specs.columnar_memory.declared.Field.{Field}
 use Rattle.ipc_format_chunk_writing.specs.columnar_memory.declared.Schema.{Schema}
 use Rattle.ipc_format_chunk_writing.specs.columns.StoredColumns.{Column, slots}
-use Rattle.ipc_format_chunk_writing.specs.flatbuffers.FlatBuffers.{Table}
+use Rattle.ipc_format_chunk_writing.specs.flatbuffers.FlatBuffers.{TablePlace}
 use Rattle.ipc_format_chunk_writing.specs.flatbuffers.Reading.{◌>>=◌, guard}
 use Rattle.ipc_format_chunk_writing.specs.grammar.Columns.{Dictionary}
 use Rattle.ipc_format_chunk_writing.specs.grammar.Dictionaries.{Entry, Layout, dictionary_in}
@@ -83,14 +83,14 @@ not_dictionary layout block standing size old message there none = λ bytes e.
     dictionary_lacks layout bytes standing block
     (no_message is_dictionary bytes block message (there bytes (sized_bytes size old bytes e)) none)
 
-dictionary_is : (layout : Layout) (bytes : List ℕ) (standing : List Dictionary) (block : Block) (metadata : List ℕ) (table : Table)
+dictionary_is : (layout : Layout) (bytes : List ℕ) (standing : List Dictionary) (block : Block) (metadata : List ℕ) (table : TablePlace)
     (version : Version) → entry_at is_dictionary bytes block ≡ Some (entry_of bytes block metadata (dictionary_batch table, version))
     → dictionary_at layout bytes standing block
     ≡ dictionary_in layout standing (entry_of bytes block metadata (dictionary_batch table, version)) table
 dictionary_is layout bytes standing block metadata table version e =
     ap (λ (found : Option Entry). found >>= (λ it. dictionary_by layout standing it it.header)) e
 
-pub dictionary_taken : {A : Type 0} (layout : Layout) (block : Block) (metadata message : List ℕ) (table : Table) (version : Version) (size : ℕ)
+pub dictionary_taken : {A : Type 0} (layout : Layout) (block : Block) (metadata message : List ℕ) (table : TablePlace) (version : Version) (size : ℕ)
     (old now new : Told) (before after : BTreeMap ℤ Column) (result : Result A Error) → HasArrays layout → Stays old now
     → Stand old block.offset message → metadata ≡ message → message_in is_dictionary message ≡ Some (dictionary_batch table, version)
     → ReadsDictionary (is_unread metadata table) (sized size now) (sized size new)
@@ -202,7 +202,7 @@ not_batch metadata asked standing limit index block size old message here there 
     (no_message is_record_batch bytes block message (there bytes (sized_bytes size old bytes e)) none)
 
 pub batch_taken : (metadata : FileMetadata) (asked : Option (List ℕ)) (standing : List Dictionary) (limit : Option ℕ) (index : ℕ) (block : Block)
-    (carried message : List ℕ) (table : Table) (version : Version) (size : ℕ) (old now new : Told) (result : Result (List Column) Error)
+    (carried message : List ℕ) (table : TablePlace) (version : Version) (size : ℕ) (old now new : Told) (result : Result (List Column) Error)
     → slice_get (blocks_view metadata.blocks) index ≡ Some block → Stays old now → Stand old block.offset message → carried ≡ message
     → message_in is_record_batch message ≡ Some (record_batch table, version)
     → ReadsAs (is_compressed carried table) (sized size now) (sized size new) (map slots)

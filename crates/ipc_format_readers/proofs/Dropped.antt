@@ -11,7 +11,7 @@ use Rattle.ipc_format_chunk_writing.specs.flatbuffers.FlatBuffers.{number_at, si
 use Rattle.ipc_format_chunk_writing.specs.grammar.Messages as message
 use Rattle.ipc_format_chunk_writing.specs.grammar.Messages.{Header, Message, message_in, natural}
 use Rattle.ipc_format_chunk_writing.specs.grammar.Framing.{Frame, truncated, end_mark, metadata_then, frame_of}
-use Rattle.ipc_format_chunk_writing.specs.grammar.Framing.{frame_behind, frame_at, Framed, framed_by, framed}
+use Rattle.ipc_format_chunk_writing.specs.grammar.Framing.{frame_behind, frame_at, Framed, framed_by, framed_at}
 use Rattle.ipc_format_chunk_writing.specs.grammar.Framing.{Next, nothing_whole, at_end, message_then}
 use Rattle.ipc_format_chunk_writing.specs.grammar.Framing.{next_of, next_at, by_next, dictionaries_after, later_messages}
 
@@ -189,7 +189,7 @@ module _ (bytes : List ℕ) (d : ℕ) (inside : d ≤ length bytes) where
   next_of_moved (metadata_then metadata place) =
       ap (λ (found : Option (Framed × ℕ)). found >>= (λ (it : Framed × ℕ). Some (message_then it.0 it.1)))
       (said_moved metadata (d + place) place refl (message_in metadata))
-      ∙ then_moved (framed (drop d bytes) metadata place)
+      ∙ then_moved (framed_at (drop d bytes) metadata place)
 
   frames_then : (found : Option Frame) → (frames_moved d found >>= next_of bytes) ≡ all_moved d (found >>= next_of (drop d bytes))
   frames_then None = refl
@@ -284,7 +284,7 @@ reach_next bytes truncated found after reach e = absurd cc
 reach_next bytes end_mark found after reach e = absurd cc
 reach_next bytes (metadata_then metadata place) found after reach e =
     let within = reach metadata place refl in
-    let whole = came_of {A = Framed × ℕ} (framed bytes metadata place) _ _ e in
+    let whole = came_of {A = Framed × ℕ} (framed_at bytes metadata place) _ _ e in
     let it = came_of {A = Message} (message_in metadata) _ whole.0 whole.1 in
     let behind = reach_framed bytes metadata place it.0.header it.0.body_length whole.0 within.1 it.2 in
     let same : whole.0.1 ≡ after = ap place_of (some_is _ _ whole.2) in

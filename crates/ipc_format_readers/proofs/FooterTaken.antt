@@ -8,7 +8,7 @@ use Rattle.ipc_format_chunk_writing.specs.columnar_memory.declared.Error.{Error}
 use Rattle.ipc_format_chunk_writing.specs.columnar_memory.declared.Error.TheVariants as errors
 use Rattle.ipc_format_chunk_writing.specs.flatbuffers.FlatBuffers.{signed_at}
 use Rattle.ipc_format_chunk_writing.specs.flatbuffers.Reading.{◌>>=◌, guard, window_at}
-use Rattle.ipc_format_chunk_writing.specs.grammar.Files.{file_mark, footer_bytes, is_mark, stands_at}
+use Rattle.ipc_format_chunk_writing.specs.grammar.Files.{file_mark, footer_bytes_in, is_mark, stands_at}
 use Rattle.ipc_format_chunk_writing.specs.grammar.Messages.{natural}
 use Rattle.ipc_format_chunk_writing.specs.grammar.Refusals.{HasFeatherMark, feather_mark}
 use Rattle.ipc_format_chunk_writing.specs.grammar.Tables.{file}
@@ -30,9 +30,9 @@ steps bytes is_enough first last stated = do
   _ ← guard (nat_le (size + 10) (length bytes))
   window_at bytes (length bytes - 10 - size) size
 
-footer_is : (bytes : List ℕ) → footer_bytes bytes ≡ steps bytes (nat_le 10 (length bytes)) (stands_at file_mark bytes 0)
+footer_is : (bytes : List ℕ) → footer_bytes_in bytes ≡ steps bytes (nat_le 10 (length bytes)) (stands_at file_mark bytes 0)
     (stands_at file_mark bytes (length bytes - 6)) (signed_at w32 bytes (length bytes - 10))
-unfolding footer_bytes
+unfolding footer_bytes_in
 footer_is bytes = refl
 
 unmarked : (bytes : List ℕ) (is_enough last : Bool) (stated : Option ℤ) → steps bytes is_enough false last stated ≡ None
@@ -40,7 +40,7 @@ unmarked bytes true last stated = refl
 unmarked bytes false last stated = refl
 
 -- without the mark at the beginning there is no footer
-no_mark : (bytes : List ℕ) → stands_at file_mark bytes 0 ≡ false → footer_bytes bytes ≡ None
+no_mark : (bytes : List ℕ) → stands_at file_mark bytes 0 ≡ false → footer_bytes_in bytes ≡ None
 no_mark bytes none =
     let is_enough = nat_le 10 (length bytes) in
     let last = stands_at file_mark bytes (length bytes - 6) in
@@ -48,7 +48,7 @@ no_mark bytes none =
     footer_is bytes ∙ ap (λ (first : Bool). steps bytes is_enough first last stated) none ∙ unmarked bytes is_enough last stated
 
 -- nor in fewer than ten bytes
-too_few : (bytes : List ℕ) → length bytes < 10 → footer_bytes bytes ≡ None
+too_few : (bytes : List ℕ) → length bytes < 10 → footer_bytes_in bytes ≡ None
 too_few bytes few =
     footer_is bytes ∙ ap (λ (is_enough : Bool). steps bytes is_enough (stands_at file_mark bytes 0) (stands_at file_mark bytes (length bytes - 6))
     (signed_at w32 bytes (length bytes - 10))) (lt-leb 10 (length bytes) few)
@@ -83,7 +83,7 @@ footer_with bytes size = window_at bytes (length bytes - 10 - size) size
 
 -- the footer by the bytes at both ends
 footer_by : (bytes tail : List ℕ) → 10 ≤ length bytes → stands_at file_mark bytes 0 ≡ true → window_at bytes (length bytes - 10) 10 ≡ Some tail
-    → footer_bytes bytes ≡ (footer_size tail (length bytes) >>= footer_with bytes)
+    → footer_bytes_in bytes ≡ (footer_size tail (length bytes) >>= footer_with bytes)
 footer_by bytes tail enough marked there =
     let all = length bytes in
     let behind : (all - 10) + 4 ≡ all - 6 = omega (arith, enough) in
@@ -106,15 +106,15 @@ footer_by bytes tail enough marked there =
 abbrev Extends : Told → Told → ℕ → ℕ → Type 0
 Extends old now start end = Stays old now × ForBytes old (λ bytes. (start ≡ 0) × (end ≡ length bytes))
 
-no_first : (bytes : List ℕ) (start : ℕ) → start ≡ 0 → window_at bytes (start + 0) 6 ≡ None → footer_bytes bytes ≡ None
+no_first : (bytes : List ℕ) (start : ℕ) → start ≡ 0 → window_at bytes (start + 0) 6 ≡ None → footer_bytes_in bytes ≡ None
 no_first bytes start at none =
     no_mark bytes (ap (is_mark file_mark) (ap (λ (place : ℕ). window_at bytes place 6) (sym at) ∙ sym (window_at_once bytes start 6) ∙ none))
 
 pub no_beginning : (old now new : Told) (start end : ℕ) (error : Error) → Extends old now start end
     → IsRefusal false now new (ForBytes now (λ bytes. window_at bytes (start + 0) 6 ≡ None)) error
-    → RefusesOf old new (HasFeatherMark file) footer_bytes error
+    → RefusesOf old new (HasFeatherMark file) footer_bytes_in error
 no_beginning old now new start end error extends refused =
-    part_refused old now new (λ bytes. window_at bytes (start + 0) 6 ≡ None) (HasFeatherMark file) footer_bytes error extends.0
+    part_refused old now new (λ bytes. window_at bytes (start + 0) 6 ≡ None) (HasFeatherMark file) footer_bytes_in error extends.0
     (λ bytes e none. no_first bytes start (extends.1 bytes e).0 none) refused
 
 -- the places, and the first six bytes
@@ -134,7 +134,7 @@ begins old now new start end mark extends stays there = (
 )
 
 pub wrong_mark : (old now new : Told) (start end : ℕ) (mark : List ℕ) (error : Error) → Begins old now start end mark
-    → TestsMark {A = ⊤} mark (Err error) → RefusesOf old new (HasFeatherMark file) footer_bytes error
+    → TestsMark {A = ⊤} mark (Err error) → RefusesOf old new (HasFeatherMark file) footer_bytes_in error
 wrong_mark old now new start end mark (errors.NotYetImplemented what) begins tests = λ bytes e.
     let there = (begins.1 bytes e).2 in (
       no_mark bytes (mark_is file_mark bytes mark 6 there (omega arith) ∙ tests.0),
@@ -150,11 +150,11 @@ wrong_mark old now new start end mark (errors.ExternalFormat what) begins tests 
 wrong_mark old now new start end mark errors.Overflow begins tests = absurd tests
 
 pub not_behind : (old now : Told) (start end : ℕ) (mark : List ℕ) → Begins old now start end mark → (start ≤ end → ⊥)
-    → ForBytes old (λ bytes. footer_bytes bytes ≡ None)
+    → ForBytes old (λ bytes. footer_bytes_in bytes ≡ None)
 not_behind old now start end mark begins before = λ bytes e. absurd (before (omega (arith, (begins.1 bytes e).0)))
 
 pub too_short : (old now : Told) (start end size : ℕ) (mark : List ℕ) → Begins old now start end mark → size ≡ end - start → size < 10
-    → ForBytes old (λ bytes. footer_bytes bytes ≡ None)
+    → ForBytes old (λ bytes. footer_bytes_in bytes ≡ None)
 too_short old now start end size mark begins is few = λ bytes e.
     let at = begins.1 bytes e in too_few bytes (omega (arith, is, few, at.0, at.1))
 
@@ -172,9 +172,9 @@ seen_again bytes end at enough none =
 
 pub no_end : (old now new : Told) (start end : ℕ) (mark : List ℕ) (error : Error) → Begins old now start end mark → 10 ≤ end
     → IsRefusal false now new (ForBytes now (λ bytes. window_at bytes (end - 10 + 0) 10 ≡ None)) error
-    → RefusesOf old new (HasFeatherMark file) footer_bytes error
+    → RefusesOf old new (HasFeatherMark file) footer_bytes_in error
 no_end old now new start end mark error begins enough refused =
-    part_refused old now new (λ bytes. window_at bytes (end - 10 + 0) 10 ≡ None) (HasFeatherMark file) footer_bytes error begins.0
+    part_refused old now new (λ bytes. window_at bytes (end - 10 + 0) 10 ≡ None) (HasFeatherMark file) footer_bytes_in error begins.0
     (λ bytes e none. absurd (seen_again bytes end (begins.1 bytes e).1 enough none)) refused
 
 pub ends : (old now new : Told) (start end : ℕ) (mark tail : List ℕ) → Begins old now start end mark
@@ -192,7 +192,7 @@ ends old now new start end mark tail begins tests enough stays there = (
 )
 
 by_end : (old now : Told) (start end size : ℕ) (tail bytes : List ℕ) (found : Option ℕ) → Ends old now start end tail
-    → old.bytes ≡ Some bytes → size ≡ end - start → footer_size tail size ≡ found → footer_bytes bytes ≡ (found >>= footer_with bytes)
+    → old.bytes ≡ Some bytes → size ≡ end - start → footer_size tail size ≡ found → footer_bytes_in bytes ≡ (found >>= footer_with bytes)
 by_end old now start end size tail bytes found ends e same is =
     let at = ends.1 bytes e in
     let all : length bytes ≡ size = omega (arith, at.0, at.1, same) in
@@ -201,7 +201,7 @@ by_end old now start end size tail bytes found ends e same is =
     ∙ ap (λ (n : Option ℕ). n >>= footer_with bytes) is
 
 pub no_size : (old now : Told) (start end size : ℕ) (tail : List ℕ) (error : Error) → Ends old now start end tail → size ≡ end - start
-    → SizesFooter tail size (Err error) → RefusesOf old now (HasFeatherMark file) footer_bytes error
+    → SizesFooter tail size (Err error) → RefusesOf old now (HasFeatherMark file) footer_bytes_in error
 no_size old now start end size tail (errors.OutOfSpec what) ends same none = λ bytes e. by_end old now start end size tail bytes None ends e same none
 no_size old now start end size tail (errors.NotYetImplemented what) ends same never = absurd never
 no_size old now start end size tail (errors.Io what) ends same never = absurd never
@@ -213,7 +213,7 @@ no_size old now start end size tail errors.Overflow ends same never = absurd nev
 
 -- the footer stands before the last ten bytes
 footer_at : (old now : Told) (start end size count : ℕ) (tail bytes : List ℕ) → Ends old now start end tail → old.bytes ≡ Some bytes
-    → size ≡ end - start → footer_size tail size ≡ Some count → footer_bytes bytes ≡ window_at bytes (end - 10 - count + 0) count
+    → size ≡ end - start → footer_size tail size ≡ Some count → footer_bytes_in bytes ≡ window_at bytes (end - 10 - count + 0) count
 footer_at old now start end size count tail bytes ends e same is =
     by_end old now start end size tail bytes (Some count) ends e same is
     ∙ ap (λ (all : ℕ). window_at bytes (all - 10 - count) count) (sym (ends.1 bytes e).1)
@@ -222,9 +222,9 @@ footer_at old now start end size count tail bytes ends e same is =
 pub no_footer : (old now new : Told) (start end size count : ℕ) (tail : List ℕ) (error : Error) → Ends old now start end tail
     → size ≡ end - start → footer_size tail size ≡ Some count
     → IsRefusal false now new (ForBytes now (λ bytes. window_at bytes (end - 10 - count + 0) count ≡ None)) error
-    → RefusesOf old new (HasFeatherMark file) footer_bytes error
+    → RefusesOf old new (HasFeatherMark file) footer_bytes_in error
 no_footer old now new start end size count tail error ends same is refused =
-    part_refused old now new (λ bytes. window_at bytes (end - 10 - count + 0) count ≡ None) (HasFeatherMark file) footer_bytes error ends.0
+    part_refused old now new (λ bytes. window_at bytes (end - 10 - count + 0) count ≡ None) (HasFeatherMark file) footer_bytes_in error ends.0
     (λ bytes e none. footer_at old now start end size count tail bytes ends e same is ∙ none) refused
 
 pub takes : (old now new : Told) (start end size count : ℕ) (tail footer : List ℕ) → Ends old now start end tail → size ≡ end - start

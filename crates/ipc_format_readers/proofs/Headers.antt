@@ -2,7 +2,7 @@
 use Rattle.std.proofs.Common.{◌≡◌, ◌∙◌, ◌+◌, ℕ, ℤ, List, [], refl, sym, ap}
 use Rattle.std.specs.Prelude.{Option, Some, None}
 use Rattle.ipc_format_chunk_writing.specs.flatbuffers.Reading.{◌>>=◌, window_at}
-use Rattle.ipc_format_chunk_writing.specs.grammar.Framing.{Frame, Framed, Next, frame_at, framed, framed_by, next_of, next_at}
+use Rattle.ipc_format_chunk_writing.specs.grammar.Framing.{Frame, Framed, Next, frame_at, framed_at, framed_by, next_of, next_at}
 use Rattle.ipc_format_chunk_writing.specs.grammar.Framing.{truncated, end_mark, metadata_then, message_then}
 use Rattle.ipc_format_chunk_writing.specs.grammar.Messages as message
 use Rattle.ipc_format_chunk_writing.specs.grammar.Messages.{Header, Message, message_in, natural}
@@ -52,7 +52,7 @@ says_in : (bytes : List ℕ) (frame : Frame) (found : Framed) (after : ℕ) → 
 says_in bytes truncated found after e = absurd cc
 says_in bytes end_mark found after e = absurd cc
 says_in bytes (metadata_then metadata place) found after e =
-    let whole = came_of {A = Framed × ℕ} (framed bytes metadata place) _ _ e in
+    let whole = came_of {A = Framed × ℕ} (framed_at bytes metadata place) _ _ e in
     let it = came_of {A = Message} (message_in metadata) _ whole.0 whole.1 in
     says_by it.0 metadata whole.0 found it.1 (framed_of bytes metadata place it.0.header it.0.body_length whole.0 it.2)
     (ap (message_or found) (some_is _ _ whole.2))

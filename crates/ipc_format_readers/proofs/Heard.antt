@@ -14,7 +14,7 @@ use Rattle.ipc_format_chunk_writing.specs.columnar_memory.declared.Error.{Error}
 use Rattle.ipc_format_chunk_writing.specs.columnar_memory.declared.Error.TheVariants as errors
 use Rattle.ipc_format_chunk_writing.specs.columns.Slots.{Slot}
 use Rattle.ipc_format_chunk_writing.specs.columns.StoredColumns.{Column, slots}
-use Rattle.ipc_format_chunk_writing.specs.flatbuffers.FlatBuffers.{Table}
+use Rattle.ipc_format_chunk_writing.specs.flatbuffers.FlatBuffers.{TablePlace}
 use Rattle.ipc_format_chunk_writing.specs.flatbuffers.Reading.{◌>>=◌, guard}
 use Rattle.ipc_format_chunk_writing.specs.grammar.Columns.{Dictionary, Source}
 use Rattle.ipc_format_chunk_writing.specs.grammar.Dictionaries.{Entry, Layout, Values, source_in, values_of}
@@ -39,13 +39,13 @@ refused_first : {A B : Type 0} (found : Option A) (test : A → Bool) (rest : A 
 refused_first None test rest fails = refl
 refused_first (Some x) test rest fails = ap (λ (passes : Bool). guard passes >>= (λ (ok : Bool). rest x)) (fails x refl)
 
-no_source : (little : Bool) (entry : Entry) (table : Table) → is_compressed entry.metadata table ≡ true → source_in little entry table ≡ None
+no_source : (little : Bool) (entry : Entry) (table : TablePlace) → is_compressed entry.metadata table ≡ true → source_in little entry table ≡ None
 unfolding source_in
 no_source little entry table is =
     refused_first (record_batch_in entry.metadata table) (λ (vectors : RecordBatch). not vectors.is_compressed) _
     (λ (vectors : RecordBatch) found. ap not (sym (ap is_compressed_by found) ∙ is))
 
-no_columns : (asked : Option (List ℕ)) (layout : Layout) (standing : List Dictionary) (entry : Entry) (table : Table)
+no_columns : (asked : Option (List ℕ)) (layout : Layout) (standing : List Dictionary) (entry : Entry) (table : TablePlace)
     → is_compressed entry.metadata table ≡ true → asked_arrays asked layout standing None entry table ≡ None
 no_columns (Some columns) layout standing entry table is =
     ap (λ (found : Option Source). found >>= (λ (source : Source). chosen_arrays layout standing source None columns
@@ -83,7 +83,7 @@ no_dictionary_by : (layout : Layout) (standing : List Dictionary) (entry : Entry
 no_dictionary_by layout standing entry None is = refl
 no_dictionary_by layout standing entry (Some batch) is = no_values layout standing entry batch batch.is_delta refl is
 
-no_dictionary : (layout : Layout) (standing : List Dictionary) (entry : Entry) (table : Table) → is_unread entry.metadata table ≡ true
+no_dictionary : (layout : Layout) (standing : List Dictionary) (entry : Entry) (table : TablePlace) → is_unread entry.metadata table ≡ true
     → dictionary_array layout standing entry table ≡ None
 no_dictionary layout standing entry table is = no_dictionary_by layout standing entry (dictionary_batch_in entry.metadata table) is
 
@@ -98,7 +98,8 @@ abbrev pub in_body : List ℕ → Told
 in_body body = sized (length body) (record { bytes = Some body; failures = 0 })
 
 pub columns_heard : (asked : Option (List ℕ)) (layout : Layout) (version : Version) (standing : List Dictionary) (metadata : List ℕ)
-    (table : Table) (body : List ℕ) (after : Told) (result : Result (List Column) Error) → after.failures ≡ 0 → IfOk result (HasTypes asked layout)
+    (table : TablePlace) (body : List ℕ) (after : Told) (result : Result (List Column) Error) → after.failures ≡ 0
+    → IfOk result (HasTypes asked layout)
     → ReadsAs (is_compressed metadata table) (in_body body) after (map slots)
     (λ room. asked_arrays asked layout standing None (entry_in metadata (message.record_batch table) version 0 room) table) result
     → HearsColumns asked layout version standing metadata table body result
@@ -111,7 +112,7 @@ columns_heard asked layout version standing metadata table body after (Err error
 columns_heard asked layout version standing metadata table body after (Err _) quiet types read = absurd read
 
 pub dictionary_heard : {A : Type 0} (layout : Layout) (version : Version) (dictionaries after : BTreeMap ℤ Column) (metadata : List ℕ)
-    (table : Table) (body : List ℕ) (told : Told) (result : Result A Error) → told.failures ≡ 0
+    (table : TablePlace) (body : List ℕ) (told : Told) (result : Result A Error) → told.failures ≡ 0
     → ReadsDictionary (is_unread metadata table) (in_body body) told (λ room. dictionary_array layout (standing_in dictionaries)
     (entry_in metadata (message.dictionary_batch table) version 0 room) table) dictionaries after result
     → HearsDictionary layout version (standing_in dictionaries) (standing_in after) metadata table body result
@@ -145,7 +146,7 @@ module _ (asked : Option (List ℕ)) (layout : Layout) (version : Version) (stan
   heard_is it header there is =
       bind_is (message_in metadata) (λ (found : Message). heard_with found.header) it there ∙ ap heard_with is
 
-  in_a_row : (table : Table) (few : Bool) → nat_lt row most_dictionaries ≡ few
+  in_a_row : (table : TablePlace) (few : Bool) → nat_lt row most_dictionaries ≡ few
       → heard_with (message.dictionary_batch table) ≡ ((guard few >>= (λ (ok : Bool). Some (row + 1)))
       >>= (λ (now : ℕ). said_by asked layout standing (entry_in metadata (message.dictionary_batch table) version 0 body)
       (message.dictionary_batch table) >>= (λ (said : Said). Some (now, said))))
@@ -153,7 +154,7 @@ module _ (asked : Option (List ℕ)) (layout : Layout) (version : Version) (stan
       >>= (λ (now : ℕ). said_by asked layout standing (entry_in metadata (message.dictionary_batch table) version 0 body)
       (message.dictionary_batch table) >>= (λ (said : Said). Some (now, said)))) is
 
-  dictionary_is : (it : Message) (table : Table) (found : Option Dictionary) → message_in metadata ≡ Some it
+  dictionary_is : (it : Message) (table : TablePlace) (found : Option Dictionary) → message_in metadata ≡ Some it
       → it.header ≡ message.dictionary_batch table → row < most_dictionaries
       → dictionary_array layout standing (entry_in metadata (message.dictionary_batch table) version 0 body) table ≡ found
       → heard_in asked layout version standing row metadata body
@@ -163,7 +164,7 @@ module _ (asked : Option (List ℕ)) (layout : Layout) (version : Version) (stan
       ∙ ap (λ (dictionary : Option Dictionary). with_row (row + 1) (dictionary >>= (λ (d : Dictionary). Some (dictionary_stands d)))) e
 
   -- a dictionary comes
-  pub dictionary_stood : {A : Type 0} (it : Message) (table : Table) (done : A) → message_in metadata ≡ Some it
+  pub dictionary_stood : {A : Type 0} (it : Message) (table : TablePlace) (done : A) → message_in metadata ≡ Some it
       → it.header ≡ message.dictionary_batch table → row < most_dictionaries
       → HearsDictionary layout version standing standing_after metadata table body (Ok done) → Answers (Ok None)
   dictionary_stood it table done there is few read =

@@ -5,8 +5,8 @@ use Rattle.std.specs.Prelude.{Some, Result, Ok, Err, IfOk}
 use Rattle.ipc_format_chunk_writing.specs.Rooms.{Told}
 use Rattle.ipc_format_chunk_writing.specs.columnar_memory.declared.Error.{Error}
 use Rattle.ipc_format_chunk_writing.specs.columnar_memory.declared.Error.TheVariants as errors
-use Rattle.ipc_format_chunk_writing.specs.flatbuffers.FlatBuffers.{Table}
-use Rattle.ipc_format_chunk_writing.specs.grammar.Files.{footer_bytes}
+use Rattle.ipc_format_chunk_writing.specs.flatbuffers.FlatBuffers.{TablePlace}
+use Rattle.ipc_format_chunk_writing.specs.grammar.Files.{footer_bytes_in}
 use Rattle.ipc_format_chunk_writing.specs.grammar.Ids.{all_are_ids, ids_fit_fields}
 use Rattle.ipc_format_chunk_writing.specs.grammar.Refusals.{HasFeatherMark}
 use Rattle.ipc_format_chunk_writing.specs.grammar.SchemaGrammar.{schema_in}
@@ -23,10 +23,10 @@ use Rattle.ipc_format_readers.specs.declared.file_metadata.FileMetadata.{FileMet
 use Rattle.ipc_format_readers.proofs.Rooms.{refuses_too, stays_same}
 use Rattle.ipc_format_readers.proofs.Starts.{float_by_footer, no_footer, start_by_footer}
 
-pub footer_refused : (old new : Told) (error : Error) → RefusesOf old new (HasFeatherMark file) footer_bytes error
+pub footer_refused : (old new : Told) (error : Error) → RefusesOf old new (HasFeatherMark file) footer_bytes_in error
     → RefusesOf old new IsUnreadFile start_in error
 footer_refused old new error refused =
-    refuses_too old old new (HasFeatherMark file) IsUnreadFile footer_bytes start_in error (stays_same old) (λ bytes e mark. inl mark)
+    refuses_too old old new (HasFeatherMark file) IsUnreadFile footer_bytes_in start_in error (stays_same old) (λ bytes e mark. inl mark)
     (λ bytes e none. no_footer bytes none) refused
 
 pub metadata_read : (old new : Told) (footer : List ℕ) (size : ℕ) (result : Result FileMetadata Error) → TakesFooter old new footer (Ok size)
@@ -48,7 +48,7 @@ metadata_read old new footer size (Err (errors.ExternalFormat what)) taken refus
 metadata_read old new footer size (Err errors.Overflow) taken refused is = absurd refused
 
 -- a schema that is read is one that is written, and its ids fit it
-pub read_is_written : (footer : List ℕ) (table : Table) (found : SchemaIn) → schema_in footer table ≡ Some found
+pub read_is_written : (footer : List ℕ) (table : TablePlace) (found : SchemaIn) → schema_in footer table ≡ Some found
     → is_written_with found.schema found.ids ≡ true
 read_is_written footer table found e =
     let is = schemas_read_have_ids footer table found e in

@@ -2,7 +2,7 @@
 use Rattle.std.proofs.Common.{◌≡◌, ◌∙◌, ℕ, List, refl, ap}
 use Rattle.std.specs.Prelude.{Option, Some, None}
 use Rattle.ipc_format_chunk_writing.specs.columns.Slots.{Slot}
-use Rattle.ipc_format_chunk_writing.specs.flatbuffers.FlatBuffers.{Table}
+use Rattle.ipc_format_chunk_writing.specs.flatbuffers.FlatBuffers.{TablePlace}
 use Rattle.ipc_format_chunk_writing.specs.flatbuffers.Reading.{◌>>=◌}
 use Rattle.ipc_format_chunk_writing.specs.grammar.Columns.{Dictionary}
 use Rattle.ipc_format_chunk_writing.specs.grammar.Dictionaries.{Layout, dictionary_in}
@@ -31,14 +31,14 @@ message_step layout version standing bytes place after framed header e is =
     rw e (ap (step_by layout version standing framed after) is)
 
 pub schema_step : (layout : Layout) (version : Version) (standing : List Dictionary) (bytes : List ℕ) (place after : ℕ) (framed : Framed)
-    (table : Table)
+    (table : TablePlace)
     → next_at bytes place ≡ Some (message_then framed after) → framed.header ≡ schema table
     → step_at layout version standing bytes place ≡ None
 schema_step layout version standing bytes place after framed table e is =
     message_step layout version standing bytes place after framed (schema table) e is
 
 pub dictionary_step : (layout : Layout) (version : Version) (standing : List Dictionary) (bytes : List ℕ) (place after : ℕ) (framed : Framed)
-    (table : Table) (given : Option Dictionary) → next_at bytes place ≡ Some (message_then framed after) → framed.header ≡ dictionary_batch table
+    (table : TablePlace) (given : Option Dictionary) → next_at bytes place ≡ Some (message_then framed after) → framed.header ≡ dictionary_batch table
     → dictionary_in layout standing (stream_entry version framed) table ≡ given
     → step_at layout version standing bytes place ≡ (given >>= (λ dictionary. Some (dictionary_then dictionary after)))
 dictionary_step layout version standing bytes place after framed table given e is read =
@@ -46,7 +46,8 @@ dictionary_step layout version standing bytes place after framed table given e i
     ∙ ap (λ (o : Option Dictionary). o >>= (λ dictionary. Some (dictionary_then dictionary after))) read
 
 pub batch_step : (layout : Layout) (version : Version) (standing : List Dictionary) (bytes : List ℕ) (place after : ℕ) (framed : Framed)
-    (table : Table) (given : Option (List (List Slot))) → next_at bytes place ≡ Some (message_then framed after) → framed.header ≡ record_batch table
+    (table : TablePlace) (given : Option (List (List Slot))) → next_at bytes place ≡ Some (message_then framed after) → framed.header
+    ≡ record_batch table
     → batch_in layout standing (stream_entry version framed) table ≡ given
     → step_at layout version standing bytes place ≡ (given >>= (λ columns. Some (batch_then columns after)))
 batch_step layout version standing bytes place after framed table given e is read =

@@ -13,7 +13,7 @@ use Rattle.ipc_format_chunk_writing.specs.columnar_memory.declared.Error.{Error}
 use Rattle.ipc_format_chunk_writing.specs.columnar_memory.declared.Error.TheVariants as errors
 use Rattle.ipc_format_chunk_writing.specs.columns.Slots.{Slot}
 use Rattle.ipc_format_chunk_writing.specs.columns.StoredColumns.{Column, slots}
-use Rattle.ipc_format_chunk_writing.specs.flatbuffers.FlatBuffers.{Table}
+use Rattle.ipc_format_chunk_writing.specs.flatbuffers.FlatBuffers.{TablePlace}
 use Rattle.ipc_format_chunk_writing.specs.grammar.Columns.{Dictionary}
 use Rattle.ipc_format_chunk_writing.specs.grammar.Dictionaries.{Entry, Layout, dictionary_in, source_in}
 use Rattle.ipc_format_chunk_writing.specs.grammar.Messages.{DictionaryBatch, Header, RecordBatch, Version}
@@ -28,28 +28,28 @@ use Rattle.ipc_format_readers.proofs.Rooms.{reads_told}
 
 -- ---- what is not read
 
-source_of : (is_little_endian : Bool) (entry : Entry) (table : Table) (given : Option RecordBatch) → record_batch_in entry.metadata table ≡ given
+source_of : (is_little_endian : Bool) (entry : Entry) (table : TablePlace) (given : Option RecordBatch) → record_batch_in entry.metadata table ≡ given
     → is_compressed_by given ≡ true → source_in is_little_endian entry table ≡ None
 unfolding source_in
 source_of is_little_endian entry table None e is = absurd cc
 source_of is_little_endian entry table (Some batch) e is = rw (e, is) refl
 
-pub compressed_source : (is_little_endian : Bool) (entry : Entry) (table : Table) → is_compressed entry.metadata table ≡ true
+pub compressed_source : (is_little_endian : Bool) (entry : Entry) (table : TablePlace) → is_compressed entry.metadata table ≡ true
     → source_in is_little_endian entry table ≡ None
 compressed_source is_little_endian entry table is =
     source_of is_little_endian entry table (record_batch_in entry.metadata table) refl is
 
-compressed_batch : (layout : Layout) (standing : List Dictionary) (entry : Entry) (table : Table) → is_compressed entry.metadata table ≡ true
+compressed_batch : (layout : Layout) (standing : List Dictionary) (entry : Entry) (table : TablePlace) → is_compressed entry.metadata table ≡ true
     → batch_in layout standing entry table ≡ None
 unfolding batch_in
 compressed_batch layout standing entry table is = rw (compressed_source layout.is_little_endian entry table is) refl
 
-compressed_choice : (layout : Layout) (standing : List Dictionary) (entry : Entry) (limit : Option ℕ) (columns : List ℕ) (table : Table)
+compressed_choice : (layout : Layout) (standing : List Dictionary) (entry : Entry) (limit : Option ℕ) (columns : List ℕ) (table : TablePlace)
     → is_compressed entry.metadata table ≡ true → chosen_batch_in layout standing entry limit columns table ≡ None
 unfolding chosen_batch_in
 compressed_choice layout standing entry limit columns table is = rw (compressed_source layout.is_little_endian entry table is) refl
 
-unread_by : (layout : Layout) (standing : List Dictionary) (entry : Entry) (table : Table) (batch : DictionaryBatch) (delta : Bool)
+unread_by : (layout : Layout) (standing : List Dictionary) (entry : Entry) (table : TablePlace) (batch : DictionaryBatch) (delta : Bool)
     → dictionary_batch_in entry.metadata table ≡ Some batch → batch.is_delta ≡ delta → (delta || is_compressed entry.metadata batch.values) ≡ true
     → dictionary_in layout standing entry table ≡ None
 unfolding dictionary_in
@@ -57,12 +57,12 @@ unread_by layout standing entry table batch true e is unread = rw (e, is) refl
 unread_by layout standing entry table batch false e is unread =
     rw (e, is, compressed_source layout.is_little_endian entry batch.values unread) refl
 
-unread_of : (layout : Layout) (standing : List Dictionary) (entry : Entry) (table : Table) (given : Option DictionaryBatch)
+unread_of : (layout : Layout) (standing : List Dictionary) (entry : Entry) (table : TablePlace) (given : Option DictionaryBatch)
     → dictionary_batch_in entry.metadata table ≡ given → is_unread_by entry.metadata given ≡ true → dictionary_in layout standing entry table ≡ None
 unread_of layout standing entry table None e unread = absurd cc
 unread_of layout standing entry table (Some batch) e unread = unread_by layout standing entry table batch batch.is_delta e refl unread
 
-unread_dictionary : (layout : Layout) (standing : List Dictionary) (entry : Entry) (table : Table) → is_unread entry.metadata table ≡ true
+unread_dictionary : (layout : Layout) (standing : List Dictionary) (entry : Entry) (table : TablePlace) → is_unread entry.metadata table ≡ true
     → dictionary_in layout standing entry table ≡ None
 unread_dictionary layout standing entry table unread =
     unread_of layout standing entry table (dictionary_batch_in entry.metadata table) refl unread
@@ -70,14 +70,14 @@ unread_dictionary layout standing entry table unread =
 -- ---- in a room
 
 -- the columns that are asked for
-asked_are : (asked : Option (List ℕ)) (layout : Layout) (standing : List Dictionary) (limit : Option ℕ) (entry : Entry) (table : Table)
+asked_are : (asked : Option (List ℕ)) (layout : Layout) (standing : List Dictionary) (limit : Option ℕ) (entry : Entry) (table : TablePlace)
     → HasArrays layout → chosen_batch_in layout standing entry limit (asked_or_all asked layout.fields) table
     ≡ asked_arrays asked layout standing limit entry table
 asked_are None layout standing limit entry table have = sym (have.limited standing limit entry table)
 asked_are (Some columns) layout standing limit entry table have = sym (have.choices standing limit columns entry table)
 
 pub asked_read : (asked : Option (List ℕ)) (layout : Layout) (standing : List Dictionary) (limit : Option ℕ) (metadata : List ℕ) (header : Header)
-    (version : Version) (table : Table) (origin : ℕ) (old new : Told) (result : Result (List Column) Error) → HasArrays layout
+    (version : Version) (table : TablePlace) (origin : ℕ) (old new : Told) (result : Result (List Column) Error) → HasArrays layout
     → ReadsAs (is_compressed metadata table) old new (map slots)
     (λ room. asked_arrays asked layout standing limit (entry_in metadata header version origin room) table) result
     → ReadsOf old new (λ chunk bytes. chosen_batch_in layout standing (entry_in metadata header version origin bytes) limit
@@ -99,7 +99,7 @@ stands_there : (standing standing_after : List Dictionary) (given : Option Dicti
     → StandAlike standing_after (dictionary ∷ standing) → StandsBefore standing standing_after given
 stands_there standing standing_after given dictionary e alike = rw e alike
 
-pub dictionary_told : {A : Type 0} (layout : Layout) (metadata : List ℕ) (header : Header) (version : Version) (table : Table) (origin : ℕ)
+pub dictionary_told : {A : Type 0} (layout : Layout) (metadata : List ℕ) (header : Header) (version : Version) (table : TablePlace) (origin : ℕ)
     (old new : Told) (before after : BTreeMap ℤ Column) (result : Result A Error) → HasArrays layout
     → ReadsDictionary (is_unread metadata table) old new
     (λ room. dictionary_array layout (standing_in before) (entry_in metadata header version origin room) table) before after result
@@ -148,7 +148,7 @@ columns_there : (size : ℕ) (file after : List ℕ) (Unread : Type 0) (given : 
 columns_there size file after Unread given (Ok chunk) same read = read.1 file (sized_whole size file same)
 columns_there size file after Unread given (Err error) same refused = refused_there size file after Unread given error same refused
 
-pub batch_read : (layout : Layout) (standing : List Dictionary) (metadata : List ℕ) (header : Header) (version : Version) (table : Table)
+pub batch_read : (layout : Layout) (standing : List Dictionary) (metadata : List ℕ) (header : Header) (version : Version) (table : TablePlace)
     (origin size : ℕ) (file after : List ℕ) (result : Result (List Column) Error) → HasArrays layout → size ≡ length file
     → ReadsAs (is_compressed metadata table) (sized size (in_memory file)) (sized size (in_memory after)) (map slots)
     (λ room. record_arrays layout standing None (entry_in metadata header version origin room) table) result
@@ -172,7 +172,7 @@ dictionary_there size file after standing standing_after Unread given (Ok done) 
 dictionary_there size file after standing standing_after Unread given (Err error) same refused =
     refused_there size file after Unread given error same refused
 
-pub dictionary_read : {A : Type 0} (layout : Layout) (metadata : List ℕ) (header : Header) (version : Version) (table : Table) (origin size : ℕ)
+pub dictionary_read : {A : Type 0} (layout : Layout) (metadata : List ℕ) (header : Header) (version : Version) (table : TablePlace) (origin size : ℕ)
     (file after : List ℕ) (old new : BTreeMap ℤ Column) (result : Result A Error) → HasArrays layout → size ≡ length file
     → ReadsDictionary (is_unread metadata table) (sized size (in_memory file)) (sized size (in_memory after))
     (λ room. dictionary_array layout (standing_in old) (entry_in metadata header version origin room) table) old new result

@@ -2,11 +2,11 @@
 use Rattle.std.proofs.Common.{◌≡◌, ◌∙◌, ℕ, true, false, List, [], refl, sym, ap, subst, inl, inr}
 use Rattle.std.specs.Prelude.{Option, Some, None, IsSome, IsSomeAnd, ◌⊎◌, slice_get}
 use Rattle.ipc_format_chunk_writing.specs.columns.Slots.{Slot}
-use Rattle.ipc_format_chunk_writing.specs.flatbuffers.FlatBuffers.{Table, Vector, root_of, table_field, vector_field}
+use Rattle.ipc_format_chunk_writing.specs.flatbuffers.FlatBuffers.{TablePlace, Vector, root_of, table_field, vector_field}
 use Rattle.ipc_format_chunk_writing.specs.flatbuffers.Reading.{◌>>=◌}
 use Rattle.ipc_format_chunk_writing.specs.grammar.Dictionaries.{Entry}
 use Rattle.ipc_format_chunk_writing.specs.grammar.Files.{Block, Footer, blocks_if, blocks_of, file_entries}
-use Rattle.ipc_format_chunk_writing.specs.grammar.Files.{footer_bytes, footer_in, footer_schema}
+use Rattle.ipc_format_chunk_writing.specs.grammar.Files.{footer_bytes_in, footer_in, footer_schema}
 use Rattle.ipc_format_chunk_writing.specs.grammar.Messages as message
 use Rattle.ipc_format_chunk_writing.specs.grammar.Refusals.{HasCompression, HasDelta, HasFloat, HasFloatField}
 use Rattle.ipc_format_chunk_writing.specs.grammar.Refusals.{blocks, compression_in, is_delta, message_at, message_of_block}
@@ -28,11 +28,11 @@ abbrev Lists : Type 0
 Lists = List Block × List Block
 
 -- a footer with its lists of blocks
-abbrev footer_with : List ℕ × Table → Lists → Option Footer
+abbrev footer_with : List ℕ × TablePlace → Lists → Option Footer
 footer_with found lists =
     Some (record { bytes = found.0; schema = found.1; dictionaries = lists.0; record_batches = lists.1 })
 
-footer_by : (found : List ℕ × Table) → (do
+footer_by : (found : List ℕ × TablePlace) → (do
   root ← root_of found.0
   found_dictionaries ← vector_field found.0 root slots.footer_dictionaries slots.block_size
   dictionaries ← blocks_if found.0 found_dictionaries
@@ -42,7 +42,7 @@ footer_by : (found : List ℕ × Table) → (do
   footer_with found (dictionaries, record_batches)) ≡ (blocks_in found.0 >>= footer_with found)
 footer_by found =
     let end = footer_with found in
-    sym (bind_assoc {A = Table} (root_of found.0) _ end ∙ bind_same {A = Table} (root_of found.0) _ _ (λ root.
+    sym (bind_assoc {A = TablePlace} (root_of found.0) _ end ∙ bind_same {A = TablePlace} (root_of found.0) _ _ (λ root.
     bind_assoc {A = Option Vector} (vector_field found.0 root slots.footer_dictionaries slots.block_size) _ end
     ∙ bind_same {A = Option Vector} (vector_field found.0 root slots.footer_dictionaries slots.block_size) _ _ (λ found_dictionaries.
     bind_assoc {A = List Block} (blocks_if found.0 found_dictionaries) _ end
@@ -55,10 +55,10 @@ footer_by found =
 -- the footer by its schema and its lists of blocks
 footer_is : (bytes : List ℕ) → footer_in bytes ≡ (footer_schema bytes >>= (λ found. blocks_in found.0 >>= footer_with found))
 unfolding footer_in
-footer_is bytes = bind_same {A = List ℕ × Table} (footer_schema bytes) _ (λ found. blocks_in found.0 >>= footer_with found) footer_by
+footer_is bytes = bind_same {A = List ℕ × TablePlace} (footer_schema bytes) _ (λ found. blocks_in found.0 >>= footer_with found) footer_by
 
 -- what the footer's bytes say, by the place of the schema
-abbrev start_of : List ℕ → Table → Option Start
+abbrev start_of : List ℕ → TablePlace → Option Start
 start_of footer table = do
   lists ← blocks_in footer
   found ← schema_in footer table
@@ -69,52 +69,52 @@ start_with footer = do
   found ← schema_in footer.bytes footer.schema
   Some (record { schema = found; dictionaries = footer.dictionaries; record_batches = footer.record_batches })
 
-start_is : (bytes footer : List ℕ) (table : Table) → footer_schema bytes ≡ Some (footer, table) → start_in bytes ≡ start_of footer table
+start_is : (bytes footer : List ℕ) (table : TablePlace) → footer_schema bytes ≡ Some (footer, table) → start_in bytes ≡ start_of footer table
 start_is bytes footer table e =
     ap (λ (found : Option Footer). found >>= start_with) (footer_is bytes
-    ∙ ap (λ (found : Option (List ℕ × Table)). found >>= (λ f. blocks_in f.0 >>= footer_with f)) e)
+    ∙ ap (λ (found : Option (List ℕ × TablePlace)). found >>= (λ f. blocks_in f.0 >>= footer_with f)) e)
     ∙ bind_assoc {A = Lists} (blocks_in footer) (footer_with (footer, table)) start_with
 
 no_start : (bytes : List ℕ) → footer_schema bytes ≡ None → start_in bytes ≡ None
 no_start bytes e =
     ap (λ (found : Option Footer). found >>= start_with) (footer_is bytes
-    ∙ ap (λ (found : Option (List ℕ × Table)). found >>= (λ f. blocks_in f.0 >>= footer_with f)) e)
+    ∙ ap (λ (found : Option (List ℕ × TablePlace)). found >>= (λ f. blocks_in f.0 >>= footer_with f)) e)
 
 -- ---- by the footer's bytes
 
-abbrev with_schema : List ℕ → Table → Option (List ℕ × Table)
+abbrev with_schema : List ℕ → TablePlace → Option (List ℕ × TablePlace)
 with_schema footer table = Some (footer, table)
 
-schema_by : (bytes : List ℕ) → footer_schema bytes ≡ (footer_bytes bytes >>= (λ footer. schema_place footer >>= with_schema footer))
+schema_by : (bytes : List ℕ) → footer_schema bytes ≡ (footer_bytes_in bytes >>= (λ footer. schema_place footer >>= with_schema footer))
 unfolding footer_schema
-schema_by bytes = bind_same {A = List ℕ} (footer_bytes bytes) _ (λ footer. schema_place footer >>= with_schema footer) (λ footer.
-    sym (bind_assoc {A = Table} (root_of footer) _ (with_schema footer) ∙ bind_same {A = Table} (root_of footer) _ _ (λ root.
-    bind_assoc {A = Option Table} (table_field footer root slots.footer_schema) (λ found. found) (with_schema footer))))
+schema_by bytes = bind_same {A = List ℕ} (footer_bytes_in bytes) _ (λ footer. schema_place footer >>= with_schema footer) (λ footer.
+    sym (bind_assoc {A = TablePlace} (root_of footer) _ (with_schema footer) ∙ bind_same {A = TablePlace} (root_of footer) _ _ (λ root.
+    bind_assoc {A = Option TablePlace} (table_field footer root slots.footer_schema) (λ found. found) (with_schema footer))))
 
-place_of : (bytes footer : List ℕ) → footer_bytes bytes ≡ Some footer → footer_schema bytes ≡ (schema_place footer >>= with_schema footer)
+place_of : (bytes footer : List ℕ) → footer_bytes_in bytes ≡ Some footer → footer_schema bytes ≡ (schema_place footer >>= with_schema footer)
 place_of bytes footer e =
     schema_by bytes ∙ ap (λ (found : Option (List ℕ)). found >>= (λ f. schema_place f >>= with_schema f)) e
 
-start_by : (bytes footer : List ℕ) (place : Option Table) → footer_schema bytes ≡ (place >>= with_schema footer)
+start_by : (bytes footer : List ℕ) (place : Option TablePlace) → footer_schema bytes ≡ (place >>= with_schema footer)
     → start_in bytes ≡ (place >>= start_of footer)
 start_by bytes footer None e = no_start bytes e
 start_by bytes footer (Some table) e = start_is bytes footer table e
 
-pub start_by_footer : (bytes footer : List ℕ) → footer_bytes bytes ≡ Some footer → start_in bytes ≡ start_of_footer footer
+pub start_by_footer : (bytes footer : List ℕ) → footer_bytes_in bytes ≡ Some footer → start_in bytes ≡ start_of_footer footer
 start_by_footer bytes footer e = start_by bytes footer (schema_place footer) (place_of bytes footer e)
 
-pub no_footer : (bytes : List ℕ) → footer_bytes bytes ≡ None → start_in bytes ≡ None
+pub no_footer : (bytes : List ℕ) → footer_bytes_in bytes ≡ None → start_in bytes ≡ None
 no_footer bytes e =
     no_start bytes (schema_by bytes ∙ ap (λ (found : Option (List ℕ)). found >>= (λ f. schema_place f >>= with_schema f)) e)
 
-float_by : (footer : List ℕ) (place : Option Table) → IsSomeAnd place (FloatInSchema footer)
+float_by : (footer : List ℕ) (place : Option TablePlace) → IsSomeAnd place (FloatInSchema footer)
     → IsSomeAnd (place >>= with_schema footer) (λ found. HasFloatField found.0 found.1)
 float_by footer None float = absurd float
 float_by footer (Some table) float = float
 
-pub float_by_footer : (bytes footer : List ℕ) → footer_bytes bytes ≡ Some footer → HasFloatIn footer → HasFloat file bytes
+pub float_by_footer : (bytes footer : List ℕ) → footer_bytes_in bytes ≡ Some footer → HasFloatIn footer → HasFloat file bytes
 float_by_footer bytes footer e float =
-    subst (λ (found : Option (List ℕ × Table)). IsSomeAnd found (λ f. HasFloatField f.0 f.1)) (sym (place_of bytes footer e))
+    subst (λ (found : Option (List ℕ × TablePlace)). IsSomeAnd found (λ f. HasFloatField f.0 f.1)) (sym (place_of bytes footer e))
     (float_by footer (schema_place footer) float)
 
 -- ---- what a file holds

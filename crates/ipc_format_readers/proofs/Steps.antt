@@ -42,12 +42,13 @@ pushed : (columns : List (List Slot)) (given : Option Batches) → (given >>= (�
 pushed columns None = refl
 pushed columns (Some batches) = refl
 
-no_schema : (layout : Layout) (version : Version) (standing : List Dictionary) (framed : Framed) (table : flat.Table) (others : Option (List Framed))
+no_schema : (layout : Layout) (version : Version) (standing : List Dictionary) (framed : Framed) (table : flat.TablePlace)
+    (others : Option (List Framed))
     → batches_by layout version standing (before_others (with_header framed (schema table)) others) ≡ None
 no_schema layout version standing framed table None = refl
 no_schema layout version standing framed table (Some more) = refl
 
-one_batch : (layout : Layout) (version : Version) (standing : List Dictionary) (framed : Framed) (table : flat.Table)
+one_batch : (layout : Layout) (version : Version) (standing : List Dictionary) (framed : Framed) (table : flat.TablePlace)
     (given : Option (List (List Slot))) (others : Option (List Framed))
     → batch_in layout standing (stream_entry version (with_header framed (record_batch table))) table ≡ given
     → batches_by layout version standing (before_others (with_header framed (record_batch table)) others)
@@ -58,7 +59,8 @@ one_batch layout version standing framed table None (Some more) here = rw here r
 one_batch layout version standing framed table (Some columns) (Some more) here =
     rw here (pushed columns (batches_of layout standing (map (stream_entry version) more)))
 
-one_dictionary : (layout : Layout) (version : Version) (standing : List Dictionary) (framed : Framed) (table : flat.Table) (given : Option Dictionary)
+one_dictionary : (layout : Layout) (version : Version) (standing : List Dictionary) (framed : Framed) (table : flat.TablePlace)
+    (given : Option Dictionary)
     (others : Option (List Framed))
     → dictionary_in layout standing (stream_entry version (with_header framed (dictionary_batch table))) table ≡ given
     → batches_by layout version standing (before_others (with_header framed (dictionary_batch table)) others)
@@ -97,7 +99,7 @@ abbrev pub under_dictionary : Layout → Version → List Dictionary → ℕ →
 under_dictionary layout version standing most bytes in_a_row dictionary after =
     guard (nat_lt in_a_row most_dictionaries) >>= (λ _. batches_behind layout version (dictionary ∷ standing) most bytes after (in_a_row + 1))
 
-counted : (layout : Layout) (version : Version) (standing : List Dictionary) (framed : Framed) (table : flat.Table) (most : ℕ) (bytes : List ℕ)
+counted : (layout : Layout) (version : Version) (standing : List Dictionary) (framed : Framed) (table : flat.TablePlace) (most : ℕ) (bytes : List ℕ)
     (in_a_row after : ℕ) (few : Bool)
     → batches_by layout version standing ((guard few >>= (λ _. Some (in_a_row + 1))) >>= (λ row.
     before_others (with_header framed (dictionary_batch table)) (later_messages most bytes after row)))
@@ -201,14 +203,14 @@ first_step layout version standing n bytes place = first_next layout version sta
 -- what stands at a place, and that it is a dictionary's message
 pub record IsDictionaryAt (bytes : List ℕ) (place after : ℕ) : Type 0 where
   pub framed : Framed
-  pub table : flat.Table
+  pub table : flat.TablePlace
   pub there : next_at bytes place ≡ Some (message_then framed after)
   pub header : framed.header ≡ dictionary_batch table
 
 -- the same of a batch
 pub record IsBatchAt (bytes : List ℕ) (place after : ℕ) : Type 0 where
   pub framed : Framed
-  pub table : flat.Table
+  pub table : flat.TablePlace
   pub there : next_at bytes place ≡ Some (message_then framed after)
   pub header : framed.header ≡ record_batch table
 

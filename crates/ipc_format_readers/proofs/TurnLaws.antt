@@ -8,7 +8,7 @@ use Rattle.ipc_format_chunk_writing.specs.DictionaryReads.{dictionary_array}
 use Rattle.ipc_format_chunk_writing.specs.Readable.{HasArrays}
 use Rattle.ipc_format_chunk_writing.specs.columns.Slots.{Slot}
 use Rattle.ipc_format_chunk_writing.specs.flatbuffers.Reading.{◌>>=◌, guard}
-use Rattle.ipc_format_chunk_writing.specs.flatbuffers.FlatBuffers.{Table}
+use Rattle.ipc_format_chunk_writing.specs.flatbuffers.FlatBuffers.{TablePlace}
 use Rattle.ipc_format_chunk_writing.specs.grammar.Messages as grammar
 use Rattle.ipc_format_chunk_writing.specs.grammar.Messages.{Header, Version}
 use Rattle.ipc_format_chunk_writing.specs.grammar.Columns.{Dictionary}
@@ -44,7 +44,8 @@ by_said layout version rest standing most row said =
 
 module _ (layout : Layout) (version : Version) (has : HasArrays layout) where
   -- behind a message that is heard of
-  dictionary_first : (message : Framed) (table : Table) (rest : List ℕ) (standing : List Dictionary) (most row : ℕ) (later : Option (List Framed))
+  dictionary_first : (message : Framed) (table : TablePlace) (rest : List ℕ) (standing : List Dictionary) (most row : ℕ)
+      (later : Option (List Framed))
       (found : Option Dictionary)
       → ((stand : List Dictionary) → of_messages layout version stand later ≡ (turn_within None layout version most rest stand row
       >>= batches_by_turn layout version))
@@ -94,7 +95,7 @@ module _ (layout : Layout) (version : Version) (has : HasArrays layout) where
       (behind_dictionary : row < most_dictionaries → (stand : List Dictionary) → of_messages layout version stand (later (row + 1))
       ≡ (turn_within None layout version most rest stand (row + 1) >>= batches_by_turn layout version))
       (behind_batch : of_messages layout version standing (later 0) ≡ batches_from layout version rest standing 0) where
-    at_dictionary : (table : Table) (few : Bool) → nat_lt row most_dictionaries ≡ few
+    at_dictionary : (table : TablePlace) (few : Bool) → nat_lt row most_dictionaries ≡ few
         → ((guard few >>= (λ (ok : Bool). Some (row + 1)))
         >>= (λ (in_a_row : ℕ). of_message layout version standing message (grammar.dictionary_batch table) (later in_a_row)))
         ≡ turned rest standing most ((guard few >>= (λ (ok : Bool). Some (row + 1)))

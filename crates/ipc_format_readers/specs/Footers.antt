@@ -4,9 +4,9 @@ use Rattle.std.specs.Int.{w32}
 use Rattle.ipc_format_chunk_writing.specs.Rooms.{ForBytes, Stays, Told}
 use Rattle.ipc_format_chunk_writing.specs.columnar_memory.declared.Error.{Error}
 use Rattle.ipc_format_chunk_writing.specs.columnar_memory.declared.Error.TheVariants as errors
-use Rattle.ipc_format_chunk_writing.specs.flatbuffers.FlatBuffers.{Table, root_of, signed_at, table_field}
+use Rattle.ipc_format_chunk_writing.specs.flatbuffers.FlatBuffers.{TablePlace, root_of, signed_at, table_field}
 use Rattle.ipc_format_chunk_writing.specs.flatbuffers.Reading.{◌>>=◌, guard}
-use Rattle.ipc_format_chunk_writing.specs.grammar.Files.{file_mark, footer_bytes, stands_at}
+use Rattle.ipc_format_chunk_writing.specs.grammar.Files.{file_mark, footer_bytes_in, stands_at}
 use Rattle.ipc_format_chunk_writing.specs.grammar.Messages.{natural}
 use Rattle.ipc_format_chunk_writing.specs.grammar.Refusals.{HasFeatherMark, feather_mark}
 use Rattle.ipc_format_chunk_writing.specs.grammar.SchemaGrammar.{schema_in}
@@ -40,13 +40,13 @@ SizesFooter tail size (Err _) = ⊥
 
 -- The footer's bytes are taken, and the file's size is answered; or the file has no footer, or the mark of Feather.
 abbrev pub TakesFooter : Told → Told → List ℕ → Result ℕ Error → Type 0
-TakesFooter old new footer (Ok size) = Stays old new × ForBytes old (λ bytes. (footer_bytes bytes ≡ Some footer) × (size ≡ length bytes))
-TakesFooter old new footer (Err error) = RefusesOf old new (HasFeatherMark file) footer_bytes error
+TakesFooter old new footer (Ok size) = Stays old new × ForBytes old (λ bytes. (footer_bytes_in bytes ≡ Some footer) × (size ≡ length bytes))
+TakesFooter old new footer (Err error) = RefusesOf old new (HasFeatherMark file) footer_bytes_in error
 
 -- ---- a footer's bytes
 
 -- the place of the schema's table in a footer
-abbrev pub schema_place : List ℕ → Option Table
+abbrev pub schema_place : List ℕ → Option TablePlace
 schema_place footer = do
   root ← root_of footer
   found ← table_field footer root slots.footer_schema

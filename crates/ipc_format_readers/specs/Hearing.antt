@@ -6,7 +6,7 @@ use Rattle.ipc_format_chunk_writing.specs.Standing.{StandAlike}
 use Rattle.ipc_format_chunk_writing.specs.columnar_memory.declared.Error.{Error}
 use Rattle.ipc_format_chunk_writing.specs.columnar_memory.declared.Error.TheVariants as errors
 use Rattle.ipc_format_chunk_writing.specs.columns.StoredColumns.{Column, column_type, slots}
-use Rattle.ipc_format_chunk_writing.specs.flatbuffers.FlatBuffers.{Table}
+use Rattle.ipc_format_chunk_writing.specs.flatbuffers.FlatBuffers.{TablePlace}
 use Rattle.ipc_format_chunk_writing.specs.flatbuffers.Reading.{◌>>=◌}
 use Rattle.ipc_format_chunk_writing.specs.grammar.Columns.{Dictionary}
 use Rattle.ipc_format_chunk_writing.specs.grammar.Dictionaries.{Layout}
@@ -40,7 +40,8 @@ abbrev pub HasTypes : Option (List ℕ) → Layout → List Column → Type 0
 HasTypes asked layout chunk = map column_type chunk ≡ map type_of (asked_fields asked layout.fields)
 
 -- The dictionary of a message is read, and stands from then on; or it is one of those that are not read, or the format gives nothing of it.
-abbrev pub HearsDictionary : {A : Type 0} → Layout → Version → List Dictionary → List Dictionary → List ℕ → Table → List ℕ → Result A Error → Type 0
+abbrev pub HearsDictionary : {A : Type 0} → Layout → Version → List Dictionary → List Dictionary → List ℕ → TablePlace → List ℕ → Result A Error
+    → Type 0
 HearsDictionary layout version standing standing_after metadata table body (Ok done) = (dictionary : Dictionary)
     × (dictionary_array layout standing (entry_in metadata (message.dictionary_batch table) version 0 body) table ≡ Some dictionary)
     × StandAlike (dictionary ∷ standing) standing_after
@@ -53,7 +54,7 @@ HearsDictionary layout version standing standing_after metadata table body (Err 
 HearsDictionary layout version standing standing_after metadata table body (Err _) = ⊥
 
 -- the columns of a message's record batch that are asked for are read
-abbrev pub HearsColumns : Option (List ℕ) → Layout → Version → List Dictionary → List ℕ → Table → List ℕ → Result (List Column) Error → Type 0
+abbrev pub HearsColumns : Option (List ℕ) → Layout → Version → List Dictionary → List ℕ → TablePlace → List ℕ → Result (List Column) Error → Type 0
 HearsColumns asked layout version standing metadata table body (Ok chunk) = HasTypes asked layout chunk
     × (asked_arrays asked layout standing None (entry_in metadata (message.record_batch table) version 0 body) table ≡ Some (map slots chunk))
 HearsColumns asked layout version standing metadata table body (Err (errors.OutOfSpec text)) =

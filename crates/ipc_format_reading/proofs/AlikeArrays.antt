@@ -13,7 +13,7 @@ use Rattle.ipc_format_childless_reading.specs.grammar.Messages.{FieldNode, Buffe
 use Rattle.ipc_format_childless_reading.specs.grammar.Schemas.{Ids, IdsList, ids_then, no_ids}
 use Rattle.ipc_format_childless_reading.specs.array_reading.ArrayReads.{array_slots, is_readable}
 use Rattle.ipc_format_reading.specs.Below.{arrays_below}
-use Rattle.ipc_format_childless_reading.specs.array_reading.Limits.{Agree}
+use Rattle.ipc_format_childless_reading.specs.array_reading.Limits.{AlikeLimits}
 use Rattle.ipc_format_reading.proofs.AlikePlaces.{Spot, put, spot_further, LimitsAgree, StandsAlike, Agrees, both_same}
 use Rattle.ipc_format_reading.proofs.AlikeColumns.{alike_behind}
 use Rattle.ipc_format_reading.proofs.AlikeTypes.{types_agree}
@@ -128,7 +128,7 @@ front_at node_of buffer_of nodes buffers version little standing limit origin he
   ids = here;
 }
 
-limits_dropped : {X : Type 0} (f : X → FieldNode) (n m : ℕ) (xs : List X) (old new : Option ℕ) → m ≡ n → Agree (map f (drop n xs)) old new
+limits_dropped : {X : Type 0} (f : X → FieldNode) (n m : ℕ) (xs : List X) (old new : Option ℕ) → m ≡ n → AlikeLimits (map f (drop n xs)) old new
     → LimitsAgree (map f xs) m old new
 limits_dropped f n m xs old new is (inl same) = inl same
 limits_dropped f n m xs old new is (inr both) =
@@ -141,7 +141,7 @@ limits_dropped f n m xs old new is (inr both) =
 
 pub below_at_front : {X Y : Type 0} (f : X → FieldNode) (g : Y → Buffer) (fields : List Field) (nodes : List X) (buffers : List Y)
     (version : Version) (little : Bool) (standing : List Dictionary) (limit l m : Option ℕ) (origin own : ℕ) (here there : Ids) (room : List ℕ)
-    (below : IdsList) → Agree (map f (drop 1 nodes)) l m
+    (below : IdsList) → AlikeLimits (map f (drop 1 nodes)) l m
     → arrays_below fields (first_below (front_at f g nodes buffers version little standing limit origin here room) own l) below
     ≡ arrays_below fields (front_at f g (drop 1 nodes) (drop own buffers) version little standing m origin there room) below
 below_at_front f g fields nodes buffers version little standing limit l m origin own here there room below agree =

@@ -2,7 +2,7 @@
 use Rattle.std.proofs.Common.{◌≡◌, ℕ, Bool, List, map, drop}
 use Rattle.std.specs.Prelude.{Option}
 use Rattle.ipc_format_childless_reading.specs.ReadArrays.{at_front}
-use Rattle.ipc_format_childless_reading.specs.array_reading.Limits.{Agree}
+use Rattle.ipc_format_childless_reading.specs.array_reading.Limits.{AlikeLimits}
 use Rattle.ipc_format_childless_reading.specs.Buffers.{node_of, buffer_of}
 use Rattle.ipc_format_childless_reading.specs.columnar_memory.declared.DataType.{DataType}
 use Rattle.ipc_format_childless_reading.specs.columnar_memory.declared.Field.{Field}
@@ -18,7 +18,7 @@ use Rattle.ipc_format_reading.proofs.AlikeArrays.{behind_at_front, below_at_fron
 -- below a column, under a limit that takes the same of each column
 pub below_fronts : (fields : List Field) (nodes : List FieldNode) (buffers : List Buffer) (version : Version) (little : Bool)
     (standing : List Dictionary) (limit l m : Option ℕ) (origin own : ℕ) (here there : Ids) (room : List ℕ) (below : IdsList)
-    → Agree (map node_of (drop 1 nodes)) l m
+    → AlikeLimits (map node_of (drop 1 nodes)) l m
     → arrays_below fields (first_below (at_front nodes buffers version little standing limit origin here room) own l) below
     ≡ arrays_below fields (at_front (drop 1 nodes) (drop own buffers) version little standing m origin there room) below
 below_fronts fields nodes buffers version little standing limit l m origin own here there room below agree =

@@ -3,7 +3,7 @@ use Rattle.std.proofs.Common.{◌≡◌, ◌∙◌, ◌+◌, ℕ, List, Bool, tr
 use Rattle.std.specs.Prelude.{Option, Some, None, Result, Ok, Err, IfOk}
 use Rattle.ipc_format_childless_reading.specs.ReadArrays.{ReadsArray, at_front}
 use Rattle.ipc_format_childless_reading.specs.array_reading.ArrayReads.{Takes, array_slots, fields_below}
-use Rattle.ipc_format_childless_reading.specs.array_reading.Limits.{Agree}
+use Rattle.ipc_format_childless_reading.specs.array_reading.Limits.{AlikeLimits}
 use Rattle.ipc_format_childless_reading.specs.array_reading.Parts.{AreInRange, AreParts, Makes, Parts, has_children, limit_below, made_column, next_parts}
 use Rattle.ipc_format_childless_reading.specs.array_reading.Parts.{own_buffers, parts_in}
 use Rattle.ipc_format_childless_reading.specs.array_reading.declared.begun.Begun.{Begun}
@@ -72,13 +72,13 @@ by_parts t nodes buffers version little standing limit origin here nested room =
 below_is : (t : DataType) (fields : List Field) (nodes rest : List FieldNode) (buffers others : List Buffer) (version : Version) (little : Bool)
     (standing : List Dictionary) (limit lower : Option ℕ) (origin : ℕ) (here : Ids) (below : IdsList) (begun : Begun) (room : List ℕ)
     → fields ≡ fields_below (type_layer t) → below ≡ ids_below here → rest ≡ drop 1 nodes → others ≡ drop (own_buffers version (type_layer t)) buffers
-    → Agree (map node_of rest) (limit_below (type_layer t) limit (parts_in begun)) lower
+    → AlikeLimits (map node_of rest) (limit_below (type_layer t) limit (parts_in begun)) lower
     → columns_in t nodes buffers version little standing limit origin here (parts_in begun) room
     ≡ arrays_below fields (at_front rest others version little standing lower origin no_own_ids room) below
 below_is t fields nodes rest buffers others version little standing limit lower origin here below begun room are ids first behind agree =
     below_fronts (fields_below (type_layer t)) nodes buffers version little standing limit (limit_below (type_layer t) limit (parts_in begun)) lower
     origin (own_buffers version (type_layer t)) here no_own_ids room (ids_below here)
-    (subst (λ (ns : List FieldNode). Agree (map node_of ns) (limit_below (type_layer t) limit (parts_in begun)) lower) first agree)
+    (subst (λ (ns : List FieldNode). AlikeLimits (map node_of ns) (limit_below (type_layer t) limit (parts_in begun)) lower) first agree)
     ∙ (λ i. arrays_below (sym are i) (at_front (sym first i) (sym behind i) version little standing lower origin no_own_ids room) (sym ids i))
 
 -- an array that is made has the slots that parts and children make
@@ -126,7 +126,7 @@ pub below_refused : {B : Type 0} (t : DataType) (fields : List Field) (nodes res
     (version : Version) (little : Bool) (standing : List Dictionary) (limit lower : Option ℕ) (origin : ℕ) (here : Ids) (below : IdsList)
     (old mid new : Told) (begun : Begun) (view : B → List (List Slot)) (error : Error) → has_children (type_layer t) ≡ true
     → fields ≡ fields_below (type_layer t) → below ≡ ids_below here
-    → Agree (map node_of rest) (limit_below (type_layer t) limit (parts_in begun)) lower
+    → AlikeLimits (map node_of rest) (limit_below (type_layer t) limit (parts_in begun)) lower
     → HasBegun t nodes rest buffers others version little limit origin old mid begun
     → Takes false mid new view
     (λ room. arrays_below fields (at_front rest others version little standing lower origin no_own_ids room) below)
@@ -151,7 +151,7 @@ pub nested_read : {B : Type 0} (t : DataType) (fields : List Field) (nodes rest 
     (version : Version) (little : Bool) (standing : List Dictionary) (limit lower : Option ℕ) (origin : ℕ) (here : Ids) (below : IdsList)
     (old mid new : Told) (begun : Begun) (view : B → List (List Slot)) (found : B) (cs : List Column) (r : Result Column Error)
     → has_children (type_layer t) ≡ true → fields ≡ fields_below (type_layer t) → below ≡ ids_below here
-    → Agree (map node_of rest) (limit_below (type_layer t) limit (parts_in begun)) lower → AreParts (type_layer t) begun
+    → AlikeLimits (map node_of rest) (limit_below (type_layer t) limit (parts_in begun)) lower → AreParts (type_layer t) begun
     → HasBegun t nodes rest buffers others version little limit origin old mid begun
     → view found ≡ map slots cs → map column_type cs ≡ map type_of fields
     → Takes false mid new view

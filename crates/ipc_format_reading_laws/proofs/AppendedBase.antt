@@ -7,7 +7,7 @@ use Rattle.std.specs.Int.{w32}
 use Rattle.std.proofs.lemmas.Bool.{ltb-false}
 use Rattle.std.proofs.lemmas.List.{map-append}
 use Rattle.ipc_format_laws.specs.flatbuffers.Reading.{window_at}
-use Rattle.ipc_format_laws.specs.flatbuffers.FlatBuffers.{Table, number_at, reference_at, root_of}
+use Rattle.ipc_format_laws.specs.flatbuffers.FlatBuffers.{TablePlace, number_at, reference_at, root_of}
 use Rattle.ipc_format_laws.specs.grammar.Limits.{most_dictionaries}
 use Rattle.ipc_format_laws.specs.grammar.Messages.{Header}
 use Rattle.ipc_format_laws.specs.grammar.Schemas.{SchemaIn}
@@ -112,7 +112,7 @@ is_base bytes base e =
 pub header_long : (metadata : List ℕ) (header : Header) → header_in metadata ≡ Some header → 4 ≤ length metadata
 unfolding header_in root_of reference_at number_at
 header_long metadata header e =
-    let root = came_of {A = Table} (root_of metadata) _ header e in
+    let root = came_of {A = TablePlace} (root_of metadata) _ header e in
     let target = came_of {A = ℕ} (reference_at metadata 0) _ root.0 root.1 in
     let distance = came_of {A = ℕ} (number_at w32 metadata 0) _ target.0 target.1 in
     let part = came_of {A = List ℕ} (window_at metadata 0 4) _ distance.0 distance.1 in

@@ -6,11 +6,11 @@ use Rattle.std.specs.Int.{w32, w64, cast_signed}
 use Rattle.std.proofs.lemmas.Bool.{ltb-true}
 use Rattle.std.proofs.lemmas.Option.{same_Some}
 use mir.Val.{sel}
-use Rattle.ipc_format_laws.specs.flatbuffers.FlatBuffers.{Table, Vector, number_at, signed_at, vector_field, root_of}
+use Rattle.ipc_format_laws.specs.flatbuffers.FlatBuffers.{TablePlace, Vector, number_at, signed_at, vector_field, root_of}
 use Rattle.ipc_format_laws.specs.grammar.Messages.{natural}
 use Rattle.ipc_format_laws.specs.grammar.Files as read
 use Rattle.ipc_format_laws.specs.grammar.Files.{Footer, block_at, blocks_from, blocks_of, blocks_if, footer_schema, footer_in}
-use Rattle.ipc_format_laws.specs.grammar.WrittenFiles.{Block}
+use Rattle.ipc_format_laws.specs.grammar.WrittenFiles.{WrittenBlock}
 use Rattle.ipc_format_laws.specs.grammar.AppendedFiles.{natural_or_0, kept_block}
 use Rattle.ipc_format_laws.specs.Footers.{FitsBlock, FitBlocks}
 use Rattle.ipc_format_laws.proofs.Firsts.{came_of, same_value}
@@ -75,8 +75,8 @@ pub kept_blocks_fit : (bytes : List ℕ) (footer : Footer) → footer_in bytes �
     → FitBlocks (map kept_block footer.dictionaries) × FitBlocks (map kept_block footer.record_batches)
 unfolding footer_in
 kept_blocks_fit bytes footer e =
-    let schema = came_of {A = List ℕ × Table} (footer_schema bytes) _ footer e in
-    let root = came_of {A = Table} (root_of schema.0.0) _ footer schema.2 in
+    let schema = came_of {A = List ℕ × TablePlace} (footer_schema bytes) _ footer e in
+    let root = came_of {A = TablePlace} (root_of schema.0.0) _ footer schema.2 in
     let found = came_of {A = Option Vector} (vector_field schema.0.0 root.0 2 24) _ footer root.2 in
     let dictionaries = came_of {A = List read.Block} (blocks_if schema.0.0 found.0) _ footer found.2 in
     let batches = came_of {A = Option Vector} (vector_field schema.0.0 root.0 3 24) _ footer dictionaries.2 in
@@ -94,6 +94,6 @@ kept_blocks_fit bytes footer e =
       blocks_fit schema.0.0 vector.0.place vector.0.count record_batches.0 record_batches.1,
     )
 
-pub fit_both : (some others : List Block) → FitBlocks some → FitBlocks others → FitBlocks (some ++ others)
+pub fit_both : (some others : List WrittenBlock) → FitBlocks some → FitBlocks others → FitBlocks (some ++ others)
 fit_both [] others h k = k
 fit_both (block ∷ some) others h k = (h.0, fit_both some others h.1 k)

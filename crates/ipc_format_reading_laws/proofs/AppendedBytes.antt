@@ -10,7 +10,7 @@ use Rattle.std.proofs.lemmas.Option.{cond_some}
 use Rattle.ipc_format_laws.specs.flatbuffers.Reading.{◌>>=◌, window_at}
 use Rattle.ipc_format_laws.specs.flatbuffers.FlatBuffers.{number_at, signed_at}
 use Rattle.ipc_format_laws.specs.grammar.Framing.{Frame, truncated, metadata_then, frame_of, frame_behind, frame_at}
-use Rattle.ipc_format_laws.specs.grammar.Files.{file_mark, stands_at, footer_bytes, footer_schema, footer_in}
+use Rattle.ipc_format_laws.specs.grammar.Files.{file_mark, stands_at, footer_bytes_in, footer_schema, footer_in}
 use Rattle.ipc_format_laws.proofs.Contents.{signed_stands}
 use Rattle.ipc_format_laws.proofs.Places.{Stands, front, back, window_stands}
 use Rattle.ipc_format_laws.proofs.Firsts.{came_of, bind_is}
@@ -137,8 +137,8 @@ mark_stands s = rw (window_stands 6 refl s) refl
 -- a footer at the end of bytes that begin with a file's mark
 pub footer_behind : (before footer : List ℕ) → length footer < 2 ^ 31
     → stands_at file_mark (before ++ footer ++ to_le_bytes w32 (length footer) ++ file_mark) 0 ≡ true
-    → footer_bytes (before ++ footer ++ to_le_bytes w32 (length footer) ++ file_mark) ≡ Some footer
-unfolding footer_bytes
+    → footer_bytes_in (before ++ footer ++ to_le_bytes w32 (length footer) ++ file_mark) ≡ Some footer
+unfolding footer_bytes_in
 footer_behind before footer short begins =
     let size = to_le_bytes w32 (length footer) in
     let bytes = before ++ footer ++ size ++ file_mark in
@@ -163,6 +163,6 @@ footer_behind before footer short begins =
     rw (long, begins, ends, stated, inside) seen
 
 -- files with the same footer's bytes have the same footer
-pub footer_same : (bytes others : List ℕ) → footer_bytes bytes ≡ footer_bytes others → footer_in bytes ≡ footer_in others
+pub footer_same : (bytes others : List ℕ) → footer_bytes_in bytes ≡ footer_bytes_in others → footer_in bytes ≡ footer_in others
 unfolding footer_in footer_schema
 footer_same bytes others same = rw same refl

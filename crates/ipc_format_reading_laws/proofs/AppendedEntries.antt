@@ -147,7 +147,7 @@ columns_moved layout standing now source room k (field ∷ fields) columns more 
     ∙ bind_is (columns_from layout now (in_room source room) (k + 1) fields) _ others.0 rest ∙ others.2
 
 -- a batch reads the same where more dictionaries stand, in a room with the same bytes in the windows of all columns
-pub batch_moved : (layout : Layout) (standing now : List Dictionary) (entry : Entry) (room : List ℕ) (table : flat.Table)
+pub batch_moved : (layout : Layout) (standing now : List Dictionary) (entry : Entry) (room : List ℕ) (table : flat.TablePlace)
     (columns : List (List Slot)) → Extends standing now → length entry.room ≤ length room
     → SameBytes entry.room room (batch_windows layout (window (λ j. j) 0 (length layout.fields)) entry table)
     → batch_in layout standing entry table ≡ Some columns → batch_in layout now (with_room entry room) table ≡ Some columns

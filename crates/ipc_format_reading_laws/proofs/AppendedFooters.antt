@@ -4,10 +4,10 @@ use Rattle.std.proofs.Common.{append_assoc, nat_le}
 use Rattle.std.specs.Prelude.{Some}
 use Rattle.std.specs.Int.{w32, to_le_bytes}
 use Rattle.std.proofs.lemmas.Bool.{ltb-true}
-use Rattle.ipc_format_laws.specs.flatbuffers.FlatBuffers.{Table}
+use Rattle.ipc_format_laws.specs.flatbuffers.FlatBuffers.{TablePlace}
 use Rattle.ipc_format_laws.specs.grammar.Ids.{all_are_ids}
 use Rattle.ipc_format_laws.specs.grammar.Writable.{is_writable, normalised}
-use Rattle.ipc_format_laws.specs.grammar.Files.{file_mark, is_mark, stands_at, Footer, footer_bytes, footer_schema, footer_in}
+use Rattle.ipc_format_laws.specs.grammar.Files.{file_mark, is_mark, stands_at, Footer, footer_bytes_in, footer_schema, footer_in}
 use Rattle.ipc_format_laws.specs.grammar.WrittenMessages.{end_mark}
 use Rattle.ipc_format_laws.specs.grammar.WrittenStreams.{Batch, messages_after, bytes_of_messages}
 use Rattle.ipc_format_laws.specs.grammar.WrittenFiles.{batch_blocks, is_footer, file_end}
@@ -25,10 +25,10 @@ use Rattle.ipc_format_reading_laws.proofs.AppendedBytes.{window_same, mark_stand
 -- ---- the mark at the beginning
 
 begins_with_mark : (bytes : List ℕ) (footer : Footer) → footer_in bytes ≡ Some footer → stands_at file_mark bytes 0 ≡ true
-unfolding footer_in footer_schema footer_bytes
+unfolding footer_in footer_schema footer_bytes_in
 begins_with_mark bytes footer e =
-    let schema = came_of {A = List ℕ × Table} (footer_schema bytes) _ footer e in
-    let found = came_of {A = List ℕ} (footer_bytes bytes) _ schema.0 schema.1 in
+    let schema = came_of {A = List ℕ × TablePlace} (footer_schema bytes) _ footer e in
+    let found = came_of {A = List ℕ} (footer_bytes_in bytes) _ schema.0 schema.1 in
     let long = passed (nat_le 10 (length bytes)) _ found.0 found.1 in
     (passed (stands_at file_mark bytes 0) _ found.0 long.1).0
 
@@ -65,7 +65,7 @@ mark_before base bytes batches footer e inside long =
 -- the footer's bytes at the end
 ends_with_footer : (base : Base) (bytes : List ℕ) (batches : List Batch) → length (appended_footer base batches) < 2 ^ 31
     → stands_at file_mark (appended_bytes base bytes batches) 0 ≡ true
-    → footer_bytes (appended_bytes base bytes batches) ≡ Some (appended_footer base batches)
+    → footer_bytes_in (appended_bytes base bytes batches) ≡ Some (appended_footer base batches)
 unfolding appended_bytes
 ends_with_footer base bytes batches short begins =
     let footer = appended_footer base batches in
@@ -74,11 +74,11 @@ ends_with_footer base bytes batches short begins =
     ++ padding_to (length bytes) (appended_messages base bytes batches) (file_end footer) in
     let same : appended_bytes base bytes batches ≡ first ++ footer ++ size ++ file_mark =
     sym (append_assoc first (footer ++ size) file_mark) ∙ ap (λ (x : List ℕ). x ++ file_mark) (sym (append_assoc first footer size)) in
-    ap footer_bytes same
+    ap footer_bytes_in same
     ∙ footer_behind first footer short (subst (λ (b : List ℕ). stands_at file_mark b 0 ≡ true) same begins)
 
 -- a footer behind a file's mark alone
-alone : (footer : List ℕ) → length footer < 2 ^ 31 → footer_bytes (file_with [] footer) ≡ Some footer
+alone : (footer : List ℕ) → length footer < 2 ^ 31 → footer_bytes_in (file_with [] footer) ≡ Some footer
 alone footer short =
     let size = to_le_bytes w32 (length footer) in
     let s : Stands (file_with [] footer) 0 file_mark =
@@ -102,7 +102,7 @@ appended_footers base bytes batches footer e inside long writable texts its_ids 
     let short : length its < 2 ^ 31 = ltb-true (length its) (2 ^ 31) is in
     let whole = footers_read_back base.found.schema base.found.ids (with_base base (batch_blocks (base_start base) base.told batches)) []
     writable texts (fit_ids_list base.found.ids its_ids) fit_dictionaries fit_batches short in
-    let here : footer_bytes new ≡ Some its = ends_with_footer base bytes batches short (mark_before base bytes batches footer e inside long) in
+    let here : footer_bytes_in new ≡ Some its = ends_with_footer base bytes batches short (mark_before base bytes batches footer e inside long) in
     record {
       schema_at = whole.schema_at;
       found = footer_same new (file_with [] its) (here ∙ sym (alone its short)) ∙ whole.found;

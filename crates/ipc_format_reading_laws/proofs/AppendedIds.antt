@@ -8,7 +8,8 @@ use Rattle.std.proofs.lemmas.Bool.{and_from, and_parts, lt-ltb, ltb-false}
 use mir.Val.{sel}
 use denote.Hole.Carrier
 use Rattle.ipc_format_laws.specs.flatbuffers.Reading.{◌>>=◌, guard}
-use Rattle.ipc_format_laws.specs.flatbuffers.FlatBuffers.{Table, Vector, number_field, signed_field, truth_field, table_field, vector_field, string_field}
+use Rattle.ipc_format_laws.specs.flatbuffers.FlatBuffers.{TablePlace, Vector, number_field, signed_field, truth_field, table_field, vector_field}
+use Rattle.ipc_format_laws.specs.flatbuffers.FlatBuffers.{string_field}
 use Rattle.ipc_format_laws.specs.flatbuffers.FlatBuffers.{element_at, field_at, number_at, signed_at, or_default}
 use Rattle.ipc_format_laws.specs.columnar_memory.declared.DataType.{DataType}
 use Rattle.ipc_format_laws.specs.columnar_memory.declared.DataType.TheOpen as layer
@@ -24,7 +25,8 @@ use Rattle.ipc_format_laws.specs.grammar.Messages.{natural}
 use Rattle.ipc_format_laws.specs.grammar.Types as kind
 use Rattle.ipc_format_laws.specs.grammar.Types.{Tag, tag_of, integer_in, type_of_integer, size_of, decimal_in, date_of, time_in}
 use Rattle.ipc_format_laws.specs.grammar.Types.{short_time_of, long_time_of, timestamp_in, interval_of, time_unit_of, union_in}
-use Rattle.ipc_format_laws.specs.grammar.Schemas.{Ids, IdsList, ids, no_ids, ids_then, FieldIn, TypeIn, SchemaIn, Encoded, ids_of, fields_of, visit}
+use Rattle.ipc_format_laws.specs.grammar.Schemas.{Ids, IdsList, ids, no_ids, ids_then, FieldIn, TypeIn, SchemaIn, EncodedType, ids_of, fields_of}
+use Rattle.ipc_format_laws.specs.grammar.Schemas.{visit}
 use Rattle.ipc_format_laws.specs.grammar.Schemas.{each_of, child_in, children_in, type_in}
 use Rattle.ipc_format_laws.specs.grammar.Schemas.{metadata_in, extended, extended_by, extension_name_key, extension_metadata_key, encoded_by, field_in}
 use Rattle.ipc_format_laws.specs.grammar.Schemas.{any_schema_in, is_little_of}
@@ -56,7 +58,7 @@ field_by : (bytes : List ℕ) (field : Option ℕ) → Gives IsSigned (or_defaul
 field_by bytes None = refl
 field_by bytes (Some place) = signed_gives bytes place
 
-field_gives_signed : (bytes : List ℕ) (table : Table) (slot : ℕ) → Gives IsSigned (signed_field w64 bytes table slot (pos 0))
+field_gives_signed : (bytes : List ℕ) (table : TablePlace) (slot : ℕ) → Gives IsSigned (signed_field w64 bytes table slot (pos 0))
 unfolding signed_field
 field_gives_signed bytes table slot = each_gives IsSigned (field_at bytes table slot 8) _ (λ field. field_by bytes field)
 
@@ -109,7 +111,7 @@ integer_fits integers.UInt16 = at_roll layer.UInt16 refl
 integer_fits integers.UInt32 = at_roll layer.UInt32 refl
 integer_fits integers.UInt64 = at_roll layer.UInt64 refl
 
-decimal_gives : (bytes : List ℕ) (table : Table) → Gives FitsPlain (decimal_in bytes table)
+decimal_gives : (bytes : List ℕ) (table : TablePlace) → Gives FitsPlain (decimal_in bytes table)
 unfolding decimal_in roll-DataType denote.Hole.Carrier.roll
 decimal_gives bytes table =
     each_gives FitsPlain (signed_field w32 bytes table 0 (pos 0)) _ (λ stated_precision.
@@ -123,9 +125,9 @@ decimal_gives bytes table =
 
 date_gives : (unit : ℤ) → Gives FitsPlain (date_of unit)
 unfolding roll-DataType denote.Hole.Carrier.roll
-date_gives (pos zero) = at_roll layer.Date32 refl
-date_gives (pos (suc zero)) = at_roll layer.Date64 refl
-date_gives _ = tt
+date_gives unit =
+    either_gives FitsPlain (int_eq unit (pos 0)) (Some types.Date32) _ (at_roll layer.Date32 refl)
+    (either_gives FitsPlain (int_eq unit (pos 1)) (Some types.Date64) None (at_roll layer.Date64 refl) tt)
 
 short_gives : (unit : TimeUnit) → Gives FitsPlain (short_time_of unit)
 unfolding roll-DataType denote.Hole.Carrier.roll
@@ -139,7 +141,7 @@ long_gives units.Microsecond = at_roll (layer.Time64 units.Microsecond) refl
 long_gives units.Nanosecond = at_roll (layer.Time64 units.Nanosecond) refl
 long_gives _ = tt
 
-time_gives : (bytes : List ℕ) (table : Table) → Gives FitsPlain (time_in bytes table)
+time_gives : (bytes : List ℕ) (table : TablePlace) → Gives FitsPlain (time_in bytes table)
 unfolding time_in
 time_gives bytes table =
     each_gives FitsPlain (signed_field w16 bytes table 0 (pos 1)) _ (λ number.
@@ -148,7 +150,7 @@ time_gives bytes table =
     either_gives FitsPlain (int_eq bits (pos 32)) (short_time_of unit) _ (short_gives unit)
     (either_gives FitsPlain (int_eq bits (pos 64)) (long_time_of unit) None (long_gives unit) tt))))
 
-timestamp_gives : (bytes : List ℕ) (table : Table) → Gives FitsPlain (timestamp_in bytes table)
+timestamp_gives : (bytes : List ℕ) (table : TablePlace) → Gives FitsPlain (timestamp_in bytes table)
 unfolding timestamp_in roll-DataType denote.Hole.Carrier.roll
 timestamp_gives bytes table =
     each_gives FitsPlain (signed_field w16 bytes table 0 (pos 0)) _ (λ number.
@@ -157,18 +159,19 @@ timestamp_gives bytes table =
 
 interval_gives : (unit : ℤ) → Gives FitsPlain (interval_of unit)
 unfolding roll-DataType denote.Hole.Carrier.roll
-interval_gives (pos zero) = at_roll (layer.Interval intervals.YearMonth) refl
-interval_gives (pos (suc zero)) = at_roll (layer.Interval intervals.DayTime) refl
-interval_gives (pos (suc (suc zero))) = at_roll (layer.Interval intervals.MonthDayNano) refl
-interval_gives _ = tt
+interval_gives unit =
+    either_gives FitsPlain (int_eq unit (pos 0)) (Some (types.Interval intervals.YearMonth)) _ (at_roll (layer.Interval intervals.YearMonth) refl)
+    (either_gives FitsPlain (int_eq unit (pos 1)) (Some (types.Interval intervals.DayTime)) _ (at_roll (layer.Interval intervals.DayTime) refl)
+    (either_gives FitsPlain (int_eq unit (pos 2)) (Some (types.Interval intervals.MonthDayNano)) None
+    (at_roll (layer.Interval intervals.MonthDayNano) refl) tt))
 
 -- ---- types over fields
 
 -- what reads a Field table gives ids that fit
-abbrev ReadsIds : (Table → ℕ → Option (FieldIn × ℕ)) → Type 0
-ReadsIds read = (table : Table) (left : ℕ) → Gives FieldFits (read table left)
+abbrev ReadsIds : (TablePlace → ℕ → Option (FieldIn × ℕ)) → Type 0
+ReadsIds read = (table : TablePlace) (left : ℕ) → Gives FieldFits (read table left)
 
-each_of_gives : (read : Table → ℕ → Option (FieldIn × ℕ)) (bytes : List ℕ) (vector : Vector) (n k left : ℕ) → ReadsIds read
+each_of_gives : (read : TablePlace → ℕ → Option (FieldIn × ℕ)) (bytes : List ℕ) (vector : Vector) (n k left : ℕ) → ReadsIds read
     → Gives FieldsFit (each_of read bytes vector n k left)
 each_of_gives read bytes vector zero k left h = (refl, refl)
 each_of_gives read bytes vector (suc n) k left h =
@@ -181,13 +184,13 @@ each_of_gives read bytes vector (suc n) k left h =
       and_from (are_ids first.0.ids) (all_are_ids (ids_of others.0)) is_first.1 are_others.1,
     ))))
 
-children_give : (read : Table → ℕ → Option (FieldIn × ℕ)) (bytes : List ℕ) (field : Table) (left : ℕ) → ReadsIds read
+children_give : (read : TablePlace → ℕ → Option (FieldIn × ℕ)) (bytes : List ℕ) (field : TablePlace) (left : ℕ) → ReadsIds read
     → Gives FieldsFit (children_in read bytes field left)
 children_give read bytes field left h =
     each_gives FieldsFit (vector_field bytes field 5 4) _ (λ found.
     each_gives FieldsFit found _ (λ vector. each_of_gives read bytes vector vector.count 0 left h))
 
-child_gives : (read : Table → ℕ → Option (FieldIn × ℕ)) (bytes : List ℕ) (field : Table) (left : ℕ) → ReadsIds read
+child_gives : (read : TablePlace → ℕ → Option (FieldIn × ℕ)) (bytes : List ℕ) (field : TablePlace) (left : ℕ) → ReadsIds read
     → Gives FieldFits (child_in read bytes field left)
 child_gives read bytes field left h =
     each_gives FieldFits (vector_field bytes field 5 4) _ (λ found.
@@ -195,7 +198,7 @@ child_gives read bytes field left h =
     each_gives FieldFits (guard (nat_le 1 vector.count)) _ (λ is_one.
     each_gives FieldFits (element_at bytes vector 0) _ (λ table. h table left))))
 
-type_gives : (read : Table → ℕ → Option (FieldIn × ℕ)) (bytes : List ℕ) (tag : Tag) (field table : Table) (left : ℕ) → ReadsIds read
+type_gives : (read : TablePlace → ℕ → Option (FieldIn × ℕ)) (bytes : List ℕ) (tag : Tag) (field table : TablePlace) (left : ℕ) → ReadsIds read
     → Gives TypeFits (type_in None read bytes tag field table left)
 unfolding type_in roll-DataType denote.Hole.Carrier.roll
 type_gives read bytes kind.null field table left h = at_roll layer.Null refl
@@ -257,11 +260,11 @@ unfolding roll-DataType denote.Hole.Carrier.roll
 extended_fits None metadata t here h = h
 extended_fits (Some name) metadata t here h = fits_layer (layer.Extension name t metadata) here h
 
-abbrev EncodedFits : IdsList → Encoded → Type 0
+abbrev EncodedFits : IdsList → EncodedType → Type 0
 EncodedFits below found = (ids_fit found.data_type (ids found.id below) ≡ true) × (is_id found.id ≡ true)
 
 -- the dictionary of a field
-encoded_gives : (bytes : List ℕ) (dictionary : Option Table) (t : DataType) (below : IdsList) → ids_fit t (ids None below) ≡ true
+encoded_gives : (bytes : List ℕ) (dictionary : Option TablePlace) (t : DataType) (below : IdsList) → ids_fit t (ids None below) ≡ true
     → Gives (EncodedFits below) (encoded_by bytes dictionary t)
 unfolding roll-DataType denote.Hole.Carrier.roll
 encoded_gives bytes None t below h = (h, refl)
@@ -314,7 +317,7 @@ each_field (first ∷ others) h =
 abbrev pub SchemaFits : SchemaIn → Type 0
 SchemaFits found = (ids_fit_fields found.schema.fields found.ids ≡ true) × (all_are_ids found.ids ≡ true)
 
-schema_gives : (bytes : List ℕ) (table : Table) → Gives SchemaFits (any_schema_in None bytes table)
+schema_gives : (bytes : List ℕ) (table : TablePlace) → Gives SchemaFits (any_schema_in None bytes table)
 unfolding any_schema_in
 schema_gives bytes table =
     each_gives SchemaFits (signed_field w16 bytes table 0 (pos 0)) _ (λ number.
@@ -333,7 +336,7 @@ by_test : (read : SchemaIn) (test : Bool) → is_writable read.schema ≡ test �
 by_test read true writable is = (is, writable)
 by_test read false writable is = tt
 
-pub schemas_read_have_ids : (bytes : List ℕ) (table : Table) (found : SchemaIn) → schema_in bytes table ≡ Some found
+pub schemas_read_have_ids : (bytes : List ℕ) (table : TablePlace) (found : SchemaIn) → schema_in bytes table ≡ Some found
     → SchemaFits found × (is_writable found.schema ≡ true)
 unfolding schema_in
 schemas_read_have_ids bytes table found e =

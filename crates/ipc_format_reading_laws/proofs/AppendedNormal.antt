@@ -155,7 +155,7 @@ type_normal fields k below values normal e =
 abbrev pub AreRead : List Dictionary → Type 0
 AreRead standing = map normal_dictionary standing ≡ standing
 
-dictionary_normal : (layout : Layout) (standing : List Dictionary) (entry : Entry) (table : flat.Table) (dictionary : Dictionary)
+dictionary_normal : (layout : Layout) (standing : List Dictionary) (entry : Entry) (table : flat.TablePlace) (dictionary : Dictionary)
     → AreNormal layout.fields → AreRead standing → dictionary_in layout standing entry table ≡ Some dictionary
     → normal_dictionary dictionary ≡ dictionary
 unfolding dictionary_in

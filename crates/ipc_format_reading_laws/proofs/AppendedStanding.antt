@@ -5,7 +5,7 @@ use Rattle.std.specs.Ordering.{int_eq}
 use Rattle.std.specs.Cmp.{signed_Decides}
 use Rattle.std.proofs.lemmas.Bool.{and_parts, and_from}
 use Rattle.std.proofs.lemmas.Option.{same_Some}
-use Rattle.ipc_format_laws.specs.flatbuffers.FlatBuffers.{Table}
+use Rattle.ipc_format_laws.specs.flatbuffers.FlatBuffers.{TablePlace}
 use Rattle.ipc_format_laws.specs.grammar.Messages as grammar
 use Rattle.ipc_format_laws.specs.grammar.Messages.{Header}
 use Rattle.ipc_format_laws.specs.grammar.Columns.{Dictionary}
@@ -84,7 +84,7 @@ front_kept written (next ∷ some) others h =
 
 -- ---- the dictionaries of a batch stand behind those that stood
 
-standing_next : (layout : Layout) (standing : List Dictionary) (entry : Entry) (others : List Entry) (table : Table) (found : Dictionary)
+standing_next : (layout : Layout) (standing : List Dictionary) (entry : Entry) (others : List Entry) (table : TablePlace) (found : Dictionary)
     → entry.header ≡ grammar.dictionary_batch table → dictionary_in layout standing entry table ≡ Some found
     → standing_behind layout standing (entry ∷ others) ≡ standing_behind layout (found ∷ standing) others
 standing_next layout standing entry others table found header read =

@@ -25,7 +25,8 @@ use Rattle.ipc_format_laws.specs.grammar.Files.{metadata_of, header_in, entry_at
 use Rattle.ipc_format_laws.specs.grammar.Tables.{file, layout_of, batches_of, table_of}
 use Rattle.ipc_format_laws.specs.grammar.WrittenMessages.{fits_limit, end_mark}
 use Rattle.ipc_format_laws.specs.grammar.WrittenStreams.{Batch, belongs, messages_after, bytes_of_messages, batch_of_stored, batches_written}
-use Rattle.ipc_format_laws.specs.grammar.WrittenFiles.{Block, Blocks, batch_blocks, is_footer, fits_file_limit, file_end, none_replaced, all_given}
+use Rattle.ipc_format_laws.specs.grammar.WrittenFiles.{WrittenBlock, Blocks, batch_blocks, is_footer, fits_file_limit, file_end, none_replaced}
+use Rattle.ipc_format_laws.specs.grammar.WrittenFiles.{all_given}
 use Rattle.ipc_format_laws.specs.grammar.AppendedFiles.{kept_block, is_empty, Base, base_of, base_end, base_start, appended_blocks}
 use Rattle.ipc_format_laws.specs.grammar.AppendedFiles.{has_few_dictionaries, appended_footer, appended_messages, padding_to, appended_bytes, appended}
 use Rattle.ipc_format_laws.specs.Footers.{block_read, FitBlocks, HasFooter}
@@ -181,14 +182,14 @@ not_none f [] ys some none = absurd cc
 not_none f (x ∷ xs) ys some none = absurd cc
 
 -- a file's own blocks and new ones, as they are read
-pub blocks_joined : (own new : List Block) (old : List read.Block) → own ≡ map kept_block old
+pub blocks_joined : (own new : List WrittenBlock) (old : List read.Block) → own ≡ map kept_block old
     → map block_read (own ++ new) ≡ map again old ++ map block_read new
 blocks_joined own new old is =
     map-append block_read own new
     ∙ ap (λ (them : List read.Block). them ++ map block_read new) (ap (map block_read) is ∙ again_all old)
 
 -- the messages at a file's own blocks and at new ones
-pub joined_entries : (is_of_kind : Header → Bool) (bytes : List ℕ) (own new : List Block) (old : List read.Block) (first behind : List Entry)
+pub joined_entries : (is_of_kind : Header → Bool) (bytes : List ℕ) (own new : List WrittenBlock) (old : List read.Block) (first behind : List Entry)
     → own ≡ map kept_block old → entries_at is_of_kind bytes (map again old) ≡ Some first
     → entries_at is_of_kind bytes (map block_read new) ≡ Some behind
     → entries_at is_of_kind bytes (map block_read (own ++ new)) ≡ Some (first ++ behind)

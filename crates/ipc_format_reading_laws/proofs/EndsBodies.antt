@@ -4,11 +4,11 @@ use Rattle.std.proofs.Common.{append_assoc, append-nil, length-append}
 use Rattle.std.specs.Prelude.{Some, slice_get}
 use Rattle.std.specs.Int.{next_multiple_of}
 use Rattle.std.proofs.Math.Seq.{take-append_seam}
-use Rattle.ipc_format_laws.specs.flatbuffers.FlatBuffers.{Table, Vector}
+use Rattle.ipc_format_laws.specs.flatbuffers.FlatBuffers.{TablePlace, Vector}
 use Rattle.ipc_format_laws.specs.grammar.Messages as grammar
 use Rattle.ipc_format_laws.specs.grammar.Messages.{Buffer, RecordBatch, DictionaryBatch, as_buffer, natural, record_batch_in, dictionary_batch_in}
 use Rattle.ipc_format_laws.specs.grammar.Messages.{structs_in}
-use Rattle.ipc_format_laws.specs.grammar.Encoding.{joined}
+use Rattle.ipc_format_laws.specs.grammar.Encoding.{joined_columns}
 use Rattle.ipc_format_laws.specs.grammar.GivenDictionaries.{Given}
 use Rattle.ipc_format_laws.specs.grammar.WrittenMessages.{padded_buffer, buffer_places, body_bytes, record_message, dictionary_message}
 use Rattle.ipc_format_laws.specs.grammar.WrittenStreams.{Batch}
@@ -49,7 +49,7 @@ written_buffers_end origin contents k buffer offset stated at is size =
 
 -- ---- messages
 
-batch_ends : (origin : ℕ) (metadata : List ℕ) (table : Table) (nodes : List (ℕ × ℕ)) (contents : List (List ℕ))
+batch_ends : (origin : ℕ) (metadata : List ℕ) (table : TablePlace) (nodes : List (ℕ × ℕ)) (contents : List (List ℕ))
     → IsRecordBatch metadata table nodes (buffer_places 0 contents) → BatchEnds (origin + length (body_bytes contents)) origin metadata table
 batch_ends origin metadata table nodes contents is batch buffers e found =
     let whole = same_value _ batch (sym is.batch ∙ e) in
@@ -59,13 +59,13 @@ batch_ends origin metadata table nodes contents is batch buffers e found =
     (sym is.buffers_are ∙ ap (λ (v : Vector). structs_in as_buffer metadata v) at ∙ found) in
     subst (BuffersEnd (origin + length (body_bytes contents)) origin) same (written_buffers_end origin contents)
 
-pub columns_state : (its_batch : Batch) (table : Table) (origin : ℕ) → HasColumns its_batch table
+pub columns_state : (its_batch : Batch) (table : TablePlace) (origin : ℕ) → HasColumns its_batch table
     → HeaderEnds (origin + length (batch_message its_batch).body) origin (batch_message its_batch).metadata (grammar.record_batch table)
 unfolding record_message
 columns_state its_batch table origin is =
-    batch_ends origin (batch_message its_batch).metadata table (joined its_batch.columns).nodes (joined its_batch.columns).buffers is
+    batch_ends origin (batch_message its_batch).metadata table (joined_columns its_batch.columns).nodes (joined_columns its_batch.columns).buffers is
 
-pub values_state : (given : Given) (table : Table) (origin : ℕ) → HasValues given table
+pub values_state : (given : Given) (table : TablePlace) (origin : ℕ) → HasValues given table
     → HeaderEnds (origin + length (dictionary_message given).body) origin (dictionary_message given).metadata (grammar.dictionary_batch table)
 unfolding dictionary_message
 values_state given table origin is batch e =

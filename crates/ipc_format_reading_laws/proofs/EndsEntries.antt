@@ -26,7 +26,7 @@ use Rattle.ipc_format_reading_laws.proofs.StoredTablesEntries.{whole_list}
 
 -- ---- batches
 
-source_ends : (end : ℕ) (order : Bool) (entry : Entry) (table : flat.Table) (source : Source) → BatchEnds end entry.origin entry.metadata table
+source_ends : (end : ℕ) (order : Bool) (entry : Entry) (table : flat.TablePlace) (source : Source) → BatchEnds end entry.origin entry.metadata table
     → source_in order entry table ≡ Some source → SourceEnds end source
 unfolding source_in
 source_ends end order entry table source ends e =
@@ -48,7 +48,7 @@ source_ends end order entry table source ends e =
 
 -- ---- dictionaries
 
-dictionary_ends : (end : ℕ) (layout : Layout) (standing : List Dictionary) (entry : Entry) (table : flat.Table) (dictionary : Dictionary)
+dictionary_ends : (end : ℕ) (layout : Layout) (standing : List Dictionary) (entry : Entry) (table : flat.TablePlace) (dictionary : Dictionary)
     → HeaderEnds end entry.origin entry.metadata (message.dictionary_batch table) → dictionary_in layout standing entry table ≡ Some dictionary
     → Before end (dictionary_windows layout entry table)
 unfolding dictionary_in
@@ -83,7 +83,7 @@ columns_end end layout standing source k (field ∷ fields) columns ends at e =
     (types_end end field.data_type (column_place layout [] source None k) standing ends column.0 column.1))
     (columns_end end layout standing source (k + 1) fields others.0 ends (part_next field fields at) others.1)
 
-batch_ends : (end : ℕ) (layout : Layout) (standing : List Dictionary) (entry : Entry) (table : flat.Table) (columns : List (List Slot))
+batch_ends : (end : ℕ) (layout : Layout) (standing : List Dictionary) (entry : Entry) (table : flat.TablePlace) (columns : List (List Slot))
     → BatchEnds end entry.origin entry.metadata table → batch_in layout standing entry table ≡ Some columns
     → Before end (batch_windows layout (window (λ j. j) 0 (length layout.fields)) entry table)
 unfolding batch_in

@@ -15,7 +15,7 @@ use Rattle.ipc_format_laws.specs.grammar.Files as read
 use Rattle.ipc_format_laws.specs.grammar.Files.{Footer, footer_in, entries_at, is_dictionary, is_record_batch}
 use Rattle.ipc_format_laws.specs.grammar.Tables.{file, Contents, layout_of, table_of}
 use Rattle.ipc_format_laws.specs.grammar.Windows.{entry_windows}
-use Rattle.ipc_format_laws.specs.grammar.WrittenFiles.{Block}
+use Rattle.ipc_format_laws.specs.grammar.WrittenFiles.{WrittenBlock}
 use Rattle.ipc_format_laws.specs.grammar.AppendedFiles.{kept_block, block_end, greatest_end, Base, base_end}
 use Rattle.ipc_format_laws.specs.Footers.{block_read}
 use Rattle.ipc_format_laws.proofs.Firsts.{same_value}
@@ -124,27 +124,27 @@ stands_before bytes base is table e ends =
 
 -- ---- ends of blocks
 
-pub end_front : (some others : List Block) → greatest_end some ≤ greatest_end (some ++ others)
+pub end_front : (some others : List WrittenBlock) → greatest_end some ≤ greatest_end (some ++ others)
 end_front [] others = omega arith
 end_front (block ∷ some) others =
     let later = greatest_end (some ++ others) in
     max-le (le-max_left (block_end block) later) (omega (arith, end_front some others, le-max_right (block_end block) later))
 
-pub end_back : (some others : List Block) → greatest_end others ≤ greatest_end (some ++ others)
+pub end_back : (some others : List WrittenBlock) → greatest_end others ≤ greatest_end (some ++ others)
 end_back [] others = omega arith
 end_back (block ∷ some) others =
     omega (arith, end_back some others, le-max_right (block_end block) (greatest_end (some ++ others)))
 
-pub end_both : (some others : List Block) (end : ℕ) → greatest_end some ≤ end → greatest_end others ≤ end → greatest_end (some ++ others) ≤ end
+pub end_both : (some others : List WrittenBlock) (end : ℕ) → greatest_end some ≤ end → greatest_end others ≤ end → greatest_end (some ++ others) ≤ end
 end_both [] others end h k = k
 end_both (block ∷ some) others end h k =
     let first : block_end block ≤ end = omega (arith, h, le-max_left (block_end block) (greatest_end some)) in
     let rest : greatest_end some ≤ end = omega (arith, h, le-max_right (block_end block) (greatest_end some)) in
     max-le first (end_both some others end rest k)
 
-pub kept_read : (blocks : List Block) → map kept_block (map block_read blocks) ≡ blocks
+pub kept_read : (blocks : List WrittenBlock) → map kept_block (map block_read blocks) ≡ blocks
 kept_read [] = refl
-kept_read (block ∷ blocks) = ap (λ (them : List Block). block ∷ them) (kept_read blocks)
+kept_read (block ∷ blocks) = ap (λ (them : List WrittenBlock). block ∷ them) (kept_read blocks)
 
 -- ---- messages at blocks
 
@@ -170,7 +170,7 @@ entry_later end later bytes new block entry inside same ends = record {
 }
 
 -- messages that end with their blocks end before each end that the blocks end before
-pub entries_end : (end : ℕ) (bytes : List ℕ) (blocks : List Block) (entries : List Entry) → greatest_end blocks ≤ end
+pub entries_end : (end : ℕ) (bytes : List ℕ) (blocks : List WrittenBlock) (entries : List Entry) → greatest_end blocks ≤ end
     → AreEach (EndsWith bytes) blocks entries → EntriesEnd end bytes (map block_read blocks) entries
 entries_end end bytes [] [] inside are = tt
 entries_end end bytes [] (entry ∷ entries) inside are = absurd are

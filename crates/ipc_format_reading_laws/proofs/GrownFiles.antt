@@ -14,7 +14,7 @@ use Rattle.ipc_format_laws.specs.grammar.Files as read
 use Rattle.ipc_format_laws.specs.grammar.Files.{Footer, footer_in, entries_at, is_dictionary, is_record_batch}
 use Rattle.ipc_format_laws.specs.grammar.Tables.{file, Contents, contents_of, layout_of, batches_of, batches_in}
 use Rattle.ipc_format_laws.specs.grammar.WrittenStreams.{Batch, batch_of_stored}
-use Rattle.ipc_format_laws.specs.grammar.WrittenFiles.{Block, Blocks, batch_blocks, written_file}
+use Rattle.ipc_format_laws.specs.grammar.WrittenFiles.{WrittenBlock, Blocks, batch_blocks, written_file}
 use Rattle.ipc_format_laws.specs.grammar.AppendedFiles.{kept_block, greatest_end, Base, base_of, base_end, base_start, appended_blocks, appended_footer}
 use Rattle.ipc_format_laws.specs.grammar.AppendedFiles.{appended}
 use Rattle.ipc_format_laws.specs.Footers.{block_read}
@@ -53,13 +53,13 @@ base_ends : (bytes : List ℕ) (base : Base) → IsBase bytes base → FileEnds 
 base_ends bytes base is file_ends =
     let same : file_ends.footer ≡ is.footer = same_value file_ends.footer is.footer (sym file_ends.has_footer ∙ is.has_footer) in
     let kept : greatest_end (map kept_block is.footer.dictionaries ++ map kept_block is.footer.record_batches) ≡ base_end base =
-    ap greatest_end (ap₂ (λ (some others : List Block). some ++ others) (sym is.dictionaries) (sym is.record_batches)) in
+    ap greatest_end (ap₂ (λ (some others : List WrittenBlock). some ++ others) (sym is.dictionaries) (sym is.record_batches)) in
     subst (λ (end : ℕ). MessagesEnd end bytes) (ap footer_end same ∙ kept) file_ends.ends
 
 -- blocks that are read again are those that were written
 blocks_kept : (blocks : Blocks) → map kept_block (map block_read blocks.dictionaries) ++ map kept_block (map block_read blocks.record_batches)
     ≡ blocks.dictionaries ++ blocks.record_batches
-blocks_kept blocks = ap₂ (λ (some others : List Block). some ++ others) (kept_read blocks.dictionaries) (kept_read blocks.record_batches)
+blocks_kept blocks = ap₂ (λ (some others : List WrittenBlock). some ++ others) (kept_read blocks.dictionaries) (kept_read blocks.record_batches)
 
 written_ends : (schema : Schema) (below : IdsList) (batches : List (List Column)) (bytes : List ℕ)
     → written_file schema below (stored_chunks batches) ≡ Some bytes → HasTexts schema → FileEnds bytes
@@ -94,7 +94,7 @@ written_ends schema below batches bytes e texts =
 -- ---- a file to which batches are appended
 
 -- the messages at a list of blocks of the new file: the file's own, and new ones
-own_and_new : (end later : ℕ) (bytes new : List ℕ) (own behind : List Block) (old : List read.Block) (entries others : List Entry)
+own_and_new : (end later : ℕ) (bytes new : List ℕ) (own behind : List WrittenBlock) (old : List read.Block) (entries others : List Entry)
     → own ≡ map kept_block old → end ≤ later → take end new ≡ take end bytes → EntriesEnd end bytes old entries
     → EntriesEnd later new (map block_read behind) others
     → EntriesEnd later new (map block_read (own ++ behind)) (map (moved_to new) entries ++ others)

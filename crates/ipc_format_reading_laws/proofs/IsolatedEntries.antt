@@ -42,7 +42,7 @@ moved_batch is_little_endian entry room nodes buffers source whole =
     (ap (λ (source : Source). in_room source room) whole, ap (λ (source : Source). source.room) whole)
 
 -- the batch of a message reads in another room that is at least as long
-pub source_same : (is_little_endian : Bool) (entry : Entry) (room : List ℕ) (table : flat.Table) (source : Source)
+pub source_same : (is_little_endian : Bool) (entry : Entry) (room : List ℕ) (table : flat.TablePlace) (source : Source)
     → length entry.room ≤ length room → source_in is_little_endian entry table ≡ Some source
     → (source_in is_little_endian (with_room entry room) table ≡ Some (in_room source room)) × (entry.room ≡ source.room)
 unfolding source_in
@@ -68,7 +68,8 @@ source_same is_little_endian entry room table source size e =
 
 -- ---- dictionaries
 
-pub dictionary_same : (layout : Layout) (standing : List Dictionary) (entry : Entry) (room : List ℕ) (table : flat.Table) (dictionary : Dictionary)
+pub dictionary_same : (layout : Layout) (standing : List Dictionary) (entry : Entry) (room : List ℕ) (table : flat.TablePlace)
+    (dictionary : Dictionary)
     → length entry.room ≤ length room → SameBytes entry.room room (dictionary_windows layout entry table)
     → dictionary_in layout standing entry table ≡ Some dictionary
     → dictionary_in layout standing (with_room entry room) table ≡ Some dictionary
@@ -154,7 +155,7 @@ columns_same layout standing source room limit columns (k ∷ ks) e same =
 
 -- what is chosen of a batch that reads as a whole
 pub batch_same : (layout : Layout) (standing : List Dictionary) (entry : Entry) (room : List ℕ) (limit : Option ℕ) (ks : List ℕ)
-    (table : flat.Table) (columns : List (List Slot)) → length entry.room ≤ length room
+    (table : flat.TablePlace) (columns : List (List Slot)) → length entry.room ≤ length room
     → SameBytes entry.room room (batch_windows layout ks entry table) → batch_in layout standing entry table ≡ Some columns
     → chosen_batch_in layout standing (with_room entry room) limit ks table ≡ chosen_batch_in layout standing entry limit ks table
 unfolding batch_in chosen_batch_in

@@ -21,7 +21,7 @@ use Rattle.ipc_format_laws.specs.columns.Slots.{Slot}
 use Rattle.ipc_format_laws.proofs.columns_lemmas.Claims.{TypeWith, FieldWith, LayerWith, bare_layer}
 use Rattle.ipc_format_laws.proofs.columns_lemmas.Conditions.{parts_of_3}
 use Rattle.ipc_format_laws.specs.grammar.Columns.{first_ids, other_ids, ids_below, own_id}
-use Rattle.ipc_format_laws.specs.grammar.Encoding.{Encoded, Encoder, node_of, joined, field_columns, encode_step, encode}
+use Rattle.ipc_format_laws.specs.grammar.Encoding.{Encoded, Encoder, node_of, joined_columns, field_columns, encode_step, encode}
 use Rattle.ipc_format_laws.specs.grammar.GivenDictionaries.{Given, Giver, id_or_0, given_by, given_fields, givers, give_step, give_field_step}
 use Rattle.ipc_format_laws.specs.grammar.Limits.{length_limit}
 use Rattle.ipc_format_laws.specs.grammar.Schemas.{Ids, IdsList, ids}
@@ -45,9 +45,10 @@ abbrev in_room : List (ℕ × ℕ) → Bool
 in_room nodes = list_all is_node nodes
 
 -- the nodes of columns, one after another
-one_more : (e : Encoded) (more : List Encoded) → in_room e.nodes ≡ true → in_room (joined more).nodes ≡ true
-    → in_room (joined (e ∷ more)).nodes ≡ true
-one_more e more h k = list_all-append is_node e.nodes (joined more).nodes ∙ and_from (in_room e.nodes) (in_room (joined more).nodes) h k
+one_more : (e : Encoded) (more : List Encoded) → in_room e.nodes ≡ true → in_room (joined_columns more).nodes ≡ true
+    → in_room (joined_columns (e ∷ more)).nodes ≡ true
+one_more e more h k = list_all-append is_node e.nodes (joined_columns more).nodes
+    ∙ and_from (in_room e.nodes) (in_room (joined_columns more).nodes) h k
 
 -- a node before others
 node_first : (xs : List Slot) (nodes : List (ℕ × ℕ)) → is_length xs ≡ true → in_room nodes ≡ true → in_room (node_of xs ∷ nodes) ≡ true
@@ -109,18 +110,19 @@ alone xs e h is = record {
 
 -- a node over one child, which is given some slots
 over : (y : FieldWith FieldRooms) (xs below : List Slot) (e : Encoded) → is_length xs ≡ true → within_field y.0 below ≡ true
-    → e.nodes ≡ node_of xs ∷ (joined (encode_field y.0 below ∷ [])).nodes → Roomy xs e (λ here. give_field y.0 (first_ids (ids_below here)) below)
+    → e.nodes ≡ node_of xs ∷ (joined_columns (encode_field y.0 below ∷ [])).nodes
+    → Roomy xs e (λ here. give_field y.0 (first_ids (ids_below here)) below)
 over y xs below e h within is =
     let child = y.1 below within in
     let more = one_more (encode_field y.0 below) [] child.nodes refl in record {
       counted = h;
-      nodes = ap in_room is ∙ node_first xs (joined (encode_field y.0 below ∷ [])).nodes h more;
+      nodes = ap in_room is ∙ node_first xs (joined_columns (encode_field y.0 below ∷ [])).nodes h more;
       brings = λ here. child.brings (first_ids (ids_below here));
     }
 
 lists_have : (limit : ℕ) (y : FieldWith FieldRooms) (xs : List Slot) (e : Encoded)
     → (is_length xs && nat_le (length (joined_items xs)) limit && within_field y.0 (joined_items xs)) ≡ true
-    → e.nodes ≡ node_of xs ∷ (joined (encode_field y.0 (joined_items xs) ∷ [])).nodes
+    → e.nodes ≡ node_of xs ∷ (joined_columns (encode_field y.0 (joined_items xs) ∷ [])).nodes
     → Roomy xs e (λ here. give_field y.0 (first_ids (ids_below here)) (joined_items xs))
 lists_have limit y xs e h is =
     let parts = parts_of_3 (is_length xs) (nat_le (length (joined_items xs)) limit) (within_field y.0 (joined_items xs)) h in
@@ -133,7 +135,7 @@ abbrev fields_of : Children → List Field
 fields_of ys = map (λ e. e.0) ys
 
 children_nodes : (ys : Children) (xs : List Slot) (k : ℕ) → fields_within (map within_field (fields_of ys)) xs k ≡ true
-    → in_room (joined (field_columns (map encode_field (fields_of ys)) xs k)).nodes ≡ true
+    → in_room (joined_columns (field_columns (map encode_field (fields_of ys)) xs k)).nodes ≡ true
 children_nodes [] xs k h = refl
 children_nodes (y ∷ ys) xs k h =
     let parts = and_parts (within_field y.0 (field_slots xs k)) (fields_within (map within_field (fields_of ys)) xs (suc k)) h in
@@ -175,7 +177,7 @@ roll_rooms (layer.FixedSizeList item size) = at_roll (layer.FixedSizeList item.0
     let below = joined_fixed_items size xs in
     let parts = and_parts (is_length xs) (within_field item.0 below) h in over item xs below _ parts.0 parts.1 refl)
 roll_rooms (layer.Struct children) = at_roll (layer.Struct (fields_of children)) (λ xs h.
-    let below = joined (field_columns (map encode_field (fields_of children)) xs 0) in
+    let below = joined_columns (field_columns (map encode_field (fields_of children)) xs 0) in
     let parts = and_parts (is_length xs) (fields_within (map within_field (fields_of children)) xs 0) h in record {
       counted = parts.0;
       nodes = node_first xs below.nodes parts.0 (children_nodes children xs 0 parts.1);
@@ -212,7 +214,7 @@ type_rooms = ind-DataType TypeRooms FieldRooms (λ x y is. subst (λ (x : Layer)
 
 -- what is written of some columns that fit has room
 pub record ColumnsRoom (us : List Field) (below : IdsList) (columns : List (List Slot)) : Type 0 where
-  pub nodes : has_nodes_in_room (joined (columns_of_slots us columns)) ≡ true
+  pub nodes : has_nodes_in_room (joined_columns (columns_of_slots us columns)) ≡ true
   pub brings : list_all (λ (given : Given). has_nodes_in_room given.column && nat_lt (length given.slots) length_limit)
       (given_of_slots us below columns) ≡ true
 

@@ -19,7 +19,7 @@ use Rattle.ipc_format_laws.specs.columns.Tables.{rows_of_batches}
 use Rattle.ipc_format_laws.proofs.columns_lemmas.FreshSlots.{fresh_lengths}
 use Rattle.ipc_format_laws.proofs.columns_lemmas.FreshSound.{fresh_is_sound}
 use Rattle.ipc_format_laws.proofs.columns_lemmas.FreshTypes.{fresh_type}
-use Rattle.ipc_format_laws.specs.grammar.Encoding.{joined}
+use Rattle.ipc_format_laws.specs.grammar.Encoding.{joined_columns}
 use Rattle.ipc_format_laws.specs.grammar.GivenDictionaries.{Given, agree}
 use Rattle.ipc_format_laws.specs.grammar.Ids.{default_ids, ids_fit_fields, all_are_ids}
 use Rattle.ipc_format_laws.specs.grammar.Limits.{length_limit}
@@ -133,9 +133,10 @@ group_in_room us below group fit =
     let columns = columns_of_rows us group in
     let room = columns_room us below columns fit in
     let small = rows_within us (column_of_rows group) 0 fit in
-    and_from (nat_lt (rows_of_slots columns) length_limit && has_nodes_in_room (joined (columns_of_slots us columns)))
+    and_from (nat_lt (rows_of_slots columns) length_limit && has_nodes_in_room (joined_columns (columns_of_slots us columns)))
     (list_all (λ (given : Given). has_nodes_in_room given.column && nat_lt (length given.slots) length_limit) (given_of_slots us below columns))
-    (and_from (nat_lt (rows_of_slots columns) length_limit) (has_nodes_in_room (joined (columns_of_slots us columns))) small room.nodes) room.brings
+    (and_from (nat_lt (rows_of_slots columns) length_limit) (has_nodes_in_room
+    (joined_columns (columns_of_slots us columns))) small room.nodes) room.brings
 
 group_belongs : (schema : Schema) (below : IdsList) (group : List (List Slot)) → are_buildable schema.fields ≡ true
     → columns_fit schema.fields (columns_of_rows schema.fields group) ≡ true

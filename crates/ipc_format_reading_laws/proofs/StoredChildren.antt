@@ -14,7 +14,7 @@ use Rattle.ipc_format_laws.specs.grammar.Messages.{V5}
 use Rattle.ipc_format_laws.specs.grammar.Schemas.{IdsList}
 use Rattle.ipc_format_laws.specs.grammar.Layouts.{node_count, buffer_count}
 use Rattle.ipc_format_laws.specs.grammar.Columns.{Place, Reader, slots_in, columns_below, behind_column, first_ids, other_ids, picked}
-use Rattle.ipc_format_laws.specs.grammar.Encoding.{Encoded, joined}
+use Rattle.ipc_format_laws.specs.grammar.Encoding.{Encoded, joined_columns}
 use Rattle.ipc_format_laws.specs.grammar.StoredEncoding.{encode_range}
 use Rattle.ipc_format_laws.specs.Columns.{StandsAmong, HoldsColumns}
 use Rattle.ipc_format_laws.proofs.Elements.{part_front, part_back}
@@ -28,7 +28,7 @@ field_readers us = map (λ (u : Field). (u, slots_in u.data_type)) us
 
 pub columns_read : (o : ℕ) (len : Column → ℕ) (us : List Field) (columns : Columns) → have_types us columns ≡ true → are_sound columns ≡ true
     → RangesReadBack columns → (at : Place) (all : Encoded) (below : IdsList) → RangesFit o len at.limit columns → at.source.version ≡ V5
-    → HoldsColumns at.source all → StandsAmong all (joined (encode_each o len columns)) at.node at.buffer
+    → HoldsColumns at.source all → StandsAmong all (joined_columns (encode_each o len columns)) at.node at.buffer
     → HaveDictionaries at.standing below columns → columns_below (field_readers us) at below ≡ Some (windows_of o len columns)
 columns_read o len [] no_column typed sound reads at all below fit version holds stands standing = refl
 columns_read o len [] (column_then column columns) typed sound reads at all below fit version holds stands standing = absurd (false≢true typed)
@@ -38,7 +38,7 @@ columns_read o len (u ∷ us) (column_then column columns) typed sound reads at 
     let sounds = and_parts (is_sound column) (are_sound columns) sound in
     let same : u.data_type ≡ column_type column = type_is u.data_type (column_type column) types.0 in
     let first : Encoded = encode_range true column o (len column) in
-    let more : Encoded = joined (encode_each o len columns) in
+    let more : Encoded = joined_columns (encode_each o len columns) in
     let counts = range_counts column o (len column) sounds.0 in
     let next : Place = behind_column at u.data_type in
     let nodes_next : next.node ≡ at.node + length first.nodes =

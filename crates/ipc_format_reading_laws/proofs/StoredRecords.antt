@@ -15,7 +15,7 @@ use Rattle.ipc_format_laws.proofs.columns_lemmas.Conditions.{parts_of_4}
 use Rattle.ipc_format_laws.proofs.columns_lemmas.TypeLayers.{Layer}
 use Rattle.ipc_format_laws.specs.grammar.Messages.{V5}
 use Rattle.ipc_format_laws.specs.grammar.Columns.{Place, slots_by, taken_of, columns_below, first_below, struct_slots, ids_below}
-use Rattle.ipc_format_laws.specs.grammar.Encoding.{Encoded, joined, column_over}
+use Rattle.ipc_format_laws.specs.grammar.Encoding.{Encoded, joined_columns, column_over}
 use Rattle.ipc_format_laws.specs.grammar.StoredEncoding.{mask_bytes, node_over, encode_ranges}
 use Rattle.ipc_format_laws.specs.Columns.{StandsAmong, HoldsColumns}
 use Rattle.ipc_format_laws.proofs.Elements.{part_next}
@@ -44,7 +44,7 @@ structs_by : (us : List Field) (mask : Option (List Bool)) (count : ℕ) (childr
     → struct_slots (field_readers us) at ≡ Some (window (record_at mask children) o n)
 unfolding struct_slots
 structs_by us mask count children typed long marks sound reads o n at all within version holds stands whole standing =
-    let below : Encoded = joined (encode_ranges true children o n) in
+    let below : Encoded = joined_columns (encode_ranges true children o n) in
     let columns : List (List Slot) = windows_of o (λ column. n) children in
     let place : Place = first_below at 1 at.limit in
     let marked = range_marked at all mask count o n below.nodes below.buffers marks within holds stands.nodes stands.buffers whole in
@@ -55,7 +55,7 @@ structs_by us mask count children typed long marks sound reads o n at all within
     let found : columns_below (field_readers us) place (ids_below at.ids) ≡ Some columns =
     columns_read o (λ column. n) us children typed sound reads place all (ids_below at.ids)
     (ranges_fit o n count at.limit children long within whole) version holds
-    (subst (λ (es : List Encoded). StandsAmong all (joined es) place.node place.buffer) (same_ranges children o n) here) standing in
+    (subst (λ (es : List Encoded). StandsAmong all (joined_columns es) place.node place.buffer) (same_ranges children o n) here) standing in
     let size = windows_long o n children in
     let slots : slots_by (mask_validity (cut_mask mask o n)) (λ i. fields (in_slots (row_at columns i))) n ≡ window (record_at mask children) o n =
     range_slots mask count o n (λ i. fields (in_slots (row_at columns i))) (λ i. fields (slots_at children i)) marks within

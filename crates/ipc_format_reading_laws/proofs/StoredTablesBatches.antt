@@ -5,7 +5,7 @@ use Rattle.std.specs.List.{list_all}
 use Rattle.std.proofs.lemmas.Bool.{and_parts}
 use Rattle.std.proofs.lemmas.List.{length-map}
 use Rattle.ipc_format_laws.specs.flatbuffers.Reading.{◌>>=◌}
-use Rattle.ipc_format_laws.specs.flatbuffers.FlatBuffers.{Table}
+use Rattle.ipc_format_laws.specs.flatbuffers.FlatBuffers.{TablePlace}
 use Rattle.ipc_format_laws.specs.columnar_memory.declared.DataType.{DataType}
 use Rattle.ipc_format_laws.specs.columnar_memory.declared.Field.{Field}
 use Rattle.ipc_format_laws.specs.columns.Slots.{Slot}
@@ -19,7 +19,7 @@ use Rattle.ipc_format_laws.specs.grammar.Layouts.{node_step, node_count, buffer_
 use Rattle.ipc_format_laws.specs.grammar.Columns.{Source, Dictionary, Place, slots_in, have_length, first_ids, other_ids}
 use Rattle.ipc_format_laws.specs.grammar.Dictionaries.{Entry, Layout, source_in}
 use Rattle.ipc_format_laws.specs.grammar.Tables.{ids_at, column_place, columns_from, agree_in_length, batch_in, batches_with, batches_of}
-use Rattle.ipc_format_laws.specs.grammar.Encoding.{Encoded, joined}
+use Rattle.ipc_format_laws.specs.grammar.Encoding.{Encoded, joined_columns}
 use Rattle.ipc_format_laws.specs.grammar.StoredEncoding.{encode_stored}
 use Rattle.ipc_format_laws.specs.grammar.GivenDictionaries.{Given, given_stored}
 use Rattle.ipc_format_laws.specs.grammar.WrittenMessages.{buffer_places, record_message}
@@ -70,7 +70,7 @@ column_buffers u here c is =
 columns_read : StoredColumnsReadBack → (layout : Layout) (written : List Given) (source : Source) (all : Encoded) (k : ℕ) (us : List Field)
     (cs : List Column) → source.version ≡ V5 → HoldsColumns source all → AreColumns us (behind layout.below k) cs
     → Each (StandsIn written) (given_of_stored (behind layout.below k) cs) → StandsAt layout.fields k (map normalised_field us)
-    → StandsAmong all (joined (map (encode_stored true) cs)) (node_number layout.fields k) (buffer_number V5 layout.fields k)
+    → StandsAmong all (joined_columns (map (encode_stored true) cs)) (node_number layout.fields k) (buffer_number V5 layout.fields k)
     → columns_from layout (map as_read written) source k (map normalised_field us) ≡ Some (map read_slots cs)
 columns_read stored layout written source all k [] [] version holds are stand at s = refl
 columns_read stored layout written source all k [] (c ∷ cs) version holds are stand at s = absurd are
@@ -80,7 +80,7 @@ columns_read stored layout written source all k (u ∷ us) (c ∷ cs) version ho
     let fields : List Field = map normalised_field us in
     let below : IdsList = behind layout.below k in
     let first : Encoded = encode_stored true c in
-    let more : Encoded = joined (map (encode_stored true) cs) in
+    let more : Encoded = joined_columns (map (encode_stored true) cs) in
     let n : ℕ = node_number layout.fields k in
     let b : ℕ = buffer_number V5 layout.fields k in
     let next = next_numbers V5 layout.fields k field (part_first field fields at) in
@@ -144,7 +144,7 @@ pub batch_reads : StoredColumnsReadBack → (layout : Layout) (us : List Field) 
     → batch_in layout (map as_read written) entry is.table ≡ Some (map read_slots cs)
 unfolding batch_in batch_of_stored record_message
 batch_reads stored layout us written cs entry little fields its is stand =
-    let all : Encoded = joined (map (encode_stored true) cs) in
+    let all : Encoded = joined_columns (map (encode_stored true) cs) in
     let has : IsRecordBatch entry.metadata is.table all.nodes (buffer_places 0 all.buffers) =
     subst (λ (bytes : List ℕ). IsRecordBatch bytes is.table all.nodes (buffer_places 0 all.buffers)) (sym is.metadata) is.has_table in
     let source : source_in layout.is_little_endian entry is.table ≡ Some (source_of entry all) =
@@ -157,7 +157,7 @@ batch_reads stored layout us written cs entry little fields its is stand =
     rw (source, read, lengths_agree cs its.lengths) refl
 
 -- an entry that is a batch, before others
-pub batch_then : (layout : Layout) (standing : List Dictionary) (entry : Entry) (others : List Entry) (table : Table)
+pub batch_then : (layout : Layout) (standing : List Dictionary) (entry : Entry) (others : List Entry) (table : TablePlace)
     (columns : List (List Slot)) (batches : List (List (List Slot))) → entry.header ≡ grammar.record_batch table
     → batch_in layout standing entry table ≡ Some columns → batches_of layout standing others ≡ Some batches
     → batches_of layout standing (entry ∷ others) ≡ Some (columns ∷ batches)

@@ -8,17 +8,18 @@ use Rattle.std.proofs.lemmas.Bool.{and_parts, leb-true}
 use Rattle.std.proofs.lemmas.Option.{same_Some}
 use Rattle.std.proofs.lemmas.List.Elements.{All-head, All-tail, All-cons}
 use Rattle.std.proofs.lemmas.List.Folds.{list_all-append}
-use Rattle.ipc_format_laws.specs.flatbuffers.FlatBuffers.{Table, root_of, number_at, reference_at, number_field, table_field}
+use Rattle.ipc_format_laws.specs.flatbuffers.FlatBuffers.{TablePlace, root_of, number_at, reference_at, number_field, table_field}
 use Rattle.ipc_format_laws.specs.grammar.Messages as grammar
 use Rattle.ipc_format_laws.specs.grammar.Messages.{Header, Message, V5, message_in, header_of, body_length_of, version_in}
 use Rattle.ipc_format_laws.specs.grammar.Files.{header_in, is_dictionary, is_record_batch, entry_at, entries_at}
 use Rattle.ipc_format_laws.specs.grammar.Dictionaries.{Entry}
-use Rattle.ipc_format_laws.specs.grammar.Encoding.{joined}
+use Rattle.ipc_format_laws.specs.grammar.Encoding.{joined_columns}
 use Rattle.ipc_format_laws.specs.grammar.GivenDictionaries.{Given, last_under, stands_for, to_write, written_after}
 use Rattle.ipc_format_laws.specs.grammar.WrittenMessages.{Written, prefix_size, continuation_marker, message_bytes, most_metadata, body_limit, fits_limit}
 use Rattle.ipc_format_laws.specs.grammar.WrittenMessages.{padded_buffer, buffer_places, body_bytes, record_message, dictionary_message}
 use Rattle.ipc_format_laws.specs.grammar.WrittenStreams.{Batch, messages_after, bytes_of_messages}
-use Rattle.ipc_format_laws.specs.grammar.WrittenFiles.{Block, Blocks, block_of, place_after, with_record_batch, dictionary_blocks, batch_blocks}
+use Rattle.ipc_format_laws.specs.grammar.WrittenFiles.{WrittenBlock, Blocks, block_of, place_after, with_record_batch, dictionary_blocks}
+use Rattle.ipc_format_laws.specs.grammar.WrittenFiles.{batch_blocks}
 use Rattle.ipc_format_laws.specs.grammar.AppendedFiles.{block_end}
 use Rattle.ipc_format_laws.specs.BatchMessages.{AreSigned}
 use Rattle.ipc_format_laws.specs.Contents.{HasColumns, HasValues, dictionary, batch, batch_message}
@@ -45,7 +46,7 @@ has_metadata (first ∷ others) message e = omega arith
 same_header : (a b : Message) → Some a ≡ Some b → a.header ≡ b.header
 same_header a b e = ap (λ (m : Message). m.header) (same_Some a b e)
 
-header_found : (metadata : List ℕ) (root : Table) (tag : ℕ) (found : Option Table) (table : Table) (header : Header)
+header_found : (metadata : List ℕ) (root : TablePlace) (tag : ℕ) (found : Option TablePlace) (table : TablePlace) (header : Header)
     → root_of metadata ≡ Some root → number_field w8 metadata root 1 0 ≡ Some tag → table_field metadata root 2 ≡ Some found
     → found ≡ Some table → header_of tag table ≡ Some header → header_in metadata ≡ Some header
 unfolding header_in
@@ -58,10 +59,10 @@ header_reads : (metadata : List ℕ) (header : Header) (size : ℤ)
 unfolding message_in
 header_reads metadata header size e =
     let message : Message = record { header = header; body_length = size } in
-    let root = came_of {A = Table} (root_of metadata) _ message e in
+    let root = came_of {A = TablePlace} (root_of metadata) _ message e in
     let tag = came_of {A = ℕ} (number_field w8 metadata root.0 1 0) _ message root.2 in
-    let found = came_of {A = Option Table} (table_field metadata root.0 2) _ message tag.2 in
-    let its_table = came_of {A = Table} found.0 _ message found.2 in
+    let found = came_of {A = Option TablePlace} (table_field metadata root.0 2) _ message tag.2 in
+    let its_table = came_of {A = TablePlace} found.0 _ message found.2 in
     let its_header = came_of {A = Header} (header_of tag.0 its_table.0) _ message its_table.2 in
     let its_size = came_of {A = ℤ} (body_length_of metadata root.0 its_header.0) _ message its_header.2 in
     let whole : Message = record { header = its_header.0; body_length = its_size.0 } in
@@ -86,7 +87,7 @@ batch_reads_back : (its_batch : Batch) → HasRoomForColumns its_batch → fits_
 unfolding record_message
 batch_reads_back its_batch is fits =
     let room = has_room (batch_message its_batch) fits in
-    let columns = joined its_batch.columns in
+    let columns = joined_columns its_batch.columns in
     record_batches_read_back its_batch.rows columns.nodes (buffer_places 0 columns.buffers) (length (body_bytes columns.buffers)) is.rows is.nodes
     (places_signed 0 columns.buffers (omega (arith, room.body))) room.body (omega (arith, room.metadata))
 
@@ -102,11 +103,11 @@ dictionary_reads_back given is fits =
 -- ---- one block
 
 -- a block's message and the buffers that it states end where the block does
-abbrev pub EndsWith : List ℕ → Block → Entry → Type 0
+abbrev pub EndsWith : List ℕ → WrittenBlock → Entry → Type 0
 EndsWith bytes block entry = EntryEnds (block_end block) bytes (block_read block) entry
 
 -- the message of a block
-record BlockReads (bytes : List ℕ) (is_of_kind : Header → Bool) (message : Written) (kind : Table → Header) (HasTable : Table → Type 0)
+record BlockReads (bytes : List ℕ) (is_of_kind : Header → Bool) (message : Written) (kind : TablePlace → Header) (HasTable : TablePlace → Type 0)
     (place : ℕ) : Type 0 where
   fit : FitsBlock (block_of place message)
   entry : Entry
@@ -114,9 +115,10 @@ record BlockReads (bytes : List ℕ) (is_of_kind : Header → Bool) (message : W
   is : IsEntryOf message kind HasTable entry
   ends : EndsWith bytes (block_of place message) entry
 
-block_reads : {bytes : List ℕ} {place : ℕ} (is_of_kind : Header → Bool) (message : Written) (kind : Table → Header) (HasTable : Table → Type 0)
-    → ((table : Table) → is_of_kind (kind table) ≡ true)
-    → ((table : Table) (origin : ℕ) → HasTable table → HeaderEnds (origin + length message.body) origin message.metadata (kind table))
+block_reads : {bytes : List ℕ} {place : ℕ} (is_of_kind : Header → Bool) (message : Written) (kind : TablePlace → Header)
+    (HasTable : TablePlace → Type 0)
+    → ((table : TablePlace) → is_of_kind (kind table) ≡ true)
+    → ((table : TablePlace) (origin : ℕ) → HasTable table → HeaderEnds (origin + length message.body) origin message.metadata (kind table))
     → ReadsBack message kind HasTable → fits_limit message ≡ true → length bytes < 2 ^ 63 → Stands bytes place (message_bytes message)
     → BlockReads bytes is_of_kind message kind HasTable place
 unfolding entry_at
@@ -187,7 +189,7 @@ dictionaries_at {bytes} (next ∷ given) place rest others more batches all fit 
     let tests = and_parts (fits_limit message) (list_all fits_limit (map dictionary_message given)) fit in
     let behind = bytes_of_messages (map dictionary_message given ++ others) in
     let found = dictionary_reads_back next (All-head HasRoomForValues next given all) tests.0 in
-    let here = block_reads is_dictionary message grammar.dictionary_batch (HasValues next) (λ (table : Table). refl)
+    let here = block_reads is_dictionary message grammar.dictionary_batch (HasValues next) (λ (table : TablePlace). refl)
     (values_state next) found tests.0 small
     (front (message_bytes message) behind refl s) in
     let later = dictionaries_at given (place_after place message) rest others more batches (All-tail HasRoomForValues next given all) tests.1 small
@@ -215,7 +217,7 @@ batch_at : {bytes : List ℕ} (next : Batch) (place : ℕ) (blocks : ℕ → Blo
 batch_at {bytes} next place blocks others more batches has fit small s rest_reads =
     let message = batch_message next in
     let behind = bytes_of_messages others in
-    let here = block_reads is_record_batch message grammar.record_batch (HasColumns next) (λ (table : Table). refl)
+    let here = block_reads is_record_batch message grammar.record_batch (HasColumns next) (λ (table : TablePlace). refl)
     (columns_state next)
     (batch_reads_back next has fit) fit small (front (message_bytes message) behind refl s) in
     let later = rest_reads (place_after place message) (back (message_bytes message) behind (place_after place message) refl refl s) in

@@ -7,7 +7,7 @@ use Rattle.std.proofs.lemmas.Bool.{le-leb, leb-true}
 use Rattle.std.proofs.lemmas.Option.{cond_some}
 use Rattle.std.proofs.lemmas.List.Sums.{sum_by-cons}
 use Rattle.ipc_format_laws.specs.flatbuffers.Reading.{◌>>=◌, window_at}
-use Rattle.ipc_format_laws.specs.flatbuffers.FlatBuffers.{Table}
+use Rattle.ipc_format_laws.specs.flatbuffers.FlatBuffers.{TablePlace}
 use Rattle.ipc_format_laws.specs.columnar_memory.declared.DataType.{DataType}
 use Rattle.ipc_format_laws.specs.columns.StoredColumns.{Column, column_type, column_len, slots}
 use Rattle.ipc_format_laws.specs.columns.SoundColumns.{is_sound}
@@ -37,11 +37,11 @@ use Rattle.ipc_format_reading_laws.proofs.StoredGivenStanding.{as_read, StandsIn
 
 -- An entry of a stream or a file is a message that was written, with a header of a kind: its metadata is the message's, and the message's
 -- body stands in its room, from its origin on.
-pub record IsEntryOf (message : Written) (kind : Table → Header) (HasTable : Table → Type 0) (entry : Entry) : Type 0 where
+pub record IsEntryOf (message : Written) (kind : TablePlace → Header) (HasTable : TablePlace → Type 0) (entry : Entry) : Type 0 where
   pub metadata : entry.metadata ≡ message.metadata
   pub version : entry.version ≡ V5
   pub body : window_at entry.room entry.origin (length message.body) ≡ Some message.body
-  pub table : Table
+  pub table : TablePlace
   pub header : entry.header ≡ kind table
   pub has_table : HasTable table
 
@@ -84,7 +84,7 @@ source_of entry all = record {
   origin = entry.origin;
 }
 
-pub source_is : (entry : Entry) (all : Encoded) (table : Table)
+pub source_is : (entry : Entry) (all : Encoded) (table : TablePlace)
     → IsRecordBatch entry.metadata table all.nodes (buffer_places 0 all.buffers)
     → window_at entry.room entry.origin (length (body_bytes all.buffers)) ≡ Some (body_bytes all.buffers)
     → source_in true entry table ≡ Some (source_of entry all)
@@ -153,7 +153,7 @@ dictionary_reads stored layout written b entry little is good values stand =
     rw (its.batch, source, values, read) refl
 
 -- an entry that is a dictionary, before others
-pub dictionary_then : (layout : Layout) (standing : List Dictionary) (entry : Entry) (others : List Entry) (table : Table) (found : Dictionary)
+pub dictionary_then : (layout : Layout) (standing : List Dictionary) (entry : Entry) (others : List Entry) (table : TablePlace) (found : Dictionary)
     → entry.header ≡ grammar.dictionary_batch table → dictionary_in layout standing entry table ≡ Some found
     → batches_of layout standing (entry ∷ others) ≡ batches_of layout (found ∷ standing) others
 dictionary_then layout standing entry others table found header read =

@@ -30,7 +30,7 @@ use Rattle.ipc_format_laws.specs.grammar.Layouts.{union_parts, before_V5}
 use Rattle.ipc_format_laws.specs.grammar.Values.{signed_of, element_bytes}
 use Rattle.ipc_format_laws.specs.grammar.Columns.{Place, Reader, buffer_at, taken_of, columns_below, first_below, ids_below, place_of_id, child_of}
 use Rattle.ipc_format_laws.specs.grammar.Columns.{picked, all_of, union_slots}
-use Rattle.ipc_format_laws.specs.grammar.Encoding.{Encoded, joined, column_over}
+use Rattle.ipc_format_laws.specs.grammar.Encoding.{Encoded, joined_columns, column_over}
 use Rattle.ipc_format_laws.specs.grammar.StoredEncoding.{integer_bytes, encode_ranges, encode_wholes}
 use Rattle.ipc_format_laws.specs.BatchMessages.{stated_node}
 use Rattle.ipc_format_laws.specs.Columns.{StandsAt, StandsAmong, HoldsColumns}
@@ -160,7 +160,7 @@ sparse_by us given ids children are long o n at all within version holds stands 
     let x : Layer = layer.Union us given modes.Sparse in
     let part : List ℤ = cut_list ids o n in
     let bytes : List ℕ = integer_bytes true w8 part in
-    let below : Encoded = joined (encode_ranges true children o n) in
+    let below : Encoded = joined_columns (encode_ranges true children o n) in
     let columns : List (List Slot) = windows_of o (λ column. n) children in
     let readers : List (Field × Reader) = field_readers us in
     let count : length part ≡ n = length-cut_list ids o n within in
@@ -179,7 +179,7 @@ sparse_by us given ids children are long o n at all within version holds stands 
     let found : columns_below readers place (ids_below at.ids) ≡ Some columns =
     columns_read o (λ column. n) us children are.typed are.sound are.reads place all (ids_below at.ids)
     (ranges_fit o n (length ids) None children long within refl) version holds
-    (subst (λ (es : List Encoded). StandsAmong all (joined es) place.node place.buffer) (same_ranges children o n) here) standing in
+    (subst (λ (es : List Encoded). StandsAmong all (joined_columns es) place.node place.buffer) (same_ranges children o n) here) standing in
     let same_length = windows_long o n children in
     let slots : all_of (window (λ i. picked readers columns (child_of given (signed_of true w8 (element_bytes 1 bytes i))) (natural (pos i))) 0 n)
     ≡ Some (window (union_at x ids None children) o n) =
@@ -233,7 +233,7 @@ dense_by us given ids offsets children are as_many all_offsets o n at all within
     let places : List ℤ = cut_list offsets o n in
     let bytes : List ℕ = integer_bytes true w8 part in
     let place_bytes : List ℕ = integer_bytes true w32 places in
-    let below : Encoded = joined (encode_wholes true children) in
+    let below : Encoded = joined_columns (encode_wholes true children) in
     let columns : List (List Slot) = windows_of 0 column_len children in
     let readers : List (Field × Reader) = field_readers us in
     let count : length part ≡ n = length-cut_list ids o n within in
@@ -260,7 +260,7 @@ dense_by us given ids offsets children are as_many all_offsets o n at all within
     } in
     let found : columns_below readers place (ids_below at.ids) ≡ Some columns =
     columns_read 0 column_len us children are.typed are.sound are.reads place all (ids_below at.ids) (wholes_fit children) version holds
-    (subst (λ (es : List Encoded). StandsAmong all (joined es) place.node place.buffer) (same_wholes children) here) standing in
+    (subst (λ (es : List Encoded). StandsAmong all (joined_columns es) place.node place.buffer) (same_wholes children) here) standing in
     let slots : all_of (window (λ i. picked readers columns (child_of given (signed_of true w8 (element_bytes 1 bytes i)))
     (natural (signed_of at.source.is_little_endian w32 (element_bytes 4 place_bytes i)))) 0 n)
     ≡ Some (window (union_at x ids (Some offsets) children) o n) =

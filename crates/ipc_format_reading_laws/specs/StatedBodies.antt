@@ -1,6 +1,6 @@
 -- Where the messages of a file stand and where the buffers end that they state (Arrow IPC, "IPC File Format", "RecordBatch message").
 use Rattle.std.specs.Prelude.{◌≡◌, ℕ, ◌+◌, ◌≤◌, List, [], ◌∷◌, take, slice_get, Some}
-use Rattle.ipc_format_laws.specs.flatbuffers.FlatBuffers.{Table}
+use Rattle.ipc_format_laws.specs.flatbuffers.FlatBuffers.{TablePlace}
 use Rattle.ipc_format_laws.specs.grammar.Messages as message
 use Rattle.ipc_format_laws.specs.grammar.Messages.{Buffer, RecordBatch, DictionaryBatch, as_buffer, natural, record_batch_in, dictionary_batch_in}
 use Rattle.ipc_format_laws.specs.grammar.Messages.{structs_in}
@@ -15,7 +15,7 @@ BuffersEnd end origin buffers = (k : ℕ) (buffer : Buffer) (offset stated : ℕ
     → natural buffer.offset ≡ Some offset → natural buffer.length ≡ Some stated → origin + offset + stated ≤ end
 
 -- the same of the buffers of a record batch
-abbrev pub BatchEnds : ℕ → ℕ → List ℕ → Table → Type 0
+abbrev pub BatchEnds : ℕ → ℕ → List ℕ → TablePlace → Type 0
 BatchEnds end origin metadata table = (batch : RecordBatch) (buffers : List Buffer) → record_batch_in metadata table ≡ Some batch
     → structs_in as_buffer metadata batch.buffers ≡ Some buffers → BuffersEnd end origin buffers
 

@@ -9,7 +9,7 @@ use Rattle.ipc_format_readers.specs.chunk_writing.columnar_memory.Equality.{same
 use Rattle.ipc_format_readers.specs.chunk_writing.columnar_memory.declared.Field.{Field}
 use Rattle.ipc_format_readers.specs.chunk_writing.columns.SoundColumns.{is_sound}
 use Rattle.ipc_format_readers.specs.chunk_writing.columns.StoredColumns.{Column, column_len, column_type}
-use Rattle.ipc_format_readers.specs.chunk_writing.grammar.Encoding.{Encoded, joined}
+use Rattle.ipc_format_readers.specs.chunk_writing.grammar.Encoding.{Encoded, joined_columns}
 use Rattle.ipc_format_readers.specs.chunk_writing.grammar.GivenDictionaries.{Given, to_write, last_under, stands_for}
 use Rattle.ipc_format_readers.specs.chunk_writing.grammar.Limits.{length_limit}
 use Rattle.ipc_format_readers.specs.chunk_writing.grammar.Schemas.{IdsList}
@@ -66,23 +66,24 @@ messages_are told batch =
 pub within_fit : (told : List Given) (batch : Batch) → is_batch_within told batch ≡ true → list_all fits_limit (batch_messages told batch) ≡ true
 within_fit told batch within =
     let own = record_message batch.rows batch.columns in
-    let parts = and_parts (list_all is_given_within (to_write told batch.given)) (is_within (joined batch.columns) own) within in
+    let parts = and_parts (list_all is_given_within (to_write told batch.given)) (is_within (joined_columns batch.columns) own) within in
     messages_are told batch
     ∙ and_from (list_all fits_limit (map dictionary_message (to_write told batch.given))) (fits_limit own && true)
     (given_within_fit (to_write told batch.given) parts.0)
-    (and_from (fits_limit own) true (and_parts (has_nodes_in_room (joined batch.columns)) (fits_limit own) parts.1).1 refl)
+    (and_from (fits_limit own) true (and_parts (has_nodes_in_room (joined_columns batch.columns)) (fits_limit own) parts.1).1 refl)
 
 fit_within : (told : List Given) (batch : Batch) → is_in_room batch ≡ true → list_all fits_limit (batch_messages told batch) ≡ true
     → is_batch_within told batch ≡ true
 fit_within told batch room fit =
     let own = record_message batch.rows batch.columns in
-    let rooms = and_parts (nat_lt batch.rows length_limit && has_nodes_in_room (joined batch.columns)) (list_all given_fits batch.given) room in
-    let columns = and_parts (nat_lt batch.rows length_limit) (has_nodes_in_room (joined batch.columns)) rooms.0 in
+    let rooms = and_parts (nat_lt batch.rows length_limit && has_nodes_in_room (joined_columns batch.columns))
+    (list_all given_fits batch.given) room in
+    let columns = and_parts (nat_lt batch.rows length_limit) (has_nodes_in_room (joined_columns batch.columns)) rooms.0 in
     let fits = and_parts (list_all fits_limit (map dictionary_message (to_write told batch.given))) (fits_limit own && true)
     (sym (messages_are told batch) ∙ fit) in
-    and_from (list_all is_given_within (to_write told batch.given)) (is_within (joined batch.columns) own)
+    and_from (list_all is_given_within (to_write told batch.given)) (is_within (joined_columns batch.columns) own)
     (given_fit_within (to_write told batch.given) (written_fits told batch.given rooms.1) fits.0)
-    (and_from (has_nodes_in_room (joined batch.columns)) (fits_limit own) columns.1 (and_parts (fits_limit own) true fits.1).0)
+    (and_from (has_nodes_in_room (joined_columns batch.columns)) (fits_limit own) columns.1 (and_parts (fits_limit own) true fits.1).0)
 
 pub not_fit : (told : List Given) (batch : Batch) → is_in_room batch ≡ true → is_batch_within told batch ≡ false
     → list_all fits_limit (batch_messages told batch) ≡ false

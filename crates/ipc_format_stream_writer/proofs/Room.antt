@@ -23,7 +23,7 @@ use Rattle.ipc_format_readers.specs.chunk_writing.columns.StoredColumns.{diction
 use Rattle.ipc_format_readers.specs.chunk_writing.columns.StoredColumns.{column_then, column_len, in_columns, column_type, cut_list, cut_mask}
 use Rattle.ipc_format_readers.specs.chunk_writing.columns.StoredColumns.{slots, type_layer}
 use Rattle.ipc_format_readers.specs.chunk_writing.grammar.Columns.{first_ids, other_ids, ids_below, own_id}
-use Rattle.ipc_format_readers.specs.chunk_writing.grammar.Encoding.{Encoded, joined}
+use Rattle.ipc_format_readers.specs.chunk_writing.grammar.Encoding.{Encoded, joined_columns}
 use Rattle.ipc_format_readers.specs.chunk_writing.grammar.GivenDictionaries.{Given, given_each, given_stored, id_or_0}
 use Rattle.ipc_format_readers.specs.chunk_writing.grammar.Limits.{length_limit}
 use Rattle.ipc_format_readers.specs.chunk_writing.grammar.Schemas.{Ids, IdsList, ids}
@@ -74,16 +74,16 @@ first_short n rest h = let parts = and_parts (nat_lt n length_limit) rest h in (
 
 -- one column below a node
 below_one : (node : ℕ × ℕ) (child : Encoded) → is_node node ≡ true → has_nodes_in_room child ≡ true
-    → list_all is_node (node ∷ (joined (child ∷ [])).nodes) ≡ true
+    → list_all is_node (node ∷ (joined_columns (child ∷ [])).nodes) ≡ true
 below_one node child here below =
     and_from (is_node node) (list_all is_node (child.nodes ++ [])) here
     (list_all-append is_node child.nodes [] ∙ and_from (list_all is_node child.nodes) true below refl)
 
-two_in_room : (first : Encoded) (others : List Encoded) → has_nodes_in_room first ≡ true → has_nodes_in_room (joined others) ≡ true
-    → has_nodes_in_room (joined (first ∷ others)) ≡ true
+two_in_room : (first : Encoded) (others : List Encoded) → has_nodes_in_room first ≡ true → has_nodes_in_room (joined_columns others) ≡ true
+    → has_nodes_in_room (joined_columns (first ∷ others)) ≡ true
 two_in_room first others here rest =
-    list_all-append is_node first.nodes (joined others).nodes
-    ∙ and_from (list_all is_node first.nodes) (list_all is_node (joined others).nodes) here rest
+    list_all-append is_node first.nodes (joined_columns others).nodes
+    ∙ and_from (list_all is_node first.nodes) (list_all is_node (joined_columns others).nodes) here rest
 
 items_within : (data_type : DataType) (offsets : List ℕ) (child : Column) (o n : ℕ)
     → are_offsets offsets (min (most_offset (physical_type data_type)) (column_len child)) ≡ true
@@ -103,9 +103,9 @@ pieces_within size n len pieces within =
     omega (arith, whole, mul-le-mul_left {m = n} {n = len / size} size within)
 
 -- a node over columns below it
-over_all : (node : ℕ × ℕ) (below : List Encoded) → is_node node ≡ true → has_nodes_in_room (joined below) ≡ true
-    → list_all is_node (node ∷ (joined below).nodes) ≡ true
-over_all node below here rest = and_from (is_node node) (list_all is_node (joined below).nodes) here rest
+over_all : (node : ℕ × ℕ) (below : List Encoded) → is_node node ≡ true → has_nodes_in_room (joined_columns below) ≡ true
+    → list_all is_node (node ∷ (joined_columns below).nodes) ≡ true
+over_all node below here rest = and_from (is_node node) (list_all is_node (joined_columns below).nodes) here rest
 
 alone : (node : ℕ × ℕ) → is_node node ≡ true → list_all is_node (node ∷ []) ≡ true
 alone node here = and_from (is_node node) true here refl
@@ -191,7 +191,7 @@ mutual
       alone (node_over n (cut_mask mask o n)) (over_node mask o n (omega (arith, small.0, within)))
 
   ranges_in_room : (cs : Columns) (o n len : ℕ) → are_sound cs ≡ true → are_short cs ≡ true → have_len cs len ≡ true → n ≤ len
-      → has_nodes_in_room (joined (encode_ranges true cs o n)) ≡ true
+      → has_nodes_in_room (joined_columns (encode_ranges true cs o n)) ≡ true
   ranges_in_room no_column o n len sound short long within = refl
   ranges_in_room (column_then c cs) o n len sound short long within =
       let sounds = and_parts (is_sound c) (are_sound cs) sound in
@@ -200,7 +200,7 @@ mutual
       two_in_room (encode_range true c o n) (encode_ranges true cs o n)
       (range_in_room c o n sounds.0 shorts.0 (omega (arith, longs.0, within))) (ranges_in_room cs o n len sounds.1 shorts.1 longs.1 within)
 
-  wholes_in_room : (cs : Columns) → are_sound cs ≡ true → are_short cs ≡ true → has_nodes_in_room (joined (encode_wholes true cs)) ≡ true
+  wholes_in_room : (cs : Columns) → are_sound cs ≡ true → are_short cs ≡ true → has_nodes_in_room (joined_columns (encode_wholes true cs)) ≡ true
   wholes_in_room no_column sound short = refl
   wholes_in_room (column_then c cs) sound short =
       let sounds = and_parts (is_sound c) (are_sound cs) sound in
@@ -261,7 +261,7 @@ mutual
 -- ---- batches
 
 columns_in_room : (cs : List Column) → list_all is_sound cs ≡ true → list_all is_short cs ≡ true
-    → has_nodes_in_room (joined (map (encode_stored true) cs)) ≡ true
+    → has_nodes_in_room (joined_columns (map (encode_stored true) cs)) ≡ true
 columns_in_room [] sound short = refl
 columns_in_room (c ∷ cs) sound short =
     let sounds = and_parts (is_sound c) (list_all is_sound cs) sound in
@@ -286,9 +286,9 @@ pub batch_in_room : (below : IdsList) (cs : List Column) → list_all is_sound c
     → is_in_room (batch_of_stored below cs) ≡ true
 unfolding batch_of_stored
 batch_in_room below cs sound short =
-    and_from (nat_lt (rows_of_stored cs) length_limit && has_nodes_in_room (joined (map (encode_stored true) cs)))
+    and_from (nat_lt (rows_of_stored cs) length_limit && has_nodes_in_room (joined_columns (map (encode_stored true) cs)))
     (list_all given_fits (given_of_stored below cs))
-    (and_from (nat_lt (rows_of_stored cs) length_limit) (has_nodes_in_room (joined (map (encode_stored true) cs))) (rows_in_room cs short)
+    (and_from (nat_lt (rows_of_stored cs) length_limit) (has_nodes_in_room (joined_columns (map (encode_stored true) cs))) (rows_in_room cs short)
     (columns_in_room cs sound short))
     (all_given_in_room below cs sound short)
 

@@ -10,7 +10,7 @@ use Rattle.ipc_format_values.specs.flatbuffers.Reading.{◌>>=◌, window_at}
 use Rattle.ipc_format_values.specs.flatbuffers.FlatBuffers.{number_at, signed_at}
 use Rattle.ipc_format_values.specs.grammar.Messages as message
 use Rattle.ipc_format_values.specs.grammar.Messages.{Message, Header, message_in, natural}
-use Rattle.ipc_format_values.specs.grammar.Framing.{end_mark, metadata_then, frame_of, frame_behind, frame_at, Framed, framed_by, framed}
+use Rattle.ipc_format_values.specs.grammar.Framing.{end_mark, metadata_then, frame_of, frame_behind, frame_at, Framed, framed_by, framed_at}
 use Rattle.ipc_format_values.specs.grammar.Framing.{nothing_whole, at_end, message_then, next_of, next_at}
 use Rattle.ipc_format_streams.specs.Incoming.{body_size, body_size_in}
 
@@ -229,7 +229,7 @@ pub message_broken : (bytes head metadata rest : List ℕ) → bytes ≡ head ++
     → frame_at bytes 0 ≡ frame_of bytes (pos (length metadata)) (length head) → body_size_in metadata ≡ None → next_at bytes 0 ≡ None
 message_broken bytes head metadata rest same some frame broken =
     next_is bytes head metadata rest same some frame
-    ∙ bind_none (framed bytes metadata (length head + length metadata)) _
+    ∙ bind_none (framed_at bytes metadata (length head + length metadata)) _
     (framed_broken bytes metadata (length head + length metadata) (message_in metadata) broken)
 
 -- too few bytes of a body
@@ -242,7 +242,7 @@ body_short bytes head metadata rest size same some frame e few =
     let past : length bytes < place + size =
     omega (arith, few, ap length same ∙ length-append head (metadata ++ rest), length-append metadata rest) in
     next_is bytes head metadata rest same some frame
-    ∙ bind_none (framed bytes metadata place) _ (bind_is (message_in metadata) _ found.0 found.1
+    ∙ bind_none (framed_at bytes metadata place) _ (bind_is (message_in metadata) _ found.0 found.1
     ∙ framed_short bytes metadata place size found.0.header found.0.body_length found.2 (omega (arith, few)) past)
 
 -- a message, and what is left behind it
@@ -257,7 +257,7 @@ message_comes bytes head metadata body rest same some frame e =
     let front : length (head ++ metadata) ≡ place = length-append head metadata in
     let seen : window_at bytes place (length body) ≡ Some body =
     (λ j. window_at (parts j) (sym front j) (length body)) ∙ window_between (head ++ metadata) body rest in
-    let whole : framed bytes metadata place ≡ some_body metadata found.0.header body (place + length body) =
+    let whole : framed_at bytes metadata place ≡ some_body metadata found.0.header body (place + length body) =
     bind_is (message_in metadata) _ found.0 found.1
     ∙ framed_found bytes metadata body place found.0.header found.0.body_length found.2 seen in
     let all : bytes ≡ ((head ++ metadata) ++ body) ++ rest = parts ∙ sym (append_assoc (head ++ metadata) body rest) in
@@ -266,7 +266,7 @@ message_comes bytes head metadata body rest same some frame e =
       found.0.header,
       place + length body,
       next_is bytes head metadata (body ++ rest) same some frame
-          ∙ bind_is (framed bytes metadata place) (λ (it : Framed × ℕ). Some (message_then it.0 it.1))
+          ∙ bind_is (framed_at bytes metadata place) (λ (it : Framed × ℕ). Some (message_then it.0 it.1))
           (record { metadata = metadata; header = found.0.header; body = body }, place + length body) whole,
       (λ j. drop (sym size j) (all j)) ∙ drop_front ((head ++ metadata) ++ body) rest,
     )

@@ -5,7 +5,7 @@ use Rattle.ipc_format_values.specs.columnar_memory.declared.Error.{Error}
 use Rattle.ipc_format_values.specs.columnar_memory.declared.Error.TheVariants as errors
 use Rattle.ipc_format_values.specs.grammar.Columns.{Source}
 use Rattle.ipc_format_values.specs.flatbuffers.Reading.{◌>>=◌, guard}
-use Rattle.ipc_format_values.specs.flatbuffers.FlatBuffers.{Table}
+use Rattle.ipc_format_values.specs.flatbuffers.FlatBuffers.{TablePlace}
 use Rattle.ipc_format_values.specs.grammar.Dictionaries.{Entry, source_in}
 use Rattle.ipc_format_values.specs.grammar.Messages.{FieldNode, RecordBatch, structs_in, as_node, as_buffer, record_batch_in, lengths_sum}
 use Rattle.ipc_format_values.specs.messages.BufferLengths.{IsNoneOrLong}
@@ -13,7 +13,7 @@ use Rattle.ipc_format_streams.specs.Queues.{AreMissing, ForEntries, MakesQueues,
 use Rattle.ipc_format_streams.specs.declared.queues.BatchQueues.{BatchQueues}
 
 -- no batch
-pub source_missing : (bytes : List ℕ) (table : Table) (size : ℕ) → record_batch_in bytes table ≡ None
+pub source_missing : (bytes : List ℕ) (table : TablePlace) (size : ℕ) → record_batch_in bytes table ≡ None
     → ForEntries bytes size (λ little entry. source_in little entry table ≡ None)
 unfolding source_in
 source_missing bytes table size none little entry same sized =
@@ -52,21 +52,21 @@ vectors_of bytes batch little entry = structs_in as_node bytes batch.nodes >>= (
       origin = entry.origin;
     })))
 
-source_by : (bytes : List ℕ) (table : Table) (size : ℕ) (batch : RecordBatch) → record_batch_in bytes table ≡ Some batch
+source_by : (bytes : List ℕ) (table : TablePlace) (size : ℕ) (batch : RecordBatch) → record_batch_in bytes table ≡ Some batch
     → batch.is_compressed ≡ false → ForEntries bytes size (λ little entry. source_in little entry table
     ≡ (lengths_sum bytes batch.buffers >>= (λ sum. guard (nat_le sum size) >>= (λ _. vectors_of bytes batch little entry))))
 unfolding source_in
 source_by bytes table size batch is plain little entry same sized = rw (same, sized, is, plain) refl
 
 -- the buffers state more bytes than the room has, or one of them states a negative number
-pub source_too_long : (bytes : List ℕ) (table : Table) (size : ℕ) (batch : RecordBatch) → record_batch_in bytes table ≡ Some batch
+pub source_too_long : (bytes : List ℕ) (table : TablePlace) (size : ℕ) (batch : RecordBatch) → record_batch_in bytes table ≡ Some batch
     → batch.is_compressed ≡ false → fits_by size (lengths_sum bytes batch.buffers) ≡ false
     → ForEntries bytes size (λ little entry. source_in little entry table ≡ None)
 source_too_long bytes table size batch is plain past little entry same sized =
     source_by bytes table size batch is plain little entry same sized
     ∙ no_sum (lengths_sum bytes batch.buffers) size (vectors_of bytes batch little entry) past
 
-source_then : (bytes : List ℕ) (table : Table) (size : ℕ) (batch : RecordBatch) → record_batch_in bytes table ≡ Some batch
+source_then : (bytes : List ℕ) (table : TablePlace) (size : ℕ) (batch : RecordBatch) → record_batch_in bytes table ≡ Some batch
     → batch.is_compressed ≡ false → fits_by size (lengths_sum bytes batch.buffers) ≡ true
     → ForEntries bytes size (λ little entry. source_in little entry table ≡ vectors_of bytes batch little entry)
 source_then bytes table size batch is plain fits little entry same sized =
@@ -75,11 +75,11 @@ source_then bytes table size batch is plain fits little entry same sized =
 
 -- ---- what is answered
 
-pub plainly : (bytes : List ℕ) (table : Table) (batch : RecordBatch) → record_batch_in bytes table ≡ Some batch → batch.is_compressed ≡ false
+pub plainly : (bytes : List ℕ) (table : TablePlace) (batch : RecordBatch) → record_batch_in bytes table ≡ Some batch → batch.is_compressed ≡ false
     → is_compressed bytes table ≡ false
 plainly bytes table batch is plain = ap is_compressed_by is ∙ plain
 
-pub nodes_refused : (bytes : List ℕ) (table : Table) (size : ℕ) (batch : RecordBatch) (read : List ℕ)
+pub nodes_refused : (bytes : List ℕ) (table : TablePlace) (size : ℕ) (batch : RecordBatch) (read : List ℕ)
     (error : Error) → record_batch_in bytes table ≡ Some batch → batch.is_compressed ≡ false
     → fits_by size (lengths_sum bytes batch.buffers) ≡ true → read ≡ bytes
     → AreMissing (structs_in as_node read batch.nodes) error → MakesQueues bytes table size (Err error)
@@ -91,7 +91,7 @@ nodes_refused bytes table size batch read (errors.OutOfSpec text) is plain fits 
 nodes_refused bytes table size batch read errors.OutOfMemory is plain fits from none = plainly bytes table batch is plain
 nodes_refused bytes table size batch read _ is plain fits from none = absurd none
 
-pub buffers_refused : (bytes : List ℕ) (table : Table) (size : ℕ) (batch : RecordBatch)
+pub buffers_refused : (bytes : List ℕ) (table : TablePlace) (size : ℕ) (batch : RecordBatch)
     (nodes : List FieldNode) (read : List ℕ) (error : Error) → record_batch_in bytes table ≡ Some batch → batch.is_compressed ≡ false
     → fits_by size (lengths_sum bytes batch.buffers) ≡ true → structs_in as_node bytes batch.nodes ≡ Some nodes → read ≡ bytes
     → AreMissing (structs_in as_buffer read batch.buffers) error → MakesQueues bytes table size (Err error)
@@ -103,7 +103,7 @@ buffers_refused bytes table size batch nodes read (errors.OutOfSpec text) is pla
 buffers_refused bytes table size batch nodes read errors.OutOfMemory is plain fits there from none = plainly bytes table batch is plain
 buffers_refused bytes table size batch nodes read _ is plain fits there from none = absurd none
 
-pub queues_made : (bytes : List ℕ) (table : Table) (size : ℕ) (batch : RecordBatch) (queues : BatchQueues)
+pub queues_made : (bytes : List ℕ) (table : TablePlace) (size : ℕ) (batch : RecordBatch) (queues : BatchQueues)
     → record_batch_in bytes table ≡ Some batch → batch.is_compressed ≡ false → fits_by size (lengths_sum bytes batch.buffers) ≡ true
     → structs_in as_node bytes batch.nodes ≡ Some (map node_of queues.field_nodes.items)
     → structs_in as_buffer bytes batch.buffers ≡ Some (map buffer_of queues.buffers.items) → MakesQueues bytes table size (Ok queues)

@@ -4,9 +4,9 @@ use Rattle.std.specs.Prelude.{Bool, true, false, Option, Some, None, Result, Ok,
 use Rattle.std.specs.Io.KnownBytes.{prepend_known}
 use Rattle.ipc_format_values.specs.columnar_memory.declared.Error.{Error}
 use Rattle.ipc_format_values.specs.columnar_memory.declared.Error.TheVariants as errors
-use Rattle.ipc_format_values.specs.flatbuffers.FlatBuffers.{Table}
+use Rattle.ipc_format_values.specs.flatbuffers.FlatBuffers.{TablePlace}
 use Rattle.ipc_format_values.specs.flatbuffers.Reading.{◌>>=◌, window_at}
-use Rattle.ipc_format_values.specs.grammar.Framing.{Frame, Framed, Next, frame_at, framed, framed_by, next_of, next_at, by_next, schema_then}
+use Rattle.ipc_format_values.specs.grammar.Framing.{Frame, Framed, Next, frame_at, framed_at, framed_by, next_of, next_at, by_next, schema_then}
 use Rattle.ipc_format_values.specs.grammar.Framing.{first_of, truncated, end_mark, metadata_then, message_then}
 use Rattle.ipc_format_values.specs.grammar.Messages as message
 use Rattle.ipc_format_values.specs.grammar.Messages.{Header, Message, Version, message_in, natural, version_in}
@@ -71,7 +71,7 @@ said_by : (bytes : List ℕ) (frame : Frame) (found : Framed) (after : ℕ) → 
 said_by bytes truncated found after e = absurd cc
 said_by bytes end_mark found after e = absurd cc
 said_by bytes (metadata_then metadata place) found after e =
-    let whole = came_of (framed bytes metadata place) _ _ e in
+    let whole = came_of (framed_at bytes metadata place) _ _ e in
     let same : whole.0.0 ≡ found = ap (message_or found) (some_same _ _ whole.2) in
     let it = came_of (message_in metadata) _ whole.0 whole.1 in
     let of = framed_of bytes metadata place it.0.header it.0.body_length whole.0 it.2 in (
@@ -116,7 +116,7 @@ said_none found it header there is none =
     let schema : schema_message_in found.metadata ≡ None =
     ap (λ (m : Option Message). (m >>= (λ (found : Message). steps.schema_of found.header)) >>= schema_in found.metadata) there
     ∙ ap (λ (h : Header). steps.schema_of h >>= schema_in found.metadata) is
-    ∙ ap (λ (t : Option Table). t >>= schema_in found.metadata) none in
+    ∙ ap (λ (t : Option TablePlace). t >>= schema_in found.metadata) none in
     ap (λ (s : Option SchemaIn). version_in found.metadata >>= (λ v. s >>= (λ s. Some (record { version = v; schema = s })))) schema
     ∙ nothing (version_in found.metadata)
 
@@ -159,16 +159,16 @@ float_said found after it (message.schema table) same there is float =
     let given : schema_table_in found.metadata ≡ Some table =
     ap (λ (m : Option Message). m >>= (λ (found : Message). steps.schema_of found.header)) there ∙ ap steps.schema_of is in
     let said : FloatInSchema found.metadata table =
-    subst (λ (t : Option Table). IsSomeAnd t (FloatInSchema found.metadata)) given float in
+    subst (λ (t : Option TablePlace). IsSomeAnd t (FloatInSchema found.metadata)) given float in
     subst (λ (h : Header). IsSomeAnd (schema_in_message found h) (λ f. HasFloatField f.0 f.1)) (sym same) said
 float_said found after it (message.dictionary_batch table) same there is float =
     let given : schema_table_in found.metadata ≡ None =
     ap (λ (m : Option Message). m >>= (λ (found : Message). steps.schema_of found.header)) there ∙ ap steps.schema_of is in
-    absurd (subst (λ (t : Option Table). IsSomeAnd t (FloatInSchema found.metadata)) given float)
+    absurd (subst (λ (t : Option TablePlace). IsSomeAnd t (FloatInSchema found.metadata)) given float)
 float_said found after it (message.record_batch table) same there is float =
     let given : schema_table_in found.metadata ≡ None =
     ap (λ (m : Option Message). m >>= (λ (found : Message). steps.schema_of found.header)) there ∙ ap steps.schema_of is in
-    absurd (subst (λ (t : Option Table). IsSomeAnd t (FloatInSchema found.metadata)) given float)
+    absurd (subst (λ (t : Option TablePlace). IsSomeAnd t (FloatInSchema found.metadata)) given float)
 
 float_at : (bytes : List ℕ) (found : Framed) (after : ℕ) → next_at bytes 0 ≡ Some (message_then found after) → FloatInMessage found.metadata
     → HasFloat stream bytes

@@ -2,7 +2,7 @@
 use Rattle.std.specs.Prelude.{◌≡◌, ℕ, Bool, true, false, List, length, map, nat_le, Option, Some, None, Result, Ok, Err}
 use Rattle.ipc_format_values.specs.columnar_memory.declared.Error.{Error}
 use Rattle.ipc_format_values.specs.columnar_memory.declared.Error.TheVariants as errors
-use Rattle.ipc_format_values.specs.flatbuffers.FlatBuffers.{Table}
+use Rattle.ipc_format_values.specs.flatbuffers.FlatBuffers.{TablePlace}
 use Rattle.ipc_format_values.specs.grammar.Columns.{Source}
 use Rattle.ipc_format_values.specs.grammar.Dictionaries.{Entry, source_in}
 use Rattle.ipc_format_values.specs.grammar.Messages as format
@@ -39,7 +39,7 @@ abbrev pub is_compressed_by : Option format.RecordBatch → Bool
 is_compressed_by None = false
 is_compressed_by (Some batch) = batch.is_compressed
 
-abbrev pub is_compressed : List ℕ → Table → Bool
+abbrev pub is_compressed : List ℕ → TablePlace → Bool
 is_compressed bytes table = is_compressed_by (record_batch_in bytes table)
 
 -- the batch of a message whose nodes and buffers stand in queues
@@ -58,7 +58,7 @@ abbrev pub ForEntries : List ℕ → ℕ → (Bool → Entry → Type 0) → Typ
 ForEntries bytes size P = (is_little_endian : Bool) (entry : Entry) → entry.metadata ≡ bytes → length entry.room ≡ size → P is_little_endian entry
 
 -- The nodes and buffers of a batch are those of the format, exactly where the format gives the batch; a compressed one is not read.
-abbrev pub MakesQueues : List ℕ → Table → ℕ → Result BatchQueues Error → Type 0
+abbrev pub MakesQueues : List ℕ → TablePlace → ℕ → Result BatchQueues Error → Type 0
 MakesQueues bytes table size (Ok queues) = (is_compressed bytes table ≡ false)
     × ForEntries bytes size (λ is_little_endian entry. source_in is_little_endian entry table ≡ Some (source_with queues is_little_endian entry))
 MakesQueues bytes table size (Err (errors.NotYetImplemented what)) = is_compressed bytes table ≡ true

@@ -46,7 +46,7 @@ fn frame_at(bytes: &[u8], place: usize) -> Option<Frame<'_>>
 /// The message of some metadata, whose body begins at a place, and where the next message stands. A schema has no body.
 fn framed_at<'a>(bytes: &'a [u8], metadata: &'a [u8], place: usize) -> Option<(Framed<'a>, usize)>
     requires { place ≤ length bytes.now }
-    ensures value { option_map framed_view result ≡ format.framed bytes.now metadata.now place }
+    ensures value { option_map framed_view result ≡ format.framed_at bytes.now metadata.now place }
     ensures reach { IfSome result (λ found. (place ≤ found.1) × (found.1 ≤ length bytes.now)) }
 {
     let message = message_in(metadata)?;

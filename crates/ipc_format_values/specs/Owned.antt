@@ -1,10 +1,12 @@
 -- The pairs and types that stand in metadata, by the tables of its message (Schema.fbs). Each part is what its slot gives; there is nothing
 -- where a slot gives nothing.
-use Rattle.std.specs.Prelude.{ℕ, zero, suc, ◌+◌, ◌*◌, ℤ, pos, Bool, true, false, List, [], ◌∷◌, ◌++◌, Option, Some, None}
+use Rattle.std.specs.Prelude.{ℕ, zero, suc, ◌+◌, ◌*◌, ℤ, pos, Bool, true, false, List, [], ◌∷◌, ◌++◌, Option, Some, None, if◌then◌else◌}
+use Rattle.std.specs.Ordering.{int_eq}
 use Rattle.std.specs.Int.{w16, w32}
 use Rattle.ipc_format_writing.specs.flatbuffers.Reading.{◌>>=◌}
 use Rattle.ipc_format_writing.specs.flatbuffers.FlatBuffers.{signed_at, signed_field}
 use Rattle.ipc_format_writing.specs.grammar.SlotNumbers as slots
+use Rattle.ipc_format_writing.specs.grammar.TagNumbers as tags
 use Rattle.ipc_format_writing.specs.grammar.Types as kind
 use Rattle.ipc_format_writing.specs.grammar.Types.{Tag}
 use Rattle.ipc_format_writing.specs.messages.MessageSlots.{TableIn, VectorIn, vector_in}
@@ -82,10 +84,9 @@ int_in int = do
   Some (record { bit_width = bit_width; is_signed = is_signed })
 
 abbrev pub precision_of : ℤ → Option Precision
-precision_of (pos zero) = Some precisions.Half
-precision_of (pos (suc zero)) = Some precisions.Single
-precision_of (pos (suc (suc zero))) = Some precisions.Double
-precision_of _ = None
+precision_of number =
+    if int_eq number (pos tags.half) then Some precisions.Half else if int_eq number (pos tags.single) then Some precisions.Single else
+    if int_eq number (pos tags.double) then Some precisions.Double else None
 
 -- the slot of FloatingPoint
 abbrev pub floating_point_precision : ℕ

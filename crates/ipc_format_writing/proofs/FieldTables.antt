@@ -12,7 +12,7 @@ use Rattle.ipc_format_messages.specs.grammar.Columns.{first_ids, other_ids}
 use Rattle.ipc_format_messages.specs.flatbuffers.declared.Laid.{Laid}
 use Rattle.ipc_format_messages.specs.flatbuffers.declared.LayError.{LayError}
 use Rattle.ipc_format_messages.specs.flatbuffers.declared.LayError.TheVariants.{Memory, TooLong}
-use Rattle.ipc_format_messages.specs.flatbuffers.Laying.{Piece, Slot, number, refers, child_bytes, table_piece, references_piece, text_piece}
+use Rattle.ipc_format_messages.specs.flatbuffers.Laying.{Piece, TableSlot, number, refers, child_bytes, table_piece, references_piece, text_piece}
 use Rattle.ipc_format_messages.specs.flatbuffers.Objects.{Object, piece_of, pieces_of, references, no_field, refers_then}
 use Rattle.ipc_format_messages.specs.flatbuffers.Views.{Lays, piece_view}
 use Rattle.ipc_format_messages.proofs.flatbuffers_lemmas.Rest.{rest_step, rest_end}
@@ -48,7 +48,7 @@ table_is : (name : List ℕ) (is_nullable : Bool) (pairs : List Pair) (told : To
 table_is name is_nullable pairs told own =
     let encoding : Option Object = encoding_object told.dictionary own in
     let metadata : Option Object = metadata_object (written_pairs told.extension pairs) in
-    let first : List Slot → Piece = λ slots. table_piece (refers (text_piece name) ∷ number w8 (truth is_nullable) ∷ number w8 told.tag
+    let first : List TableSlot → Piece = λ slots. table_piece (refers (text_piece name) ∷ number w8 (truth is_nullable) ∷ number w8 told.tag
     ∷ refers (piece_of told.type_table) ∷ slots) in
     ap first (slot_is encoding (refers_then (references told.children) (refers_if metadata no_field)))
     ∙ ap (λ slots. first (slot_if (piece_if encoding) ∷ refers (piece_of (references told.children)) ∷ slots)) (slot_is metadata no_field)
@@ -59,12 +59,12 @@ field_is f own below =
     ap (λ (told : Ids → Object). piece_of (told (ids own below))) (told_is f) ∙ table_is f.name f.is_nullable f.metadata (told_of f.data_type
     below) own
 
-type_over : (n t c : Piece) (e m : Slot) (a b : ℕ)
+type_over : (n t c : Piece) (e m : TableSlot) (a b : ℕ)
     → length t.bytes + length c.bytes ≤ length (table_piece (refers n ∷ number w8 a ∷ number w8 b ∷ refers t ∷ e ∷ refers c ∷ m ∷ [])).bytes
 type_over n t c e m a b =
     let after : List ℕ = child_bytes m ++ [] in
     let below : List ℕ = child_bytes e ++ (c.bytes ++ after) in
-    let slots : List Slot = refers n ∷ number w8 a ∷ number w8 b ∷ refers t ∷ e ∷ refers c ∷ m ∷ [] in
+    let slots : List TableSlot = refers n ∷ number w8 a ∷ number w8 b ∷ refers t ∷ e ∷ refers c ∷ m ∷ [] in
     let whole : length (flat_map child_bytes slots) ≡ length (n.bytes ++ (t.bytes ++ below)) = refl in
     omega (
       arith,
@@ -79,8 +79,8 @@ type_over n t c e m a b =
 slots_refused : (error : LayError) (name : List ℕ) (is_nullable : Bool) (pairs : List Pair) (parts : Parts) (own : Option ℤ)
     → LaysType (Err error) parts → Lays (Err error) (table_piece (field_slots name is_nullable pairs parts own))
 slots_refused TooLong name is_nullable pairs parts own h =
-    let encoding : Slot = slot_if (piece_if (encoding_object parts.dictionary own)) in
-    let metadata : Slot = slot_if (piece_if (metadata_object (written_pairs parts.extension pairs))) in
+    let encoding : TableSlot = slot_if (piece_if (encoding_object parts.dictionary own)) in
+    let metadata : TableSlot = slot_if (piece_if (metadata_object (written_pairs parts.extension pairs))) in
     omega (arith, type_over (text_piece name) parts.type_table parts.children encoding metadata (truth is_nullable) parts.tag)
 slots_refused Memory name is_nullable pairs parts own h = tt
 

@@ -13,7 +13,7 @@ use Rattle.ipc_format_messages.specs.columnar_memory.declared.Error.TheVariants.
 use Rattle.ipc_format_messages.specs.flatbuffers.declared.Laid.{Laid}
 use Rattle.ipc_format_messages.specs.flatbuffers.declared.LayError.{LayError}
 use Rattle.ipc_format_messages.specs.flatbuffers.declared.LayError.TheVariants.{Memory, TooLong}
-use Rattle.ipc_format_messages.specs.flatbuffers.Laying.{Piece, Slot, refers, table_piece, elements_piece, message_bytes}
+use Rattle.ipc_format_messages.specs.flatbuffers.Laying.{Piece, TableSlot, refers, table_piece, elements_piece, message_bytes}
 use Rattle.ipc_format_messages.specs.flatbuffers.Objects.{Object, piece_of, laid}
 use Rattle.ipc_format_messages.specs.flatbuffers.Views.{Lays, piece_view}
 use Rattle.ipc_format_messages.specs.grammar.SchemaObjects.{structs_object}
@@ -56,7 +56,7 @@ structs-made pair_of items content result same h =
 -- ---- parts that could not be laid
 
 -- a part that could not be laid keeps its table from it
-pub part-refused : (error : LayError) (slots : List Slot) (k : ℕ) (p : Piece) → slice_get slots k ≡ Some (refers p) → Lays (Err error) p
+pub part-refused : (error : LayError) (slots : List TableSlot) (k : ℕ) (p : Piece) → slice_get slots k ≡ Some (refers p) → Lays (Err error) p
     → Lays (Err error) (table_piece slots)
 part-refused error slots k p at h = lays_over error p (table_piece slots) (table_over slots k (refers p) at) h
 

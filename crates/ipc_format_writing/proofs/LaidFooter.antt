@@ -13,7 +13,7 @@ use Rattle.ipc_format_messages.specs.columnar_memory.declared.Schema.{Schema}
 use Rattle.ipc_format_messages.specs.flatbuffers.declared.Laid.{Laid}
 use Rattle.ipc_format_messages.specs.flatbuffers.declared.LayError.{LayError}
 use Rattle.ipc_format_messages.specs.flatbuffers.declared.LayError.TheVariants.{Memory, TooLong}
-use Rattle.ipc_format_messages.specs.flatbuffers.Laying.{Piece, Slot, absent, number, refers, elements_piece}
+use Rattle.ipc_format_messages.specs.flatbuffers.Laying.{Piece, TableSlot, absent, number, refers, elements_piece}
 use Rattle.ipc_format_messages.specs.flatbuffers.Objects.{piece_of}
 use Rattle.ipc_format_messages.specs.flatbuffers.Views.{Lays, piece_view}
 use Rattle.ipc_format_messages.specs.grammar.Schemas.{IdsList}
@@ -75,7 +75,7 @@ header_of schema ids = piece_of (schema_object schema ids)
 abbrev pub vector_of : List Block → Piece
 vector_of blocks = piece_of (files.blocks_object (map block_view blocks))
 
-abbrev pub footer_slots : Schema → IdsList → List Block → List Block → List Slot
+abbrev pub footer_slots : Schema → IdsList → List Block → List Block → List TableSlot
 footer_slots schema ids dictionaries batches =
     number w16 4 ∷ refers (header_of schema ids) ∷ refers (vector_of dictionaries) ∷ refers (vector_of batches) ∷ absent ∷ []
 

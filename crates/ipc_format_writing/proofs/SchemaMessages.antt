@@ -15,7 +15,7 @@ use Rattle.ipc_format_messages.specs.columnar_memory.declared.Error.TheVariants.
 use Rattle.ipc_format_messages.specs.flatbuffers.declared.Laid.{Laid}
 use Rattle.ipc_format_messages.specs.flatbuffers.declared.LayError.{LayError}
 use Rattle.ipc_format_messages.specs.flatbuffers.declared.LayError.TheVariants.{Memory, TooLong}
-use Rattle.ipc_format_messages.specs.flatbuffers.Laying.{Piece, Slot, absent, number, refers, table_piece, message_bytes}
+use Rattle.ipc_format_messages.specs.flatbuffers.Laying.{Piece, TableSlot, absent, number, refers, table_piece, message_bytes}
 use Rattle.ipc_format_messages.specs.flatbuffers.Objects.{Object, piece_of, references, absent_then, no_field, laid}
 use Rattle.ipc_format_messages.specs.flatbuffers.Views.{Lays}
 use Rattle.ipc_format_messages.specs.grammar.Schemas.{Ids, IdsList}
@@ -58,7 +58,7 @@ told_are (f ∷ fields) = λ i. told_is f i ∷ told_are fields i
 abbrev pub fields_piece : Schema → IdsList → Piece
 fields_piece schema below = piece_of (references (objects_of (map field_told schema.fields) below))
 
-abbrev pub schema_slots : Schema → Piece → List Slot
+abbrev pub schema_slots : Schema → Piece → List TableSlot
 schema_slots schema fields = number w16 0 ∷ refers fields ∷ slot_if (piece_if (metadata_object schema.metadata)) ∷ absent ∷ []
 
 schema_is : (schema : Schema) (below : IdsList) → piece_of (schema_object schema below) ≡ table_piece (schema_slots schema (fields_piece schema
@@ -81,7 +81,7 @@ fields_refused error schema below h =
 pub metadata_refused : (error : LayError) (schema : Schema) (below : IdsList) → LaysIf (Err error) (piece_if (metadata_object schema.metadata))
     → Lays (Err error) (piece_of (schema_object schema below))
 metadata_refused error schema below h =
-    let slots : List Slot = schema_slots schema (fields_piece schema below) in
+    let slots : List TableSlot = schema_slots schema (fields_piece schema below) in
     let metadata : Option Piece = piece_if (metadata_object schema.metadata) in
     let P : Piece → Type 0 = λ p. Lays (Err error) p in
     subst P (sym (schema_is schema below)) (if_over error metadata (table_piece slots) (table_over slots 2 (slot_if metadata) refl) h)
@@ -101,7 +101,7 @@ pub header_refused : (error : LayError) (schema : Schema) (below : IdsList) → 
     → Lays (Err error) (piece_of (schema_message schema below))
 header_refused error schema below h =
     let header : Piece = piece_of (schema_object schema below) in
-    let slots : List Slot = number w16 4 ∷ number w8 1 ∷ refers header ∷ number w64 0 ∷ absent ∷ [] in
+    let slots : List TableSlot = number w16 4 ∷ number w8 1 ∷ refers header ∷ number w64 0 ∷ absent ∷ [] in
     lays_over error header (table_piece slots) (table_over slots 2 (refers header) refl) h
 
 -- ---- the message's bytes

@@ -6,7 +6,7 @@ use Rattle.std.specs.Int.{to_le_bytes, next_multiple_of, w32}
 use Rattle.std.proofs.lemmas.Grind.{flat_map-append}
 use Rattle.ipc_format_messages.specs.flatbuffers.declared.LayError.{LayError}
 use Rattle.ipc_format_messages.specs.flatbuffers.declared.LayError.TheVariants.{Memory, TooLong}
-use Rattle.ipc_format_messages.specs.flatbuffers.Laying.{Piece, Slot, padded, vtable, table_bytes, child_bytes, reference_bytes, table_piece}
+use Rattle.ipc_format_messages.specs.flatbuffers.Laying.{Piece, TableSlot, padded, vtable, table_bytes, child_bytes, reference_bytes, table_piece}
 use Rattle.ipc_format_messages.specs.flatbuffers.Laying.{references_piece, elements_piece}
 use Rattle.ipc_format_messages.specs.flatbuffers.Views.{Lays}
 
@@ -14,7 +14,8 @@ use Rattle.ipc_format_messages.specs.flatbuffers.Views.{Lays}
 abbrev pub bytes_of_all : List Piece → List ℕ
 bytes_of_all pieces = flat_map (λ (piece : Piece). piece.bytes) pieces
 
-slots_over : (slots : List Slot) (k : ℕ) (slot : Slot) → slice_get slots k ≡ Some slot → length (child_bytes slot) ≤ length (flat_map child_bytes
+slots_over : (slots : List TableSlot) (k : ℕ) (slot : TableSlot) → slice_get slots k ≡ Some slot
+    → length (child_bytes slot) ≤ length (flat_map child_bytes
     slots)
 slots_over [] k slot e = absurd cc
 slots_over (first ∷ slots) zero slot e =
@@ -23,12 +24,12 @@ slots_over (first ∷ slots) zero slot e =
 slots_over (first ∷ slots) (suc k) slot e =
     omega (arith, slots_over slots k slot e, length-append (child_bytes first) (flat_map child_bytes slots))
 
-pub all_over : (slots : List Slot) → length (flat_map child_bytes slots) ≤ length (table_piece slots).bytes
+pub all_over : (slots : List TableSlot) → length (flat_map child_bytes slots) ≤ length (table_piece slots).bytes
 unfolding table_piece
 all_over slots = omega (arith, length-append (vtable slots ++ table_bytes slots) (flat_map child_bytes slots))
 
 -- a table has the objects to which it refers
-pub table_over : (slots : List Slot) (k : ℕ) (slot : Slot) → slice_get slots k ≡ Some slot → length (child_bytes slot) ≤ length (table_piece
+pub table_over : (slots : List TableSlot) (k : ℕ) (slot : TableSlot) → slice_get slots k ≡ Some slot → length (child_bytes slot) ≤ length (table_piece
     slots).bytes
 table_over slots k slot e = omega (arith, slots_over slots k slot e, all_over slots)
 

@@ -5,7 +5,7 @@ use Rattle.std.specs.List.{flat_map}
 use Rattle.std.specs.Int.{w16}
 use Rattle.ipc_format_messages.specs.flatbuffers.declared.LayError.{LayError}
 use Rattle.ipc_format_messages.specs.flatbuffers.declared.LayError.TheVariants.{Memory, TooLong}
-use Rattle.ipc_format_messages.specs.flatbuffers.Laying.{Piece, Slot, number, child_bytes, table_piece}
+use Rattle.ipc_format_messages.specs.flatbuffers.Laying.{Piece, TableSlot, number, child_bytes, table_piece}
 use Rattle.ipc_format_messages.specs.flatbuffers.Objects.{Object, Fields, piece_of, slots_of, table, elements, number_then, no_field}
 use Rattle.ipc_format_messages.specs.flatbuffers.Views.{Lays}
 use Rattle.ipc_format_messages.specs.grammar.SchemaObjects.{refers_if}
@@ -30,7 +30,7 @@ if_over Memory piece q le h = tt
 pub short_and_refused : (error : LayError) (n : ℕ) (object : Option Object) → LaysIf (Err error) (piece_if object)
     → Lays (Err error) (piece_of (table (number_then w16 n (refers_if object no_field))))
 short_and_refused error n object h =
-    let slots : List Slot = number w16 n ∷ slot_if (piece_if object) ∷ [] in
+    let slots : List TableSlot = number w16 n ∷ slot_if (piece_if object) ∷ [] in
     let P : Piece → Type 0 = λ p. Lays (Err error) p in
     subst P (sym (short_and_is n object)) (if_over error (piece_if object) (table_piece slots) (table_over slots 1 (slot_if (piece_if object))
     refl) h)

@@ -18,7 +18,7 @@ use Rattle.ipc_format_writing.specs.Writing.{may_write, RefusesSchema}
 use Rattle.ipc_format_messages.specs.declared.Block.{Block}
 
 -- a block as it is written: where its message begins, how many bytes stand before its body, and how many its body has
-abbrev pub block_view : Block → files.Block
+abbrev pub block_view : Block → files.WrittenBlock
 block_view block = record {
   offset = cast_unsigned w64 block.offset;
   metadata_length = cast_unsigned w32 block.meta_data_length;

@@ -5,7 +5,7 @@ use Rattle.std.specs.declared.vec.Vec.{Vec}
 use Rattle.std.specs.declared.alloc.Global.{Global}
 use Rattle.ipc_format_messages.specs.columnar_memory.declared.Error.{Error}
 use Rattle.ipc_format_messages.specs.columnar_memory.declared.Error.TheVariants.{Overflow, OutOfMemory}
-use Rattle.ipc_format_messages.specs.flatbuffers.Laying.{Piece, Slot, absent, number, refers, message_bytes}
+use Rattle.ipc_format_messages.specs.flatbuffers.Laying.{Piece, TableSlot, absent, number, refers, message_bytes}
 use Rattle.ipc_format_messages.specs.flatbuffers.Objects.{Object, laid}
 use Rattle.ipc_format_messages.specs.flatbuffers.Views.{piece_view}
 use Rattle.ipc_format_messages.specs.flatbuffers.declared.Laid.{Laid}
@@ -64,7 +64,7 @@ abbrev pub buffer_bytes : Buffer → List ℕ
 buffer_bytes buffer = pair_bytes (buffer_pair buffer)
 
 -- the slots of a message, whose header is laid
-abbrev pub message_slots : ℕ → Piece → ℕ → List Slot
+abbrev pub message_slots : ℕ → Piece → ℕ → List TableSlot
 message_slots kind header body_length = number w16 4 ∷ number w8 kind ∷ refers header ∷ number w64 body_length ∷ absent ∷ []
 
 -- so many bytes at most has the object of a message: 8 stand before it, and 8 before the metadata

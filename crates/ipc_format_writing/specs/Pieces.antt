@@ -8,7 +8,7 @@ use Rattle.std.specs.Int.{w8, w32, to_le_bytes, cast_unsigned}
 use Rattle.std.specs.Cmp.Lexicographic.{pointwise}
 use Rattle.std.specs.Prelude.{nat_eq}
 use Rattle.ipc_format_messages.specs.columnar_memory.declared.IntegerType.{IntegerType}
-use Rattle.ipc_format_messages.specs.flatbuffers.Laying.{Piece, Slot, absent, number, refers, child_bytes, references_piece, text_piece}
+use Rattle.ipc_format_messages.specs.flatbuffers.Laying.{Piece, TableSlot, absent, number, refers, child_bytes, references_piece, text_piece}
 use Rattle.ipc_format_messages.specs.flatbuffers.Objects.{Object, piece_of, references}
 use Rattle.ipc_format_messages.specs.flatbuffers.Views.{piece_view}
 use Rattle.ipc_format_messages.specs.flatbuffers.declared.Laid.{Laid}
@@ -28,7 +28,7 @@ abbrev pub piece_if : Option Object → Option Piece
 piece_if None = None
 piece_if (Some object) = Some (piece_of object)
 
-abbrev pub slot_if : Option Piece → Slot
+abbrev pub slot_if : Option Piece → TableSlot
 slot_if None = absent
 slot_if (Some piece) = refers piece
 
@@ -108,7 +108,7 @@ LaysType (Err errors.TooLong) parts = 2 ^ 31 ≤ length parts.type_table.bytes +
 LaysType (Err errors.Memory) parts = Unit {0}
 
 -- the slots of a field, over its type
-abbrev pub field_slots : List ℕ → Bool → List Pair → Parts → Option ℤ → List Slot
+abbrev pub field_slots : List ℕ → Bool → List Pair → Parts → Option ℤ → List TableSlot
 field_slots name is_nullable pairs parts own =
     refers (text_piece name) ∷ number w8 (truth is_nullable) ∷ number w8 parts.tag ∷ refers parts.type_table
     ∷ slot_if (piece_if (encoding_object parts.dictionary own)) ∷ refers parts.children

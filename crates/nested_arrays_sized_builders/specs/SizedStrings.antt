@@ -72,12 +72,12 @@ abbrev pub first_strings : SizedParts → ℕ → SizedParts
 first_strings p n = sized_parts p.data_type (take n p.marks) (take (byte_width p.data_type * n) p.content)
 
 -- the bytes of the string at a place, also under a null
-abbrev pub string_at : SizedParts → ℕ → List ℕ
-string_at p i = slice_range p.content (byte_width p.data_type * i) (byte_width p.data_type * i + byte_width p.data_type)
+abbrev pub sized_string_at : SizedParts → ℕ → List ℕ
+sized_string_at p i = slice_range p.content (byte_width p.data_type * i) (byte_width p.data_type * i + byte_width p.data_type)
 
 -- the string at a place, or none under a null
 abbrev pub value_at : SizedParts → ℕ → Option (List ℕ)
-value_at p i = if slice_index_or p.marks i false then Some (string_at p i) else None
+value_at p i = if slice_index_or p.marks i false then Some (sized_string_at p i) else None
 
 -- A string or a null stands behind the others. Or nothing has changed: memory ran out, the string has another size, or there are as many as a
 -- column may have.

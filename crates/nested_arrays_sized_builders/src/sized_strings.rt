@@ -13,7 +13,7 @@ ghost use Rattle.nested_arrays_generic_builders.specs.pushes.cells.parts.Marks.{
 ghost use Rattle.nested_arrays_generic_builders.specs.pushes.cells.taken.OpenColumns.{AddsNull, KeepsFirst, TakesColumn};
 ghost use Rattle.nested_arrays_sized_builders.specs.MarkedSlots.{AddsSlot};
 ghost use Rattle.nested_arrays_sized_builders.specs.SizedStrings.{AddsBytes, AddsString, IsBuilt, TakesLast, first_strings, is_sized, no_strings};
-ghost use Rattle.nested_arrays_sized_builders.specs.SizedStrings.{sized_column, sized_type, string_at, string_slot, value_at};
+ghost use Rattle.nested_arrays_sized_builders.specs.SizedStrings.{sized_column, sized_type, sized_string_at, string_slot, value_at};
 
 use nested_arrays_generic_builders::marks_of;
 use nested_arrays_generic_builders::nulls::arrays::AnyArray;
@@ -190,7 +190,7 @@ impl MutableFixedSizeBinaryArray {
     /// The byte string at a place, also where the slot is null.
     pub fn value(&self, i: usize) -> &[u8]
         requires { i < length self.now.marks }
-        ensures { result.now ≡ string_at self.now i }
+        ensures { result.now ≡ sized_string_at self.now i }
     {
         let _held = self.values.len();
         let start = self.size * i;

@@ -7,7 +7,7 @@ use Rattle.ipc_format.specs.DictionaryReads.{is_unread}
 use Rattle.ipc_format.specs.columnar_memory.declared.Error.{Error}
 use Rattle.ipc_format.specs.columnar_memory.declared.Error.TheVariants as errors
 use Rattle.ipc_format.specs.columns.StoredColumns.{Column, slots}
-use Rattle.ipc_format.specs.FlatBuffers.{Table}
+use Rattle.ipc_format.specs.FlatBuffers.{TablePlace}
 use Rattle.ipc_format.specs.Reading.{◌>>=◌, guard}
 use Rattle.ipc_format.specs.Columns.{Dictionary}
 use Rattle.ipc_format.specs.Dictionaries.{Layout, dictionary_in}
@@ -24,16 +24,16 @@ use Rattle.ipc_format.proofs.StreamStepsPlaces.{dictionary_step, batch_step}
 use Rattle.tables_chunks.proofs.Unread.{dictionary_unread, batch_unread}
 
 -- a message that stands at a place, by what it carries
-pub record IsDictionaryThere (bytes : List ℕ) (place after : ℕ) (framed : Framed) (table : Table) : Type 0 where
+pub record IsDictionaryThere (bytes : List ℕ) (place after : ℕ) (framed : Framed) (table : TablePlace) : Type 0 where
   pub there : next_at bytes place ≡ Some (message_then framed after)
   pub header : framed.header ≡ dictionary_batch table
 
-pub record IsBatchThere (bytes : List ℕ) (place after : ℕ) (framed : Framed) (table : Table) : Type 0 where
+pub record IsBatchThere (bytes : List ℕ) (place after : ℕ) (framed : Framed) (table : TablePlace) : Type 0 where
   pub there : next_at bytes place ≡ Some (message_then framed after)
   pub header : framed.header ≡ record_batch table
 
 pub dictionary_refused : (error : Error) (layout : Layout) (version : Version) (standing : List Dictionary) (bytes : List ℕ)
-    (place in_a_row after : ℕ) (framed : Framed) (table : Table) → IsDictionaryThere bytes place after framed table
+    (place in_a_row after : ℕ) (framed : Framed) (table : TablePlace) → IsDictionaryThere bytes place after framed table
     → Refuses (is_unread framed.metadata table ≡ true) error (dictionary_in layout standing (stream_entry version framed) table)
     → RefusesNext (step_at layout version standing bytes place) bytes place in_a_row error
 dictionary_refused errors.OutOfMemory layout version standing bytes place in_a_row after framed table it refused = tt
@@ -50,7 +50,7 @@ dictionary_refused (errors.ExternalFormat what) layout version standing bytes pl
 dictionary_refused errors.Overflow layout version standing bytes place in_a_row after framed table it refused = absurd refused
 
 pub batch_refused : (error : Error) (layout : Layout) (version : Version) (standing : List Dictionary) (bytes : List ℕ)
-    (place in_a_row after : ℕ) (framed : Framed) (table : Table) → IsBatchThere bytes place after framed table
+    (place in_a_row after : ℕ) (framed : Framed) (table : TablePlace) → IsBatchThere bytes place after framed table
     → Refuses (is_compressed framed.metadata table ≡ true) error (batch_in layout standing (stream_entry version framed) table)
     → RefusesNext (step_at layout version standing bytes place) bytes place in_a_row error
 batch_refused errors.OutOfMemory layout version standing bytes place in_a_row after framed table it refused = tt
@@ -67,7 +67,7 @@ batch_refused (errors.ExternalFormat what) layout version standing bytes place i
 batch_refused errors.Overflow layout version standing bytes place in_a_row after framed table it refused = absurd refused
 
 -- one dictionary more than may stand in a row
-pub too_many : (bytes : List ℕ) (place in_a_row after : ℕ) (framed : Framed) (table : Table) → IsDictionaryThere bytes place after framed table
+pub too_many : (bytes : List ℕ) (place in_a_row after : ℕ) (framed : Framed) (table : TablePlace) → IsDictionaryThere bytes place after framed table
     → most_dictionaries ≤ in_a_row → IsOutOfTurn bytes place in_a_row
 too_many bytes place in_a_row after framed table it many =
     let none : dictionaries_after in_a_row framed.header ≡ None =
@@ -79,7 +79,7 @@ too_many bytes place in_a_row after framed table it many =
 
 -- a dictionary's message as it was framed
 pub dictionary_framed : {A : Type 0} (layout : Layout) (version : Version) (old new : List Dictionary) (metadata : List ℕ) (framed : Framed)
-    (table : Table) (result : Result A Error) → metadata ≡ framed.metadata → framed.header ≡ dictionary_batch table
+    (table : TablePlace) (result : Result A Error) → metadata ≡ framed.metadata → framed.header ≡ dictionary_batch table
     → TakesDictionary old new (is_unread metadata table ≡ true)
     (dictionary_in layout old (entry_in metadata (dictionary_batch table) version 0 framed.body) table) result
     → TakesDictionary old new (is_unread framed.metadata table ≡ true) (dictionary_in layout old (stream_entry version framed) table) result
@@ -90,7 +90,7 @@ dictionary_framed layout version old new metadata framed table result same is ta
     (dictionary_in layout old (entry_in m (dictionary_batch table) version 0 framed.body) table) result) same taken)
 
 -- and a batch's
-pub batch_framed : (layout : Layout) (version : Version) (standing : List Dictionary) (metadata : List ℕ) (framed : Framed) (table : Table)
+pub batch_framed : (layout : Layout) (version : Version) (standing : List Dictionary) (metadata : List ℕ) (framed : Framed) (table : TablePlace)
     (result : Result (List Column) Error) → metadata ≡ framed.metadata → framed.header ≡ record_batch table
     → Reads (map slots) (is_compressed metadata table ≡ true) result
     (batch_in layout standing (entry_in metadata (record_batch table) version 0 framed.body) table)

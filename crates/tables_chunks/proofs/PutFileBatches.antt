@@ -15,7 +15,7 @@ use Rattle.ipc_format.specs.columnar_memory.declared.Error.TheVariants as errors
 use Rattle.ipc_format.specs.columnar_memory.declared.Schema.{Schema}
 use Rattle.ipc_format.specs.columns.StoredColumns.{Column}
 use Rattle.ipc_format.specs.grammar.Limits.{file_limit}
-use Rattle.ipc_format.specs.BlockPlacing.{joined, no_blocks, place_behind}
+use Rattle.ipc_format.specs.BlockPlacing.{joined_blocks, no_blocks, place_behind}
 use Rattle.ipc_format.specs.EncodedChunks.{Encodes, IsBarred, IsEncoded, is_batch_within}
 use Rattle.ipc_format.specs.FileRuns.{told_with}
 use Rattle.ipc_format.specs.GivenDictionaries.{Given, last_under, stands_for, written_after}
@@ -177,7 +177,7 @@ file_batch_put (Ok _) old between new before after p q batch messages own encode
       tells = is.tells;
       kind = is.kind ∙ kind;
       next = placed.0 ∙ ap (place_behind p.next) all;
-      blocks = placed.1 ∙ ap (joined p.blocks) (message_blocks p.next told batch messages own all);
+      blocks = placed.1 ∙ ap (joined_blocks p.blocks) (message_blocks p.next told batch messages own all);
     }
 file_batch_put (Err error) old between new before after p q batch messages own encodes placed first put told tells kind = (
   begins_same old new _ _ (sent_bytes before after told batch messages own (encodes told tells))
@@ -227,7 +227,7 @@ one_file_put first old between new before after p q done batch so_far more =
         next = more.next ∙ ap (λ (n : ℕ). place_behind n placed) so_far.put.next ∙ sym (place_both first (messages_after [] done) placed)
             ∙ ap (place_behind first) (sym (messages_one done batch));
         blocks = more.blocks
-            ∙ (λ j. joined (so_far.put.blocks j) (batch_blocks (so_far.put.next j) (sym (told_same [] done) j) (batch ∷ [])))
+            ∙ (λ j. joined_blocks (so_far.put.blocks j) (batch_blocks (so_far.put.next j) (sym (told_same [] done) j) (batch ∷ [])))
             ∙ sym (blocks_more first [] done batch);
       };
       tells = subst (Tells after.0) (sym (told_append [] done (batch ∷ []))) more.tells;

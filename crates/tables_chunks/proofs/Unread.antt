@@ -2,7 +2,7 @@
 use Rattle.std.proofs.Common.{◌≡◌, ℕ, true, List, refl, sym, subst, inl}
 use Rattle.std.specs.Prelude.{Some, IsSome, ◌⊎◌}
 use Rattle.ipc_format.specs.DictionaryReads.{is_unread}
-use Rattle.ipc_format.specs.FlatBuffers.{Table}
+use Rattle.ipc_format.specs.FlatBuffers.{TablePlace}
 use Rattle.ipc_format.specs.Framing.{Framed, message_then, next_at}
 use Rattle.ipc_format.specs.Messages.{Header, record_batch, dictionary_batch}
 use Rattle.ipc_format.specs.Messages.{dictionary_batch_in}
@@ -11,12 +11,12 @@ use Rattle.ipc_format.specs.streams.Queues.{is_compressed}
 use Rattle.ipc_format.specs.Behind.{IsUnreadThere}
 use Rattle.ipc_format.proofs.UnreadBlocks.{compressed, either_by}
 
-pub batch_unread : (bytes : List ℕ) (place after : ℕ) (framed : Framed) (table : Table) → next_at bytes place ≡ Some (message_then framed after)
+pub batch_unread : (bytes : List ℕ) (place after : ℕ) (framed : Framed) (table : TablePlace) → next_at bytes place ≡ Some (message_then framed after)
     → framed.header ≡ record_batch table → is_compressed framed.metadata table ≡ true → IsUnreadThere (next_at bytes place)
 batch_unread bytes place after framed table there is unread =
     rw there (inl (subst (λ (h : Header). IsSome (compression_in (framed.metadata, h))) (sym is) (compressed framed.metadata table unread)))
 
-pub dictionary_unread : (bytes : List ℕ) (place after : ℕ) (framed : Framed) (table : Table)
+pub dictionary_unread : (bytes : List ℕ) (place after : ℕ) (framed : Framed) (table : TablePlace)
     → next_at bytes place ≡ Some (message_then framed after) → framed.header ≡ dictionary_batch table → is_unread framed.metadata table ≡ true
     → IsUnreadThere (next_at bytes place)
 dictionary_unread bytes place after framed table there is unread =

@@ -12,7 +12,7 @@ use Rattle.ipc_format.specs.columnar_memory.declared.Schema.{Schema}
 use Rattle.ipc_format.specs.columns.StoredColumns.{Column, nulls, flat, lists, fixed_lists, records, unions, dictionary}
 use Rattle.ipc_format.specs.columns.StoredColumns.{column_len, slot_at}
 use Rattle.ipc_format.proofs.Windows.{length-window}
-use Rattle.ipc_format.specs.Encoding.{joined}
+use Rattle.ipc_format.specs.Encoding.{joined_columns}
 use Rattle.ipc_format.specs.GivenDictionaries.{Given, last_under, stands_for, to_write, written_after}
 use Rattle.ipc_format.specs.Ids.{all_are_ids}
 use Rattle.ipc_format.specs.grammar.Limits.{length_limit}
@@ -48,15 +48,15 @@ dictionaries_fit (g ∷ given) h =
 -- the parts of a batch that is within its limits
 pub record HasLimits (told : List Given) (batch : Batch) : Type 0 where
   pub given : list_all is_given_within (to_write told batch.given) ≡ true
-  pub nodes : has_nodes_in_room (joined batch.columns) ≡ true
+  pub nodes : has_nodes_in_room (joined_columns batch.columns) ≡ true
   pub fits : fits_limit (record_message batch.rows batch.columns) ≡ true
 
 pub has_limits : (told : List Given) (batch : Batch) → is_batch_within told batch ≡ true → HasLimits told batch
 has_limits told batch h =
     let message = record_message batch.rows batch.columns in
     let parts = and_parts (list_all is_given_within (to_write told batch.given))
-    (has_nodes_in_room (joined batch.columns) && fits_limit message) h in
-    let own = and_parts (has_nodes_in_room (joined batch.columns)) (fits_limit message) parts.1 in
+    (has_nodes_in_room (joined_columns batch.columns) && fits_limit message) h in
+    let own = and_parts (has_nodes_in_room (joined_columns batch.columns)) (fits_limit message) parts.1 in
     record { given = parts.0; nodes = own.0; fits = own.1 }
 
 pub batch_fits : (told : List Given) (batch : Batch) → is_batch_within told batch ≡ true → list_all fits_limit (batch_messages told batch) ≡ true
@@ -175,11 +175,12 @@ range_slots (dictionary t mask keys values) o n = refl
 range_small : (c : Column) (o n : ℕ) → has_nodes_in_room (encode_range true c o n) ≡ true → nat_lt n length_limit ≡ true
 range_small c o n h = ap (λ k. nat_lt k length_limit) (sym (range_slots c o n)) ∙ first_small (encode_range true c o n).nodes h
 
-rows_small : (cs : List Column) → has_nodes_in_room (joined (map (encode_stored true) cs)) ≡ true → nat_lt (rows_of_stored cs) length_limit ≡ true
+rows_small : (cs : List Column) → has_nodes_in_room (joined_columns (map (encode_stored true) cs)) ≡ true → nat_lt (rows_of_stored cs) length_limit
+    ≡ true
 rows_small [] h = refl
 rows_small (c ∷ cs) h =
     let first = (encode_stored true c).nodes in
-    let others = (joined (map (encode_stored true) cs)).nodes in
+    let others = (joined_columns (map (encode_stored true) cs)).nodes in
     range_small c 0 (column_len c) (and_parts (list_all is_node first) (list_all is_node others) (sym (list_all-append is_node first others) ∙ h)).0
 
 -- a dictionary whose nodes have room has room for its values
@@ -235,7 +236,7 @@ thin_in_room : (told : List Given) (below : IdsList) (cs : List Column) → is_b
 unfolding batch_of_stored
 thin_in_room told below cs h =
     let limits = has_limits told (batch_of_stored below cs) h in
-    let columns = joined (map (encode_stored true) cs) in
+    let columns = joined_columns (map (encode_stored true) cs) in
     let written = to_write told (given_of_stored below cs) in
     and_from (nat_lt (rows_of_stored cs) length_limit && has_nodes_in_room columns) (list_all has_room written)
     (and_from (nat_lt (rows_of_stored cs) length_limit) (has_nodes_in_room columns) (rows_small cs limits.nodes) limits.nodes)

@@ -11,7 +11,7 @@ use Rattle.ipc_format.specs.columns.Slots.{Slot}
 use Rattle.ipc_format.specs.columns.StoredColumns.{Column, slots}
 use Rattle.ipc_format.specs.columns.Tables.{rows_of_batches}
 use Rattle.ipc_format.specs.grammar.Limits.{file_limit}
-use Rattle.ipc_format.specs.BlockPlacing.{joined, place_behind, placed_blocks}
+use Rattle.ipc_format.specs.BlockPlacing.{joined_blocks, place_behind, placed_blocks}
 use Rattle.ipc_format.specs.EncodedChunks.{is_batch_within}
 use Rattle.ipc_format.specs.Ends.{has_room, start_bytes}
 use Rattle.ipc_format.specs.FileRuns.{bytes_so_far, first_place}
@@ -159,7 +159,7 @@ places_of places = record { next = places.next; blocks = blocks_view places.dict
 -- the messages of dictionaries, and of a batch behind them, are placed; or the file would be too long; or memory ran out
 abbrev pub PlacesMessages : FilePlaces → FilePlaces → List Written → Written → Result (Unit {0}) Error → Type 0
 PlacesMessages old new dictionaries own (Ok _) = (new.next ≡ place_behind old.next (dictionaries ++ own ∷ []))
-    × (new.blocks ≡ joined old.blocks (placed_blocks old.next dictionaries own))
+    × (new.blocks ≡ joined_blocks old.blocks (placed_blocks old.next dictionaries own))
 PlacesMessages old new dictionaries own (Err errors.Overflow) = file_limit ≤ place_behind old.next (dictionaries ++ own ∷ [])
 PlacesMessages old new dictionaries own (Err errors.OutOfMemory) = Unit {0}
 PlacesMessages old new dictionaries own (Err _) = ⊥
@@ -180,7 +180,7 @@ pub record IsFilePut (old new : Option (List ℕ)) (entries : List (ℤ × Colum
   pub tells : Tells entries.0 (written_after told batch.given)
   pub kind : entries.1 ≡ true
   pub next : after.next ≡ place_behind before.next (batch_messages told batch)
-  pub blocks : after.blocks ≡ joined before.blocks (batch_blocks before.next told (batch ∷ []))
+  pub blocks : after.blocks ≡ joined_blocks before.blocks (batch_blocks before.next told (batch ∷ []))
 
 -- nothing was appended, for a reason
 abbrev pub AppendsNone : Option (List ℕ) → Option (List ℕ) → Type 0 → Type 0

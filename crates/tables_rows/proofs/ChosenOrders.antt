@@ -4,7 +4,7 @@ use Rattle.std.specs.Prelude.{Option, Some, None, nat_eq, slice_get}
 use Rattle.std.specs.List.{list_all, list_any}
 use Rattle.std.proofs.lemmas.Bool.{and_parts, and_from, eq-eqb, eqb-true}
 use Rattle.tables_chunks.specs.Choices.{are_below}
-use Rattle.tables_chunks.specs.ipc_format.FlatBuffers.{Table}
+use Rattle.tables_chunks.specs.ipc_format.FlatBuffers.{TablePlace}
 use Rattle.tables_chunks.specs.ipc_format.Reading.{◌>>=◌, guard}
 use Rattle.tables_chunks.specs.ipc_format.columnar_memory.declared.Field.{Field}
 use Rattle.tables_chunks.specs.ipc_format.columns.Slots.{Slot}
@@ -89,7 +89,7 @@ module _ (layout : Layout) (standing : List Dictionary) (limit : Option ℕ) whe
       (as_each source columns)
 
   -- the asked columns, where those that rise are given
-  pub batch_asked : (entry : Entry) (table : Table) (rising places : List ℕ) (found : List (List Slot)) → are_below (length rising) places ≡ true
+  pub batch_asked : (entry : Entry) (table : TablePlace) (rising places : List ℕ) (found : List (List Slot)) → are_below (length rising) places ≡ true
       → chosen_batch_in layout standing entry limit rising table ≡ Some found
       → chosen_batch_in layout standing entry limit (chosen places rising) table ≡ Some (chosen places found)
   unfolding chosen_batch_in
@@ -109,14 +109,14 @@ module _ (layout : Layout) (standing : List Dictionary) (limit : Option ℕ) whe
       ∙ none_asked (column_at source) rising asked wanted (ap agreed (sym (as_each source rising)) ∙ none)
 
   -- and none, where those that rise aren't
-  pub batch_unasked : (entry : Entry) (table : Table) (rising asked : List ℕ)
+  pub batch_unasked : (entry : Entry) (table : TablePlace) (rising asked : List ℕ)
       → list_all (λ k. list_any (λ other. nat_eq other k) asked) rising ≡ true → chosen_batch_in layout standing entry limit rising table ≡ None
       → chosen_batch_in layout standing entry limit asked table ≡ None
   unfolding chosen_batch_in
   batch_unasked entry table rising asked wanted none = by_source (source_in layout.is_little_endian entry table) rising asked wanted none
 
   -- nothing is given of a compressed batch
-  pub batch_unsourced : (entry : Entry) (table : Table) (columns : List ℕ) → source_in layout.is_little_endian entry table ≡ None
+  pub batch_unsourced : (entry : Entry) (table : TablePlace) (columns : List ℕ) → source_in layout.is_little_endian entry table ≡ None
       → chosen_batch_in layout standing entry limit columns table ≡ None
   unfolding chosen_batch_in
   batch_unsourced entry table columns none = rw none refl

@@ -12,7 +12,7 @@ use Rattle.tables_chunks.specs.ipc_format.Chunks.{AreAsLong}
 use Rattle.tables_chunks.specs.ipc_format.Columns.{Dictionary}
 use Rattle.tables_chunks.specs.ipc_format.Dictionaries.{Entry, Layout, dictionary_in}
 use Rattle.tables_chunks.specs.ipc_format.DictionaryReads.{is_unread}
-use Rattle.tables_chunks.specs.ipc_format.FlatBuffers.{Table}
+use Rattle.tables_chunks.specs.ipc_format.FlatBuffers.{TablePlace}
 use Rattle.tables_chunks.specs.ipc_format.MessageViews.{header_view, kind_view, version_view}
 use Rattle.tables_chunks.specs.ipc_format.Messages.{Version, dictionary_batch, dictionary_batch_in, record_batch}
 use Rattle.tables_chunks.specs.ipc_format.Readable.{HasArrays}
@@ -48,12 +48,12 @@ with_header entry header = entry_in (header_view header).bytes (kind_view header
 
 -- ---- dictionaries
 
-unread_message : (metadata : List ℕ) (table : Table) (version : Version) (origin : ℕ) (room : List ℕ) → is_unread metadata table ≡ true
+unread_message : (metadata : List ℕ) (table : TablePlace) (version : Version) (origin : ℕ) (room : List ℕ) → is_unread metadata table ≡ true
     → IsUnread (entry_in metadata (dictionary_batch table) version origin room)
 unread_message metadata table version origin room unread =
     either_by metadata table (dictionary_batch_in metadata table) refl unread
 
-taken_as : {A : Type 0} (layout : Layout) (old new : List Dictionary) (metadata : List ℕ) (table : Table) (version : Version) (origin : ℕ)
+taken_as : {A : Type 0} (layout : Layout) (old new : List Dictionary) (metadata : List ℕ) (table : TablePlace) (version : Version) (origin : ℕ)
     (room : List ℕ) (result : Result A Error)
     → TakesDictionary old new (is_unread metadata table ≡ true)
     (dictionary_in layout old (entry_in metadata (dictionary_batch table) version origin room) table) result
@@ -81,7 +81,7 @@ entry_taken layout old new entry header result is taken =
 -- ---- chosen columns
 
 -- what is read of the columns that rise is what the format gives, of these and of those that are asked for
-pub rising_read : (layout : Layout) (standing : List Dictionary) (limit : Option ℕ) (rising : List ℕ) (metadata : List ℕ) (table : Table)
+pub rising_read : (layout : Layout) (standing : List Dictionary) (limit : Option ℕ) (rising : List ℕ) (metadata : List ℕ) (table : TablePlace)
     (version : Version) (origin size : ℕ) (room after : List ℕ) (found : List Column) → HasArrays layout → size ≡ length room
     → ReadsAs (is_compressed metadata table) (sized size (in_memory room)) (sized size (in_memory after)) (map slots)
     (λ bytes. chosen_record_arrays layout standing limit rising (entry_in metadata (record_batch table) version origin bytes) table) (Ok found)
@@ -90,7 +90,7 @@ rising_read layout standing limit rising metadata table version origin size room
     sym (have.choices standing limit rising (entry_in metadata (record_batch table) version origin room) table)
     ∙ read.2 room (sized_whole size room same)
 
-rising_refused : (layout : Layout) (standing : List Dictionary) (limit : Option ℕ) (order : Order) (metadata : List ℕ) (table : Table)
+rising_refused : (layout : Layout) (standing : List Dictionary) (limit : Option ℕ) (order : Order) (metadata : List ℕ) (table : TablePlace)
     (version : Version) (origin size : ℕ) (room after : List ℕ) (error : Error) → HasArrays layout → IsOrder (length layout.fields) order
     → size ≡ length room
     → ReadsAs {A = List Column} (is_compressed metadata table) (sized size (in_memory room)) (sized size (in_memory after)) (map slots)

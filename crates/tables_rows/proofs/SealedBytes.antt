@@ -13,7 +13,7 @@ use Rattle.tables_chunks.specs.ipc_format.columns.Rows.{columns_of_rows, columns
 use Rattle.tables_chunks.specs.ipc_format.columns.Slots.{Slot}
 use Rattle.tables_chunks.specs.ipc_format.columns.StoredColumns.{Column}
 use Rattle.tables_chunks.specs.ipc_format.EncodedChunks.{is_batch_within, is_given_within}
-use Rattle.tables_chunks.specs.ipc_format.Encoding.{joined}
+use Rattle.tables_chunks.specs.ipc_format.Encoding.{joined_columns}
 use Rattle.tables_chunks.specs.ipc_format.GivenDictionaries.{Given, last_under, stands_for, to_write, written_after}
 use Rattle.tables_chunks.specs.ipc_format.Seals.{groups_of, seal_batches, seal_bytes, are_rows_of, is_batch_size, is_sealable}
 use Rattle.tables_chunks.specs.ipc_format.Seals.{groups_fit, messages_fit, sealed}
@@ -54,7 +54,7 @@ written_are schema (group ∷ groups) can fit =
 
 -- a batch whose nodes have room, and those of its dictionaries
 record HasRoom (batch : Batch) : Type 0 where
-  nodes : has_nodes_in_room (joined batch.columns) ≡ true
+  nodes : has_nodes_in_room (joined_columns batch.columns) ≡ true
   brings : list_all (λ (given : Given). has_nodes_in_room given.column) batch.given ≡ true
 
 abbrev have_nodes : List Given → Bool
@@ -87,9 +87,9 @@ batch_within told batch room fit =
     let own = record_message batch.rows batch.columns in
     let parts = and_parts (list_all fits_limit before) (fits_limit own && true) (sym (list_all-append fits_limit before (own ∷ [])) ∙ fit) in
     let last = and_parts (fits_limit own) true parts.1 in
-    and_from (list_all is_given_within (to_write told batch.given)) (has_nodes_in_room (joined batch.columns) && fits_limit own)
+    and_from (list_all is_given_within (to_write told batch.given)) (has_nodes_in_room (joined_columns batch.columns) && fits_limit own)
     (given_within (to_write told batch.given) (written_nodes told batch.given room.brings) parts.0)
-    (and_from (has_nodes_in_room (joined batch.columns)) (fits_limit own) room.nodes last.0)
+    (and_from (has_nodes_in_room (joined_columns batch.columns)) (fits_limit own) room.nodes last.0)
 
 -- the batches of groups that fit have room
 group_room : (schema : Schema) (group : List (List Slot)) → columns_fit schema.fields (columns_of_rows schema.fields group) ≡ true

@@ -4,7 +4,7 @@ use Rattle.std.specs.List.{list_all}
 use Rattle.std.specs.Prelude.{Ok, Err}
 use Rattle.ipc_format_batch_reading.specs.Placing.{IsNotEncoded, is_within}
 use Rattle.ipc_format_batch_reading.specs.columns.StoredColumns.{Column}
-use Rattle.ipc_format_batch_reading.specs.grammar.Encoding.{joined}
+use Rattle.ipc_format_batch_reading.specs.grammar.Encoding.{joined_columns}
 use Rattle.ipc_format_batch_reading.specs.grammar.StoredEncoding.{encode_stored}
 use Rattle.ipc_format_batch_reading.specs.grammar.WrittenMessages.{record_message}
 use Rattle.ipc_format_batch_reading.specs.grammar.WrittenStreams.{batch_of_stored, given_of_stored}
@@ -67,7 +67,7 @@ returns-in_err-encode_record c =
     let sent = c.in_ok-sent.sent.items in
     let all = subst (λ (items : List Found). TellsAll (tracked c.in_ok-told.told) told (map given_in items) (Ok (map given_in sent)))
     c.deref.ensures.value c.in_ok-sent.ensures in
-    let past = subst (λ (columns : List Column). IsNotEncoded error (is_within (joined (map (encode_stored true) columns))
+    let past = subst (λ (columns : List Column). IsNotEncoded error (is_within (joined_columns (map (encode_stored true) columns))
     (record_message c.len.result (map (encode_stored true) columns)))) c.arrays-2.ensures c.in_err-encode_record.ensures in
     let whole = record_not error old told old (ids_views c.args.fields.now) c.args.chunk.now c.len.result (map given_in found) (map given_in sent)
     (message_in c.encode_record.new.encoded) (c.in_ok-found.ensures ∙ ap (given_of_stored (ids_views c.args.fields.now)) c.arrays.ensures)
@@ -87,7 +87,7 @@ returns c =
     c.deref.ensures.value c.in_ok-sent.ensures in
     let encoded = subst (λ (items : List Found). EncodesDictionaries (Ok messages) (map given_in items)) c.deref-2.ensures.value
     c.in_ok-dictionaries.ensures in
-    let record_is = subst (λ (columns : List Column). EncodesMessage (Ok tt) own (joined (map (encode_stored true) columns))
+    let record_is = subst (λ (columns : List Column). EncodesMessage (Ok tt) own (joined_columns (map (encode_stored true) columns))
     (record_message c.len.result (map (encode_stored true) columns))) c.arrays-2.ensures c.in_ok-encode_record.ensures in
     all_encoded old told _ (ids_views c.args.fields.now) c.args.chunk.now c.len.result (map given_in found) (map given_in sent) messages own
     (c.in_ok-found.ensures ∙ ap (given_of_stored (ids_views c.args.fields.now)) c.arrays.ensures)

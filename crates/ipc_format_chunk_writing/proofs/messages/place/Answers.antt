@@ -1,7 +1,7 @@
 use Rattle.std.proofs.Common.{arith, length, refl, rules}
 use Rattle.std.specs.Prelude.{pos}
 use Rattle.ipc_format_batch_reading.specs.Bodies.{parts}
-use Rattle.ipc_format_batch_reading.specs.grammar.Encoding.{joined}
+use Rattle.ipc_format_batch_reading.specs.grammar.Encoding.{joined_columns}
 use Rattle.ipc_format_batch_reading.proofs.Joined.{all_placed}
 use Rattle.ipc_format_chunk_writing.proofs.PlacedBodies.{column_placed, column_refused, columns_placed, encoded_of}
 use Rattle.ipc_format_chunk_writing.proofs.messages.place.Goals as goal
@@ -21,5 +21,5 @@ returns-in_err-place_next c =
     search (rules, whole)
 
 pub returns : goal.returns
-returns c = all_placed c.loop-array.placed (joined (encoded_of c.args.arrays.now)) _ _ _ _ refl refl
+returns c = all_placed c.loop-array.placed (joined_columns (encoded_of c.args.arrays.now)) _ _ _ _ refl refl
     (columns_placed c.args.arrays.now c.loop-array.array-index _ (omega arith) c.loop-array.invariant)

@@ -7,7 +7,7 @@ use Rattle.nested_arrays.specs.Places.{HaveRange}
 use Rattle.nested_arrays.specs.StoredColumns.{Column, Columns, column_size, in_columns}
 use Rattle.nested_arrays.specs.declared.Node.TheVariants as nodes
 use Rattle.ipc_format_column_reading.specs.column_bytes.Bodies.{parts_of}
-use Rattle.ipc_format_column_reading.specs.column_bytes.grammar.Encoding.{joined}
+use Rattle.ipc_format_column_reading.specs.column_bytes.grammar.Encoding.{joined_columns}
 use Rattle.ipc_format_column_reading.specs.column_bytes.grammar.StoredEncoding.{encode_range, encode_ranges}
 use Rattle.ipc_format_column_writing.specs.Parts.{HaveParts, encode_parts, items_column}
 use Rattle.ipc_format_column_writing.proofs.Begun.{range_then}
@@ -85,9 +85,9 @@ write_range-returns-in_ok-begin_structs-in-Struct t c =
     let b : Column = c.in-Struct.array in
     let same : c.args.array.now ≡ b = cc (ap column_of c.in-Struct.is) in
     range_then c.write_children.result c.args.body.now (parts_of c.begin_structs.new.body) (parts_of c.write_children.new.body) little
-    c.args.array.now b c.args.first c.args.count (joined (encode_ranges little (column_children b) c.args.first c.args.count))
-    (joined (encode_ranges little (in_columns c.values-in-Struct.result.now) c.args.first c.args.count)) same
-    (sym (ap (λ (a : Column). joined (encode_ranges little (column_children a) c.args.first c.args.count)) c.values-in-Struct.ensures))
+    c.args.array.now b c.args.first c.args.count (joined_columns (encode_ranges little (column_children b) c.args.first c.args.count))
+    (joined_columns (encode_ranges little (in_columns c.values-in-Struct.result.now) c.args.first c.args.count)) same
+    (sym (ap (λ (a : Column). joined_columns (encode_ranges little (column_children a) c.args.first c.args.count)) c.values-in-Struct.ensures))
     c.in_ok-begin_structs-in-Struct.ensures.begun c.write_children.ensures
 
 pub write_range-returns-in_ok-start-in-Map : goal.write_range-returns-in_ok-start-in-Map
@@ -110,7 +110,7 @@ write_range-returns-in_ok-part-in-Union t c =
     let b : Column = c.in-Union.array in
     let same : c.args.array.now ≡ b = cc (ap column_of c.in-Union.is) in
     range_then c.write_children-in-Union.result c.args.body.now (parts_of c.begin_unions.new.body) (parts_of c.write_children-in-Union.new.body)
-    little c.args.array.now b c.args.first c.args.count (joined (encode_parts little (column_children b) part))
-    (joined (encode_parts little (in_columns c.fields.result.now) part)) same
-    (sym (ap (λ (a : Column). joined (encode_parts little (column_children a) part)) c.fields.ensures)) c.in_ok-part-in-Union.ensures.begun
+    little c.args.array.now b c.args.first c.args.count (joined_columns (encode_parts little (column_children b) part))
+    (joined_columns (encode_parts little (in_columns c.fields.result.now) part)) same
+    (sym (ap (λ (a : Column). joined_columns (encode_parts little (column_children a) part)) c.fields.ensures)) c.in_ok-part-in-Union.ensures.begun
     c.write_children-in-Union.ensures

@@ -3,7 +3,7 @@ use Rattle.nested_arrays.specs.ColumnMasks.{column_mask}
 use Rattle.nested_arrays.specs.StoredColumns.{column_len, column_type, cut_mask, in_columns}
 use Rattle.ipc_format_column_reading.specs.column_bytes.Bodies.{of_buffers, parts_of}
 use Rattle.ipc_format_column_reading.specs.column_bytes.WholeColumns.{behind_node}
-use Rattle.ipc_format_column_reading.specs.column_bytes.grammar.Encoding.{joined}
+use Rattle.ipc_format_column_reading.specs.column_bytes.grammar.Encoding.{joined_columns}
 use Rattle.ipc_format_column_reading.specs.column_bytes.grammar.StoredEncoding.{encode_ranges, encode_stored, mask_bytes}
 use Rattle.ipc_format_column_reading.proofs.bytes_lemmas.Bodies.{added_then}
 use Rattle.ipc_format_column_writing.proofs.Behind.{all_fields, behind_records}
@@ -23,7 +23,8 @@ returns c =
     let mask = option_copied c.validity.result in
     let children = in_columns c.values-fields.result.now in
     added_then c.write_children.result c.args.body.now (parts_of c.add_validity.new.self) (parts_of c.write_children.new.body)
-    (of_buffers (mask_bytes (cut_mask mask 0 count) ∷ [])) (joined (encode_ranges little children 0 count)) (behind_node (encode_stored little a))
+    (of_buffers (mask_bytes (cut_mask mask 0 count) ∷ [])) (joined_columns (encode_ranges little children 0 count))
+    (behind_node (encode_stored little a))
     c.in_ok-add_validity.ensures c.write_children.ensures
     (behind_records little a (column_type a) (column_mask a) mask (column_len a) count children c.values-fields.ensures c.validity.ensures
     c.len-count.ensures)
