@@ -33,3 +33,10 @@ pub one_more : {X : Type 0} (f : X → List ℕ) (xs : List X) (i : ℕ) (x : X)
 one_more {X} f xs i x old mid new more inside is so_far added same =
     added ∙ (λ j. so_far j ++ same j) ∙ flat_map_more f old (take i xs) x
     ∙ ap (λ (ys : List X). old ++ flat_map f ys) (ap (λ (y : X). take i xs ++ y ∷ []) is ∙ sym (take_more xs i x inside))
+
+-- one item more
+pub one_item_more : {X : Type 0} (xs : List X) (i : ℕ) (x : X) (old mid new : List X) → i < length xs
+    → mid ≡ old ++ take i xs → new ≡ mid ++ get_or xs i x ∷ [] → new ≡ old ++ take (i + 1) xs
+one_item_more {X} xs i x old mid new inside so_far added =
+    added ∙ ap (λ (front : List X). front ++ get_or xs i x ∷ []) so_far ∙ append_assoc old (take i xs) (get_or xs i x ∷ [])
+    ∙ ap (λ (ys : List X). old ++ ys) (sym (take_more xs i x inside))

@@ -1,5 +1,6 @@
 pub mod Added
 pub mod Values
+pub mod Room
 pub mod Moved
 pub mod Packed
 pub mod CutEncodings

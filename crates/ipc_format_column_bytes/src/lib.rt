@@ -9,6 +9,7 @@ mod flats;
 mod numbers;
 mod offsets;
 mod placed;
+mod reserved;
 
 pub use bitmaps::append_bitmap;
 pub use body::{Body, Lengths};

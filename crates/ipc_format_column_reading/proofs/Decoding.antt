@@ -39,7 +39,8 @@ elements_window f size (suc n) k bytes all at =
 pub decoded_next : {A V : Type 0} (f : List ℕ → A) (numbers : V → A) (size count m : ℕ) (values : List V) (value : V)
     (chunk rest others all : List ℕ) → 0 < size → rest ≡ chunk ++ others → length chunk ≡ size → numbers value ≡ f chunk → length rest ≡ m * size
     → map numbers values ++ elements f size m rest ≡ elements f size count all
-    → (p : ℕ) × (length others ≡ p * size) × (map numbers (values ++ value ∷ []) ++ elements f size p others ≡ elements f size count all)
+    → (p : ℕ) × (p + 1 ≡ m) × (length others ≡ p * size)
+    × (map numbers (values ++ value ∷ []) ++ elements f size p others ≡ elements f size count all)
 decoded_next f numbers size count zero values value chunk rest others all some parts sized is left before =
     let both : length rest ≡ length chunk + length others = ap length parts ∙ length-append chunk others in
     absurd (omega arith)
@@ -48,9 +49,18 @@ decoded_next f numbers size count (suc p) values value chunk rest others all som
     let more : suc p * size ≡ p * size + size = suc-mul p size in (
       p,
       omega arith,
+      omega arith,
       ap (λ done. done ++ elements f size p others) (map-append numbers values (value ∷ []))
           ∙ elements_next f size p (map numbers values) chunk rest others all count (numbers value) parts sized is before,
     )
+
+-- while a chunk comes, there is room for a value
+pub room_left : (size m len capacity : ℕ) (chunk rest others : List ℕ) → 0 < size → rest ≡ chunk ++ others → length chunk ≡ size
+    → length rest ≡ m * size → len + m ≡ capacity → len < capacity
+room_left size zero len capacity chunk rest others some parts sized left room =
+    let both : length rest ≡ length chunk + length others = ap length parts ∙ length-append chunk others in
+    absurd (omega arith)
+room_left size (suc p) len capacity chunk rest others some parts sized left room = omega arith
 
 -- all values, once fewer bytes are left than one takes
 pub decoded_all : {A V : Type 0} (f : List ℕ → A) (numbers : V → A) (size count m : ℕ) (values : List V) (rest all : List ℕ) → length rest < size

@@ -160,7 +160,8 @@ pub fn read_validity<R: Room>(
     Ok(None)
 }
 
-/// The values that some bytes spell, one after another.
+/// The values that some bytes spell, one after another. There is room for all of them before the first one, so the loop asks for no memory and
+/// becomes a copy of many at a time.
 fn decoded<T: NativeType>(
     alloc: Global,
     bytes: &[u8],
@@ -178,7 +179,7 @@ fn decoded<T: NativeType>(
         } else {
             T::from_be_bytes(spelled)
         };
-        values.push(value)?;
+        values.push_reserved(value);
     }
     Ok(values)
 }
