@@ -1,6 +1,7 @@
 //! Arrays of what builders of any type hold.
 #![tactic(auto)]
 
+mod flat_builders;
 mod frozen;
 mod keys;
 mod mutable_array;
