@@ -10,6 +10,7 @@ pub(crate) enum Short {
     OutOfSpec,
     InvalidArgument,
     NotYetImplemented,
+    Io,
     Other,
 }
 
@@ -18,6 +19,7 @@ fn short_of_error(error: &Error) -> Short {
         Error::OutOfSpec(_) => Short::OutOfSpec,
         Error::InvalidArgumentError(_) => Short::InvalidArgument,
         Error::NotYetImplemented(_) => Short::NotYetImplemented,
+        Error::Io(_) => Short::Io,
         _ => Short::Other,
     }
 }
