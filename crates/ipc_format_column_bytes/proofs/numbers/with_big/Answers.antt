@@ -12,8 +12,14 @@ push_bytes-requires g c =
     ap length (c.as_slice.ensures ∙ c.to_be_bytes.ensures.bytes)
     ∙ length-bytes_of g.T.NativeType.PRIMITIVE false (g.T.NativeType.numbers c.value-item.result) c.to_be_bytes.ensures.native
     ∙ sym g.met.T.NativeType.size_law in
-    omega (arith, size, c.loop-value.invariant.1, c.loop-value.invariant.2, c.requires,
-    room_for_one c.loop-value.value-index (length c.args.values.now) g.T.NativeType.SIZE c.loop-value-test.true)
+    omega (
+      arith,
+      size,
+      c.loop-value.invariant.1,
+      c.loop-value.invariant.2,
+      c.requires,
+      room_for_one c.loop-value.value-index (length c.args.values.now) g.T.NativeType.SIZE c.loop-value-test.true,
+    )
 
 pub loop-value-preserved : goal.loop-value-preserved
 loop-value-preserved g c =
@@ -21,8 +27,7 @@ loop-value-preserved g c =
     let number = g.T.NativeType.numbers in
     let spelled = c.as_slice.ensures ∙ c.to_be_bytes.ensures.bytes in
     let size : length c.as_slice.result.now ≡ g.T.NativeType.SIZE =
-    ap length spelled ∙ length-bytes_of kind false (number c.value-item.result) c.to_be_bytes.ensures.native ∙ sym g.met.T.NativeType.size_law in
-    (
+    ap length spelled ∙ length-bytes_of kind false (number c.value-item.result) c.to_be_bytes.ensures.native ∙ sym g.met.T.NativeType.size_law in (
       one_more (λ v. value_bytes false kind (number v)) c.args.values.now c.loop-value.value-index c.value-item.result c.args.room.items
           c.loop-value.bytes.items c.push_bytes.new.to.items c.as_slice.result.now c.loop-value-test.true c.value-item.is
           c.loop-value.invariant.0 c.push_bytes.ensures.items

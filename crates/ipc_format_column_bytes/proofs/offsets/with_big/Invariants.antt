@@ -10,7 +10,7 @@ use Rattle.ipc_format_column_bytes.proofs.offsets.with_big.Given as goal
 abbrev pub invariant-loop-offset : goal.invariant-loop-offset
 invariant-loop-offset g l =
     (l.bytes.items
-        ≡ l.fn.room.items ++ flat_map (λ x. ordered_bytes false (width_of g.O.Offset.IS_LARGE) (number_of (g.O.Number.value x) - l.first)) (take
-        l.offset-index l.offsets))
+    ≡ l.fn.room.items ++ flat_map (λ x. ordered_bytes false (width_of g.O.Offset.IS_LARGE) (number_of (g.O.Number.value x) - l.first)) (take
+    l.offset-index l.offsets))
     × (vec_len l.bytes ≡ vec_len l.fn.room + l.offset-index * g.O.NativeType.SIZE)
     × (vec_capacity l.bytes ≡ vec_capacity l.fn.room)

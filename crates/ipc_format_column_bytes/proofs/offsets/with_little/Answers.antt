@@ -15,8 +15,14 @@ push_bytes-requires g c =
     ap length (c.as_slice.ensures ∙ c.to_le_bytes.ensures.bytes)
     ∙ length-bytes_of g.O.NativeType.PRIMITIVE true (g.O.NativeType.numbers c.from_as_usize-moved.result) c.to_le_bytes.ensures.native
     ∙ sym g.met.O.NativeType.size_law in
-    omega (arith, size, c.loop-offset.invariant.1, c.loop-offset.invariant.2, c.requires.room,
-    room_for_one c.loop-offset.offset-index (length c.args.offsets.now) g.O.NativeType.SIZE c.loop-offset-test.true)
+    omega (
+      arith,
+      size,
+      c.loop-offset.invariant.1,
+      c.loop-offset.invariant.2,
+      c.requires.room,
+      room_for_one c.loop-offset.offset-index (length c.args.offsets.now) g.O.NativeType.SIZE c.loop-offset-test.true,
+    )
 
 pub loop-offset-preserved : goal.loop-offset-preserved
 loop-offset-preserved g c =
@@ -25,8 +31,7 @@ loop-offset-preserved g c =
     let moved = g.O.NativeType.numbers c.from_as_usize-moved.result in
     let spelled = c.as_slice.ensures ∙ c.to_le_bytes.ensures.bytes in
     let size : length c.as_slice.result.now ≡ g.O.NativeType.SIZE =
-    ap length spelled ∙ length-bytes_of g.O.NativeType.PRIMITIVE true moved c.to_le_bytes.ensures.native ∙ sym g.met.O.NativeType.size_law in
-    (
+    ap length spelled ∙ length-bytes_of g.O.NativeType.PRIMITIVE true moved c.to_le_bytes.ensures.native ∙ sym g.met.O.NativeType.size_law in (
       one_more (λ x. ordered_bytes true wide (number_of (value x) - c.args.first)) c.args.offsets.now c.loop-offset.offset-index
           c.offset-item.result c.args.room.items c.loop-offset.bytes.items c.push_bytes.new.to.items c.as_slice.result.now
           c.loop-offset-test.true c.offset-item.is c.loop-offset.invariant.0 c.push_bytes.ensures.items
