@@ -24,20 +24,6 @@ pub trait HoldsByteStrings {
         ensures { slice_get (values_of (held self.now)) index ≡ Some result.now };
 }
 
-/// What holds texts alone, as arrays and builders of texts do, in something that holds byte strings.
-pub trait HoldsTexts {
-    /// What the texts stand in.
-    type Holder: HoldsByteStrings;
-
-    // the texts, and all that stands beside them
-    ghost texts: { Self → ByteStrings };
-
-    /// What the texts stand in, each of which is UTF-8 by itself.
-    fn holder(&self) -> &Self::Holder
-        ensures held { Self.Holder.held result.now ≡ texts self.now }
-        ensures texts { AllTexts (values_of (texts self.now)) };
-}
-
 /// Stored byte strings, those under nulls too, seen as the list of those that are left.
 #[derive(Drop)]
 pub struct ByteValuesIter<'a, H: HoldsByteStrings> {
@@ -120,6 +106,20 @@ impl<'a, H: HoldsByteStrings> ExactSizeIterator for ByteValuesIter<'a, H> {
 }
 
 impl<'a, H: HoldsByteStrings> FusedIterator for ByteValuesIter<'a, H> {}
+
+/// What holds texts alone, as arrays and builders of texts do, in something that holds byte strings.
+pub trait HoldsTexts {
+    /// What the texts stand in.
+    type Holder: HoldsByteStrings;
+
+    // the texts, and all that stands beside them
+    ghost texts: { Self → ByteStrings };
+
+    /// What the texts stand in, each of which is UTF-8 by itself.
+    fn holder(&self) -> &Self::Holder
+        ensures held { Self.Holder.held result.now ≡ texts self.now }
+        ensures texts { AllTexts (values_of (texts self.now)) };
+}
 
 /// Stored texts, those under nulls too, seen as the list of those that are left.
 #[derive(Drop)]

@@ -10,5 +10,5 @@ use Rattle.flat_arrays_byte_builders.proofs.binary.MutableBinaryArray.from_slice
 pub returns : goal.returns
 returns g c =
     let empty = byte_strings (binary_type g.O.Offset.IS_LARGE) no_spans [] None in
-    gathered (YieldsList-from_slice c.args.values.now (search rules)) (λ value. Some (g.P.AsSlice.items value.now)) (λ value. Some (g.P.AsSlice.items value))
-    (λ value. refl) g.O.Index.greatest empty c.from_iter_values.result c.from_iter_values.ensures
+    gathered (YieldsList-from_slice c.args.values.now (search rules)) (λ value. Some (g.P.AsSlice.items value.now))
+    (λ value. Some (g.P.AsSlice.items value)) (λ value. refl) g.O.Index.greatest empty c.from_iter_values.result c.from_iter_values.ensures

@@ -10,5 +10,5 @@ use Rattle.flat_arrays_byte_values_builders.proofs.utf8_values.MutableUtf8Values
 pub returns : goal.returns
 returns g c =
     let empty = byte_strings (text_type g.O.Offset.IS_LARGE) no_spans [] None in
-    gathered (YieldsList-from_slice c.args.values.now (search rules)) (λ value. Some (g.P.AsStr.text value.now)) (λ value. Some (g.P.AsStr.text value))
-    (λ value. refl) g.O.Index.greatest empty c.try_from_iter.result c.try_from_iter.ensures
+    gathered (YieldsList-from_slice c.args.values.now (search rules)) (λ value. Some (g.P.AsStr.text value.now))
+    (λ value. Some (g.P.AsStr.text value)) (λ value. refl) g.O.Index.greatest empty c.try_from_iter.result c.try_from_iter.ensures
