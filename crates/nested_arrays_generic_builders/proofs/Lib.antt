@@ -5,5 +5,8 @@ pub mod ListSlots
 pub mod ListsStored
 pub mod NullColumns
 pub mod OpenLists
+pub mod OpenStructs
+pub mod StructRows
+pub mod StructsStored
 pub use Rattle.nested_arrays_builder_pushes.proofs.nulls_lemmas
 pub use Rattle.nested_arrays_builder_pushes.proofs as pushes_lemmas
