@@ -76,8 +76,8 @@ layer_over f same (layer.Struct []) os = refl
 layer_over f same _ os = refl
 
 pub named_struct : (x : Layer) (cols : Columns) → has_field_types x cols ≡ true
-    → (us : List Field) × (x ≡ layer.Struct us) × (have_types us cols ≡ true)
-named_struct (layer.Struct (u ∷ us)) cols h = (u ∷ us, refl, h)
+    → (us : List Field) × ((x ≡ layer.Struct us) × (have_types us cols ≡ true))
+named_struct (layer.Struct (u ∷ us)) cols h = (u ∷ us, (refl, h))
 named_struct (layer.Struct []) cols h = absurd (false≢true h)
 named_struct _ cols h = absurd (false≢true h)
 

@@ -91,18 +91,18 @@ module _ (t : DataType) (ms : List Bool) (os : List Open) where
       let name = named_struct (type_layer t) (field_columns os) (struct_parts_of t ms os stored sound).typed in
       let us = name.0 in
       let cs = slots_of_fields (length us) xs in
-      let as : own ≡ records t (mask_of xs) (length xs) (in_columns (fresh_columns us cs)) = f.stored ∙ fresh_struct t us name.1 xs in
-      let mask : mask_of_marks ms ≡ mask_of_marks (marks_of xs) = ap column_mask as ∙ mask_is xs ∙ mask_by_count (marks_of xs) in
+      let made : own ≡ records t (mask_of xs) (length xs) (in_columns (fresh_columns us cs)) = f.stored ∙ fresh_struct t us name.1.0 xs in
+      let mask : mask_of_marks ms ≡ mask_of_marks (marks_of xs) = ap column_mask made ∙ mask_is xs ∙ mask_by_count (marks_of xs) in
       let both : length (marks_of xs) ≡ length ms = length-map xs is_valid ∙ slots_lengths own in
       let columns : map column_of os ≡ fresh_columns us cs =
-      sym (listed_back (map column_of os)) ∙ ap columns_in as ∙ listed_back (fresh_columns us cs) in
-      let able = (and_parts (nat_le 1 (length us)) (are_buildable us) (sym (buildable_struct t us name.1) ∙ f.can)).1 in
+      sym (listed_back (map column_of os)) ∙ ap columns_in made ∙ listed_back (fresh_columns us cs) in
+      let able = (and_parts (nat_le 1 (length us)) (are_buildable us) (sym (buildable_struct t us name.1.0) ∙ f.can)).1 in
       let held : os ≡ opened_each us cs =
-      opened_by us cs os stored (fields_fit_below t us name.1 xs f.fit) able columns (fields_count (length us) xs) in record {
+      opened_by us cs os stored (fields_fit_below t us name.1.0 xs f.fit) able columns (fields_count (length us) xs) in record {
         can = f.can;
         fit = f.fit;
         marked = sym (marks_back ms (length ms) refl) ∙ ap (marks (length ms)) mask ∙ marks_back (marks_of xs) (length ms) both;
-        held = subst (λ x. HoldsParts x (of_fields os) xs) (sym name.1) held;
+        held = subst (λ x. HoldsParts x (of_fields os) xs) (sym name.1.0) held;
       }
 
   -- records that are held as some slots are fresh
@@ -190,5 +190,5 @@ pub emptied_struct : (t : DataType) (ms : List Bool) (os : List Open) → has_fi
     → structs_column (no_records (struct_parts t ms os)) ≡ fresh t []
 emptied_struct t ms os typed =
     let name = named_struct (type_layer t) (field_columns os) typed in
-    ap (λ (cs : List Column). records t (mask_of_marks []) 0 (in_columns cs)) (none_stored name.0 0 os name.2)
-    ∙ sym (fresh_struct t name.0 name.1 [])
+    ap (λ (cs : List Column). records t (mask_of_marks []) 0 (in_columns cs)) (none_stored name.0 0 os name.1.1)
+    ∙ sym (fresh_struct t name.0 name.1.0 [])

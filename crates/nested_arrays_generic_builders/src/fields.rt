@@ -175,6 +175,7 @@ pub(crate) fn have_len(builders: &[AnyMutableArray], length: usize) -> bool
 }
 
 /// Pushes a null, or changes nothing.
+#[tactic(auto, using(crate::proofs::FieldLoops::null_taken))]
 fn push_null(builder: &mut AnyMutableArray) -> Result<()>
     ensures { TakesNull builder.old builder.new result }
 {
@@ -245,8 +246,9 @@ fn take_first(
     ensures taken { OnOk result (arrays.new.items ≡ arrays.old.items ++ map column_of builders.old.items) }
     ensures error { IfErr result IsOutOfMemory }
 {
-    for builder in builders.iter_mut() {
-        let array = MutableArray::as_box(builder, alloc)?;
+    let count = builders.len();
+    for place in 0..count {
+        let array = MutableArray::as_box(&mut builders[place], alloc)?;
         arrays.push(array)?;
     }
     Ok(())
