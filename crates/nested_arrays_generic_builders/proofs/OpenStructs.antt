@@ -23,7 +23,7 @@ use Rattle.nested_arrays_builder_pushes.proofs.columns_lemmas.ColumnSizes.{slots
 use Rattle.nested_arrays_builder_pushes.proofs.columns_lemmas.Conditions.{parts_of_4}
 use Rattle.nested_arrays_builder_pushes.proofs.growth_lemmas.Limits.{first_ones_fit}
 use Rattle.nested_arrays_generic_builders.specs.StructBuilders.{AddsMark, AddsNullRecord, AddsRow, ClosesRow, HasRow, StructParts}
-use Rattle.nested_arrays_generic_builders.specs.StructBuilders.{field_columns, first_records, is_stored, next_record, no_records, struct_parts, structs_column}
+use Rattle.nested_arrays_generic_builders.specs.StructBuilders.{emptied, field_columns, first_records, is_stored, next_record, no_records, struct_parts, structs_column}
 use Rattle.nested_arrays_generic_builders.specs.StructBuilders.{takes_null, with_mark, with_null, with_nulls}
 use Rattle.nested_arrays_generic_builders.proofs.ListsStored.{marks_fit}
 use Rattle.nested_arrays_generic_builders.proofs.OpenLists.{same_becomes}
@@ -188,18 +188,18 @@ module _ (t : DataType) (ms : List Bool) (os : List Open) where
 -- ---- builders of structs
 
 module _ (p : StructParts) where
-  pub closed_row : {U : Type 0} (mark : Bool) (new : StructParts) (r : Result U Error) → AddsMark p mark new r
-      → ClosesRow p mark (structs_column new) r
-  closed_row mark new (Ok u) h =
+  pub closed_row : {U : Type 0} (mark : Bool) (now : StructParts) (r : Result U Error) → AddsMark p mark now r
+      → ClosesRow p mark (structs_column now) r
+  closed_row mark now (Ok u) h =
       subst (λ (q : StructParts). AddsRow p mark (structs_column q)) (sym h.0) (row_added p.data_type p.marks p.fields mark)
-  closed_row mark new (Err e) h = ap structs_column h.0
+  closed_row mark now (Err e) h = ap structs_column h.0
 
-  pub pushed_null : {U : Type 0} (new : StructParts) (r : Result U Error) → list_all is_stored p.fields ≡ true → AddsNullRecord p new r
-      → AddsNull (structs_column p) (structs_column new) r
-  pushed_null new (Ok u) stored h =
+  pub pushed_null : {U : Type 0} (now : StructParts) (r : Result U Error) → list_all is_stored p.fields ≡ true → AddsNullRecord p now r
+      → AddsNull (structs_column p) (structs_column now) r
+  pushed_null now (Ok u) stored h =
       subst (λ (q : StructParts). Becomes (structs_column p) (slots_and (structs_column p) null) (structs_column q)) (sym h.0)
       (null_added p.data_type p.marks p.fields stored h.2 h.1)
-  pushed_null new (Err e) stored h = (
+  pushed_null now (Err e) stored h = (
     subst (λ (q : StructParts). Becomes (structs_column p) (slots (structs_column p)) (structs_column q)) (sym h.0)
         (same_becomes (structs_column p)),
     why e h.1,
@@ -223,3 +223,14 @@ module _ (p : StructParts) where
   pub refused_records : {A : Type 0} (content : A → Column) (e : Error) → is_sound (structs_column p) ≡ false → IsOutOfSpec e
       → TakesColumn (structs_column p) (structs_column (no_records p)) content (Err e)
   refused_records content e unsound spec = (none_left p.data_type p.marks p.fields, inr (spec, unsound))
+
+  -- what is taken out of marks and fields that were left empty
+  pub taken_parts : (kept ms : List Bool) (left : List Open) (r : Result Column Error) → is_sound (structs_column p) ≡ true → kept ≡ p.marks → ms ≡ []
+      → left ≡ map emptied p.fields
+      → OrOutOfMemory r (λ (array : Column). array ≡ structs_column (struct_parts p.data_type kept p.fields))
+      → TakesColumn (structs_column p) (structs_column (struct_parts p.data_type ms left)) (λ (array : Column). array) r
+  taken_parts kept ms left r sound marked none empty is =
+      let now : no_records p ≡ struct_parts p.data_type ms left = (λ j. struct_parts p.data_type (sym none j) (sym empty j)) in
+      subst (λ (q : StructParts). TakesColumn (structs_column p) (structs_column q) (λ (array : Column). array) r) now
+      (taken_records r sound
+      (subst (λ (own : List Bool). OrOutOfMemory r (λ (array : Column). array ≡ structs_column (struct_parts p.data_type own p.fields))) marked is))

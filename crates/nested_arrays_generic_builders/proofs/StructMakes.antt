@@ -1,5 +1,5 @@
 -- When parts make a builder of structs, and its array.
-use Rattle.std.proofs.Common.{◌≡◌, ◌∙◌, ◌<◌, ◌≤◌, ◌+◌, ℕ, List, [], ◌∷◌, ◌++◌, length, map, take, Bool, true, false, refl, sym, ap, subst, arith}
+use Rattle.std.proofs.Common.{◌≡◌, ◌∙◌, ◌<◌, ◌≤◌, ◌+◌, ℕ, List, [], ◌∷◌, ◌++◌, length, map, take, Bool, true, false, not, refl, sym, ap, subst, arith}
 use Rattle.std.specs.Prelude.{Option, None, Result, Ok, Err, ◌&&◌, ◌==◌, ◌⊎◌}
 use Rattle.std.specs.List.{list_all}
 use Rattle.std.proofs.lemmas.Bool.{and_from, and_parts, eqb-true, false≢true}
@@ -10,6 +10,7 @@ use Rattle.nested_arrays_builder_pushes.specs.nulls.columnar_memory.declared.Dat
 use Rattle.nested_arrays_builder_pushes.specs.nulls.columnar_memory.declared.DataType.TheOpen as layer
 use Rattle.nested_arrays_builder_pushes.specs.nulls.columnar_memory.declared.Error.{Error}
 use Rattle.nested_arrays_builder_pushes.specs.nulls.columnar_memory.Error.{IsOutOfMemory, IsOverflow}
+use Rattle.nested_arrays_builder_pushes.specs.nulls.columnar_memory.Results.{OrOutOfMemory}
 use Rattle.nested_arrays_builder_pushes.specs.nulls.columns.Kinds.{most_slots}
 use Rattle.nested_arrays_builder_pushes.specs.nulls.columns.SoundColumns.{are_sound, has_field_types, have_len, is_sound, mask_fits}
 use Rattle.nested_arrays_builder_pushes.specs.nulls.columns.StoredColumns.{Column, Columns, column_len, in_columns, records, type_layer}
@@ -139,3 +140,15 @@ pub nulls_added : {U : Type 0} (t : DataType) (ms : List Bool) (os : List Open) 
     → AddsNulls ms os new more r → AddsNullRecord (struct_parts t ms os) (struct_parts t new more) r
 nulls_added t ms os new more (Ok u) h = ((λ j. struct_parts t (h.0 j) (h.1 j)), h.2, h.3)
 nulls_added t ms os new more (Err e) h = ((λ j. struct_parts t (h.0 j) (h.1 j)), h.2)
+
+pub arrays_answer : (t : DataType) (mask : Option (List Bool)) (n : ℕ) (os : List Open) (arrays : List Column) (r : Result Column Error)
+    → is_sound (records t mask n (field_columns os)) ≡ true → arrays ≡ map column_of os
+    → OrOutOfMemory r (λ (array : Column). array ≡ records t mask (struct_len arrays) (in_columns arrays))
+    → OrOutOfMemory r (λ (array : Column). array ≡ records t mask n (field_columns os))
+arrays_answer t mask n os arrays r sound is h =
+    subst (λ (c : Column). OrOutOfMemory r (λ (array : Column). array ≡ c)) (arrays_are t mask n os arrays sound is) h
+
+-- what is not denied holds
+pub denied : (b : Bool) → not b ≡ false → b ≡ true
+denied true h = refl
+denied false h = absurd (false≢true (sym h))

@@ -47,7 +47,7 @@ use Rattle.nested_arrays_generic_builders.proofs.StructRows.{held_in, named_stru
 
 -- ---- the columns of fields
 
-columns_listed : Columns → List Column
+abbrev columns_listed : Columns → List Column
 columns_listed no_column = []
 columns_listed (column_then c cs) = c ∷ columns_listed cs
 
@@ -55,7 +55,7 @@ listed_back : (cs : List Column) → columns_listed (in_columns cs) ≡ cs
 listed_back [] = refl
 listed_back (c ∷ cs) = ap (λ (rest : List Column). c ∷ rest) (listed_back cs)
 
-columns_in : Column → List Column
+abbrev columns_in : Column → List Column
 columns_in (records t mask n cols) = columns_listed cols
 columns_in _ = []
 

@@ -17,6 +17,7 @@ use Rattle.nested_arrays_builder_pushes.specs.nulls.columns.OpenBatch.{fits}
 use Rattle.nested_arrays_builder_pushes.specs.nulls.columns.Slots.{Slot, null, fields}
 use Rattle.nested_arrays_builder_pushes.specs.nulls.columns.SoundColumns.{is_sound}
 use Rattle.nested_arrays_builder_pushes.specs.nulls.columns.StoredColumns.{Column, Columns, column_len, column_type, in_columns, records, slots, slots_at}
+use Rattle.nested_arrays_builder_pushes.specs.nulls.columns.StoredColumns.{type_layer}
 use Rattle.nested_arrays_builder_pushes.specs.cells.parts.Marks.{marks, mask_of_marks}
 use Rattle.nested_arrays_builder_pushes.specs.cells.parts.Open.{Open, column_of, first_slots, opened, open_code, with_slot}
 use Rattle.nested_arrays_builder_pushes.specs.cells.taken.OpenColumns.{slots_and}
@@ -156,3 +157,11 @@ IsMeasured data_type children mask r =
     MatchResult r
     (λ n. (n ≡ struct_len (map column_of children)) × (n ≤ most_slots) × (is_sound (masked_column data_type children mask) ≡ true))
     (λ e. IsOutOfSpec e × (is_sound (masked_column data_type children mask) ≡ false))
+
+-- The marks of the records, where the parts are those of an array; or they are not, or memory ran out.
+abbrev pub AreMarked : DataType → List Open → Option (List Bool) → Result (List Bool) Error → Type 0
+AreMarked data_type children mask r =
+    MatchResult r
+    (λ kept. (kept ≡ marks (struct_len (map column_of children)) mask) × (is_sound (masked_column data_type children mask) ≡ true)
+    × (has_fields (type_layer data_type) ≡ true))
+    (λ e. IsOutOfMemory e ⊎ (IsOutOfSpec e × (is_sound (masked_column data_type children mask) ≡ false)))

@@ -6,14 +6,14 @@ ghost use Rattle.nested_arrays_builder_pushes.specs.nulls.arrays.Lengths.{struct
 ghost use Rattle.nested_arrays_builder_pushes.specs.nulls.columnar_memory.Error.{IsOutOfMemory};
 ghost use Rattle.nested_arrays_builder_pushes.specs.nulls.columnar_memory.Results.{OrOutOfMemory};
 ghost use Rattle.nested_arrays_builder_pushes.specs.nulls.columns.SoundColumns.{is_sound, mask_fits};
-ghost use Rattle.nested_arrays_builder_pushes.specs.nulls.columns.StoredColumns.{column_len, records};
+ghost use Rattle.nested_arrays_builder_pushes.specs.nulls.columns.StoredColumns.{column_len, in_columns, records};
 ghost use Rattle.nested_arrays_builder_pushes.specs.cells.parts.Marks.{marks, mask_of_marks};
 ghost use Rattle.nested_arrays_builder_pushes.specs.cells.parts.Open.{column_of};
 ghost use Rattle.nested_arrays_builder_pushes.specs.cells.taken.OpenColumns.{AddsNull, KeepsFirst, TakesColumn};
 ghost use Rattle.nested_arrays_generic_builders.specs.ListBuilders.{IsFrozen};
 ghost use Rattle.nested_arrays_generic_builders.specs.StructBuilders.{emptied, field_columns, first_records, masked_column, no_records};
 ghost use Rattle.nested_arrays_generic_builders.specs.StructBuilders.{struct_parts, structs_column, with_fields};
-ghost use Rattle.nested_arrays_generic_builders.specs.StructBuilders.{AddsMark, AddsNullRecord, AddsNulls, ClosesRow, IsBuilt, IsMeasured};
+ghost use Rattle.nested_arrays_generic_builders.specs.StructBuilders.{AddsMark, AddsNullRecord, AddsNulls, AreMarked, ClosesRow, IsBuilt, IsMeasured};
 ghost use Rattle.nested_arrays_generic_builders.specs.StructLoans.{LendsChild};
 
 use crate::fields::{MutableFields, are_fields_of, are_whole, first_len, have_len};
@@ -72,8 +72,7 @@ impl MutableStructArray {
     ) -> Result<Self>
         ensures { IsBuilt data_type values.items validity result }
     {
-        let count = checked_len(&data_type, values.as_slice(), &validity)?;
-        let marks = marks_of(alloc, &validity, count)?;
+        let marks = checked_marks(alloc, &data_type, values.as_slice(), &validity)?;
         Ok(MutableStructArray {
             data_type,
             marks,
@@ -90,8 +89,7 @@ impl MutableStructArray {
         ensures { OrOutOfMemory result (λ builder. builder ≡ struct_parts data_type
             (marks (struct_len (map column_of values.items)) None) values.items) }
     {
-        let count = first_len(values.as_slice());
-        let marks = marks_of(alloc, &None, count)?;
+        let marks = valid_marks(alloc, values.as_slice())?;
         Ok(MutableStructArray {
             data_type,
             marks,
@@ -344,6 +342,27 @@ fn checked_len(
     Ok(length)
 }
 
+/// The marks of the records, where the parts of their builder fit.
+fn checked_marks(
+    alloc: Global,
+    data_type: &DataType,
+    values: &[AnyMutableArray],
+    validity: &Option<MutableBitmap>,
+) -> Result<Marks>
+    ensures { AreMarked data_type.now values.now validity.now result }
+{
+    let count = checked_len(data_type, values, validity)?;
+    marks_of(alloc, validity, count)
+}
+
+/// The marks of records of which none is null, as many as slots of the first of the builders of their fields.
+fn valid_marks(alloc: Global, values: &[AnyMutableArray]) -> Result<Marks>
+    ensures { OrOutOfMemory result (λ kept. kept ≡ marks (struct_len (map column_of values.now)) None) }
+{
+    let count = first_len(values);
+    marks_of(alloc, &None, count)
+}
+
 /// Whether a mask has so many bits, or there is none.
 fn has_length(validity: &Option<MutableBitmap>, length: usize) -> bool
     ensures { result ≡ mask_fits validity.now length }
@@ -382,7 +401,20 @@ fn take_whole(
         ≡ records data_type.now (mask_of_marks marks) (length marks) (field_columns values.old)) }
 {
     let arrays = values.take(alloc)?;
-    let data_type = data_type.clone()?;
+    freeze_structs(data_type, marks, arrays)
+}
+
+/// The array of records with these marks over the arrays of their fields.
+fn freeze_structs(
+    data_type: &DataType,
+    marks: Marks,
+    arrays: Vec<AnyArray>,
+) -> Result<StructArray>
+    requires { is_sound (records data_type.now (mask_of_marks marks) (struct_len arrays.items) (in_columns arrays.items)) ≡ true }
+    ensures { OrOutOfMemory result (λ array. array
+        ≡ records data_type.now (mask_of_marks marks) (struct_len arrays.items) (in_columns arrays.items)) }
+{
     let validity = marks.freeze()?;
+    let data_type = data_type.clone()?;
     Ok(StructArray::new(data_type, arrays, validity))
 }
