@@ -1,5 +1,5 @@
 -- When parts make a builder of structs, and its array.
-use Rattle.std.proofs.Common.{◌≡◌, ◌∙◌, ◌<◌, ◌≤◌, ◌+◌, ℕ, List, [], ◌∷◌, ◌++◌, length, map, take, Bool, true, false, not, refl, sym, ap, subst, arith}
+use Rattle.std.proofs.Common.{◌≡◌, ◌∙◌, ◌<◌, ◌≤◌, ◌+◌, ℕ, List, [], ◌∷◌, ◌++◌, length, map, take, Bool, true, false, refl, sym, ap, subst, arith}
 use Rattle.std.specs.Prelude.{Option, None, Result, Ok, Err, ◌&&◌, ◌==◌, ◌⊎◌}
 use Rattle.std.specs.List.{list_all}
 use Rattle.std.proofs.lemmas.Bool.{and_from, and_parts, eqb-true, false≢true}
@@ -147,8 +147,3 @@ pub arrays_answer : (t : DataType) (mask : Option (List Bool)) (n : ℕ) (os : L
     → OrOutOfMemory r (λ (array : Column). array ≡ records t mask n (field_columns os))
 arrays_answer t mask n os arrays r sound is h =
     subst (λ (c : Column). OrOutOfMemory r (λ (array : Column). array ≡ c)) (arrays_are t mask n os arrays sound is) h
-
--- what is not denied holds
-pub denied : (b : Bool) → not b ≡ false → b ≡ true
-denied true h = refl
-denied false h = absurd (false≢true (sym h))
