@@ -152,7 +152,10 @@ fn swap_first(rows: &mut MutableStructArray, builder: AnyMutableArray) -> Result
 #[test]
 fn fields_of_another_type_make_no_array(rt: HostRuntime) -> Result<(), Fail> {
     let mut rows = new_rows(rt.alloc())?;
-    swap_first(&mut rows, AnyMutableArray::new(rt.alloc(), &DataType::Boolean)?)?;
+    swap_first(
+        &mut rows,
+        AnyMutableArray::new(rt.alloc(), &DataType::Boolean)?,
+    )?;
     rows.push_null()?;
     let is_whole = rows.is_whole();
     let is_refused = is_out_of_spec(rows.as_box(rt.alloc()));

@@ -1,7 +1,7 @@
 -- Loops over the builders of fields: what stands once the first of them were changed.
-use Rattle.std.proofs.Common.{◌≡◌, ◌∙◌, ◌<◌, ◌≤◌, ◌+◌, ◌-◌, ℕ, zero, suc, List, [], ◌∷◌, ◌++◌, drop, length, map, take, get_or, Bool, true, false, refl}
+use Rattle.std.proofs.Common.{◌≡◌, ◌∙◌, ◌<◌, ◌≤◌, ◌+◌, ◌-◌, ℕ, zero, suc, List, [], ◌∷◌, ◌++◌, drop, length, map, take, get_or, true, false, refl}
 use Rattle.std.proofs.Common.{sym, ap, subst, arith, length-append}
-use Rattle.std.specs.Prelude.{Result, Ok, Err, ◌&&◌, ◌⊎◌, All, slice_set}
+use Rattle.std.specs.Prelude.{Result, Ok, Err, ◌⊎◌, All, slice_set}
 use Rattle.std.specs.List.{list_all}
 use Rattle.std.proofs.lemmas.Bool.{and_from, false≢true}
 use Rattle.std.proofs.lemmas.List.{append-nil, drop_all, get_or-take, length-take-le, map_more, set-get_or, take_all, take_at, take_more}
@@ -12,7 +12,7 @@ use Rattle.nested_arrays_builder_pushes.specs.nulls.columnar_memory.declared.Err
 use Rattle.nested_arrays_builder_pushes.specs.nulls.columnar_memory.Error.{IsOutOfMemory, IsOverflow}
 use Rattle.nested_arrays_builder_pushes.specs.nulls.columns.Slots.{null}
 use Rattle.nested_arrays_builder_pushes.specs.nulls.columns.StoredColumns.{Column}
-use Rattle.nested_arrays_builder_pushes.specs.cells.parts.Open.{Open, column_of, first_slots, opened, with_slot, IsPushed, IsRefusal}
+use Rattle.nested_arrays_builder_pushes.specs.cells.parts.Open.{Open, column_of, first_slots, opened, IsPushed, IsRefusal}
 use Rattle.nested_arrays_builder_pushes.proofs.columns_lemmas.Fitting.{null_fits}
 use Rattle.nested_arrays_builder_pushes.proofs.cells_lemmas.taken_lemmas.builders_lemmas.CutParts.{length_over}
 use Rattle.nested_arrays_generic_builders.specs.StructBuilders.{emptied, takes_null, with_null, TakesNull}

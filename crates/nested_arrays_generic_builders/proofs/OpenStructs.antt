@@ -1,5 +1,5 @@
 -- What pushes, cuts and taking out make of the column of a builder of structs.
-use Rattle.std.proofs.Common.{◌≡◌, ◌∙◌, ◌<◌, ◌≤◌, ◌+◌, ℕ, List, [], ◌∷◌, ◌++◌, length, map, take, get_or, Bool, true, false, refl, sym, ap, subst, arith}
+use Rattle.std.proofs.Common.{◌≡◌, ◌∙◌, ◌<◌, ◌≤◌, ◌+◌, ℕ, List, [], ◌∷◌, ◌++◌, length, map, take, Bool, true, false, refl, sym, ap, subst, arith}
 use Rattle.std.specs.Prelude.{None, Result, Ok, Err, ◌&&◌, ◌⊎◌}
 use Rattle.std.specs.List.{list_all}
 use Rattle.std.proofs.lemmas.Bool.{and_from, and_parts}
@@ -15,7 +15,7 @@ use Rattle.nested_arrays_builder_pushes.specs.nulls.columns.Kinds.{most_slots}
 use Rattle.nested_arrays_builder_pushes.specs.nulls.columns.OpenBatch.{fits}
 use Rattle.nested_arrays_builder_pushes.specs.nulls.columns.Slots.{Slot, null, window}
 use Rattle.nested_arrays_builder_pushes.specs.nulls.columns.SoundColumns.{are_sound, has_field_types, have_len, is_sound, mask_fits}
-use Rattle.nested_arrays_builder_pushes.specs.nulls.columns.StoredColumns.{Column, Columns, column_len, column_type, slots, slots_at, type_layer}
+use Rattle.nested_arrays_builder_pushes.specs.nulls.columns.StoredColumns.{Column, Columns, column_type, slots, slots_at, type_layer}
 use Rattle.nested_arrays_builder_pushes.specs.cells.parts.Marks.{mask_of_marks}
 use Rattle.nested_arrays_builder_pushes.specs.cells.parts.Open.{Open, first_slots}
 use Rattle.nested_arrays_builder_pushes.specs.cells.taken.OpenColumns.{AddsNull, Becomes, IsEmptied, IsFresh, KeepsFirst, TakesColumn, slots_and}
@@ -23,11 +23,13 @@ use Rattle.nested_arrays_builder_pushes.proofs.columns_lemmas.ColumnSizes.{slots
 use Rattle.nested_arrays_builder_pushes.proofs.columns_lemmas.Conditions.{parts_of_4}
 use Rattle.nested_arrays_builder_pushes.proofs.growth_lemmas.Limits.{first_ones_fit}
 use Rattle.nested_arrays_generic_builders.specs.StructBuilders.{AddsMark, AddsNullRecord, AddsRow, ClosesRow, HasRow, StructParts}
-use Rattle.nested_arrays_generic_builders.specs.StructBuilders.{emptied, field_columns, first_records, is_stored, next_record, no_records, struct_parts, structs_column}
+use Rattle.nested_arrays_generic_builders.specs.StructBuilders.{emptied, field_columns, first_records, is_stored, next_record, no_records}
+use Rattle.nested_arrays_generic_builders.specs.StructBuilders.{struct_parts, structs_column}
 use Rattle.nested_arrays_generic_builders.specs.StructBuilders.{takes_null, with_mark, with_null, with_nulls}
 use Rattle.nested_arrays_generic_builders.proofs.ListsStored.{marks_fit}
 use Rattle.nested_arrays_generic_builders.proofs.OpenLists.{same_becomes}
-use Rattle.nested_arrays_generic_builders.proofs.StructRows.{held_in, layer_over, long_over, record_at, rows_first, rows_more, rows_same, struct_parts_of}
+use Rattle.nested_arrays_generic_builders.proofs.StructRows.{held_in, layer_over, long_over, record_at, rows_first, rows_more, rows_same}
+use Rattle.nested_arrays_generic_builders.proofs.StructRows.{struct_parts_of}
 use Rattle.nested_arrays_generic_builders.proofs.StructRows.{struct_slots, struct_whole}
 use Rattle.nested_arrays_generic_builders.proofs.StructsStored.{emptied_struct, first_fresh, null_fresh, null_unfit}
 

@@ -1,26 +1,25 @@
 -- When parts make a builder of structs, and its array.
-use Rattle.std.proofs.Common.{◌≡◌, ◌∙◌, ◌<◌, ◌≤◌, ◌+◌, ℕ, List, [], ◌∷◌, ◌++◌, length, map, take, Bool, true, false, refl, sym, ap, subst, arith}
-use Rattle.std.specs.Prelude.{Option, None, Result, Ok, Err, ◌&&◌, ◌==◌, ◌⊎◌}
+use Rattle.std.proofs.Common.{◌≡◌, ◌∙◌, ◌≤◌, ◌+◌, ℕ, List, [], ◌∷◌, ◌++◌, length, map, take, Bool, true, false, refl, sym, ap, subst, arith}
+use Rattle.std.specs.Prelude.{Option, Result, Ok, Err, ◌&&◌, ◌==◌}
 use Rattle.std.specs.List.{list_all}
 use Rattle.std.proofs.lemmas.Bool.{and_from, and_parts, eqb-true, false≢true}
 use Rattle.std.proofs.lemmas.List.{take_at}
-use mathlib.Core.Logic.{inl, inr}
 use Rattle.nested_arrays_builder_pushes.specs.nulls.arrays.Lengths.{struct_len}
 use Rattle.nested_arrays_builder_pushes.specs.nulls.columnar_memory.declared.DataType.{DataType}
 use Rattle.nested_arrays_builder_pushes.specs.nulls.columnar_memory.declared.DataType.TheOpen as layer
 use Rattle.nested_arrays_builder_pushes.specs.nulls.columnar_memory.declared.Error.{Error}
-use Rattle.nested_arrays_builder_pushes.specs.nulls.columnar_memory.Error.{IsOutOfMemory, IsOverflow}
 use Rattle.nested_arrays_builder_pushes.specs.nulls.columnar_memory.Results.{OrOutOfMemory}
 use Rattle.nested_arrays_builder_pushes.specs.nulls.columns.Kinds.{most_slots}
 use Rattle.nested_arrays_builder_pushes.specs.nulls.columns.SoundColumns.{are_sound, has_field_types, have_len, is_sound, mask_fits}
 use Rattle.nested_arrays_builder_pushes.specs.nulls.columns.StoredColumns.{Column, Columns, column_len, in_columns, records, type_layer}
-use Rattle.nested_arrays_builder_pushes.specs.cells.parts.Marks.{TakesMark, marks, mask_of_marks}
+use Rattle.nested_arrays_builder_pushes.specs.cells.parts.Marks.{TakesMark}
 use Rattle.nested_arrays_builder_pushes.specs.cells.parts.Open.{Open, column_of}
 use Rattle.nested_arrays_builder_pushes.proofs.cells_lemmas.taken_lemmas.OpenColumns.{open_long}
 use Rattle.nested_arrays_builder_pushes.proofs.columns_lemmas.Conditions.{parts_of_4}
 use Rattle.nested_arrays_builder_pushes.proofs.columns_lemmas.FreshLengths.{Layer}
 use Rattle.nested_arrays_builder_pushes.proofs.growth_lemmas.Limits.{fits_length}
-use Rattle.nested_arrays_generic_builders.specs.StructBuilders.{AddsMark, AddsNullRecord, AddsNulls, field_columns, has_fields, is_stored, masked_column, struct_parts, structs_column}
+use Rattle.nested_arrays_generic_builders.specs.StructBuilders.{AddsMark, AddsNullRecord, AddsNulls, field_columns, has_fields, is_stored}
+use Rattle.nested_arrays_generic_builders.specs.StructBuilders.{struct_parts, structs_column}
 use Rattle.nested_arrays_generic_builders.proofs.ListsStored.{marks_fit}
 use Rattle.nested_arrays_generic_builders.proofs.StructRows.{held_in, sound_fields}
 
@@ -79,7 +78,8 @@ module _ (t : DataType) (mask : Option (List Bool)) (n : ℕ) (os : List Open) w
 
 -- whether records are sound is whether the fields have the types and lengths
 pub whole_is : (t : DataType) (ms : List Bool) (os : List Open) → list_all is_stored os ≡ true
-    → is_sound (structs_column (struct_parts t ms os)) ≡ (has_field_types (type_layer t) (field_columns os) && have_len (field_columns os) (length ms))
+    → is_sound (structs_column (struct_parts t ms os))
+    ≡ (has_field_types (type_layer t) (field_columns os) && have_len (field_columns os) (length ms))
 whole_is t ms os stored =
     (λ j. has_field_types (type_layer t) (field_columns os) && have_len (field_columns os) (length ms) && marks_fit ms (length ms) refl j
     && sound_fields os stored j)

@@ -1,6 +1,7 @@
 -- Which records are sound, and their slots, by marks and the open columns of the fields.
-use Rattle.std.proofs.Common.{◌≡◌, ◌∙◌, ◌<◌, ◌≤◌, ◌+◌, ℕ, suc, List, [], ◌∷◌, ◌++◌, length, map, take, get_or, Bool, true, false, refl, sym, ap, arith}
-use Rattle.std.specs.Prelude.{Option, ◌&&◌, ◌==◌, if◌then◌else◌}
+use Rattle.std.proofs.Common.{◌≡◌, ◌∙◌, ◌<◌, ◌≤◌, ◌+◌, ℕ, suc, List, [], ◌∷◌, ◌++◌, length, map, take, get_or, Bool, true, false, refl, sym, ap}
+use Rattle.std.proofs.Common.{arith}
+use Rattle.std.specs.Prelude.{◌&&◌, ◌==◌, if◌then◌else◌}
 use Rattle.std.specs.List.{list_all}
 use Rattle.std.proofs.lemmas.Bool.{and_from, and_parts, eq-eqb, eqb-true, false≢true}
 use Rattle.std.proofs.lemmas.List.{get_or_append_left, get_or_at, get_or-take}
@@ -12,7 +13,7 @@ use Rattle.nested_arrays_builder_pushes.specs.nulls.columns.FreshLaws.{is_builda
 use Rattle.nested_arrays_builder_pushes.specs.nulls.columns.OpenBatch.{fits}
 use Rattle.nested_arrays_builder_pushes.specs.nulls.columns.Slots.{Slot, null, fields, slot_then, window}
 use Rattle.nested_arrays_builder_pushes.specs.nulls.columns.SoundColumns.{are_sound, has_field_types, have_len, have_types, is_sound, mask_fits}
-use Rattle.nested_arrays_builder_pushes.specs.nulls.columns.StoredColumns.{Column, Columns, column_len, column_type, records, slot_at, slots, slots_at}
+use Rattle.nested_arrays_builder_pushes.specs.nulls.columns.StoredColumns.{Columns, column_len, column_type, slot_at, slots, slots_at}
 use Rattle.nested_arrays_builder_pushes.specs.nulls.columns.StoredColumns.{type_layer}
 use Rattle.nested_arrays_builder_pushes.specs.cells.parts.Marks.{mask_of_marks}
 use Rattle.nested_arrays_builder_pushes.specs.cells.parts.Open.{Open, column_of, IsWithin}

@@ -1,5 +1,6 @@
 -- Which records are fresh: those whose fields store the slots of their columns and nothing else.
-use Rattle.std.proofs.Common.{◌≡◌, ◌∙◌, ◌<◌, ◌≤◌, ◌+◌, ℕ, List, [], ◌∷◌, ◌++◌, drop, length, map, take, get_or, Bool, true, false, refl, sym, ap, subst}
+use Rattle.std.proofs.Common.{◌≡◌, ◌∙◌, ◌<◌, ◌≤◌, ◌+◌, ℕ, List, [], ◌∷◌, ◌++◌, drop, length, map, take, get_or, Bool, true, false, refl, sym, ap}
+use Rattle.std.proofs.Common.{subst}
 use Rattle.std.proofs.Common.{arith}
 use Rattle.std.specs.Prelude.{◌&&◌, ◌⊎◌, nat_le}
 use Rattle.std.specs.List.{list_all}
@@ -18,16 +19,16 @@ use Rattle.nested_arrays_builder_pushes.specs.nulls.columns.OpenBatch.{fits}
 use Rattle.nested_arrays_builder_pushes.specs.nulls.columns.Rows.{columns_fit, fresh_columns}
 use Rattle.nested_arrays_builder_pushes.specs.nulls.columns.Slots.{Slot, null, window}
 use Rattle.nested_arrays_builder_pushes.specs.nulls.columns.SoundColumns.{has_field_types, have_types, is_sound}
-use Rattle.nested_arrays_builder_pushes.specs.nulls.columns.StoredColumns.{Column, Columns, column_len, column_then, column_type, in_columns, no_column}
+use Rattle.nested_arrays_builder_pushes.specs.nulls.columns.StoredColumns.{Column, Columns, column_then, column_type, in_columns, no_column}
 use Rattle.nested_arrays_builder_pushes.specs.nulls.columns.StoredColumns.{records, slots, type_layer}
 use Rattle.nested_arrays_builder_pushes.specs.nulls.flat.ColumnMasks.{column_mask}
 use Rattle.nested_arrays_builder_pushes.specs.cells.builders.KeptColumns.{column_kept}
-use Rattle.nested_arrays_builder_pushes.specs.cells.builders.Parts.{HoldsParts, IsKept, has_room, is_fitting, is_formed, more_parts, of_fields, opened_each}
+use Rattle.nested_arrays_builder_pushes.specs.cells.builders.Parts.{HoldsParts, IsKept, has_room, is_fitting, of_fields, opened_each}
 use Rattle.nested_arrays_builder_pushes.specs.cells.builders.Parts.{with_each}
 use Rattle.nested_arrays_builder_pushes.specs.cells.parts.Marks.{marks, mask_of_marks}
 use Rattle.nested_arrays_builder_pushes.specs.cells.parts.Open.{Open, column_of, first_slots, opened}
 use Rattle.nested_arrays_builder_pushes.specs.cells.taken.OpenColumns.{IsFresh, slots_and}
-use Rattle.nested_arrays_builder_pushes.specs.cells.taken.builders.growth.OpenParts.{fields_of_slot, mask_from, marks_of, slots_of_fields}
+use Rattle.nested_arrays_builder_pushes.specs.cells.taken.builders.growth.OpenParts.{marks_of, slots_of_fields}
 use Rattle.nested_arrays_builder_pushes.proofs.cells_lemmas.taken_lemmas.KeptArrays.{record_is}
 use Rattle.nested_arrays_builder_pushes.proofs.cells_lemmas.taken_lemmas.OpenColumns.{open_fresh, open_slots, open_sound, open_type}
 use Rattle.nested_arrays_builder_pushes.proofs.cells_lemmas.taken_lemmas.builders_lemmas.CutParts.{kept_first}
@@ -41,7 +42,8 @@ use Rattle.nested_arrays_builder_pushes.proofs.growth_lemmas.Fields.{fields_coun
 use Rattle.nested_arrays_builder_pushes.proofs.growth_lemmas.LayerParts.{fresh_struct}
 use Rattle.nested_arrays_builder_pushes.proofs.growth_lemmas.Masks.{mask_by_count, mask_is}
 use Rattle.nested_arrays_builder_pushes.proofs.parts_lemmas.MarkLists.{marks_back}
-use Rattle.nested_arrays_generic_builders.specs.StructBuilders.{emptied, field_columns, first_records, is_stored, no_records, struct_parts, structs_column}
+use Rattle.nested_arrays_generic_builders.specs.StructBuilders.{emptied, field_columns, first_records, is_stored, no_records, struct_parts}
+use Rattle.nested_arrays_generic_builders.specs.StructBuilders.{structs_column}
 use Rattle.nested_arrays_generic_builders.specs.StructBuilders.{takes_null, with_null, with_nulls}
 use Rattle.nested_arrays_generic_builders.proofs.StructRows.{held_in, named_struct, struct_parts_of}
 

@@ -1,5 +1,6 @@
 -- Builders of structs: marks that grow beside a builder for each field (Arrow columnar format, "Struct Layout").
-use Rattle.std.specs.Prelude.{◌≡◌, ◌⊎◌, ◌+◌, ◌<◌, ◌≤◌, ◌&&◌, ℕ, Bool, true, false, if◌then◌else◌, List, [], ◌∷◌, ◌++◌, length, map, take, slice_set}
+use Rattle.std.specs.Prelude.{◌≡◌, ◌⊎◌, ◌+◌, ◌<◌, ◌≤◌, ◌&&◌, ℕ, Bool, true, false, if◌then◌else◌, List, [], ◌∷◌, ◌++◌, length, map, take}
+use Rattle.std.specs.Prelude.{slice_set}
 use Rattle.std.specs.Prelude.{Option, None, Result, MatchResult}
 use Rattle.std.specs.List.{list_all}
 use Rattle.std.proofs.Common.{refl}
@@ -16,7 +17,8 @@ use Rattle.nested_arrays_builder_pushes.specs.nulls.columns.Kinds.{most_slots}
 use Rattle.nested_arrays_builder_pushes.specs.nulls.columns.OpenBatch.{fits}
 use Rattle.nested_arrays_builder_pushes.specs.nulls.columns.Slots.{Slot, null, fields}
 use Rattle.nested_arrays_builder_pushes.specs.nulls.columns.SoundColumns.{is_sound}
-use Rattle.nested_arrays_builder_pushes.specs.nulls.columns.StoredColumns.{Column, Columns, column_len, column_type, in_columns, records, slots, slots_at}
+use Rattle.nested_arrays_builder_pushes.specs.nulls.columns.StoredColumns.{Column, Columns, column_len, column_type, in_columns, records, slots}
+use Rattle.nested_arrays_builder_pushes.specs.nulls.columns.StoredColumns.{slots_at}
 use Rattle.nested_arrays_builder_pushes.specs.nulls.columns.StoredColumns.{type_layer}
 use Rattle.nested_arrays_builder_pushes.specs.cells.parts.Marks.{marks, mask_of_marks}
 use Rattle.nested_arrays_builder_pushes.specs.cells.parts.Open.{Open, column_of, first_slots, opened, open_code, with_slot}
@@ -32,7 +34,8 @@ abbrev pub struct_parts : DataType → List Bool → List Open → StructParts
 struct_parts data_type marks children = record { data_type = data_type; marks = marks; fields = children }
 
 abbrev pub struct_parts_code : Coded StructParts
-struct_parts_code = code_by (DataType × (List Bool × List Open)) (coded× data_type.the_row.coded (coded× (coded_list coded_bool) (coded_list open_code)))
+struct_parts_code = code_by (DataType × (List Bool × List Open))
+    (coded× data_type.the_row.coded (coded× (coded_list coded_bool) (coded_list open_code)))
     (λ p. (p.data_type, (p.marks, p.fields))) (λ c. struct_parts c.0 c.1.0 c.1.1) (λ _. refl)
 
 -- a struct with a field at least

@@ -148,7 +148,8 @@ fn have_types(fields: &[Field], builders: &[AnyMutableArray]) -> bool
     match (fields.split_first(), builders.split_first()) {
         (None, None) => true,
         (Some((field, fields)), Some((builder, builders))) => field.data_type
-            == *MutableArray::data_type(builder) && have_types(fields, builders),
+            == *MutableArray::data_type(builder)
+            && have_types(fields, builders),
         _ => false,
     }
 }

@@ -23,7 +23,9 @@ use nested_arrays_builder_pushes::cells::builders::AnyMutableArray;
 use nested_arrays_builder_pushes::cells::parts::Marks;
 use nested_arrays_builder_pushes::cells::taken::MutableArray;
 use nested_arrays_builder_pushes::nulls::arrays::{AnyArray, StructArray};
-use nested_arrays_builder_pushes::nulls::columnar_memory::{DataType, Error, MutableBitmap, Result};
+use nested_arrays_builder_pushes::nulls::columnar_memory::{
+    DataType, Error, MutableBitmap, Result,
+};
 use std::alloc::Global;
 use std::marker::Model;
 use std::mem;
@@ -256,9 +258,7 @@ impl MutableStructArray {
         } else {
             self.marks.truncate(0);
             self.values.truncate(0);
-            Err(Error::OutOfSpec(
-                "fields of other types or lengths than those of the records",
-            ))
+            Err(Error::OutOfSpec("fields of other types or lengths than those of the records"))
         }
     }
 }
@@ -329,9 +329,7 @@ fn checked_len(
     are_whole(values);
     let length = first_len(values);
     if !are_fields_of(data_type, values) {
-        return Err(Error::OutOfSpec(
-            "builders that are not those of the fields of the data type",
-        ));
+        return Err(Error::OutOfSpec("builders that are not those of the fields of the data type"));
     }
     if !have_len(values, length) {
         return Err(Error::OutOfSpec("builders of different lengths"));
@@ -405,11 +403,7 @@ fn take_whole(
 }
 
 /// The array of records with these marks over the arrays of their fields.
-fn freeze_structs(
-    data_type: &DataType,
-    marks: Marks,
-    arrays: Vec<AnyArray>,
-) -> Result<StructArray>
+fn freeze_structs(data_type: &DataType, marks: Marks, arrays: Vec<AnyArray>) -> Result<StructArray>
     requires { is_sound (records data_type.now (mask_of_marks marks) (struct_len arrays.items) (in_columns arrays.items)) ≡ true }
     ensures { OrOutOfMemory result (λ array. array
         ≡ records data_type.now (mask_of_marks marks) (struct_len arrays.items) (in_columns arrays.items)) }

@@ -1,4 +1,4 @@
-use Rattle.std.proofs.Common.{◌≡◌, ◌<◌, ◌≤◌, arith, length}
+use Rattle.std.proofs.Common.{◌<◌, arith, length}
 use Rattle.nested_arrays_generic_builders.specs.TakenBack.{without_last}
 use Rattle.nested_arrays_generic_builders.proofs.FieldLoops.{has_one, next_over}
 use Rattle.nested_arrays_generic_builders.proofs.fields.take_back.Goals as goal

@@ -1,5 +1,4 @@
-use Rattle.std.proofs.Common.{◌≡◌, ◌∙◌, ◌<◌, ◌≤◌, ◌++◌, ◌∷◌, [], ap, arith, length, map, take}
-use Rattle.nested_arrays_builder_pushes.specs.cells.parts.Open.{column_of}
+use Rattle.std.proofs.Common.{◌≡◌, ◌∙◌, ◌<◌, ◌≤◌, ◌++◌, ◌∷◌, [], arith, length}
 use Rattle.nested_arrays_generic_builders.specs.StructBuilders.{emptied}
 use Rattle.nested_arrays_generic_builders.proofs.FieldLoops.{columns_all, columns_more, emptied_over, next_over, next_same}
 use Rattle.nested_arrays_generic_builders.proofs.fields.take_first.Goals as goal
