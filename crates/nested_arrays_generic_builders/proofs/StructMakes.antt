@@ -9,11 +9,12 @@ use Rattle.nested_arrays_builder_pushes.specs.nulls.columnar_memory.declared.Dat
 use Rattle.nested_arrays_builder_pushes.specs.nulls.columnar_memory.declared.DataType.TheOpen as layer
 use Rattle.nested_arrays_builder_pushes.specs.nulls.columnar_memory.declared.Error.{Error}
 use Rattle.nested_arrays_builder_pushes.specs.nulls.columnar_memory.Results.{OrOutOfMemory}
+use Rattle.nested_arrays_builder_pushes.specs.nulls.columns.FreshLaws.{is_buildable}
 use Rattle.nested_arrays_builder_pushes.specs.nulls.columns.Kinds.{most_slots}
 use Rattle.nested_arrays_builder_pushes.specs.nulls.columns.SoundColumns.{are_sound, has_field_types, have_len, is_sound, mask_fits}
 use Rattle.nested_arrays_builder_pushes.specs.nulls.columns.StoredColumns.{Column, Columns, column_len, in_columns, records, type_layer}
 use Rattle.nested_arrays_builder_pushes.specs.cells.parts.Marks.{TakesMark}
-use Rattle.nested_arrays_builder_pushes.specs.cells.parts.Open.{Open, column_of}
+use Rattle.nested_arrays_builder_pushes.specs.cells.parts.Open.{IsWithin, Open, column_of}
 use Rattle.nested_arrays_builder_pushes.proofs.cells_lemmas.taken_lemmas.OpenColumns.{open_long}
 use Rattle.nested_arrays_builder_pushes.proofs.columns_lemmas.Conditions.{parts_of_4}
 use Rattle.nested_arrays_builder_pushes.proofs.columns_lemmas.FreshLengths.{Layer}
@@ -21,7 +22,7 @@ use Rattle.nested_arrays_builder_pushes.proofs.growth_lemmas.Limits.{fits_length
 use Rattle.nested_arrays_generic_builders.specs.StructBuilders.{AddsMark, AddsNullRecord, AddsNulls, field_columns, has_fields, is_stored}
 use Rattle.nested_arrays_generic_builders.specs.StructBuilders.{struct_parts, structs_column}
 use Rattle.nested_arrays_generic_builders.proofs.ListsStored.{marks_fit}
-use Rattle.nested_arrays_generic_builders.proofs.StructRows.{held_in, sound_fields}
+use Rattle.nested_arrays_generic_builders.proofs.StructRows.{sound_fields}
 
 -- ---- types
 
@@ -122,9 +123,8 @@ arrays_sound t mask n os arrays sound is = ap is_sound (arrays_are t mask n os a
 
 -- ---- lengths within the limit
 
-pub few_slots : (o : Open) → is_stored o ≡ true → column_len (column_of o) ≤ most_slots
-few_slots o h =
-    let own = held_in o h in omega (arith, open_long o own.0 own.1, fits_length o.data_type o.slots own.0)
+pub few_slots : (o : Open) → IsWithin o → is_buildable o.data_type ≡ true → column_len (column_of o) ≤ most_slots
+few_slots o within can = omega (arith, open_long o within can, fits_length o.data_type o.slots within)
 
 -- ---- marks
 

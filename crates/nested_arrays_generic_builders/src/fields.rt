@@ -128,6 +128,7 @@ pub(crate) fn are_whole(builders: &[AnyMutableArray])
 }
 
 /// How many slots the first of some builders has.
+#[tactic(auto, using(crate::proofs::StructMakes::few_slots))]
 pub(crate) fn first_len(builders: &[AnyMutableArray]) -> usize
     ensures value { result ≡ struct_len (map column_of builders.now) }
     ensures within { result ≤ most_slots }
