@@ -17,3 +17,5 @@ mod marks;
 mod sized_strings;
 #[cfg(test)]
 mod strings;
+#[cfg(test)]
+mod struct_builders;
