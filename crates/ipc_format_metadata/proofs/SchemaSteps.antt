@@ -1,6 +1,7 @@
 -- A schema, step by step.
 use Rattle.std.proofs.Common.{◌≡◌, ◌∙◌, ◌≢◌, ℕ, zero, suc, List, Bool, true, false, refl, length}
-use Rattle.std.specs.Prelude.{Option, Some, None, ℤ, pos}
+use Rattle.std.proofs.lemmas.Bool.{ne_eqb}
+use Rattle.std.specs.Prelude.{Option, Some, None, ◌==◌, if◌then◌else◌, ℤ, pos}
 use Rattle.std.specs.Int.{w8, w16}
 use Rattle.ipc_format_grammar.specs.columnar_memory.declared.Error.{Error}
 use Rattle.ipc_format_grammar.specs.flatbuffers.Reading.{◌>>=◌, guard}
@@ -83,23 +84,20 @@ float-in-schema bytes schema v e float =
 not-schema : (bytes : List ℕ) (root table : TablePlace) (tag : ℕ) → tag ≢ 1
     → ((message.header_of tag table >>= (λ header. message.body_length_of bytes root header >>=
     (λ n. Some (record { header = header; body_length = n })))) >>= (λ (found : message.Message). schema_of found.header)) ≡ None
-not-schema bytes root table zero ne = refl
-not-schema bytes root table (suc zero) ne = absurd (ne refl)
-not-schema bytes root table (suc (suc zero)) ne = by (message.dictionary_batch table) refl
-    (message.body_length_of bytes root (message.dictionary_batch table))
+not-schema bytes root table tag ne = rw (ne_eqb tag 1 ne) (other (tag == 2) (tag == 3))
   where
     by : (header : message.Header) → schema_of header ≡ None → (o : Option ℤ) →
         ((o >>= (λ n. Some (record { header = header; body_length = n }))) >>= (λ (found : message.Message). schema_of found.header)) ≡ None
     by header e None = refl
     by header e (Some n) = e
-not-schema bytes root table (suc (suc (suc zero))) ne = by (message.record_batch table) refl
-    (message.body_length_of bytes root (message.record_batch table))
-  where
-    by : (header : message.Header) → schema_of header ≡ None → (o : Option ℤ) →
-        ((o >>= (λ n. Some (record { header = header; body_length = n }))) >>= (λ (found : message.Message). schema_of found.header)) ≡ None
-    by header e None = refl
-    by header e (Some n) = e
-not-schema bytes root table (suc (suc (suc (suc n)))) ne = refl
+
+    other : (is_dictionary is_record : Bool) →
+        (((if is_dictionary then Some (message.dictionary_batch table) else if is_record then Some (message.record_batch table) else None) >>=
+        (λ header. message.body_length_of bytes root header >>= (λ n. Some (record { header = header; body_length = n })))) >>=
+        (λ (found : message.Message). schema_of found.header)) ≡ None
+    other true is_record = by (message.dictionary_batch table) refl (message.body_length_of bytes root (message.dictionary_batch table))
+    other false true = by (message.record_batch table) refl (message.body_length_of bytes root (message.record_batch table))
+    other false false = refl
 
 pub no-schema-table : (bytes : List ℕ) (root table : TablePlace) (tag : ℕ) → root_of bytes ≡ Some root → number_field w8 bytes root 1 0 ≡ Some tag →
     table_field bytes root 2 ≡ Some (Some table) → tag ≢ 1
