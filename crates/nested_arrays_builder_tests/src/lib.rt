@@ -6,6 +6,8 @@ mod begun;
 #[cfg(test)]
 mod dictionaries;
 #[cfg(test)]
+mod fixed_lists;
+#[cfg(test)]
 mod generic_lists;
 #[cfg(test)]
 mod lists;
