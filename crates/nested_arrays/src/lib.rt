@@ -41,5 +41,6 @@ pub use nested_arrays_sized_builders::pushes::cells::cell_at;
 pub use nested_arrays_sized_builders::pushes::cells::parts::AnyScalar;
 pub use nested_arrays_sized_builders::pushes::cells::taken::MutableArray;
 pub use nested_arrays_sized_builders::{
-    MutValues, MutableFixedSizeBinaryArray, MutableListArray, MutableNullArray,
+    MutValues, MutableFixedSizeBinaryArray, MutableFixedSizeListArray, MutableListArray,
+    MutableNullArray,
 };

@@ -84,9 +84,13 @@ abbrev pub ClosesFixedColumn : {M U : Type 0} → (M → Column) → FixedListPa
 ClosesFixedColumn column old new r = MatchResult r (λ _. AddsFixedList old.data_type old.marks (column old.values) new)
     (λ e. new ≡ fixed_lists_column column old)
 
--- the marks of n lists: those behind the closed ones have a value, and marks of lists that are no more are let go
+-- marks with those of values behind, up to n
+abbrev pub filled : ℕ → List Bool → List Bool
+filled n marks = marks ++ replicate (n - length marks) true
+
+-- the marks of n lists: those of lists that are no more are let go, and lists that were not closed have a value
 abbrev pub marks_for : ℕ → List Bool → List Bool
-marks_for n marks = take n marks ++ replicate (n - length marks) true
+marks_for n marks = filled n (take n marks)
 
 -- So many nulls stand behind the slots of a column. Or these are as they were: memory ran out, or a fresh column has no room for the nulls.
 abbrev pub AddsNulls : {U : Type 0} → Column → ℕ → Column → Result U Error → Type 0
@@ -94,18 +98,17 @@ AddsNulls old count new r = MatchResult r (λ _. Becomes old (slots old ++ repli
     (λ e. Becomes old (slots old) new
     × (IsOutOfMemory e ⊎ (IsOverflow e × (IsFresh old → fits (column_type old) (slots old ++ replicate count null) ≡ false))))
 
--- A mark stands behind those of so many lists. Or memory ran out, or there are as many lists as a column may have: the marks are as they were, but
--- for those of lists that are no more.
+-- Marks are filled up to so many, and one stands behind them. Or they are as they were: memory ran out, or there are as many as a column may have.
 abbrev pub MarksBehind : {U : Type 0} → List Bool → ℕ → Bool → List Bool → Result U Error → Type 0
-MarksBehind old lists mark new r =
-    MatchResult r (λ _. (new ≡ marks_for lists old ++ mark ∷ []) × (lists < most_slots))
-    (λ e. (new ≡ take lists old) × (IsOutOfMemory e ⊎ (IsOverflow e × (most_slots ≤ lists))))
+MarksBehind old n mark new r =
+    MatchResult r (λ _. (new ≡ filled n old ++ mark ∷ []) × (n < most_slots))
+    (λ e. (new ≡ old) × (IsOutOfMemory e ⊎ (IsOverflow e × (most_slots ≤ n))))
 
--- Marks stand behind others up to so many, and one more; or some of them.
+-- The same, where a refusal leaves some of the new marks.
 abbrev pub FillsMarks : {U : Type 0} → List Bool → ℕ → Bool → List Bool → Result U Error → Type 0
-FillsMarks old lists mark new r =
-    MatchResult r (λ _. (new ≡ (old ++ replicate (lists - length old) true) ++ mark ∷ []) × (lists < most_slots))
-    (λ e. (take (length old) new ≡ old) × (length old ≤ length new) × (IsOutOfMemory e ⊎ (IsOverflow e × (most_slots ≤ lists))))
+FillsMarks old n mark new r =
+    MatchResult r (λ _. (new ≡ filled n old ++ mark ∷ []) × (n < most_slots))
+    (λ e. (length old ≤ length new) × (take (length old) new ≡ old) × (IsOutOfMemory e ⊎ (IsOverflow e × (most_slots ≤ n))))
 
 -- A null stands behind the lists that there are, over as many nulls below as a list has items. Or slots and items are as they were.
 abbrev pub AddsNullFixedList : {M U : Type 0} → (M → Column) → FixedListParts M → FixedListParts M → Result U Error → Type 0

@@ -220,6 +220,7 @@ impl<M: MutableArray> MutableFixedSizeListArray<M> {
     {
         let items = self.values.len();
         let lists = items / self.size;
+        keep_marks(&mut self.marks, lists);
         push_nulls(&mut self.values, self.size)?;
         match mark_behind(&mut self.marks, lists, false) {
             Ok(()) => Ok(()),
@@ -367,11 +368,11 @@ fn keep_marks(marks: &mut Marks, len: usize)
     }
 }
 
-/// Adds a mark behind those of so many lists: lists that were not closed have a value, and marks of lists that are no more are let go.
+/// Fills marks of values up to those of so many lists, and adds a mark behind them; or changes nothing.
 fn mark_behind(marks: &mut Marks, lists: usize, mark: bool) -> Result<()>
+    requires { length marks.old ≤ lists }
     ensures { MarksBehind marks.old lists mark marks.new result }
 {
-    keep_marks(marks, lists);
     let held = marks.len();
     match fill_marks(marks, lists, mark) {
         Ok(()) => Ok(()),
@@ -382,12 +383,13 @@ fn mark_behind(marks: &mut Marks, lists: usize, mark: bool) -> Result<()>
     }
 }
 
-/// Adds marks of values up to those of so many lists, and one more, or as many of them as it can.
+/// Fills marks of values up to those of so many lists, and adds a mark behind them, or adds some of the marks.
 fn fill_marks(marks: &mut Marks, lists: usize, mark: bool) -> Result<()>
     requires { length marks.old ≤ lists }
     ensures { FillsMarks marks.old lists mark marks.new result }
 {
-    for _ in marks.len()..lists {
+    let missing = lists - marks.len();
+    for _ in 0..missing {
         marks.push(true)?;
     }
     marks.push(mark)
