@@ -62,7 +62,7 @@ sized_layer : (x : Layer) → 0 < layer_size x → (item : Field) × (x ≡ laye
 sized_layer (layer.FixedSizeList item size) some = (item, refl)
 sized_layer _ some = absurd (omega (arith, some))
 
-child_of : Column → Column → Column
+abbrev child_of : Column → Column → Column
 child_of (fixed_lists t mask size child) other = child
 child_of _ other = other
 

@@ -75,11 +75,11 @@ module _ (t : DataType) (some : 0 < size_of t) (ms : List Bool) (child : Column)
         ap (λ (n : ℕ). n / size) items ∙ add-div_right (column_len child) {k = size} some
         ∙ omega (arith, length-append (slots old) (null ∷ []), old_long)
 
-    abbrev grown : mask_fits (mask_of_marks ms) count ≡ true → Column
-    grown fit = lists_over t (bits fit ++ false ∷ []) below
+    abbrev filled_up : mask_fits (mask_of_marks ms) count ≡ true → Column
+    filled_up fit = lists_over t (bits fit ++ false ∷ []) below
 
-    grown_is : (fit : mask_fits (mask_of_marks ms) count ≡ true) → grown fit ≡ new
-    grown_is fit = λ j. lists_over t (sym (settled_for ms count fit) j ++ false ∷ []) below
+    filled_is : (fit : mask_fits (mask_of_marks ms) count ≡ true) → filled_up fit ≡ new
+    filled_is fit = λ j. lists_over t (sym (settled_for ms count fit) j ++ false ∷ []) below
 
     null_sound : is_sound old ≡ true → (is_sound new ≡ true) × (slots new ≡ slots_and old null)
     null_sound h =
@@ -90,8 +90,8 @@ module _ (t : DataType) (some : 0 < size_of t) (ms : List Bool) (child : Column)
         let sound = grown_sound t some (bits fit) false child below (replicate size null) count (many fit) parts.whole wide own.1 nulls.typed
         parts.typed own.0 in
         let same = grown_slots t some (bits fit) false child below (replicate size null) count (many fit) parts.whole wide own.1 in (
-          ap is_sound (sym (grown_is fit)) ∙ sound,
-          ap slots (sym (grown_is fit)) ∙ same ∙ ap (λ (c : Column). slots c ++ null ∷ []) (marked fit),
+          ap is_sound (sym (filled_is fit)) ∙ sound,
+          ap slots (sym (filled_is fit)) ∙ same ∙ ap (λ (c : Column). slots c ++ null ∷ []) (marked fit),
         )
 
     null_fresh : count < most_slots → IsFresh old → IsFresh new

@@ -2,6 +2,7 @@
 use Rattle.std.proofs.Common.{◌≡◌, ◌∙◌, ◌<◌, ◌≤◌, ◌+◌, ◌*◌, ℕ, List, [], ◌∷◌, ◌++◌, length, take, replicate, Bool, true, false, not, refl, sym, ap, subst}
 use Rattle.std.proofs.Common.{arith}
 use Rattle.std.specs.Prelude.{◌/◌, Result, Ok, Err, ◌⊎◌}
+use Rattle.std.proofs.Math.Nat.{mul-div-le, mul-le-mul_left}
 use mathlib.Core.Logic.{inl, inr}
 use Rattle.nested_arrays_generic_builders.specs.nulls.arrays.Answers.{IsChecked}
 use Rattle.nested_arrays_generic_builders.specs.nulls.arrays.Lengths.{size_of}
@@ -126,13 +127,20 @@ module _ {M : Type 0} (column : M → Column) (old : FixedListParts M) {size : �
 
   -- ---- the first lists
 
+  pub end_within : (k : ℕ) → k ≤ count → size * k ≤ column_len child
+  end_within k le =
+      let wide : size_of t * k ≡ size * k = ap (λ (n : ℕ). n * k) are.wide in
+      omega (arith, wide, mul-div-le (column_len child) (size_of t), mul-le-mul_left {m = k} {n = count} (size_of t) le)
+
+  pub kept_items : (k end : ℕ) (values : M) → end ≡ size * k → KeepsFirst child end (column values) → KeepsFirst child (size_of t * k) (column values)
+  kept_items k end values ends keeps =
+      subst (λ (n : ℕ). KeepsFirst child n (column values)) (ends ∙ ap (λ (n : ℕ). n * k) (sym are.wide)) keeps
+
   pub kept_lists : (k end : ℕ) (ms : List Bool) (values : M) → k ≤ count → end ≡ size * k → ms ≡ take k old.marks
       → KeepsFirst child end (column values) → KeepsFirst whole k (fixed_lists_column column (fixed_list_parts t ms values))
   kept_lists k end ms values le ends kept keeps =
-      let own : KeepsFirst child (size_of t * k) (column values) =
-      subst (λ (n : ℕ). KeepsFirst child n (column values)) (ends ∙ ap (λ (n : ℕ). n * k) (sym are.wide)) keeps in
       subst (λ (bits : List Bool). KeepsFirst whole k (lists_over t bits (column values))) (sym kept)
-      (first_left t are_some old.marks child k le (column values) own)
+      (first_left t are_some old.marks child k le (column values) (kept_items k end values ends keeps))
 
   -- ---- what is taken out
 

@@ -6,7 +6,9 @@ use Rattle.std.specs.Coded.{Coded, code_by, coded×, coded_list, coded_bool}
 use Rattle.columnar_memory_types.specs.contracts.data_type.DataType as data_type
 use Rattle.nested_arrays_generic_builders.specs.nulls.arrays.Lengths.{size_of}
 use Rattle.nested_arrays_generic_builders.specs.nulls.columnar_memory.declared.DataType.{DataType}
+use Rattle.nested_arrays_generic_builders.specs.nulls.columnar_memory.declared.DataType.TheVariants as types
 use Rattle.nested_arrays_generic_builders.specs.nulls.columnar_memory.declared.Error.{Error}
+use Rattle.nested_arrays_generic_builders.specs.nulls.columnar_memory.declared.Field.{Field}
 use Rattle.nested_arrays_generic_builders.specs.nulls.columnar_memory.Error.{IsInvalidArgument, IsOutOfMemory, IsOverflow}
 use Rattle.nested_arrays_generic_builders.specs.nulls.columns.Kinds.{most_slots}
 use Rattle.nested_arrays_generic_builders.specs.nulls.columns.OpenBatch.{fits}
@@ -51,6 +53,10 @@ no_fixed_lists data_type values = fixed_list_parts data_type [] values
 -- the same lists over another builder of the items
 abbrev pub with_items : {M : Type 0} → FixedListParts M → M → FixedListParts M
 with_items p values = fixed_list_parts p.data_type p.marks values
+
+-- the type of lists of a size, of items by their field
+abbrev pub fixed_lists_of : Field → ℕ → DataType
+fixed_lists_of field size = types.FixedSizeList field size
 
 -- how many items there are where one list stands behind those that were closed
 abbrev pub items_with_one : {M : Type 0} → FixedListParts M → ℕ

@@ -3,14 +3,13 @@ ghost use Rattle.std.specs.Prelude.{◌≡◌, ◌+◌, ◌*◌, ◌<◌, ◌≤
 ghost use Rattle.nested_arrays_generic_builders.specs.nulls.access.Nulls.{is_null_at};
 ghost use Rattle.nested_arrays_generic_builders.specs.nulls.arrays.ItemTypes.{fixed_list_type};
 ghost use Rattle.nested_arrays_generic_builders.specs.nulls.arrays.Lengths.{size_of};
-ghost use Rattle.nested_arrays_generic_builders.specs.nulls.columnar_memory.declared.DataType.TheVariants as types;
 ghost use Rattle.nested_arrays_generic_builders.specs.nulls.columnar_memory.Error.{IsOutOfMemory};
 ghost use Rattle.nested_arrays_generic_builders.specs.nulls.columnar_memory.Results.{OrOutOfMemory};
 ghost use Rattle.nested_arrays_generic_builders.specs.nulls.columns.StoredColumns.{column_len, column_type};
 ghost use Rattle.nested_arrays_generic_builders.specs.pushes.cells.parts.Marks.{mask_of_marks};
 ghost use Rattle.nested_arrays_generic_builders.specs.pushes.cells.taken.OpenColumns.{AddsNull, KeepsFirst, TakesColumn};
 ghost use Rattle.nested_arrays_generic_builders.specs.ListBuilders.{IsFrozen};
-ghost use Rattle.nested_arrays_sized_builders.specs.FixedListBuilders.{fixed_list_parts, fixed_lists_column, items_with_one, lists_over};
+ghost use Rattle.nested_arrays_sized_builders.specs.FixedListBuilders.{fixed_lists_column, fixed_lists_of, items_with_one, lists_over};
 ghost use Rattle.nested_arrays_sized_builders.specs.FixedListBuilders.{no_fixed_lists, with_items, AddsNullFixedList, AddsNulls, ClosesFixedColumn};
 ghost use Rattle.nested_arrays_sized_builders.specs.FixedListBuilders.{ClosesFixedList, FillsMarks, FreezesLists, KeepsMarks, LeavesNoLists, MarksBehind};
 
@@ -92,7 +91,7 @@ impl<M: MutableArray> MutableFixedSizeListArray<M> {
         size: usize,
     ) -> Result<Self>
         requires { 0 < size }
-        ensures { OrOutOfMemory result (λ builder. builder ≡ no_fixed_lists (types.FixedSizeList
+        ensures { OrOutOfMemory result (λ builder. builder ≡ no_fixed_lists (fixed_lists_of
             (record { name = name; data_type = column_type (M.column values); is_nullable = is_nullable; metadata = [] }) size) values) }
     {
         let item_type = values.data_type().clone()?;
@@ -411,6 +410,7 @@ fn freeze_parts(
 }
 
 /// The array of lists with these parts.
+#[tactic(auto, using(crate::proofs::FixedPushes::lists_frozen))]
 fn freeze_lists(
     alloc: Global,
     data_type: &DataType,
