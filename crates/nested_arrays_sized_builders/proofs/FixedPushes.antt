@@ -3,6 +3,7 @@ use Rattle.std.proofs.Common.{◌≡◌, ◌∙◌, ◌<◌, ◌≤◌, ◌+◌,
 use Rattle.std.proofs.Common.{arith}
 use Rattle.std.specs.Prelude.{◌/◌, Result, Ok, Err, ◌⊎◌}
 use Rattle.std.proofs.Math.Nat.{mul-div-le, mul-le-mul_left}
+use Rattle.std.proofs.lemmas.List.{length-append}
 use mathlib.Core.Logic.{inl, inr}
 use Rattle.nested_arrays_generic_builders.specs.nulls.arrays.Answers.{IsChecked}
 use Rattle.nested_arrays_generic_builders.specs.nulls.arrays.Lengths.{size_of}
@@ -15,9 +16,10 @@ use Rattle.nested_arrays_generic_builders.specs.nulls.columns.Slots.{Slot, null}
 use Rattle.nested_arrays_generic_builders.specs.nulls.columns.SoundColumns.{is_sound}
 use Rattle.nested_arrays_generic_builders.specs.nulls.columns.StoredColumns.{Column, column_len, column_type, slots}
 use Rattle.nested_arrays_generic_builders.specs.pushes.cells.parts.Marks.{TakesMark}
-use Rattle.nested_arrays_generic_builders.specs.pushes.cells.taken.OpenColumns.{AddsNull, Becomes, IsEmptied, IsFresh, KeepsFirst, TakesColumn, slots_and}
+use Rattle.nested_arrays_generic_builders.specs.pushes.cells.taken.OpenColumns.{Becomes, IsEmptied, IsFresh, KeepsFirst, TakesColumn, slots_and}
 use Rattle.nested_arrays_generic_builders.specs.ListBuilders.{IsFrozen}
 use Rattle.nested_arrays_generic_builders.proofs.OpenLists.{same_becomes}
+use Rattle.nested_arrays_generic_builders.proofs.pushes_lemmas.columns_lemmas.ColumnSizes.{slots_lengths}
 use Rattle.nested_arrays_sized_builders.specs.FixedListBuilders.{AddsFixedList, AreFixedLists, ClosesFixedColumn, ClosesFixedList}
 use Rattle.nested_arrays_sized_builders.specs.FixedListBuilders.{FixedListParts, FreezesLists, filled, fixed_list_parts, fixed_lists_column}
 use Rattle.nested_arrays_sized_builders.specs.FixedListBuilders.{items_with_one, lists_over, marks_for}
@@ -76,13 +78,30 @@ module _ {M : Type 0} (column : M → Column) (old : FixedListParts M) {size : �
   sized values n is h =
       subst (λ (n : ℕ). Becomes child (slots child ++ replicate n null) (column values)) (is ∙ sym are.wide) h
 
-  pub null_pushed : {U : Type 0} (first ms : List Bool) (values : M) (u : U) → first ≡ take count old.marks
-      → Becomes child (slots child ++ replicate size null) (column values) → ms ≡ filled count first ++ false ∷ [] → count < most_slots
-      → AddsNull whole (fixed_lists_column column (fixed_list_parts t ms values)) (Ok u)
-  null_pushed first ms values u kept nulls marked few =
-      let all : marks_for count old.marks ++ false ∷ [] ≡ ms = ap (λ (bits : List Bool). filled count bits ++ false ∷ []) (sym kept) ∙ sym marked in
+  count_is : (items : ℕ) → items ≡ column_len child → items / size ≡ count
+  count_is items held = λ j. held j / sym are.wide j
+
+  -- marks of lists that are there
+  pub first_marks : (items : ℕ) (first ms : List Bool) → items ≡ column_len child → first ≡ take (items / size) old.marks → ms ≡ first
+      → ms ≡ take count old.marks
+  first_marks items first ms held kept same = same ∙ kept ∙ ap (λ (n : ℕ). take n old.marks) (count_is items held)
+
+  -- there are no fewer items
+  pub few_items : (values : M) (items : ℕ) → items ≡ column_len child → Becomes child (slots child ++ replicate size null) (column values)
+      → items ≤ column_len (column values)
+  few_items values items held nulls =
+      omega (arith, held, nulls.long, length-append (slots child) (replicate size null), slots_lengths child)
+
+  pub null_pushed : (items : ℕ) (first ms : List Bool) (values : M) → items ≡ column_len child → first ≡ take (items / size) old.marks
+      → Becomes child (slots child ++ replicate size null) (column values) → ms ≡ filled (items / size) first ++ false ∷ []
+      → items / size < most_slots → Becomes whole (slots_and whole null) (fixed_lists_column column (fixed_list_parts t ms values))
+  null_pushed items first ms values held kept nulls marked few =
+      let same = count_is items held in
+      let own : first ≡ take count old.marks = first_marks items first first held kept refl in
+      let all : marks_for count old.marks ++ false ∷ [] ≡ ms =
+      (λ j. filled (sym same j) (sym own j) ++ false ∷ []) ∙ sym marked in
       subst (λ (bits : List Bool). Becomes whole (slots_and whole null) (lists_over t bits (column values))) all
-      (null_added t are_some old.marks child (column values) (sized values size refl nulls) few)
+      (null_added t are_some old.marks child (column values) (sized values size refl nulls) (omega (arith, few, same)))
 
   -- one that is refused
   refused : (ms : List Bool) (values : M) → ms ≡ take count old.marks → Becomes child (slots child) (column values)
@@ -91,11 +110,12 @@ module _ {M : Type 0} (column : M → Column) (old : FixedListParts M) {size : �
       subst (λ (bits : List Bool). Becomes whole (slots whole) (lists_over t bits (column values))) (sym kept)
       (same_left t are_some old.marks child (column values) same)
 
-  pub nulls_refused : {U : Type 0} (ms : List Bool) (values : M) (e : Error) → ms ≡ take count old.marks
+  pub nulls_refused : (items : ℕ) (ms : List Bool) (values : M) (e : Error) → items ≡ column_len child → ms ≡ take (items / size) old.marks
       → Becomes child (slots child) (column values)
       → IsOutOfMemory e ⊎ (IsOverflow e × (IsFresh child → fits (column_type child) (slots child ++ replicate size null) ≡ false))
-      → AddsNull {U} whole (fixed_lists_column column (fixed_list_parts t ms values)) (Err e)
-  nulls_refused ms values e kept same why = (refused ms values kept same, reason why)
+      → Becomes whole (slots whole) (fixed_lists_column column (fixed_list_parts t ms values))
+      × (IsOutOfMemory e ⊎ (IsOverflow e × (IsFresh whole → fits t (slots_and whole null) ≡ false)))
+  nulls_refused items ms values e held kept same why = (refused ms values (first_marks items ms ms held kept refl) same, reason why)
     where
       reason : IsOutOfMemory e ⊎ (IsOverflow e × (IsFresh child → fits (column_type child) (slots child ++ replicate size null) ≡ false))
           → IsOutOfMemory e ⊎ (IsOverflow e × (IsFresh whole → fits t (slots_and whole null) ≡ false))
@@ -113,17 +133,18 @@ module _ {M : Type 0} (column : M → Column) (old : FixedListParts M) {size : �
       subst (λ (n : ℕ). KeepsFirst (column values) n (column left)) held cut in
       nulls_off child (column values) size nulls (column values) (column left) (same_becomes (column values)) own
 
-  pub mark_refused : {U : Type 0} (first ms : List Bool) (values left : M) (items : ℕ) (e : Error) → first ≡ take count old.marks → ms ≡ first
+  pub mark_refused : (first ms : List Bool) (values left : M) (items : ℕ) (e : Error) → first ≡ take (items / size) old.marks → ms ≡ first
       → items ≡ column_len child → Becomes child (slots child ++ replicate size null) (column values) → KeepsFirst (column values) items (column left)
-      → IsOutOfMemory e ⊎ (IsOverflow e × (most_slots ≤ count))
-      → AddsNull {U} whole (fixed_lists_column column (fixed_list_parts t ms left)) (Err e)
+      → IsOutOfMemory e ⊎ (IsOverflow e × (most_slots ≤ items / size))
+      → Becomes whole (slots whole) (fixed_lists_column column (fixed_list_parts t ms left))
+      × (IsOutOfMemory e ⊎ (IsOverflow e × (IsFresh whole → fits t (slots_and whole null) ≡ false)))
   mark_refused first ms values left items e kept same held nulls cut why =
-      (refused ms left (same ∙ kept) (items_again values left items held nulls cut), reason why)
+      (refused ms left (first_marks items first ms held kept same) (items_again values left items held nulls cut), reason why)
     where
-      reason : IsOutOfMemory e ⊎ (IsOverflow e × (most_slots ≤ count))
+      reason : IsOutOfMemory e ⊎ (IsOverflow e × (most_slots ≤ items / size))
           → IsOutOfMemory e ⊎ (IsOverflow e × (IsFresh whole → fits t (slots_and whole null) ≡ false))
       reason (inl memory) = inl memory
-      reason (inr over) = inr (over.0, λ _. full t are_some old.marks child over.1)
+      reason (inr over) = inr (over.0, λ _. full t are_some old.marks child (omega (arith, over.1, count_is items held)))
 
   -- ---- the first lists
 

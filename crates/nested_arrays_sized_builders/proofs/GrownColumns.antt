@@ -1,14 +1,18 @@
 -- Columns that become others step by step: nulls that are pushed one after another, and are taken off again.
 use Rattle.std.proofs.Common.{◌≡◌, ◌∙◌, ◌<◌, ◌≤◌, ◌+◌, ◌-◌, ℕ, List, [], ◌∷◌, ◌++◌, length, take, replicate, get_or, Bool, true, false, refl, sym, ap, arith}
 use Rattle.std.proofs.Common.{subst}
-use Rattle.std.specs.Prelude.{min}
+use Rattle.std.specs.Prelude.{min, ◌⊎◌}
+use mathlib.Core.Logic.{inl, inr}
+use Rattle.nested_arrays_generic_builders.specs.nulls.columnar_memory.declared.Error.{Error}
 use Rattle.std.proofs.lemmas.List.{append_assoc, append-nil, get_or_append_left, length-append, length-take, replicate-append-replicate, take_at}
+use Rattle.nested_arrays_generic_builders.specs.nulls.columnar_memory.Error.{IsOutOfMemory, IsOverflow}
 use Rattle.nested_arrays_generic_builders.specs.nulls.columns.OpenBatch.{fits}
 use Rattle.nested_arrays_generic_builders.specs.nulls.columns.Slots.{Slot, null}
 use Rattle.nested_arrays_generic_builders.specs.nulls.columns.SoundColumns.{is_sound}
 use Rattle.nested_arrays_generic_builders.specs.nulls.columns.StoredColumns.{Column, column_len, column_type, slot_at, slots}
 use Rattle.nested_arrays_generic_builders.specs.pushes.cells.parts.Open.{opened}
 use Rattle.nested_arrays_generic_builders.specs.pushes.cells.taken.OpenColumns.{Becomes, IsFresh, KeepsFirst, slots_and}
+use Rattle.nested_arrays_generic_builders.proofs.OpenLists.{same_becomes}
 use Rattle.nested_arrays_generic_builders.proofs.pushes_lemmas.cells_lemmas.taken_lemmas.OpenColumns.{open_sound}
 use Rattle.nested_arrays_generic_builders.proofs.pushes_lemmas.columns_lemmas.ColumnSizes.{slots_lengths}
 use Rattle.nested_arrays_generic_builders.proofs.pushes_lemmas.columns_lemmas.FreshPlaces.{at_window}
@@ -90,3 +94,29 @@ module _ (a b : Column) (n : ℕ) (h : Becomes a (slots a ++ replicate n null) b
     where
       sum : n < count → n + 1 + (count - (n + 1)) ≡ count
       sum less = omega (arith, less)
+
+-- ---- nulls that are pushed in a loop
+
+pub nulls_begun : (c : Column) → Becomes c (slots c ++ replicate 0 null) c
+nulls_begun c = subst (λ (xs : List Slot). Becomes c xs c) (sym (append-nil (slots c))) (same_becomes c)
+
+pub nulls_counted : (a b : Column) (n count : ℕ) → n ≡ count → Becomes a (slots a ++ replicate n null) b → Becomes a (slots a ++ replicate count null) b
+nulls_counted a b n count all h = subst (λ (k : ℕ). Becomes a (slots a ++ replicate k null) b) all h
+
+-- one is refused, and those before it are taken off
+pub nulls_stopped : (a b c d : Column) (n count held : ℕ) (e : Error) → Becomes a (slots a ++ replicate n null) b → n < count
+    → Becomes b (slots b) c → IsOutOfMemory e ⊎ (IsOverflow e × (IsFresh b → fits (column_type b) (slots_and b null) ≡ false))
+    → held ≡ column_len a → KeepsFirst c held d
+    → Becomes a (slots a) d
+    × (IsOutOfMemory e ⊎ (IsOverflow e × (IsFresh a → fits (column_type a) (slots a ++ replicate count null) ≡ false)))
+nulls_stopped a b c d n count held e h less same why is kept =
+    (
+      nulls_off a b n h c d same (subst (λ (k : ℕ). KeepsFirst c k d) is kept),
+      elim why [ inl memory ↦ inl memory | inr over ↦ inr (over.0, no_room a b n h count less over.1) ],
+    )
+
+-- there are as many slots left as before
+pub nulls_held : (a b c : Column) (n held : ℕ) → held ≡ column_len a → Becomes a (slots a ++ replicate n null) b → Becomes b (slots b) c
+    → held ≤ column_len c
+nulls_held a b c n held is h same =
+    omega (arith, is, same.long, slots_lengths b, h.long, length-append (slots a) (replicate n null), slots_lengths a)

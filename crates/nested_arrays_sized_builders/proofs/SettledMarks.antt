@@ -1,15 +1,18 @@
 -- Marks of which there may be more or fewer than slots, where their mask fits the slots: then each behind them has a value.
 use Rattle.std.proofs.Common.{◌≡◌, ◌∙◌, ◌<◌, ◌≤◌, ◌+◌, ◌-◌, ℕ, zero, suc, List, [], ◌++◌, length, take, replicate, Bool, true, refl, sym, ap, arith}
-use Rattle.std.specs.Prelude.{Option, None, ◌⊎◌}
+use Rattle.std.specs.Prelude.{Option, None, ◌⊎◌, ◌∷◌, Result, Ok, Err}
 use Rattle.std.proofs.lemmas.Bool.{eqb-true}
-use Rattle.std.proofs.lemmas.List.{append-nil, length-take, replicate-append-replicate, take_all}
+use Rattle.std.proofs.lemmas.List.{append-nil, append_assoc, length-append, length-replicate, length-take, replicate-append-replicate, take_all, take_at}
 use mathlib.Core.Logic.{inl, inr}
 use Rattle.nested_arrays_generic_builders.specs.nulls.columnar_memory.Bits.{unset_count}
+use Rattle.nested_arrays_generic_builders.specs.nulls.columnar_memory.declared.Error.{Error}
+use Rattle.nested_arrays_generic_builders.specs.nulls.columnar_memory.Error.{IsOutOfMemory, IsOverflow}
+use Rattle.nested_arrays_generic_builders.specs.nulls.columns.Kinds.{most_slots}
 use Rattle.nested_arrays_generic_builders.specs.nulls.columns.SoundColumns.{mask_fits}
-use Rattle.nested_arrays_generic_builders.specs.pushes.cells.parts.Marks.{marks, mask_of_marks}
+use Rattle.nested_arrays_generic_builders.specs.pushes.cells.parts.Marks.{marks, mask_of_marks, TakesMark}
 use Rattle.nested_arrays_generic_builders.proofs.ListSlots.{marks_many}
 use Rattle.nested_arrays_generic_builders.proofs.pushes_lemmas.parts_lemmas.MarkLists.{mask_none, mask_some, marks_back, none_unset, take_trues}
-use Rattle.nested_arrays_sized_builders.specs.FixedListBuilders.{filled, marks_for}
+use Rattle.nested_arrays_sized_builders.specs.FixedListBuilders.{FillsMarks, filled, marks_for}
 
 none_or_some : (n : ℕ) → (n ≡ 0) ⊎ (0 < n)
 none_or_some zero = inl refl
@@ -89,3 +92,41 @@ module _ (ms : List Bool) (n : ℕ) (fit : mask_fits (mask_of_marks ms) n ≡ tr
       whole all many =
           let none : n - length ms ≡ 0 = omega (arith, many) in
           ap (filled n) all ∙ ap (λ (k : ℕ). ms ++ replicate k true) none ∙ append-nil ms
+
+-- ---- marks that are filled up
+
+pub mark_more : (old : List Bool) (n : ℕ) → (old ++ replicate n true) ++ true ∷ [] ≡ old ++ replicate (n + 1) true
+mark_more old n =
+    append_assoc old (replicate n true) (true ∷ []) ∙ ap (λ (bits : List Bool). old ++ bits) (replicate-append-replicate n 1 true)
+
+module _ (old now new : List Bool) (n lists : ℕ) (mark : Bool) (held : now ≡ old ++ replicate n true) where
+  now_long : length now ≡ length old + n
+  now_long = ap length held ∙ length-append old (replicate n true) ∙ ap (λ (k : ℕ). length old + k) (length-replicate n true)
+
+  begins_so : take (length old) now ≡ old
+  begins_so = ap (take (length old)) held ∙ take_at old (replicate n true) (length old) refl
+
+  -- a mark of a value is refused
+  pub filling_stopped : (e : Error) → n < lists - length old → new ≡ now → IsOutOfMemory e ⊎ (IsOverflow e × (length now ≡ most_slots))
+      → (length old ≤ length new) × (take (length old) new ≡ old) × (IsOutOfMemory e ⊎ (IsOverflow e × (most_slots ≤ lists)))
+  filling_stopped e less same why = (
+    omega (arith, now_long, ap length same),
+    ap (take (length old)) same ∙ begins_so,
+    elim why [ inl memory ↦ inl memory | inr over ↦ inr (over.0, omega (arith, over.1, now_long, less)) ],
+  )
+
+  -- the last mark
+  pub filling_ends : {U : Type 0} (r : Result U Error) → length old ≤ lists → n ≡ lists - length old → TakesMark now mark new r → FillsMarks old lists mark new r
+  filling_ends (Ok u) le all h = (
+    h.0 ∙ ap (λ (bits : List Bool). bits ++ mark ∷ []) (held ∙ ap (λ (k : ℕ). old ++ replicate k true) all),
+    omega (arith, h.1, now_long, all, le),
+  )
+  filling_ends (Err e) le all h = (
+    omega (arith, now_long, ap length h.0),
+    ap (take (length old)) h.0 ∙ begins_so,
+    elim h.1 [ inl memory ↦ inl memory | inr over ↦ inr (over.0, omega (arith, over.1, now_long, all, le)) ],
+  )
+
+-- the new marks are taken off again
+pub marks_off : (old new left : List Bool) (held : ℕ) → take (length old) new ≡ old → held ≡ length old → left ≡ take held new → left ≡ old
+marks_off old new left held again is taken = taken ∙ ap (λ (k : ℕ). take k new) is ∙ again

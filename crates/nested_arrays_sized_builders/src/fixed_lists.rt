@@ -220,7 +220,10 @@ impl<M: MutableArray> MutableFixedSizeListArray<M> {
         let items = self.values.len();
         let lists = items / self.size;
         keep_marks(&mut self.marks, lists);
-        push_nulls(&mut self.values, self.size)?;
+        match push_nulls(&mut self.values, self.size) {
+            Ok(()) => {}
+            Err(error) => return Err(error),
+        }
         match mark_behind(&mut self.marks, lists, false) {
             Ok(()) => Ok(()),
             Err(error) => {
@@ -389,7 +392,10 @@ fn fill_marks(marks: &mut Marks, lists: usize, mark: bool) -> Result<()>
 {
     let missing = lists - marks.len();
     for _ in 0..missing {
-        marks.push(true)?;
+        match marks.push(true) {
+            Ok(()) => {}
+            Err(error) => return Err(error),
+        }
     }
     marks.push(mark)
 }
