@@ -1,8 +1,10 @@
-//! Builders of byte strings of one size.
+//! Builders of lists and of byte strings of one size.
 #![tactic(auto)]
 
+mod fixed_lists;
 mod sized_strings;
 
+pub use fixed_lists::MutableFixedSizeListArray;
 pub use nested_arrays_generic_builders::{
     MutValues, MutableFields, MutableListArray, MutableNullArray, MutableStructArray,
 };
