@@ -58,5 +58,4 @@ pub use Rattle.nested_arrays_sized_builders.specs.NullBuilders
 pub use Rattle.nested_arrays_sized_builders.specs.StructBuilders
 pub use Rattle.nested_arrays_sized_builders.specs.MarkedSlots
 pub use Rattle.nested_arrays_sized_builders.specs.SizedStrings
-pub use Rattle.nested_arrays_sized_builders.specs.FixedListBuilders
 pub use Rattle.nested_arrays_sized_builders.specs.pushes.cells.taken.OpenColumns

@@ -41,6 +41,6 @@ pub use nested_arrays_sized_builders::pushes::cells::cell_at;
 pub use nested_arrays_sized_builders::pushes::cells::parts::{AnyScalar, Marks};
 pub use nested_arrays_sized_builders::pushes::cells::taken::MutableArray;
 pub use nested_arrays_sized_builders::{
-    MutValues, MutableFields, MutableFixedSizeBinaryArray, MutableFixedSizeListArray,
-    MutableListArray, MutableNullArray, MutableStructArray,
+    MutValues, MutableFields, MutableFixedSizeBinaryArray, MutableListArray, MutableNullArray,
+    MutableStructArray,
 };

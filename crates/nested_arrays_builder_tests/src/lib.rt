@@ -6,7 +6,6 @@ mod begun;
 #[cfg(test)]
 mod dictionaries;
 #[cfg(test)]
-mod fixed_lists;
 mod flat_builders;
 #[cfg(test)]
 mod generic_lists;

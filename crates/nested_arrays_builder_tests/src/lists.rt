@@ -23,7 +23,7 @@ fn list_of(alloc: Global, count: i32) -> Result<AnyScalar, Error> {
 }
 
 /// Whether an array is of these numbers, with these bytes as its mask.
-pub(crate) fn holds(array: AnyArray, values: &[i32], mask: &[u8]) -> bool {
+fn holds(array: AnyArray, values: &[i32], mask: &[u8]) -> bool {
     let Node::Flat(flat) = array.node else {
         return false;
     };

@@ -1,4 +1,3 @@
-pub mod FixedListBuilders
 pub mod MarkedSlots
 pub mod SizedStrings
 pub use Rattle.nested_arrays_generic_builders.specs.nulls

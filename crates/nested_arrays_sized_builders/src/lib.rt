@@ -1,10 +1,8 @@
-//! Builders of lists and of byte strings of one size.
+//! Builders of byte strings of one size.
 #![tactic(auto)]
 
-mod fixed_lists;
 mod sized_strings;
 
-pub use fixed_lists::MutableFixedSizeListArray;
 pub use nested_arrays_generic_builders::{
     MutValues, MutableFields, MutableListArray, MutableNullArray, MutableStructArray,
 };
