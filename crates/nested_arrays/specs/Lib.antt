@@ -55,7 +55,6 @@ pub use Rattle.nested_arrays_sized_builders.specs.nulls.columnar_memory
 pub use Rattle.nested_arrays_sized_builders.specs.pushes as builders
 pub use Rattle.nested_arrays_sized_builders.specs.ListBuilders
 pub use Rattle.nested_arrays_sized_builders.specs.NullBuilders
-pub use Rattle.nested_arrays_sized_builders.specs.StructBuilders
 pub use Rattle.nested_arrays_sized_builders.specs.MarkedSlots
 pub use Rattle.nested_arrays_sized_builders.specs.SizedStrings
 pub use Rattle.nested_arrays_sized_builders.specs.pushes.cells.taken.OpenColumns

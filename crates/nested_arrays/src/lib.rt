@@ -38,9 +38,8 @@ pub use nested_arrays_sized_builders::nulls::{
 pub use nested_arrays_sized_builders::pushes::TryPushFrom;
 pub use nested_arrays_sized_builders::pushes::cells::builders::{AnyMutableArray, is_cell_of};
 pub use nested_arrays_sized_builders::pushes::cells::cell_at;
-pub use nested_arrays_sized_builders::pushes::cells::parts::{AnyScalar, Marks};
+pub use nested_arrays_sized_builders::pushes::cells::parts::AnyScalar;
 pub use nested_arrays_sized_builders::pushes::cells::taken::MutableArray;
 pub use nested_arrays_sized_builders::{
-    MutValues, MutableFields, MutableFixedSizeBinaryArray, MutableListArray, MutableNullArray,
-    MutableStructArray,
+    MutValues, MutableFixedSizeBinaryArray, MutableListArray, MutableNullArray,
 };

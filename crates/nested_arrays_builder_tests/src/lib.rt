@@ -17,5 +17,3 @@ mod marks;
 mod sized_strings;
 #[cfg(test)]
 mod strings;
-#[cfg(test)]
-mod struct_builders;

@@ -4,4 +4,3 @@ pub use Rattle.nested_arrays_generic_builders.specs.nulls
 pub use Rattle.nested_arrays_generic_builders.specs.pushes
 pub use Rattle.nested_arrays_generic_builders.specs.ListBuilders
 pub use Rattle.nested_arrays_generic_builders.specs.NullBuilders
-pub use Rattle.nested_arrays_generic_builders.specs.StructBuilders

@@ -3,9 +3,7 @@
 
 mod sized_strings;
 
-pub use nested_arrays_generic_builders::{
-    MutValues, MutableFields, MutableListArray, MutableNullArray, MutableStructArray,
-};
+pub use nested_arrays_generic_builders::{MutValues, MutableListArray, MutableNullArray};
 pub use sized_strings::MutableFixedSizeBinaryArray;
 
 /// What `nested_arrays_generic_builders::nulls` has, as far as packages above use it.
