@@ -22,7 +22,7 @@ use std::rc::Rc;
 /// one bit a value). A contract sees its data type, its stored values and its mask.
 ///
 /// A call that grows it and finds no memory answers `OutOfMemory` and changes nothing.
-#[derive(Debug, Drop)]
+#[derive(Drop)]
 pub struct MutableBooleanArray {
     pub(crate) data_type: DataType,
     pub(crate) values: MutableBitmap,

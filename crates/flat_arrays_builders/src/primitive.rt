@@ -24,7 +24,7 @@ use std::rc::Rc;
 /// A contract sees its data type, its stored values and its mask.
 ///
 /// A call that grows it and finds no memory answers `OutOfMemory` and changes nothing.
-#[derive(Debug, Drop)]
+#[derive(Drop)]
 pub struct MutablePrimitiveArray<T: NativeType> {
     pub(crate) data_type: DataType,
     pub(crate) values: Vec<T>,

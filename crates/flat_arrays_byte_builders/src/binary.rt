@@ -1,4 +1,4 @@
-ghost use Rattle.std.specs.Prelude.{◌≡◌, Bool, List, None, [], length, option_map, IfErr, ◌≤◌};
+ghost use Rattle.std.specs.Prelude.{◌≡◌, Bool, List, None, [], length, option_map, IfErr};
 ghost use Rattle.std.specs.Option.{ForSome, option_copied};
 ghost use Rattle.flat_arrays_byte_values_builders.specs.columnar_memory.Error.{IsOutOfMemory};
 ghost use Rattle.flat_arrays_byte_values_builders.specs.columnar_memory.Layouts.{physical_type};
@@ -7,7 +7,7 @@ ghost use Rattle.flat_arrays_byte_values_builders.specs.columnar_memory.Spans.{n
 ghost use Rattle.flat_arrays_byte_values_builders.specs.bytes.ByteStrings.{byte_strings, len_of, with_mask};
 ghost use Rattle.flat_arrays_byte_values_builders.specs.bytes.Fits.{IsBinary, IsMaskOf, binary_layout, binary_type};
 ghost use Rattle.flat_arrays_byte_values_builders.specs.values.Results.{AppliesTo};
-ghost use Rattle.flat_arrays_byte_values_builders.specs.Growing.{Grows, IsTaken, IsGrown, OrUnchanged, Pops, frozen_mask, with_slot, first_slots};
+ghost use Rattle.flat_arrays_byte_values_builders.specs.Growing.{Grows, IsTaken, IsGrown, OrUnchanged, Pops, frozen_mask, with_slot};
 
 use flat_arrays_byte_values_builders::bytes::BinaryArray;
 use flat_arrays_byte_values_builders::columnar_memory::{
@@ -21,7 +21,7 @@ use std::rc::Rc;
 
 /// A builder of byte strings any of which may be null. A contract sees its data type, where each byte string stands among the bytes, the
 /// bytes, of which none stand behind the last byte string, and the mask, which is made at the first null.
-#[derive(Debug, Drop)]
+#[derive(Drop)]
 pub struct MutableBinaryArray<O: Offset> {
     pub(crate) builder: ByteBuilder<O>,
 }
@@ -179,14 +179,6 @@ impl<O: Offset> MutableBinaryArray<O> {
         ensures { OrUnchanged self.old self.new result (λ slot. Pops self.old (option_map (λ v. v.items) slot) self.new) }
     {
         self.builder.pop()
-    }
-
-    /// Drops the slots from `len` on.
-    pub fn truncate(&mut self, len: usize)
-        requires { len ≤ len_of self.old }
-        ensures { self.new ≡ first_slots self.old len }
-    {
-        self.builder.truncate(len);
     }
 
     /// The data type, the offsets, the bytes and the mask.

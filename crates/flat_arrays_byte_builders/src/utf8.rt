@@ -1,4 +1,4 @@
-ghost use Rattle.std.specs.Prelude.{◌≡◌, ◌<◌, Bool, List, None, Some, slice_get, [], length, option_map, IfErr, ◌≤◌};
+ghost use Rattle.std.specs.Prelude.{◌≡◌, ◌<◌, Bool, List, None, Some, slice_get, [], length, option_map, IfErr};
 ghost use Rattle.std.specs.Option.{ForSome, option_copied};
 ghost use Rattle.std.specs.String.{string_bytes};
 ghost use Rattle.flat_arrays_byte_values_builders.specs.columnar_memory.Error.{IsOutOfMemory};
@@ -8,7 +8,7 @@ ghost use Rattle.flat_arrays_byte_values_builders.specs.columnar_memory.Spans.{n
 ghost use Rattle.flat_arrays_byte_values_builders.specs.bytes.ByteStrings.{byte_strings, len_of, values_of, with_mask};
 ghost use Rattle.flat_arrays_byte_values_builders.specs.bytes.Fits.{IsMaskOf, IsText, text_layout, text_type};
 ghost use Rattle.flat_arrays_byte_values_builders.specs.values.Results.{AppliesTo};
-ghost use Rattle.flat_arrays_byte_values_builders.specs.Growing.{Grows, IsTaken, IsGrown, OrUnchanged, Pops, frozen_mask, with_slot, first_slots};
+ghost use Rattle.flat_arrays_byte_values_builders.specs.Growing.{Grows, IsTaken, IsGrown, OrUnchanged, Pops, frozen_mask, with_slot};
 
 use flat_arrays_byte_values_builders::bytes::Utf8Array;
 use flat_arrays_byte_values_builders::columnar_memory::{
@@ -23,7 +23,7 @@ use std::str::from_utf8_unchecked;
 
 /// A builder of texts any of which may be null. A contract sees its data type, where each text stands among the bytes, the
 /// bytes, of which none stand behind the last text, and the mask, which is made at the first null.
-#[derive(Debug, Drop)]
+#[derive(Drop)]
 pub struct MutableUtf8Array<O: Offset> {
     pub(crate) builder: ByteBuilder<O>,
 }
@@ -198,14 +198,6 @@ impl<O: Offset> MutableUtf8Array<O> {
             Some(bytes) => Ok(Some(unsafe { String::from_utf8_unchecked(bytes) })),
             None => Ok(None),
         }
-    }
-
-    /// Drops the slots from `len` on.
-    pub fn truncate(&mut self, len: usize)
-        requires { len ≤ len_of self.old }
-        ensures { self.new ≡ first_slots self.old len }
-    {
-        self.builder.truncate(len);
     }
 
     /// The data type, the offsets, the bytes and the mask.

@@ -1,5 +1,4 @@
 pub mod Along
-pub mod First
 pub mod Gathered
 pub mod Growth
 pub mod Kept

@@ -5,21 +5,19 @@ ghost use Rattle.std.specs.Option.{option_copied};
 ghost use Rattle.flat_arrays_bytes.specs.columnar_memory.Error.{IsOutOfMemory, IsOutOfSpec};
 ghost use Rattle.flat_arrays_bytes.specs.columnar_memory.Layouts.{physical_type};
 ghost use Rattle.flat_arrays_bytes.specs.columnar_memory.Results.{OrOutOfMemory};
-ghost use Rattle.flat_arrays_bytes.specs.columnar_memory.Spans.{first_spans, last_of, no_spans, shortened};
+ghost use Rattle.flat_arrays_bytes.specs.columnar_memory.Spans.{last_of, no_spans, shortened};
 ghost use Rattle.flat_arrays_bytes.specs.ByteStrings.{byte_strings, len_of, marks_of, slots_of, values_of, with_mask};
 ghost use Rattle.flat_arrays_bytes.specs.Fits.{Fits, IsMaskOf, binary_layout, text_layout};
 ghost use Rattle.flat_arrays_bytes.specs.Texts.{AllTexts};
 ghost use Rattle.flat_arrays_byte_values_builders.specs.Growing.{Grows, IsFilled, IsTaken, OrUnchanged, Pops, frozen_mask};
-ghost use Rattle.flat_arrays_byte_values_builders.specs.Growing.{first_slots, pushed, trimmed, with_slot, without_last};
+ghost use Rattle.flat_arrays_byte_values_builders.specs.Growing.{pushed, trimmed, with_slot, without_last};
 
 use flat_arrays_bytes::HoldsByteStrings;
 use flat_arrays_bytes::columnar_memory::{
     Bitmap, Buffer, DataType, Error, Index, MutableBitmap, Offset, Offsets, OffsetsBuffer,
     PhysicalType, Result,
 };
-use flat_arrays_bytes::values::marks::{
-    is_mask_of, push_mark, reserve_marks, shrink_marks, truncate_mask,
-};
+use flat_arrays_bytes::values::marks::{is_mask_of, push_mark, reserve_marks, shrink_marks};
 use simdutf8::is_utf8;
 use std::alloc::Global;
 use std::marker::Model;
@@ -31,7 +29,7 @@ pub type Parts<O> = (DataType, OffsetsBuffer<O>, Buffer<u8>, Option<Bitmap>);
 /// type, and a validity mark for each where a mask is held. No bytes stand behind the last of them.
 ///
 /// A call that is refused changes nothing.
-#[derive(Debug, Drop)]
+#[derive(Drop)]
 pub struct ByteBuilder<O: Offset> {
     pub(crate) data_type: DataType,
     pub(crate) offsets: Offsets<O>,
@@ -110,18 +108,6 @@ fn drop_span<O: Offset>(offsets: &mut Offsets<O>)
     match offsets.pop() {
         Some(_) => {}
         None => {}
-    }
-}
-
-/// Takes the spans from `count` on off.
-#[tactic(auto, using(crate::proofs::First::spans_off))]
-fn keep_spans<O: Offset>(offsets: &mut Offsets<O>, count: usize)
-    requires { count ≤ length offsets.old.lengths }
-    ensures { offsets.new ≡ first_spans offsets.old count }
-{
-    let held = offsets.len_proxy();
-    for _k in 0..held - count {
-        drop_span(offsets);
     }
 }
 
@@ -428,18 +414,6 @@ impl<O: Offset> ByteBuilder<O> {
         drop_span(&mut self.offsets);
         self.values.truncate(end_of(&self.offsets));
         pop_mark(&mut self.validity);
-    }
-
-    /// Drops the slots from `len` on.
-    #[tactic(auto, using(crate::proofs::First::marks_held, crate::proofs::First::filled_first))]
-    pub fn truncate(&mut self, len: usize)
-        requires { len ≤ len_of self.old }
-        ensures cut { self.new ≡ first_slots self.old len }
-        ensures whole { IsFilled self.old }
-    {
-        keep_spans(&mut self.offsets, len);
-        self.values.truncate(end_of(&self.offsets));
-        truncate_mask(&mut self.validity, len);
     }
 
     /// The parts of an array of the same slots, with no copy.
