@@ -1,42 +1,41 @@
 //! Files whose dictionary is refused, and devices that take no more of a file.
 use crate::answers::{Short, told};
-use crate::cases::{letters, letters_schema, numbers, numbers_schema, of_one};
+use crate::cases::{letters, letters_schema, numbers, numbers_schema, of_one, texts_by_key};
 use crate::devices::{Mending, Stopped};
 use crate::file_reader::{file_of, next_of, place_of, reader_of};
-use crate::samples::{EXAMPLE, EXAMPLE_END};
+use crate::file_writer::numbers_file;
 use ipc_format::columnar_memory::Error;
-use ipc_format::nested_arrays::{AnyArray, Array};
+use ipc_format::nested_arrays::AnyArray;
 use ipc_format::{Counting, Faults, FileWriter, InMemory, Room, WriteOptions};
 use std::alloc::Global;
 use std::io::{Cursor, Write};
 use std::test::*;
 
-/// Where the schema of the example ends in its file, its batch and the file.
+/// The values of the dictionary, of which the first one is spoilt.
+const TEXTS: [&str; 2] = ["kept", "lost"];
+
+/// Where the schema ends in the file of numbers.
 const SCHEMA: usize = 208;
 
+/// Where its batch ends.
 const BATCH: usize = 496;
 
-/// Three keys into two texts.
-fn first_letters(alloc: Global) -> Result<AnyArray, Error> {
-    letters(alloc, &["kept", "lost"])
-}
-
-/// The last two of them.
-fn last_letters(alloc: Global) -> Result<AnyArray, Error> {
-    Ok(first_letters(alloc)?.sliced(1, 2))
+/// The column of the second batch.
+fn second_letters(alloc: Global) -> Result<AnyArray, Error> {
+    texts_by_key(alloc, &TEXTS, &[1, 0])
 }
 
 /// A file of two batches of one dictionary.
 fn two_batches(alloc: Global) -> Result<Vec<u8>, Error> {
     let mut chunks = Vec::new(alloc);
-    chunks.push(of_one(alloc, first_letters(alloc)?)?)?;
-    chunks.push(of_one(alloc, last_letters(alloc)?)?)?;
+    chunks.push(of_one(alloc, letters(alloc, &TEXTS)?)?)?;
+    chunks.push(of_one(alloc, second_letters(alloc)?)?)?;
     file_of(alloc, letters_schema(alloc)?, &chunks)
 }
 
-/// What a reader of a file answers to four calls, beside the last letters.
+/// What a reader of a file answers to four calls, beside the second batch.
 fn four_of<R: Room + Drop>(alloc: Global, room: R) -> Result<[Short; 4], Error> {
-    let wanted = [last_letters(alloc)?];
+    let wanted = [second_letters(alloc)?];
     let mut reader = reader_of(alloc, room)?;
     Ok([
         next_of(&mut reader, &wanted),
@@ -92,24 +91,6 @@ fn calls<W: Write + Faults>(alloc: Global, writer: &mut FileWriter<W>) -> [Short
     [start, write, told(writer.finish(alloc))]
 }
 
-/// Whether these are as many first bytes of the example's file.
-fn is_beginning(bytes: &[u8], count: usize) -> bool {
-    if bytes.len() != count {
-        return false;
-    }
-    for k in 0..count {
-        let wanted = match k {
-            0..8 => b"ARROW1\0\0".get(k),
-            8..504 => EXAMPLE.get(k - 8),
-            _ => EXAMPLE_END.get(k - 504),
-        };
-        if bytes.get(k) != wanted {
-            return false;
-        }
-    }
-    true
-}
-
 /// What three calls answer where a device takes so many bytes, what they answer then, and whether the file is written so far.
 fn stopped_at(
     alloc: Global,
@@ -121,13 +102,16 @@ fn stopped_at(
         room,
         may_fail,
     };
+    let whole = numbers_file(alloc)?;
     let schema = numbers_schema(alloc)?;
     let options = WriteOptions::new();
     let mut writer = FileWriter::new(alloc, Counting::new(device), schema, None, options)?;
     let first = calls(alloc, &mut writer);
     let later = calls(alloc, &mut writer);
     let counting = writer.into_inner();
-    Ok((first, later, is_beginning(&counting.device.bytes, room)))
+    let bytes = counting.device.bytes.as_slice();
+    let is_beginning = bytes.len() == room && whole.starts_with(bytes);
+    Ok((first, later, is_beginning))
 }
 
 #[test]
