@@ -10,7 +10,6 @@ pub(crate) enum Short {
     OutOfSpec,
     InvalidArgument,
     NotYetImplemented,
-    Io,
     Other,
 }
 
@@ -19,7 +18,6 @@ fn short_of_error(error: &Error) -> Short {
         Error::OutOfSpec(_) => Short::OutOfSpec,
         Error::InvalidArgumentError(_) => Short::InvalidArgument,
         Error::NotYetImplemented(_) => Short::NotYetImplemented,
-        Error::Io(_) => Short::Io,
         _ => Short::Other,
     }
 }

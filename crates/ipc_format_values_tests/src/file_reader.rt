@@ -21,11 +21,7 @@ fn schema_of(alloc: Global, first: DataType, second: DataType) -> Result<Schema,
 }
 
 /// The file of some batches.
-pub(crate) fn file_of(
-    alloc: Global,
-    schema: Schema,
-    chunks: &[Chunk<AnyArray>],
-) -> Result<Vec<u8>, Error> {
+fn file_of(alloc: Global, schema: Schema, chunks: &[Chunk<AnyArray>]) -> Result<Vec<u8>, Error> {
     let mut writer = FileWriter::try_new(
         alloc,
         Vec::new(alloc),
@@ -51,7 +47,7 @@ fn five_batches(alloc: Global) -> Result<Vec<u8>, Error> {
 }
 
 /// Where a word stands first in some bytes, or their length.
-pub(crate) fn place_of(bytes: &[u8], word: &[u8]) -> usize {
+fn place_of(bytes: &[u8], word: &[u8]) -> usize {
     for k in 0..bytes.len() {
         if bytes[k..].starts_with(word) {
             return k;
@@ -76,10 +72,7 @@ fn spoilt_texts(alloc: Global) -> Result<Vec<u8>, Error> {
 }
 
 /// A reader of all columns of a file.
-pub(crate) fn reader_of<R: Room + Drop>(
-    alloc: Global,
-    mut room: R,
-) -> Result<FileReader<R>, Error> {
+fn reader_of<R: Room + Drop>(alloc: Global, mut room: R) -> Result<FileReader<R>, Error> {
     let metadata = read_file_metadata(alloc, &mut room)?;
     FileReader::new(alloc, room, metadata, None, None)
 }
@@ -100,7 +93,7 @@ fn reader_of_columns<R: Room + Drop>(
 }
 
 /// What a reader answers next, beside some columns.
-pub(crate) fn next_of<R: Room + Drop>(reader: &mut FileReader<R>, wanted: &[AnyArray]) -> Short {
+fn next_of<R: Room + Drop>(reader: &mut FileReader<R>, wanted: &[AnyArray]) -> Short {
     match reader.next() {
         None => Short::Nothing,
         Some(Ok(chunk)) if chunk.arrays() == wanted => Short::Expected,
