@@ -1,5 +1,3 @@
-pub mod FlatKinds
-pub mod FlatSlots
 pub mod FrozenParts
 pub mod KeptArrays
 pub mod OpenColumns

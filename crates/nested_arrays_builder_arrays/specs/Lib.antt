@@ -1,4 +1,3 @@
-pub mod FlatBuilders
 pub mod FrozenKeys
 pub mod Layouts
 pub mod OpenColumns

@@ -1,7 +1,6 @@
 //! Arrays of what builders of any type hold.
 #![tactic(auto)]
 
-mod flat_builders;
 mod frozen;
 mod keys;
 mod mutable_array;

@@ -6,8 +6,6 @@ mod begun;
 #[cfg(test)]
 mod dictionaries;
 #[cfg(test)]
-mod flat_builders;
-#[cfg(test)]
 mod generic_lists;
 #[cfg(test)]
 mod lists;
