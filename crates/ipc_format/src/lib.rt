@@ -72,7 +72,7 @@ pub mod metadata {
     };
 }
 
-/// Theorems of the definitions, as functions without a body: what is written reads back, choices are those of the whole, seals tell tables apart.
+/// Theorems of the definitions, as functions that do nothing: what is written reads back, choices are those of the whole, seals tell tables apart.
 pub mod reading_laws {
     pub use ipc_format_files::reading_laws::{
         appended_files_read_back, choices_are_isolated, choices_are_of_the_whole,
