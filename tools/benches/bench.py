@@ -7,7 +7,7 @@
     bench.py memory PROGRAM FOLDER     the jobs of `benches memory`, against plain_memory.rs, as a table
     bench.py flat PROGRAM FOLDER       the jobs of `benches flat`, against plain_flat.rs, as a table
     bench.py nested PROGRAM FOLDER     the jobs of `benches nested`, against plain_nested.rs, as a table
-    bench.py metadata PROGRAM FOLDER   the jobs of `benches metadata` at three sizes, against a copy of the metadata's bytes, as a table
+    bench.py metadata PROGRAM FOLDER   the jobs of `benches metadata` at three sizes, against plain_metadata.rs and a copy of the metadata's bytes
     bench.py columns PROGRAM FOLDER    the jobs of `benches columns`, against plain_columns.rs and copies of the same bytes, as a table
 
 What is made stands in FOLDER; streams are taken away at the end. Times of the program are the best of five rounds, those of the jobs
@@ -262,18 +262,20 @@ def measure_columns(program, folder):
 
 
 def measure_metadata(program, folder):
+    plain = built(folder, "plain_metadata")
     least = {}
-    print("| fields | metadata, kB | read, ms | write, ms | copy, ms | read / copy | write / copy |")
+    print("| fields | metadata, kB | job | ours, ms | plain Rust, ms | ratio | to a copy |")
     print("|---|---|---|---|---|---|---|")
     for fields in FIELDS:
-        turns = [[timed([program, "metadata"], job, fields) for job in ("read", "write", "copy")] for _ in range(TURNS)]
-        read, write, copy = (min(turn[k][0] for turn in turns) for k in range(3))
-        least[fields] = read, write
-        row = (fields, int(turns[0][0][1]) / 1e3, read / 1e6, write / 1e6, copy / 1e6, read / copy, write / copy)
-        print("| %d | %.0f | %.3f | %.3f | %.4f | %.0f | %.0f |" % row, flush=True)
+        copy, kilobytes = min(timed([plain], "copy", fields) for _ in range(TURNS))
+        for job in ("read", "write"):
+            ours, plainly = measure_job([program, "metadata"], plain, job, fields)
+            least[job, fields] = ours
+            row = (fields, int(kilobytes) / 1e3, job, ours / 1e6, plainly / 1e6, ours / plainly, ours / copy)
+            print("| %d | %.0f | %s | %.3f | %.3f | %.2f | %.0f |" % row, flush=True)
     few, many = FIELDS[0], FIELDS[-1]
-    for k, job in enumerate(("read", "write")):
-        print("%s: %.1f times as long for %d times the fields" % (job, least[many][k] / least[few][k], many // few))
+    for job in ("read", "write"):
+        print("%s: %.1f times as long for %d times the fields" % (job, least[job, many] / least[job, few], many // few))
 
 
 if __name__ == "__main__":

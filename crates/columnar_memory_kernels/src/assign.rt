@@ -1,7 +1,8 @@
-ghost use Rattle.std.specs.Prelude.{◌≡◌, ◌+◌, ◌*◌, ◌^◌, ◌<◌, ◌≤◌, length};
+ghost use Rattle.std.specs.Prelude.{◌≡◌, ◌+◌, ◌*◌, ◌^◌, ◌<◌, ◌≤◌, Bool, length, map};
+ghost use Rattle.columnar_memory_bitmap.specs.Operators.{pairwise};
 ghost use Rattle.columnar_memory_bitmap.specs.bits.Bits.{bits_of};
 ghost use Rattle.columnar_memory_bitmap.specs.bits.Words.{word_at};
-ghost use Rattle.columnar_memory_kernels.specs.Kernels.{IsWordwise, AnswersOne, AnswersTwo};
+ghost use Rattle.columnar_memory_kernels.specs.Kernels.{AnswersOne, AnswersTwo, CombinesValues, IsWordwise, TurnsValues};
 
 use crate::write::{bits_of_word, write_word};
 use columnar_memory_bitmap::bits::{BitChunk, load_word};
@@ -49,9 +50,8 @@ fn assign_two<T: BitChunk, F: Fn(T, T) -> T>(
     }
 }
 
-/// Replaces the words of a bitmap by the answers of a function to them, in place. A word has as many bits as the type `T`, and the last one
-/// is filled with false.
-pub fn unary_assign<T: BitChunk, F: Fn(T) -> T>(lhs: &mut MutableBitmap, op: F)
+/// Writes the answers of a function to the words of a bitmap over them.
+fn unary_in_place<T: BitChunk, F: Fn(T) -> T>(lhs: &mut MutableBitmap, op: F)
     requires { F.IsAlwaysCallable op }
     ensures { IsWordwise T.width (λ k. AnswersOne T.value (F.post op) (word_at T.width lhs.old k)) (length lhs.old) lhs.new }
 {
@@ -61,9 +61,8 @@ pub fn unary_assign<T: BitChunk, F: Fn(T) -> T>(lhs: &mut MutableBitmap, op: F)
     *lhs = MutableBitmap::from_vec(bytes, len);
 }
 
-/// Replaces the words of a bitmap by the answers of a function to them and to those of another of the same length, in place. A word has as
-/// many bits as the type `T`, and the last one is filled with false.
-pub fn binary_assign<T: BitChunk, F: Fn(T, T) -> T>(lhs: &mut MutableBitmap, rhs: &Bitmap, op: F)
+/// Writes the answers of a function to the words of a bitmap, and of another of the same length, over the first.
+fn binary_in_place<T: BitChunk, F: Fn(T, T) -> T>(lhs: &mut MutableBitmap, rhs: &Bitmap, op: F)
     requires callable { F.IsAlwaysCallable op }
     requires lengths { length lhs.old ≡ length rhs.now }
     ensures { IsWordwise T.width (λ k. AnswersTwo T.value (F.post op) (word_at T.width lhs.old k) (word_at T.width rhs.now k))
@@ -74,4 +73,27 @@ pub fn binary_assign<T: BitChunk, F: Fn(T, T) -> T>(lhs: &mut MutableBitmap, rhs
     let (other, offset, _) = rhs.as_slice();
     assign_two(&mut bytes, len, other, offset, op);
     *lhs = MutableBitmap::from_vec(bytes, len);
+}
+
+/// Replaces the words of a bitmap by the answers of a function to them, in place. A word has as many bits as the type `T`, and the last one
+/// is filled with false.
+pub fn unary_assign<T: BitChunk, F: Fn(T) -> T>(lhs: &mut MutableBitmap, op: F)
+    requires { F.IsAlwaysCallable op }
+    ensures words { IsWordwise T.width (λ k. AnswersOne T.value (F.post op) (word_at T.width lhs.old k)) (length lhs.old) lhs.new }
+    ensures bits { (table : Bool → Bool) → TurnsValues T.value T.width table (F.post op) → lhs.new ≡ map table lhs.old }
+{
+    unary_in_place(lhs, op);
+}
+
+/// Replaces the words of a bitmap by the answers of a function to them and to those of another of the same length, in place. A word has as
+/// many bits as the type `T`, and the last one is filled with false.
+pub fn binary_assign<T: BitChunk, F: Fn(T, T) -> T>(lhs: &mut MutableBitmap, rhs: &Bitmap, op: F)
+    requires callable { F.IsAlwaysCallable op }
+    requires lengths { length lhs.old ≡ length rhs.now }
+    ensures words { IsWordwise T.width (λ k. AnswersTwo T.value (F.post op) (word_at T.width lhs.old k) (word_at T.width rhs.now k))
+        (length lhs.old) lhs.new }
+    ensures bits { (table : Bool → Bool → Bool) → CombinesValues T.value T.width table (F.post op) →
+        lhs.new ≡ pairwise table lhs.old rhs.now }
+{
+    binary_in_place(lhs, rhs, op);
 }

@@ -3,7 +3,7 @@ ghost use Rattle.columnar_memory_bitmap.specs.bits.Words.{word_at};
 ghost use Rattle.columnar_memory_bitmap.specs.Operators as operator;
 ghost use Rattle.columnar_memory_bitmap.specs.Operators.{pairwise};
 ghost use Rattle.columnar_memory_bitmap.specs.Results.{OrOutOfMemory};
-ghost use Rattle.columnar_memory_kernels.specs.Kernels.{CombinesBits, IsWordwise, TurnsBits, part};
+ghost use Rattle.columnar_memory_kernels.specs.Kernels.{CombinesBits, CombinesFour, CombinesThree, IsWordwise, TurnsBits, fourwise, part, threewise};
 
 use crate::words::{BitWords, answered_words};
 use columnar_memory_bitmap::Bitmap;
@@ -77,8 +77,10 @@ pub fn ternary<F: Fn(u64, u64, u64) -> u64>(
     requires callable { F.IsAlwaysCallable op }
     requires second { length a1.now ≡ length a2.now }
     requires third { length a1.now ≡ length a3.now }
-    ensures { OrOutOfMemory result (IsWordwise 64 (λ k answer.
+    ensures words { OrOutOfMemory result (IsWordwise 64 (λ k answer.
         F.post op (word_at 64 a1.now k) (word_at 64 a2.now k) (word_at 64 a3.now k) answer) (length a1.now)) }
+    ensures bits { (table : Bool → Bool → Bool → Bool) → CombinesThree table (λ x y z answer. F.post op x y z answer) →
+        OrOutOfMemory result (λ b. b ≡ threewise table a1.now a2.now a3.now) }
 {
     let one = BitWords::of(a1);
     let two = BitWords::of(a2);
@@ -118,8 +120,10 @@ pub fn quaternary<F: Fn(u64, u64, u64, u64) -> u64>(
     requires second { length a1.now ≡ length a2.now }
     requires third { length a1.now ≡ length a3.now }
     requires fourth { length a1.now ≡ length a4.now }
-    ensures { OrOutOfMemory result (IsWordwise 64 (λ k answer.
+    ensures words { OrOutOfMemory result (IsWordwise 64 (λ k answer.
         F.post op (word_at 64 a1.now k) (word_at 64 a2.now k) (word_at 64 a3.now k) (word_at 64 a4.now k) answer) (length a1.now)) }
+    ensures bits { (table : Bool → Bool → Bool → Bool → Bool) → CombinesFour table (λ x y z w answer. F.post op x y z w answer) →
+        OrOutOfMemory result (λ b. b ≡ fourwise table a1.now a2.now a3.now a4.now) }
 {
     let one = BitWords::of(a1);
     let two = BitWords::of(a2);

@@ -19,8 +19,8 @@ pub use flat_arrays_byte_builders::byte_values_builders::{
     MutableUtf8ValuesIter, a_push_adds_one_slot, joined_slots_stand_behind_the_others,
 };
 pub use flat_arrays_byte_builders::bytes::{
-    BinaryArray, BinaryValueIter, ByteValuesIter, HoldsByteStrings, TextValuesIter, Utf8Array,
-    Utf8ValuesIter, a_cut_of_a_cut_of_byte_strings_is_one_cut,
+    BinaryArray, BinaryValueIter, ByteValuesIter, HoldsByteStrings, HoldsTexts, TextValuesIter,
+    Utf8Array, Utf8ValuesIter, a_cut_of_a_cut_of_byte_strings_is_one_cut,
     a_cut_of_byte_strings_has_a_range_of_the_slots, a_walk_over_byte_strings_begins_with_all_slots,
 };
 pub use flat_arrays_byte_builders::{MutableBinaryArray, MutableUtf8Array};

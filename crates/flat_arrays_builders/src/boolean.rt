@@ -3,7 +3,7 @@ ghost use Rattle.flat_arrays_values.specs.columnar_memory.Error.{IsOutOfMemory};
 ghost use Rattle.flat_arrays_values.specs.columnar_memory.Layouts.{physical_type};
 ghost use Rattle.flat_arrays_values.specs.columnar_memory.Results.{OrOutOfMemory};
 ghost use Rattle.flat_arrays_values.specs.columnar_memory.declared.PhysicalType.TheVariants as layouts;
-ghost use Rattle.flat_arrays_values.specs.Flat.{cut, flat, marks_of, slots_of, IsFlat, IsMaskOf};
+ghost use Rattle.flat_arrays_values.specs.Flat.{cut, flat, marks_of, slots_of, tidied, IsFlat, IsMaskOf};
 ghost use Rattle.flat_arrays_values.specs.Results.{IsChecked};
 ghost use Rattle.flat_arrays_values.specs.Growth.{grown, with_slots};
 ghost use Rattle.flat_arrays_values.specs.Changes.{Changes, Pops};
@@ -11,8 +11,8 @@ ghost use Rattle.flat_arrays_values.specs.Changes.{Changes, Pops};
 use flat_arrays_values::BooleanArray;
 use flat_arrays_values::columnar_memory::{DataType, Error, MutableBitmap, PhysicalType, Result};
 use flat_arrays_values::marks::{
-    freeze_mask, is_mask_of, mark_at, push_mark, reserve_marks, shrink_marks, truncate_bits,
-    truncate_mask,
+    freeze_needed_mask, is_mask_of, mark_at, push_mark, reserve_marks, shrink_marks, tidy_mask,
+    truncate_bits, truncate_mask,
 };
 use std::alloc::Global;
 use std::marker::Model;
@@ -22,7 +22,7 @@ use std::rc::Rc;
 /// one bit a value). A contract sees its data type, its stored values and its mask.
 ///
 /// A call that grows it and finds no memory answers `OutOfMemory` and changes nothing.
-#[derive(Drop)]
+#[derive(Debug, Drop)]
 pub struct MutableBooleanArray {
     pub(crate) data_type: DataType,
     pub(crate) values: MutableBitmap,
@@ -257,8 +257,17 @@ impl MutableBooleanArray {
         self.push(None)
     }
 
-    /// Drops the slots from `len` on.
+    /// Drops the slots from `len` on, and the mask where none of the others is null.
     pub fn truncate(&mut self, len: usize)
+        requires { len ≤ length self.old.values }
+        ensures { self.new ≡ tidied (cut self.old 0 len) }
+    {
+        self.keep_first(len);
+        tidy_mask(&mut self.validity);
+    }
+
+    /// Drops the slots from `len` on, and their marks.
+    fn keep_first(&mut self, len: usize)
         requires { len ≤ length self.old.values }
         ensures { self.new ≡ cut self.old 0 len }
     {
@@ -275,23 +284,23 @@ impl MutableBooleanArray {
             return None;
         }
         let slot = self.get(len - 1);
-        self.truncate(len - 1);
+        self.keep_first(len - 1);
         slot
     }
 
-    /// The array of these slots, with no copy.
+    /// The array of these slots, with no copy. It has no mask where no slot is null.
     ///
     /// # Errors
     /// `OutOfMemory`: the counts of owners found no memory.
     pub fn freeze(self) -> Result<BooleanArray>
-        ensures { OrOutOfMemory result (λ array. array ≡ self) }
+        ensures { OrOutOfMemory result (λ array. array ≡ tidied self) }
     {
         let MutableBooleanArray {
             data_type,
             values,
             validity,
         } = self;
-        Ok(BooleanArray::new(data_type, values.freeze()?, freeze_mask(validity)?))
+        Ok(BooleanArray::new(data_type, values.freeze()?, freeze_needed_mask(validity)?))
     }
 
     /// The same array behind a count of owners.
@@ -299,7 +308,7 @@ impl MutableBooleanArray {
     /// # Errors
     /// `OutOfMemory`: the counts of owners found no memory.
     pub fn into_arc(self) -> Result<Rc<BooleanArray>>
-        ensures { OrOutOfMemory result (λ array. array.value ≡ self) }
+        ensures { OrOutOfMemory result (λ array. array.value ≡ tidied self) }
     {
         let alloc = self.values.allocator();
         Ok(Rc::new(alloc, self.freeze()?)?)

@@ -47,3 +47,27 @@ impl MutableBooleanArray {
         }
     }
 }
+
+impl<'a, T: NativeType> IntoIterator for &'a MutablePrimitiveArray<T> {
+    type Item = Option<&'a T>;
+
+    type IntoIter = ZipValidity<&'a T, Iter<'a, T>, BitmapIter<'a>>;
+
+    ghost into_iter_gives = { λ builder it. StandsBefore iter_rest (λ bits. bits) builder.now it };
+
+    fn into_iter(self) -> ZipValidity<&'a T, Iter<'a, T>, BitmapIter<'a>> {
+        self.iter()
+    }
+}
+
+impl<'a> IntoIterator for &'a MutableBooleanArray {
+    type Item = Option<bool>;
+
+    type IntoIter = ZipValidity<bool, BitmapIter<'a>, BitmapIter<'a>>;
+
+    ghost into_iter_gives = { λ builder it. StandsBefore (λ values. values) (λ bits. bits) builder.now it };
+
+    fn into_iter(self) -> ZipValidity<bool, BitmapIter<'a>, BitmapIter<'a>> {
+        self.iter()
+    }
+}

@@ -4,7 +4,7 @@ ghost use Rattle.flat_arrays_values.specs.columnar_memory.Error.{IsOutOfMemory};
 ghost use Rattle.flat_arrays_values.specs.columnar_memory.Layouts.{physical_type};
 ghost use Rattle.flat_arrays_values.specs.columnar_memory.Results.{OrOutOfMemory};
 ghost use Rattle.flat_arrays_values.specs.columnar_memory.declared.PhysicalType.TheVariants as layouts;
-ghost use Rattle.flat_arrays_values.specs.Flat.{cut, flat, marks_of, slots_of, IsFlat, IsMaskOf};
+ghost use Rattle.flat_arrays_values.specs.Flat.{cut, flat, marks_of, slots_of, tidied, IsFlat, IsMaskOf};
 ghost use Rattle.flat_arrays_values.specs.Results.{ForZero, IsChecked};
 ghost use Rattle.flat_arrays_values.specs.Growth.{grown, with_slots};
 ghost use Rattle.flat_arrays_values.specs.Changes.{Changes, Pops};
@@ -14,7 +14,8 @@ use flat_arrays_values::columnar_memory::{
     Buffer, DataType, Error, MutableBitmap, NativeType, Result,
 };
 use flat_arrays_values::marks::{
-    freeze_mask, is_mask_of, mark_at, push_mark, reserve_marks, shrink_marks, truncate_mask,
+    freeze_needed_mask, is_mask_of, mark_at, push_mark, reserve_marks, shrink_marks, tidy_mask,
+    truncate_mask,
 };
 use std::alloc::Global;
 use std::marker::Model;
@@ -24,7 +25,7 @@ use std::rc::Rc;
 /// A contract sees its data type, its stored values and its mask.
 ///
 /// A call that grows it and finds no memory answers `OutOfMemory` and changes nothing.
-#[derive(Drop)]
+#[derive(Debug, Drop)]
 pub struct MutablePrimitiveArray<T: NativeType> {
     pub(crate) data_type: DataType,
     pub(crate) values: Vec<T>,
@@ -269,8 +270,17 @@ impl<T: NativeType> MutablePrimitiveArray<T> {
         self.push(None)
     }
 
-    /// Drops the slots from `len` on.
+    /// Drops the slots from `len` on, and the mask where none of the others is null.
     pub fn truncate(&mut self, len: usize)
+        requires { len ≤ length self.old.values }
+        ensures { self.new ≡ tidied (cut self.old 0 len) }
+    {
+        self.keep_first(len);
+        tidy_mask(&mut self.validity);
+    }
+
+    /// Drops the slots from `len` on, and their marks.
+    fn keep_first(&mut self, len: usize)
         requires { len ≤ length self.old.values }
         ensures { self.new ≡ cut self.old 0 len }
     {
@@ -287,23 +297,27 @@ impl<T: NativeType> MutablePrimitiveArray<T> {
             return None;
         }
         let slot = self.get(len - 1);
-        self.truncate(len - 1);
+        self.keep_first(len - 1);
         slot
     }
 
-    /// The array of these slots, with no copy.
+    /// The array of these slots, with no copy. It has no mask where no slot is null.
     ///
     /// # Errors
     /// `OutOfMemory`: the counts of owners found no memory.
     pub fn freeze(self) -> Result<PrimitiveArray<T>>
-        ensures { OrOutOfMemory result (λ array. array ≡ self) }
+        ensures { OrOutOfMemory result (λ array. array ≡ tidied self) }
     {
         let MutablePrimitiveArray {
             data_type,
             values,
             validity,
         } = self;
-        Ok(PrimitiveArray::new(data_type, Buffer::from_vec(values)?, freeze_mask(validity)?))
+        Ok(PrimitiveArray::new(
+            data_type,
+            Buffer::from_vec(values)?,
+            freeze_needed_mask(validity)?,
+        ))
     }
 
     /// The same array behind a count of owners.
@@ -311,7 +325,7 @@ impl<T: NativeType> MutablePrimitiveArray<T> {
     /// # Errors
     /// `OutOfMemory`: the counts of owners found no memory.
     pub fn into_arc(self) -> Result<Rc<PrimitiveArray<T>>>
-        ensures { OrOutOfMemory result (λ array. array.value ≡ self) }
+        ensures { OrOutOfMemory result (λ array. array.value ≡ tidied self) }
     {
         let alloc = *self.values.allocator();
         Ok(Rc::new(alloc, self.freeze()?)?)

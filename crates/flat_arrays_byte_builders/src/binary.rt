@@ -1,4 +1,4 @@
-ghost use Rattle.std.specs.Prelude.{◌≡◌, Bool, List, None, [], length, option_map, IfErr};
+ghost use Rattle.std.specs.Prelude.{◌≡◌, Bool, List, None, [], length, option_map, IfErr, ◌≤◌};
 ghost use Rattle.std.specs.Option.{ForSome, option_copied};
 ghost use Rattle.flat_arrays_byte_values_builders.specs.columnar_memory.Error.{IsOutOfMemory};
 ghost use Rattle.flat_arrays_byte_values_builders.specs.columnar_memory.Layouts.{physical_type};
@@ -7,7 +7,7 @@ ghost use Rattle.flat_arrays_byte_values_builders.specs.columnar_memory.Spans.{n
 ghost use Rattle.flat_arrays_byte_values_builders.specs.bytes.ByteStrings.{byte_strings, len_of, with_mask};
 ghost use Rattle.flat_arrays_byte_values_builders.specs.bytes.Fits.{IsBinary, IsMaskOf, binary_layout, binary_type};
 ghost use Rattle.flat_arrays_byte_values_builders.specs.values.Results.{AppliesTo};
-ghost use Rattle.flat_arrays_byte_values_builders.specs.Growing.{Grows, IsTaken, IsGrown, OrUnchanged, Pops, frozen_mask, with_slot};
+ghost use Rattle.flat_arrays_byte_values_builders.specs.Growing.{Grows, IsTaken, IsGrown, OrUnchanged, Pops, tidied, with_slot, first_slots};
 
 use flat_arrays_byte_values_builders::bytes::BinaryArray;
 use flat_arrays_byte_values_builders::columnar_memory::{
@@ -21,7 +21,7 @@ use std::rc::Rc;
 
 /// A builder of byte strings any of which may be null. A contract sees its data type, where each byte string stands among the bytes, the
 /// bytes, of which none stand behind the last byte string, and the mask, which is made at the first null.
-#[derive(Drop)]
+#[derive(Debug, Drop)]
 pub struct MutableBinaryArray<O: Offset> {
     pub(crate) builder: ByteBuilder<O>,
 }
@@ -181,6 +181,14 @@ impl<O: Offset> MutableBinaryArray<O> {
         self.builder.pop()
     }
 
+    /// Drops the slots from `len` on, and the mask where none of the others is null.
+    pub fn truncate(&mut self, len: usize)
+        requires { len ≤ len_of self.old }
+        ensures { self.new ≡ tidied (first_slots self.old len) }
+    {
+        self.builder.truncate(len);
+    }
+
     /// The data type, the offsets, the bytes and the mask.
     pub fn into_inner(self) -> (DataType, Offsets<O>, Vec<u8>, Option<MutableBitmap>)
         ensures value { self ≡ byte_strings result.0 result.1 result.2.items result.3 }
@@ -195,7 +203,7 @@ impl<O: Offset> MutableBinaryArray<O> {
     /// # Errors
     /// `OutOfMemory`: a count of owners found no memory.
     pub fn freeze(self) -> Result<BinaryArray<O>>
-        ensures { OrOutOfMemory result (λ a. a ≡ with_mask self (frozen_mask self.validity)) }
+        ensures { OrOutOfMemory result (λ a. a ≡ tidied self) }
     {
         let MutableBinaryArray { builder } = self;
         let (data_type, offsets, values, validity) = builder.freeze()?;
@@ -207,7 +215,7 @@ impl<O: Offset> MutableBinaryArray<O> {
     /// # Errors
     /// `OutOfMemory`: a count of owners found no memory.
     pub fn into_arc(self) -> Result<Rc<BinaryArray<O>>>
-        ensures { OrOutOfMemory result (λ a. a.value ≡ with_mask self (frozen_mask self.validity)) }
+        ensures { OrOutOfMemory result (λ a. a.value ≡ tidied self) }
     {
         let alloc = *self.builder.values().allocator();
         Ok(Rc::new(alloc, self.freeze()?)?)

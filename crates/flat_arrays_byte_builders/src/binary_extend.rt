@@ -134,10 +134,10 @@ impl<O: Offset> MutableBinaryArray<O> {
     /// # Errors
     /// `Overflow`: the last one would end past the greatest offset of the type.
     /// `OutOfMemory`: they found no memory.
-    pub fn from<P: AsSlice<u8> + Copy + Drop>(alloc: Global, slots: &[Option<P>]) -> Result<Self>
+    pub fn from<P: AsSlice<u8>>(alloc: Global, slots: &[Option<P>]) -> Result<Self>
         ensures { IsGathered O.greatest (byte_strings (binary_type O.IS_LARGE) no_spans [] None) (map (option_map P.items) slots.now) result }
     {
-        MutableBinaryArray::from_iter(alloc, slots.iter().copied())
+        MutableBinaryArray::from_iter(alloc, slots.iter().map(|slot| slot.as_ref()))
     }
 
     /// Copies of some byte strings, none of them null.
@@ -145,10 +145,10 @@ impl<O: Offset> MutableBinaryArray<O> {
     /// # Errors
     /// `Overflow`: the last one would end past the greatest offset of the type.
     /// `OutOfMemory`: they found no memory.
-    pub fn from_slice<P: AsSlice<u8> + Copy + Drop>(alloc: Global, values: &[P]) -> Result<Self>
+    pub fn from_slice<P: AsSlice<u8>>(alloc: Global, values: &[P]) -> Result<Self>
         ensures { IsGathered O.greatest (byte_strings (binary_type O.IS_LARGE) no_spans [] None) (map (λ value. Some (P.items value)) values.now)
             result }
     {
-        MutableBinaryArray::from_iter_values(alloc, values.iter().copied())
+        MutableBinaryArray::from_iter_values(alloc, values.iter())
     }
 }

@@ -5,10 +5,13 @@ ghost use Rattle.flat_arrays_byte_values_builders.specs.bytes.ByteStrings.{value
 ghost use Rattle.flat_arrays_byte_values_builders.specs.bytes.ByteWalks.{StandsBefore};
 
 use crate::{MutableBinaryArray, MutableUtf8Array};
+use flat_arrays_byte_values_builders::bytes::HoldsTexts;
 use flat_arrays_byte_values_builders::columnar_memory::{
     BitmapIter, MutableBitmap, Offset, ZipValidity,
 };
-use flat_arrays_byte_values_builders::{MutableBinaryValuesIter, MutableUtf8ValuesIter};
+use flat_arrays_byte_values_builders::{
+    ByteBuilder, MutableBinaryValuesIter, MutableUtf8ValuesIter,
+};
 
 /// Values beside as many marks, where one of them is false.
 fn beside_marks<'a, T, I: Iterator<Item = T>>(
@@ -45,7 +48,7 @@ impl<O: Offset> MutableUtf8Array<O> {
     pub fn values_iter(&self) -> MutableUtf8ValuesIter<'_, O>
         ensures { result ≡ values_of self.now }
     {
-        MutableUtf8ValuesIter::new(&self.builder)
+        MutableUtf8ValuesIter::new(self)
     }
 
     /// The slots from both ends: the stored texts, and where a slot is null their marks beside them.
@@ -53,5 +56,39 @@ impl<O: Offset> MutableUtf8Array<O> {
         ensures { StandsBefore self.now result }
     {
         beside_marks(self.values_iter(), self.builder.validity())
+    }
+}
+
+impl<'a, O: Offset> IntoIterator for &'a MutableBinaryArray<O> {
+    type Item = Option<&'a [u8]>;
+
+    type IntoIter = ZipValidity<&'a [u8], MutableBinaryValuesIter<'a, O>, BitmapIter<'a>>;
+
+    ghost into_iter_gives = { λ builder it. StandsBefore builder.now it };
+
+    fn into_iter(self) -> ZipValidity<&'a [u8], MutableBinaryValuesIter<'a, O>, BitmapIter<'a>> {
+        self.iter()
+    }
+}
+
+impl<'a, O: Offset> IntoIterator for &'a MutableUtf8Array<O> {
+    type Item = Option<&'a str>;
+
+    type IntoIter = ZipValidity<&'a str, MutableUtf8ValuesIter<'a, O>, BitmapIter<'a>>;
+
+    ghost into_iter_gives = { λ builder it. StandsBefore builder.now it };
+
+    fn into_iter(self) -> ZipValidity<&'a str, MutableUtf8ValuesIter<'a, O>, BitmapIter<'a>> {
+        self.iter()
+    }
+}
+
+impl<O: Offset> HoldsTexts for MutableUtf8Array<O> {
+    type Holder = ByteBuilder<O>;
+
+    ghost texts = { λ builder. builder };
+
+    fn holder(&self) -> &ByteBuilder<O> {
+        &self.builder
     }
 }

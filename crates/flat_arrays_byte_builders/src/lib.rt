@@ -2,6 +2,7 @@
 //! marks (Arrow columnar format, "Variable-size Binary Layout").
 #![tactic(auto)]
 
+mod access;
 mod binary;
 mod binary_extend;
 mod equality;

@@ -134,10 +134,10 @@ impl<O: Offset> MutableUtf8Array<O> {
     /// # Errors
     /// `Overflow`: the last one would end past the greatest offset of the type.
     /// `OutOfMemory`: they found no memory.
-    pub fn from<P: AsStr + Copy + Drop>(alloc: Global, slots: &[Option<P>]) -> Result<Self>
+    pub fn from<P: AsStr>(alloc: Global, slots: &[Option<P>]) -> Result<Self>
         ensures { IsGathered O.greatest (byte_strings (text_type O.IS_LARGE) no_spans [] None) (map (option_map P.text) slots.now) result }
     {
-        MutableUtf8Array::from_iter(alloc, slots.iter().copied())
+        MutableUtf8Array::from_iter(alloc, slots.iter().map(|slot| slot.as_ref()))
     }
 
     /// Copies of some texts, none of them null.
@@ -145,10 +145,10 @@ impl<O: Offset> MutableUtf8Array<O> {
     /// # Errors
     /// `Overflow`: the last one would end past the greatest offset of the type.
     /// `OutOfMemory`: they found no memory.
-    pub fn from_slice<P: AsStr + Copy + Drop>(alloc: Global, values: &[P]) -> Result<Self>
+    pub fn from_slice<P: AsStr>(alloc: Global, values: &[P]) -> Result<Self>
         ensures { IsGathered O.greatest (byte_strings (text_type O.IS_LARGE) no_spans [] None) (map (λ value. Some (P.text value)) values.now)
             result }
     {
-        MutableUtf8Array::from_iter_values(alloc, values.iter().copied())
+        MutableUtf8Array::from_iter_values(alloc, values.iter())
     }
 }

@@ -1,10 +1,13 @@
 -- Builders made of the items of an iterator, and of the elements of a slice.
-use Rattle.std.proofs.Common.{◌≡◌, ℕ, ◌<◌, ◌≤◌, ◌⊎◌, inl, inr, List, [], ◌∷◌, ◌++◌, length, map, refl, ap, ap₂, sym, ◌∙◌, arith, subst}
+use Rattle.std.proofs.Common.{◌≡◌, ℕ, ◌<◌, ◌≤◌, ◌⊎◌, inl, inr, List, [], ◌∷◌, ◌++◌, length, map, take, drop, refl, ap, ap₂, sym, ◌∙◌, arith, subst}
+use Rattle.std.proofs.Common.{Bor}
 use Rattle.std.proofs.iter.runs.Made.{took}
 use Rattle.std.proofs.lemmas.Iterator.{YieldsList, items_from_drains}
-use Rattle.std.proofs.lemmas.List.{map-append, map-id}
-use Rattle.std.specs.Prelude.{Option, Some, None, Result, Ok, Err}
-use Rattle.std.specs.Iterator.{AlwaysYields, DrainsIf, Yields}
+use Rattle.std.proofs.lemmas.Iterator.Consumers.{YieldsList-so_far}
+use Rattle.std.proofs.lemmas.List.{map-append, map-id, take-append-drop}
+use Rattle.std.specs.Prelude.{Option, Some, None, Result, Ok, Err, option_map}
+use Rattle.std.specs.Option.{option_copied}
+use Rattle.std.specs.Iterator.{DrainsIf, Yields}
 use Rattle.flat_arrays_bytes.specs.columnar_memory.Error.{IsOutOfMemory, IsOverflow}
 use Rattle.flat_arrays_bytes.specs.columnar_memory.Growth.{IsGrowthFault}
 use Rattle.flat_arrays_bytes.specs.columnar_memory.Spans.{last_of}
@@ -58,31 +61,49 @@ module _ {S X : Type 0} (steps : S → Option X → S → Type 0) (slot : X → 
       which (inl m) = inl m
       which (inr p) = inr (h.0 ++ h.1 ∷ [], h.2, h.3, p.0, subst (λ b. greatest < last_of b.offsets) made p.1)
 
-  -- what an iterator gave are the first of what it always gives
-  first_of_all : (ys : List X) (it : S) (xs : List X) (rest : S) → AlwaysYields steps (λ x. x) it ys → Yields steps it xs rest
-      → (zs : List X) × (xs ++ zs ≡ ys)
-  first_of_all ys it [] rest always ran = (ys, refl)
-  first_of_all [] it (x ∷ xs) rest always ran = absurd (always x ran.0 ran.1)
-  first_of_all (y ∷ ys) it (x ∷ xs) rest always ran =
-      let here = always.1 x ran.0 ran.1 in
-      let more = first_of_all ys ran.0 xs rest here.1 ran.2 in (more.0, ap₂ (λ z zs. z ∷ zs) here.0 more.1)
+-- ---- what is made of what a walk gives
 
-  -- a builder of all that an iterator gives
-  pub gathered : (greatest : ℕ) (empty : ByteStrings) (it : S) (ys : List X) (r : Result ByteStrings Error) → YieldsList steps (λ x. x) it ys
-      → GathersAlong steps greatest slot it empty r → IsGathered greatest empty (map slot ys) r
-  gathered greatest empty it ys (Ok a) always h =
-      let ran = took h.0 in
-      let drains : DrainsIf steps (Unit {0}) it h.0.items =
-      subst (λ s. DrainsIf steps (Unit {0}) s h.0.items) h.1 (ran.0, ran.1, (λ _. ran.2 h.2)) in
-      let items : h.0.items ≡ ys = sym (map-id h.0.items) ∙ items_from_drains h.0.items drains always in
-      h.3 ∙ ap (λ xs. with_slots empty (map slot xs)) items
-  gathered greatest empty it ys (Err e) always (inl m) = inl m
-  gathered greatest empty it ys (Err e) always (inr h) =
-      let rest = first_of_all ys it h.0 h.1 always.runs h.2 in
-      let first = with_slots empty (map slot h.0) in
-      let whole : with_slots empty (map slot ys) ≡ with_slots first (map slot rest.0) =
-      ap (λ xs. with_slots empty (map slot xs)) (sym rest.1) ∙ ap (with_slots empty) (map-append slot h.0 rest.0)
-      ∙ slots_in_two empty (map slot h.0) (map slot rest.0) in
-      let behind : last_of first.offsets ≤ last_of (with_slots first (map slot rest.0)).offsets = ends_behind first (map slot rest.0) in
-      let past : greatest < last_of (with_slots first (map slot rest.0)).offsets = omega (arith, behind, h.4) in
-      inr (h.3, subst (λ b. greatest < last_of b.offsets) (sym whole) past)
+-- a slot that is read through a reference
+seen_slot : {A : Type 0} (view : A → List ℕ) (slot : Option (Bor A)) → option_map (λ x. view x.now) slot ≡ option_map view (option_copied slot)
+seen_slot view None = refl
+seen_slot view (Some x) = refl
+
+-- items that stand for the slots of what they are seen as
+seen_as : {X A : Type 0} (shown : X → Option (List ℕ)) (slot : A → Option (List ℕ)) (see : X → A) → ((x : X) → shown x ≡ slot (see x))
+    → (xs : List X) → map shown xs ≡ map slot (map see xs)
+seen_as shown slot see same [] = refl
+seen_as shown slot see same (x ∷ xs) = ap₂ (λ y ys. y ∷ ys) (same x) (seen_as shown slot see same xs)
+
+module _ {S X A : Type 0} {steps : S → Option X → S → Type 0} {see : X → A} {it : S} {ys : List A} (gives : YieldsList steps see it ys)
+    (shown : X → Option (List ℕ)) (slot : A → Option (List ℕ)) (same : (x : X) → shown x ≡ slot (see x)) (greatest : ℕ) (empty : ByteStrings)
+  where
+    -- a builder of all that an iterator gives
+    pub gathered : (r : Result ByteStrings Error) → GathersAlong steps greatest shown it empty r → IsGathered greatest empty (map slot ys) r
+    gathered (Ok a) h =
+        let ran = took h.0 in
+        let drains : DrainsIf steps (Unit {0}) it h.0.items =
+        subst (λ s. DrainsIf steps (Unit {0}) s h.0.items) h.1 (ran.0, ran.1, (λ _. ran.2 h.2)) in
+        let items : map see h.0.items ≡ ys = items_from_drains h.0.items drains gives in
+        h.3 ∙ ap (with_slots empty) (seen_as shown slot see same h.0.items ∙ ap (map slot) items)
+    gathered (Err e) (inl m) = inl m
+    gathered (Err e) (inr h) =
+        let n = length h.0 in
+        let front : map shown h.0 ≡ map slot (take n ys) =
+        seen_as shown slot see same h.0 ∙ ap (map slot) (YieldsList-so_far gives h.0 h.1 h.2) in
+        let first = with_slots empty (map slot (take n ys)) in
+        let rest = map slot (drop n ys) in
+        let whole : with_slots empty (map slot ys) ≡ with_slots first rest =
+        ap (λ zs. with_slots empty (map slot zs)) (sym (take-append-drop n ys))
+        ∙ ap (with_slots empty) (map-append slot (take n ys) (drop n ys)) ∙ slots_in_two empty (map slot (take n ys)) rest in
+        let past : greatest < last_of (with_slots first rest).offsets =
+        omega (arith, ends_behind first rest, h.4, ap (λ slots. last_of (with_slots empty slots).offsets) front) in
+        inr (h.3, subst (λ b. greatest < last_of b.offsets) (sym whole) past)
+
+-- a builder of all slots that a walk gives references to
+pub gathered_slots : {S A : Type 0} {steps : S → Option (Option (Bor A)) → S → Type 0} {it : S} (slots : List (Option A))
+    → YieldsList steps option_copied it (map (λ slot. slot) slots) → (view : A → List ℕ) (greatest : ℕ) (empty : ByteStrings)
+    (r : Result ByteStrings Error) → GathersAlong steps greatest (option_map (λ x. view x.now)) it empty r
+    → IsGathered greatest empty (map (option_map view) slots) r
+gathered_slots {S} {A} {steps} {it} slots gives view =
+    gathered (subst (λ xs. YieldsList steps option_copied it xs) (map-id slots) gives) (option_map (λ x. view x.now)) (option_map view)
+    (seen_slot view)

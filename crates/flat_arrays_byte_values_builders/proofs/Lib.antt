@@ -1,4 +1,5 @@
 pub mod Along
+pub mod First
 pub mod Gathered
 pub mod Growth
 pub mod Kept

@@ -1,17 +1,17 @@
 -- How byte strings grow, slot by slot.
 use Rattle.std.specs.Prelude.{◌≡◌, ℕ, ◌-◌, ◌<◌, ◌≤◌, ◌⊎◌, Bool, true, false, Option, Some, None, List, [], ◌∷◌, ◌++◌, length, map, take, drop}
-use Rattle.std.specs.Prelude.{Result, MatchResult, if◌then◌else◌, ◌==◌, option_map}
+use Rattle.std.specs.Prelude.{Result, MatchResult, option_map}
 use Rattle.std.specs.Iterator.{Yields}
 use Rattle.std.specs.Iterator.Runs.{WholeRun}
-use Rattle.flat_arrays_bytes.specs.columnar_memory.Bits.{unset_count}
 use Rattle.flat_arrays_bytes.specs.columnar_memory.Error.{IsOutOfMemory, IsOutOfSpec, IsOverflow}
 use Rattle.flat_arrays_bytes.specs.columnar_memory.Growth.{IsGrowthFault}
 use Rattle.flat_arrays_bytes.specs.columnar_memory.Layouts.{physical_type}
 use Rattle.flat_arrays_bytes.specs.columnar_memory.Spans.{extended, first_spans, last_of, offset_at}
 use Rattle.flat_arrays_bytes.specs.columnar_memory.declared.Error.{Error}
 use Rattle.flat_arrays_bytes.specs.columnar_memory.declared.PhysicalType.{PhysicalType}
-use Rattle.flat_arrays_bytes.specs.ByteStrings.{ByteStrings, byte_strings, len_of, marks_of, slots_of}
+use Rattle.flat_arrays_bytes.specs.ByteStrings.{ByteStrings, byte_strings, len_of, marks_of, slots_of, with_mask}
 use Rattle.flat_arrays_bytes.specs.Fits.{IsMaskOf}
+use Rattle.flat_arrays_bytes.specs.values.Flat.{needed_mask}
 use Rattle.flat_arrays_bytes.specs.values.Growth.{with_marks}
 
 -- a mask has a mark for each value, and the last value ends where the bytes end
@@ -104,7 +104,6 @@ pub record Pops (old : ByteStrings) (slot : Option (List ℕ)) (new : ByteString
   pub empty : len_of old ≡ 0 → (slot ≡ None) × (new ≡ old)
   pub taken : 0 < len_of old → (new ≡ without_last old) × (slots_of old ≡ slots_of new ++ slot ∷ [])
 
--- the mask of an array made of such slots: none where no slot is null
-abbrev pub frozen_mask : Option (List Bool) → Option (List Bool)
-frozen_mask None = None
-frozen_mask (Some mask) = if unset_count mask == 0 then None else Some mask
+-- the same slots, with a mask only where one is null
+abbrev pub tidied : ByteStrings → ByteStrings
+tidied a = with_mask a (needed_mask a.validity)

@@ -1,11 +1,11 @@
-ghost use Rattle.std.specs.Prelude.{◌≡◌, None, [], true, option_map, IfErr};
+ghost use Rattle.std.specs.Prelude.{◌≡◌, None, [], true, option_map, IfErr, ◌≤◌};
 ghost use Rattle.flat_arrays_bytes.specs.columnar_memory.Error.{IsOutOfMemory};
 ghost use Rattle.flat_arrays_bytes.specs.columnar_memory.Layouts.{physical_type};
 ghost use Rattle.flat_arrays_bytes.specs.columnar_memory.Results.{OrOutOfMemory};
 ghost use Rattle.flat_arrays_bytes.specs.columnar_memory.Spans.{no_spans};
-ghost use Rattle.flat_arrays_bytes.specs.ByteStrings.{byte_strings, values_of};
+ghost use Rattle.flat_arrays_bytes.specs.ByteStrings.{byte_strings, values_of, len_of};
 ghost use Rattle.flat_arrays_bytes.specs.Fits.{IsBinary, binary_layout, binary_type};
-ghost use Rattle.flat_arrays_byte_values_builders.specs.Growing.{Grows, IsTaken, IsValues, OrUnchanged, Pops, pushed};
+ghost use Rattle.flat_arrays_byte_values_builders.specs.Growing.{Grows, IsTaken, IsValues, OrUnchanged, Pops, pushed, first_slots};
 
 use crate::builder::{ByteBuilder, binary_layout_of};
 use flat_arrays_bytes::columnar_memory::{DataType, Offset, Offsets, Result};
@@ -20,7 +20,7 @@ pub type MutableBinaryValuesIter<'a, O> = ByteValuesIter<'a, ByteBuilder<O>>;
 
 /// A builder of byte strings none of which is null. A contract sees its data type, where each byte string stands among the bytes, and the
 /// bytes, of which none stand behind the last byte string; it has no mask.
-#[derive(Drop)]
+#[derive(Debug, Drop)]
 pub struct MutableBinaryValuesArray<O: Offset> {
     pub(crate) builder: ByteBuilder<O>,
 }
@@ -155,6 +155,14 @@ impl<O: Offset> MutableBinaryValuesArray<O> {
         ensures { OrUnchanged self.old self.new result (λ slot. Pops self.old (option_map (λ v. v.items) slot) self.new) }
     {
         self.builder.pop()
+    }
+
+    /// Drops the byte strings from `len` on.
+    pub fn truncate(&mut self, len: usize)
+        requires { len ≤ len_of self.old }
+        ensures { self.new ≡ first_slots self.old len }
+    {
+        self.builder.keep_first(len);
     }
 
     /// The data type, the offsets and the bytes.

@@ -101,10 +101,10 @@ impl<O: Offset> MutableBinaryValuesArray<O> {
     /// # Errors
     /// `Overflow`: the last one would end past the greatest offset of the type.
     /// `OutOfMemory`: they found no memory.
-    pub fn from_slice<P: AsSlice<u8> + Copy + Drop>(alloc: Global, values: &[P]) -> Result<Self>
+    pub fn from_slice<P: AsSlice<u8>>(alloc: Global, values: &[P]) -> Result<Self>
         ensures { IsGathered O.greatest (byte_strings (binary_type O.IS_LARGE) no_spans [] None) (map (λ value. Some (P.items value)) values.now)
             result }
     {
-        MutableBinaryValuesArray::try_from_iter(alloc, values.iter().copied())
+        MutableBinaryValuesArray::try_from_iter(alloc, values.iter())
     }
 }

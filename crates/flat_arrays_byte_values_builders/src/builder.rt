@@ -5,19 +5,23 @@ ghost use Rattle.std.specs.Option.{option_copied};
 ghost use Rattle.flat_arrays_bytes.specs.columnar_memory.Error.{IsOutOfMemory, IsOutOfSpec};
 ghost use Rattle.flat_arrays_bytes.specs.columnar_memory.Layouts.{physical_type};
 ghost use Rattle.flat_arrays_bytes.specs.columnar_memory.Results.{OrOutOfMemory};
-ghost use Rattle.flat_arrays_bytes.specs.columnar_memory.Spans.{last_of, no_spans, shortened};
+ghost use Rattle.flat_arrays_bytes.specs.columnar_memory.Spans.{first_spans, last_of, no_spans, shortened};
 ghost use Rattle.flat_arrays_bytes.specs.ByteStrings.{byte_strings, len_of, marks_of, slots_of, values_of, with_mask};
 ghost use Rattle.flat_arrays_bytes.specs.Fits.{Fits, IsMaskOf, binary_layout, text_layout};
 ghost use Rattle.flat_arrays_bytes.specs.Texts.{AllTexts};
-ghost use Rattle.flat_arrays_byte_values_builders.specs.Growing.{Grows, IsFilled, IsTaken, OrUnchanged, Pops, frozen_mask};
-ghost use Rattle.flat_arrays_byte_values_builders.specs.Growing.{pushed, trimmed, with_slot, without_last};
+ghost use Rattle.flat_arrays_bytes.specs.values.Flat.{needed_mask};
+ghost use Rattle.flat_arrays_byte_values_builders.specs.Growing.{Grows, IsFilled, IsTaken, OrUnchanged, Pops, tidied};
+ghost use Rattle.flat_arrays_byte_values_builders.specs.Growing.{first_slots, pushed, trimmed, with_slot, without_last};
 
 use flat_arrays_bytes::HoldsByteStrings;
 use flat_arrays_bytes::columnar_memory::{
     Bitmap, Buffer, DataType, Error, Index, MutableBitmap, Offset, Offsets, OffsetsBuffer,
     PhysicalType, Result,
 };
-use flat_arrays_bytes::values::marks::{is_mask_of, push_mark, reserve_marks, shrink_marks};
+use flat_arrays_bytes::values::marks::{
+    freeze_needed_mask, is_mask_of, push_mark, reserve_marks, shrink_marks, tidy_mask,
+    truncate_mask,
+};
 use simdutf8::is_utf8;
 use std::alloc::Global;
 use std::marker::Model;
@@ -29,7 +33,7 @@ pub type Parts<O> = (DataType, OffsetsBuffer<O>, Buffer<u8>, Option<Bitmap>);
 /// type, and a validity mark for each where a mask is held. No bytes stand behind the last of them.
 ///
 /// A call that is refused changes nothing.
-#[derive(Drop)]
+#[derive(Debug, Drop)]
 pub struct ByteBuilder<O: Offset> {
     pub(crate) data_type: DataType,
     pub(crate) offsets: Offsets<O>,
@@ -111,13 +115,15 @@ fn drop_span<O: Offset>(offsets: &mut Offsets<O>)
     }
 }
 
-/// The mask of an array of slots with these marks: none where no slot is null.
-fn frozen(validity: Option<MutableBitmap>) -> Result<Option<Bitmap>>
-    ensures { OrOutOfMemory result (λ mask. mask ≡ frozen_mask validity) }
+/// Takes the spans from `count` on off.
+#[tactic(auto, using(crate::proofs::First::spans_off))]
+fn keep_spans<O: Offset>(offsets: &mut Offsets<O>, count: usize)
+    requires { count ≤ length offsets.old.lengths }
+    ensures { offsets.new ≡ first_spans offsets.old count }
 {
-    match validity {
-        Some(mask) => Option::<Bitmap>::try_from(mask),
-        None => Ok(None),
+    let held = offsets.len_proxy();
+    for _k in 0..held - count {
+        drop_span(offsets);
     }
 }
 
@@ -135,9 +141,9 @@ fn frozen_parts<O: Offset>(
     values: Vec<u8>,
     validity: Option<MutableBitmap>,
 ) -> Result<(OffsetsBuffer<O>, Buffer<u8>, Option<Bitmap>)>
-    ensures { OrOutOfMemory result (λ p. (p.0 ≡ offsets) × (p.1 ≡ values.items) × (p.2 ≡ frozen_mask validity)) }
+    ensures { OrOutOfMemory result (λ p. (p.0 ≡ offsets) × (p.1 ≡ values.items) × (p.2 ≡ needed_mask validity)) }
 {
-    let validity = frozen(validity)?;
+    let validity = freeze_needed_mask(validity)?;
     Ok((offsets.freeze()?, Buffer::from_vec(values)?, validity))
 }
 
@@ -416,12 +422,34 @@ impl<O: Offset> ByteBuilder<O> {
         pop_mark(&mut self.validity);
     }
 
+    /// Drops the slots from `len` on, and the mask where none of the others is null.
+    pub fn truncate(&mut self, len: usize)
+        requires { len ≤ len_of self.old }
+        ensures cut { self.new ≡ tidied (first_slots self.old len) }
+        ensures whole { IsFilled self.old }
+    {
+        self.keep_first(len);
+        tidy_mask(&mut self.validity);
+    }
+
+    /// Drops the slots from `len` on, and their marks.
+    #[tactic(auto, using(crate::proofs::First::marks_held, crate::proofs::First::filled_first))]
+    pub(crate) fn keep_first(&mut self, len: usize)
+        requires { len ≤ len_of self.old }
+        ensures cut { self.new ≡ first_slots self.old len }
+        ensures whole { IsFilled self.old }
+    {
+        keep_spans(&mut self.offsets, len);
+        self.values.truncate(end_of(&self.offsets));
+        truncate_mask(&mut self.validity, len);
+    }
+
     /// The parts of an array of the same slots, with no copy.
     ///
     /// # Errors
     /// `OutOfMemory`: a count of owners found no memory.
     pub fn freeze(self) -> Result<Parts<O>>
-        ensures { OrOutOfMemory result (λ p. (byte_strings p.0 p.1 p.2 p.3 ≡ with_mask self (frozen_mask self.validity)) × IsFilled self) }
+        ensures { OrOutOfMemory result (λ p. (byte_strings p.0 p.1 p.2 p.3 ≡ tidied self) × IsFilled self) }
     {
         let ByteBuilder {
             data_type,

@@ -2,11 +2,13 @@
 //! pushed one behind another, with validity marks where one is null (Arrow columnar format, "Variable-size Binary Layout").
 #![tactic(auto)]
 
+mod access;
 mod binary_values;
 mod binary_values_extend;
 mod builder;
 mod builder_join;
 mod builder_slots;
+mod iterate;
 mod laws;
 mod utf8_values;
 mod utf8_values_extend;

@@ -1,4 +1,4 @@
-ghost use Rattle.std.specs.Prelude.{◌≡◌, ◌<◌, None, Some, slice_get, [], true, option_map, IfErr};
+ghost use Rattle.std.specs.Prelude.{◌≡◌, ◌<◌, None, Some, slice_get, [], true, option_map, IfErr, ◌≤◌};
 ghost use Rattle.std.specs.String.{string_bytes};
 ghost use Rattle.flat_arrays_bytes.specs.columnar_memory.Error.{IsOutOfMemory};
 ghost use Rattle.flat_arrays_bytes.specs.columnar_memory.Layouts.{physical_type};
@@ -7,7 +7,7 @@ ghost use Rattle.flat_arrays_bytes.specs.columnar_memory.Spans.{no_spans};
 ghost use Rattle.flat_arrays_bytes.specs.ByteStrings.{byte_strings, len_of, values_of};
 ghost use Rattle.flat_arrays_bytes.specs.Fits.{IsText, text_layout, text_type};
 ghost use Rattle.flat_arrays_bytes.specs.Texts.{AllTexts};
-ghost use Rattle.flat_arrays_byte_values_builders.specs.Growing.{Grows, IsTaken, IsValues, OrUnchanged, Pops, pushed};
+ghost use Rattle.flat_arrays_byte_values_builders.specs.Growing.{Grows, IsTaken, IsValues, OrUnchanged, Pops, pushed, first_slots};
 
 use crate::builder::{ByteBuilder, text_layout_of};
 use flat_arrays_bytes::columnar_memory::{DataType, Error, Offset, Offsets, Result};
@@ -23,7 +23,7 @@ pub type MutableUtf8ValuesIter<'a, O> = TextValuesIter<'a, ByteBuilder<O>>;
 
 /// A builder of texts none of which is null. A contract sees its data type, where each text stands among the bytes, and the
 /// bytes, of which none stand behind the last text; it has no mask.
-#[derive(Drop)]
+#[derive(Debug, Drop)]
 pub struct MutableUtf8ValuesArray<O: Offset> {
     pub(crate) builder: ByteBuilder<O>,
 }
@@ -116,7 +116,7 @@ impl<O: Offset> MutableUtf8ValuesArray<O> {
     pub fn values_iter(&self) -> MutableUtf8ValuesIter<'_, O>
         ensures { result ≡ values_of self.now }
     {
-        TextValuesIter::new(&self.builder)
+        TextValuesIter::new(self)
     }
 
     /// The same as `values_iter`.
@@ -177,6 +177,14 @@ impl<O: Offset> MutableUtf8ValuesArray<O> {
             Some(bytes) => Ok(Some(unsafe { String::from_utf8_unchecked(bytes) })),
             None => Ok(None),
         }
+    }
+
+    /// Drops the texts from `len` on.
+    pub fn truncate(&mut self, len: usize)
+        requires { len ≤ len_of self.old }
+        ensures { self.new ≡ first_slots self.old len }
+    {
+        self.builder.keep_first(len);
     }
 
     /// The data type, the offsets and the bytes.

@@ -98,10 +98,10 @@ impl<O: Offset> MutableUtf8ValuesArray<O> {
     /// # Errors
     /// `Overflow`: the last one would end past the greatest offset of the type.
     /// `OutOfMemory`: they found no memory.
-    pub fn from_slice<P: AsStr + Copy + Drop>(alloc: Global, values: &[P]) -> Result<Self>
+    pub fn from_slice<P: AsStr>(alloc: Global, values: &[P]) -> Result<Self>
         ensures { IsGathered O.greatest (byte_strings (text_type O.IS_LARGE) no_spans [] None) (map (λ value. Some (P.text value)) values.now)
             result }
     {
-        MutableUtf8ValuesArray::try_from_iter(alloc, values.iter().copied())
+        MutableUtf8ValuesArray::try_from_iter(alloc, values.iter())
     }
 }

@@ -1,21 +1,24 @@
 -- Byte strings that are put one after another.
 use Rattle.std.proofs.Common.{◌≡◌, ◌∙◌, ℕ, ◌+◌, ◌≤◌, ◌<◌, Bool, true, false, List, [], ◌∷◌, ◌++◌, length, map, sum}
-use Rattle.std.proofs.Common.{drop, refl, ap, ap₂, sym, arith, Bor, append-nil, length-append, subst}
+use Rattle.std.proofs.Common.{drop, take, refl, ap, ap₂, sym, arith, Bor, append-nil, length-append, subst}
 use Rattle.std.proofs.Math.Seq.{drop-append_seam, take-append_seam}
-use Rattle.std.proofs.iter.runs.Made.{run_of_exit, run_of_turn}
-use Rattle.std.proofs.lemmas.List.{length-map, map-append}
+use Rattle.std.proofs.iter.runs.Made.{run_of_exit, run_of_turn, took}
+use Rattle.std.proofs.lemmas.Iterator.{YieldsList, items_from_drains}
+use Rattle.std.proofs.lemmas.Iterator.Consumers.{YieldsList-so_far}
+use Rattle.std.proofs.lemmas.List.{length-map, map-append, map-id, take-map}
 use Rattle.std.proofs.lemmas.List.Folds.{concat-append}
 use Rattle.std.proofs.lemmas.Result.{MatchResult-weaker}
 use Rattle.std.proofs.lemmas.Simd.{map-map}
-use Rattle.std.specs.Iterator.{Yields}
-use Rattle.std.specs.Iterator.Runs.{EachRunFrom, IsCopiedRun, Run, SomeRun, WholeRun, YieldsRefsInOrder}
-use Rattle.std.specs.List.{concat, fold}
+use Rattle.std.specs.Iterator.{DrainsIf, Yields}
+use Rattle.std.specs.Iterator.Runs.{Run, SomeRun, WholeRun}
+use Rattle.std.specs.List.{concat}
+use Rattle.std.specs.Option.{option_copied}
 use Rattle.std.specs.Prelude.{◌⊎◌, Option, Result, MatchResult, Some, None, is_some, option_map, if◌then◌else◌, ◌==◌}
 use Rattle.std.specs.Str.{IsUtf8}
 use Rattle.flat_arrays_values.specs.columnar_memory.Bits.{unset_count}
 use Rattle.flat_arrays_values.specs.columnar_memory.Error.{IsOutOfMemory, IsOverflow}
 use Rattle.flat_arrays_values.specs.columnar_memory.Spans.{Spans, extended, last_of}
-use Rattle.flat_arrays_values.proofs.columnar_memory_lemmas.buffer_lemmas.Runs.{last_of-extended, sum-cons}
+use Rattle.flat_arrays_values.proofs.columnar_memory_lemmas.buffer_lemmas.Runs.{last_of-extended, offset_at-le-last_of, sum-cons}
 use Rattle.flat_arrays_values.specs.columnar_memory.declared.DataType.{DataType}
 use Rattle.flat_arrays_values.specs.columnar_memory.declared.Error.{Error}
 use Rattle.flat_arrays_bytes.specs.ByteStrings.{ByteStrings, byte_strings, cut_by, mask_of, of_slots, of_values, packed, stored_for}
@@ -221,60 +224,72 @@ module _ {S A : Type 0} (view : A → List ℕ) (data_type : DataType) (greatest
           (λ ys. ap packed (map-map stored_for (option_map view) ys)) h.spans stored over.1,
     )
 
--- ---- what is made of a slice
+-- ---- what is made of what a walk gives
 
--- the sum of the lengths of the byte strings, and a number more
-lengths_fold : {A : Type 0} (stored : A → List ℕ) (n : ℕ) (items : List A)
-    → fold (λ total x. total + length (stored x)) n items ≡ n + sum (map length (map stored items))
-lengths_fold stored n [] = omega arith
-lengths_fold stored n (x ∷ xs) =
-    lengths_fold stored (n + length (stored x)) xs ∙ omega (arith, sum-cons (length (stored x)) (map length (map stored xs)))
+module _ {S X A : Type 0} {steps : S → Option X → S → Type 0} {see : X → A} {it : S} {xs : List A} (gives : YieldsList steps see it xs) where
+  -- a whole walk gave all
+  all_items : (p : Run steps) → p.from ≡ it → p.whole ≡ true → map see p.items ≡ xs
+  all_items p from whole =
+      let ran = took p in
+      let drains : DrainsIf steps (Unit {0}) it p.items =
+      subst (λ s. DrainsIf steps (Unit {0}) s p.items) from (ran.0, ran.1, (λ _. ran.2 whole)) in
+      items_from_drains p.items drains gives
 
-module _ {S R A : Type 0} {steps : S → Option A → S → Type 0} {source : R → Option (Bor A) → R → Type 0} (rest : R → List A) (it : R) (copied : S)
-    (xs : List A) (is : rest it ≡ xs) (order : YieldsRefsInOrder source rest)
-    (runs : EachRunFrom steps copied (λ p. SomeRun source it (λ q. IsCopiedRun p q (λ y. y.now)))) where
-  -- a whole walk over copies gave all elements
-  copied_items : (p : Run steps) → p.from ≡ copied → p.whole ≡ true → p.items ≡ xs
-  copied_items p from whole =
-      let q = runs p p.seen from in
-      let m = order q.0 q.0.seen in q.2.2 ∙ m.4 (q.2.0 ∙ whole) ∙ ap rest q.1 ∙ is
-
-  -- what any walk gave is not longer than all of it
-  copied_lengths : (stored : A → List ℕ) (p : Run steps) → p.from ≡ copied → sum (map length (map stored p.items)) ≤ sum (map length (map stored xs))
-  copied_lengths stored p from =
-      let q = runs p p.seen from in
-      let m = order q.0 q.0.seen in
-      let add = λ (total : ℕ) (x : A). total + length (stored x) in
-      let same : fold add 0 p.items ≡ fold (λ (total : ℕ) (x : Bor A). add total x.now) 0 q.0.items = q.2.4 add 0 in
-      let less : fold (λ (total : ℕ) (x : Bor A). add total x.now) 0 q.0.items ≤ fold add 0 (rest q.0.from) = m.7 add 0 (λ total x. omega arith) in
-      let all : fold add 0 (rest q.0.from) ≡ fold add 0 xs = ap (fold add 0) (ap rest q.1 ∙ is) in
-      omega (arith, same, less, all, lengths_fold stored 0 p.items, lengths_fold stored 0 xs)
+  -- any walk gave the first ones
+  first_items : (p : Run steps) → p.from ≡ it → map see p.items ≡ take (length p.items) xs
+  first_items p from =
+      let ran = took p in YieldsList-so_far gives p.items ran.0 (subst (λ s. Yields steps s p.items ran.0) from ran.1)
 
   module _ (make : List A → ByteStrings) (stored : A → List ℕ) (spans : (ys : List A) → (make ys).offsets ≡ packed (map stored ys))
       (greatest : ℕ) where
-    passed : (e : Error) → IsOutOfMemory e ⊎ (IsOverflow e × SomeRun steps copied (λ p. greatest < last_of (make p.items).offsets))
-        → IsOutOfMemory e ⊎ (IsOverflow e × (greatest < last_of (make xs).offsets))
-    passed e (inl refused) = inl refused
-    passed e (inr over) = let run = over.1 in inr (
-      over.0,
-      omega (arith, run.2, ap last_of (spans run.0.items), ap last_of (spans xs), copied_lengths stored run.0 run.1),
-    )
+    -- what is made of the first ones ends within what is made of all
+    ends_within : (n : ℕ) → last_of (make (take n xs)).offsets ≤ last_of (make xs).offsets
+    ends_within n =
+        let short : map length (map stored (take n xs)) ≡ take n (map length (map stored xs)) =
+        ap (map length) (sym (take-map stored n xs)) ∙ sym (take-map length n (map stored xs)) in
+        omega (
+          arith,
+          ap last_of (spans (take n xs)),
+          ap last_of (spans xs),
+          ap sum short,
+          offset_at-le-last_of (packed (map stored xs)) n,
+        )
 
-    of_all : (r : Result ByteStrings Error) → CollectsAlong steps greatest make copied r → IsCollected greatest (make xs) r
-    of_all r made = MatchResult-weaker r made (λ a run.
-        let same : a ≡ make xs = run.3.0 ∙ ap make (copied_items run.0 run.1 run.2) in
-        (same, omega (arith, run.3.1, ap (λ (b : ByteStrings). last_of b.offsets) same))) passed
+    module _ (made : List X → ByteStrings) (seen : (ys : List X) → made ys ≡ make (map see ys)) where
+      passed : (e : Error) → IsOutOfMemory e ⊎ (IsOverflow e × SomeRun steps it (λ p. greatest < last_of (made p.items).offsets))
+          → IsOutOfMemory e ⊎ (IsOverflow e × (greatest < last_of (make xs).offsets))
+      passed e (inl refused) = inl refused
+      passed e (inr over) =
+          let run = over.1 in
+          let first : made run.0.items ≡ make (take (length run.0.items) xs) = seen run.0.items ∙ ap make (first_items run.0 run.1) in
+          inr (over.0, omega (arith, run.2, ap (λ (a : ByteStrings). last_of a.offsets) first, ends_within (length run.0.items)))
 
-  pub values_of_slice : (view : A → List ℕ) (data_type : DataType) (greatest : ℕ) (r : Result ByteStrings Error)
-      → CollectsAlong steps greatest (λ ys. of_values data_type (map view ys)) copied r → IsCollected greatest (of_values data_type (map view xs)) r
-  values_of_slice view data_type greatest = of_all (λ ys. of_values data_type (map view ys)) view (λ ys. refl) greatest
+      of_all : (r : Result ByteStrings Error) → CollectsAlong steps greatest made it r → IsCollected greatest (make xs) r
+      of_all r h = MatchResult-weaker r h (λ a run.
+          let same : a ≡ make xs = run.3.0 ∙ seen run.0.items ∙ ap make (all_items run.0 run.1 run.2) in
+          (same, omega (arith, run.3.1, ap (λ (b : ByteStrings). last_of b.offsets) same))) passed
 
-module _ {S R A : Type 0} {steps : S → Option (Option A) → S → Type 0} {source : R → Option (Bor (Option A)) → R → Type 0}
-    (rest : R → List (Option A)) (it : R) (copied : S) (xs : List (Option A)) (is : rest it ≡ xs) (order : YieldsRefsInOrder source rest)
-    (runs : EachRunFrom steps copied (λ p. SomeRun source it (λ q. IsCopiedRun p q (λ y. y.now)))) where
-  pub slots_of_slice : (view : A → List ℕ) (data_type : DataType) (greatest : ℕ) (r : Result ByteStrings Error)
-      → CollectsAlong steps greatest (λ ys. of_slots data_type (map (option_map view) ys)) copied r
-      → IsCollected greatest (of_slots data_type (map (option_map view) xs)) r
-  slots_of_slice view data_type greatest =
-      of_all rest it copied xs is order runs (λ ys. of_slots data_type (map (option_map view) ys)) (stored_by view)
-      (λ ys. ap packed (map-map stored_for (option_map view) ys)) greatest
+  -- the array of all values that a walk gives
+  pub values_of_walk : (view : A → List ℕ) (data_type : DataType) (greatest : ℕ) (r : Result ByteStrings Error)
+      → CollectsAlong steps greatest (λ ys. of_values data_type (map (λ x. view (see x)) ys)) it r
+      → IsCollected greatest (of_values data_type (map view xs)) r
+  values_of_walk view data_type greatest =
+      of_all (λ ys. of_values data_type (map view ys)) view (λ ys. refl) greatest
+      (λ ys. of_values data_type (map (λ x. view (see x)) ys)) (λ ys. ap (of_values data_type) (sym (map-map view see ys)))
+
+-- slots that are read through references
+seen_slots : {A : Type 0} (view : A → List ℕ) (slots : List (Option (Bor A)))
+    → map (option_map (λ x. view x.now)) slots ≡ map (option_map view) (map option_copied slots)
+seen_slots view [] = refl
+seen_slots view (None ∷ slots) = ap (λ rest. None ∷ rest) (seen_slots view slots)
+seen_slots view (Some x ∷ slots) = ap (λ rest. Some (view x.now) ∷ rest) (seen_slots view slots)
+
+-- the array of all slots that a walk gives references to
+pub slots_of_walk : {S A : Type 0} {steps : S → Option (Option (Bor A)) → S → Type 0} {it : S} (slots : List (Option A))
+    → YieldsList steps option_copied it (map (λ slot. slot) slots) → (view : A → List ℕ) (data_type : DataType) (greatest : ℕ)
+    (r : Result ByteStrings Error) → CollectsAlong steps greatest (λ ys. of_slots data_type (map (option_map (λ x. view x.now)) ys)) it r
+    → IsCollected greatest (of_slots data_type (map (option_map view) slots)) r
+slots_of_walk {S} {A} {steps} {it} slots gives view data_type greatest =
+    of_all (subst (λ xs. YieldsList steps option_copied it xs) (map-id slots) gives)
+    (λ ys. of_slots data_type (map (option_map view) ys)) (stored_by view) (λ ys. ap packed (map-map stored_for (option_map view) ys)) greatest
+    (λ ys. of_slots data_type (map (option_map (λ x. view x.now)) ys)) (λ ys. ap (of_slots data_type) (seen_slots view ys))

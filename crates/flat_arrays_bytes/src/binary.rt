@@ -18,11 +18,11 @@ use std::alloc::Global;
 use std::marker::Model;
 
 /// The byte strings of an array, those under nulls too, in order or from the back.
-pub type BinaryValueIter<'a, O> = ByteValuesIter<'a, ByteColumn<O>>;
+pub type BinaryValueIter<'a, O> = ByteValuesIter<'a, BinaryArray<O>>;
 
 /// Byte strings of any length, any of which may be null (Arrow columnar format, "Variable-size Binary Layout"). A contract sees its data type,
 /// where each byte string stands among the bytes, the bytes, and its mask. A cut shares the memory.
-#[derive(Drop)]
+#[derive(Debug, Drop)]
 pub struct BinaryArray<O: Offset> {
     column: ByteColumn<O>,
 }
@@ -265,7 +265,7 @@ impl<O: Offset> BinaryArray<O> {
     pub fn values_iter(&self) -> BinaryValueIter<'_, O>
         ensures { result ≡ values_of self.now }
     {
-        ByteValuesIter::new(&self.column)
+        ByteValuesIter::new(self)
     }
 
     /// The slots from both ends: the stored byte strings, and where a slot is null their marks beside them.

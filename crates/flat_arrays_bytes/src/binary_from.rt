@@ -19,7 +19,7 @@ impl<O: Offset> BinaryArray<O> {
     /// # Errors
     /// `Overflow`: a byte string would end past the greatest offset of the type.
     /// `OutOfMemory`: the byte strings or the mask found no memory.
-    pub fn from_iter<T: AsSlice<u8> + Copy, I: Iterator<Item = Option<T>> + Drop>(
+    pub fn from_iter<T: AsSlice<u8> + Drop, I: Iterator<Item = Option<T>> + Drop>(
         alloc: Global,
         slots: I,
     ) -> Result<Self>
@@ -47,7 +47,7 @@ impl<O: Offset> BinaryArray<O> {
     /// # Errors
     /// `Overflow`: a byte string would end past the greatest offset of the type.
     /// `OutOfMemory`: the byte strings found no memory.
-    pub fn from_iter_values<T: AsSlice<u8> + Copy, I: Iterator<Item = T> + Drop>(
+    pub fn from_iter_values<T: AsSlice<u8> + Drop, I: Iterator<Item = T> + Drop>(
         alloc: Global,
         values: I,
     ) -> Result<Self>
@@ -70,10 +70,10 @@ impl<O: Offset> BinaryArray<O> {
     /// # Errors
     /// `Overflow`: a byte string would end past the greatest offset of the type.
     /// `OutOfMemory`: the byte strings or the mask found no memory.
-    pub fn from<T: AsSlice<u8> + Copy>(alloc: Global, slots: &[Option<T>]) -> Result<Self>
+    pub fn from<T: AsSlice<u8>>(alloc: Global, slots: &[Option<T>]) -> Result<Self>
         ensures { IsCollected O.greatest (of_slots (binary_type O.IS_LARGE) (map (option_map T.items) slots.now)) result }
     {
-        BinaryArray::from_iter(alloc, slots.iter().copied())
+        BinaryArray::from_iter(alloc, slots.iter().map(|slot| slot.as_ref()))
     }
 
     /// Some values, with no null.
@@ -81,10 +81,10 @@ impl<O: Offset> BinaryArray<O> {
     /// # Errors
     /// `Overflow`: a byte string would end past the greatest offset of the type.
     /// `OutOfMemory`: the byte strings found no memory.
-    pub fn from_slice<T: AsSlice<u8> + Copy>(alloc: Global, values: &[T]) -> Result<Self>
+    pub fn from_slice<T: AsSlice<u8>>(alloc: Global, values: &[T]) -> Result<Self>
         ensures { IsCollected O.greatest (of_values (binary_type O.IS_LARGE) (map T.items values.now)) result }
     {
-        BinaryArray::from_iter_values(alloc, values.iter().copied())
+        BinaryArray::from_iter_values(alloc, values.iter())
     }
 
     /// The byte strings between offsets, under their plainest data type.

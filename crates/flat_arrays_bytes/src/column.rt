@@ -20,7 +20,7 @@ use std::marker::Model;
 
 /// Byte strings, each between two neighbouring offsets, a data type, and a validity mark for each where a mask is held (Arrow columnar
 /// format, "Variable-size Binary Layout", "Validity bitmaps"). A contract sees just these parts. A cut shares the memory.
-#[derive(Drop)]
+#[derive(Debug, Drop)]
 pub struct ByteColumn<O: Offset> {
     data_type: DataType,
     offsets: OffsetsBuffer<O>,

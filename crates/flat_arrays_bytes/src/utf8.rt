@@ -24,9 +24,9 @@ pub type Utf8ValuesIter<'a, O> = TextValuesIter<'a, ByteColumn<O>>;
 
 /// Texts of any length, any of which may be null (Arrow columnar format, "Variable-size Binary Layout"). A contract sees its data type, where
 /// each text stands among the bytes, the bytes, and its mask. Each stored text, under a null too, is UTF-8 by itself. A cut shares the memory.
-#[derive(Drop)]
+#[derive(Debug, Drop)]
 pub struct Utf8Array<O: Offset> {
-    column: ByteColumn<O>,
+    pub(crate) column: ByteColumn<O>,
 }
 
 impl<O: Offset> Model for Utf8Array<O> {
@@ -284,7 +284,7 @@ impl<O: Offset> Utf8Array<O> {
     pub fn values_iter(&self) -> Utf8ValuesIter<'_, O>
         ensures { result ≡ values_of self.now }
     {
-        TextValuesIter::new(&self.column)
+        TextValuesIter::new(self)
     }
 
     /// The slots from both ends: the stored texts, and where a slot is null their marks beside them.

@@ -20,7 +20,7 @@ impl<O: Offset> Utf8Array<O> {
     /// # Errors
     /// `Overflow`: a text would end past the greatest offset of the type.
     /// `OutOfMemory`: the texts or the mask found no memory.
-    pub fn from_iter<T: AsStr + Copy, I: Iterator<Item = Option<T>> + Drop>(
+    pub fn from_iter<T: AsStr + Drop, I: Iterator<Item = Option<T>> + Drop>(
         alloc: Global,
         slots: I,
     ) -> Result<Self>
@@ -48,7 +48,7 @@ impl<O: Offset> Utf8Array<O> {
     /// # Errors
     /// `Overflow`: a text would end past the greatest offset of the type.
     /// `OutOfMemory`: the texts found no memory.
-    pub fn from_iter_values<T: AsStr + Copy, I: Iterator<Item = T> + Drop>(
+    pub fn from_iter_values<T: AsStr + Drop, I: Iterator<Item = T> + Drop>(
         alloc: Global,
         values: I,
     ) -> Result<Self>
@@ -71,10 +71,10 @@ impl<O: Offset> Utf8Array<O> {
     /// # Errors
     /// `Overflow`: a text would end past the greatest offset of the type.
     /// `OutOfMemory`: the texts or the mask found no memory.
-    pub fn from<T: AsStr + Copy>(alloc: Global, slots: &[Option<T>]) -> Result<Self>
+    pub fn from<T: AsStr>(alloc: Global, slots: &[Option<T>]) -> Result<Self>
         ensures { IsCollected O.greatest (of_slots (text_type O.IS_LARGE) (map (option_map T.text) slots.now)) result }
     {
-        Utf8Array::from_iter(alloc, slots.iter().copied())
+        Utf8Array::from_iter(alloc, slots.iter().map(|slot| slot.as_ref()))
     }
 
     /// Some values, with no null.
@@ -82,10 +82,10 @@ impl<O: Offset> Utf8Array<O> {
     /// # Errors
     /// `Overflow`: a text would end past the greatest offset of the type.
     /// `OutOfMemory`: the texts found no memory.
-    pub fn from_slice<T: AsStr + Copy>(alloc: Global, values: &[T]) -> Result<Self>
+    pub fn from_slice<T: AsStr>(alloc: Global, values: &[T]) -> Result<Self>
         ensures { IsCollected O.greatest (of_values (text_type O.IS_LARGE) (map T.text values.now)) result }
     {
-        Utf8Array::from_iter_values(alloc, values.iter().copied())
+        Utf8Array::from_iter_values(alloc, values.iter())
     }
 
     /// The texts between offsets, under their plainest data type.

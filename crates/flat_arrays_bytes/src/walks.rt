@@ -9,7 +9,7 @@ use std::iter::FusedIterator;
 use std::marker::Model;
 use std::str::from_utf8_unchecked;
 
-/// What holds byte strings that are read by their places: a column, or a builder of one.
+/// What holds byte strings that are read by their places: a column, an array or a builder.
 pub trait HoldsByteStrings {
     // the byte strings, and all that stands beside them
     ghost held: { Self → ByteStrings };
@@ -98,7 +98,28 @@ impl<'a, H: HoldsByteStrings> DoubleEndedIterator for ByteValuesIter<'a, H> {
     }
 }
 
+impl<'a, H: HoldsByteStrings> ExactSizeIterator for ByteValuesIter<'a, H> {
+    #[tactic(auto, using(crate::proofs::Ranges::range_len, crate::proofs::Slots::length_values))]
+    fn len(&self) -> usize {
+        self.end - self.start
+    }
+}
+
 impl<'a, H: HoldsByteStrings> FusedIterator for ByteValuesIter<'a, H> {}
+
+/// What holds texts alone, as arrays and builders of texts do, in something that holds byte strings.
+pub trait HoldsTexts {
+    /// What the texts stand in.
+    type Holder: HoldsByteStrings;
+
+    // the texts, and all that stands beside them
+    ghost texts: { Self → ByteStrings };
+
+    /// What the texts stand in, each of which is UTF-8 by itself.
+    fn holder(&self) -> &Self::Holder
+        ensures held { Self.Holder.held result.now ≡ texts self.now }
+        ensures texts { AllTexts (values_of (texts self.now)) };
+}
 
 /// Stored texts, those under nulls too, seen as the list of those that are left.
 #[derive(Drop)]
@@ -118,8 +139,15 @@ impl<'a, H: HoldsByteStrings> Model for TextValuesIter<'a, H> {
 }
 
 impl<'a, H: HoldsByteStrings> TextValuesIter<'a, H> {
-    /// All of the texts, of what holds texts alone.
-    pub fn new(holder: &'a H) -> Self
+    /// All of the texts of an array or a builder.
+    pub fn new<T: HoldsTexts<Holder = H>>(texts: &'a T) -> Self
+        ensures { result ≡ values_of (T.texts texts.now) }
+    {
+        TextValuesIter::over(texts.holder())
+    }
+
+    /// All of the byte strings of what holds texts alone.
+    pub fn over(holder: &'a H) -> Self
         requires { AllTexts (values_of (H.held holder.now)) }
         ensures { result ≡ values_of (H.held holder.now) }
     {
@@ -161,6 +189,12 @@ impl<'a, H: HoldsByteStrings> DoubleEndedIterator for TextValuesIter<'a, H> {
             Some(bytes) => Some(unsafe { from_utf8_unchecked(bytes) }),
             None => None,
         }
+    }
+}
+
+impl<'a, H: HoldsByteStrings> ExactSizeIterator for TextValuesIter<'a, H> {
+    fn len(&self) -> usize {
+        self.values.len()
     }
 }
 

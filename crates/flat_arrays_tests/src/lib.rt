@@ -20,8 +20,12 @@ mod number_builders;
 #[cfg(test)]
 mod numbers;
 #[cfg(test)]
+mod owned;
+#[cfg(test)]
 mod utf8;
 #[cfg(test)]
 mod utf8_builders;
 #[cfg(test)]
 mod utf8_values;
+#[cfg(test)]
+mod walks;

@@ -10,7 +10,7 @@ use Rattle.std.specs.Prelude.{Option, Some, None, is_some, unwrap_or, cond, ◌=
 use Rattle.columnar_memory.specs.Bits.{unset_count}
 use Rattle.columnar_memory.proofs.bits_lemmas.Counts.{unset_count_append}
 use Rattle.flat_arrays_values.proofs.MarkPlaces.{all_set}
-use Rattle.flat_arrays_values.specs.Flat.{Flat, flat, IsMaskOf}
+use Rattle.flat_arrays_values.specs.Flat.{Flat, flat, needed_mask, IsMaskOf}
 use Rattle.flat_arrays_values.specs.Growth.{grown, with_mark, with_marks, with_slots, with_values}
 use mathlib.Core.Bool.{true≢false}
 
@@ -51,6 +51,18 @@ positive (suc k) some = eqb-suc-zero k
 pub none_or_some : (k : ℕ) → (k ≡ 0) ⊎ (0 < k)
 none_or_some zero = inl refl
 none_or_some (suc k) = inr (omega arith)
+
+needed-masked : (n : ℕ) (validity : Option (List Bool)) → IsMaskOf n validity → IsMaskOf n (needed_mask validity)
+needed-masked n None is = is
+needed-masked n (Some mask) is =
+    elim (unset_count mask == 0) as (λ b. IsMaskOf n (if b then None else Some mask)) [
+      | true ↦ no-mask n
+      | false ↦ is
+    ]
+
+-- a mask that was let go where no slot is null has a mark for each value
+pub needed_masked : (n : ℕ) (validity mask : Option (List Bool)) → mask ≡ needed_mask validity → IsMaskOf n validity → IsMaskOf n mask
+needed_masked n validity mask same is = subst (IsMaskOf n) (sym same) (needed-masked n validity is)
 
 -- a false mark makes a mask, where there was none
 pub made : (n : ℕ) (bits : List Bool) → 0 < unset_count bits → with_marks n None bits ≡ Some (replicate n true ++ bits)

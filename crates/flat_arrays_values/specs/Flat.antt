@@ -72,6 +72,15 @@ nulls data_type zero n = flat data_type (replicate n zero) (Some (replicate n fa
 abbrev pub mask_of : List Bool → Option (List Bool)
 mask_of bits = if unset_count bits == 0 then None else Some bits
 
+-- a mask where a slot is null, and else none
+abbrev pub needed_mask : Option (List Bool) → Option (List Bool)
+needed_mask None = None
+needed_mask (Some mask) = mask_of mask
+
+-- the same slots, with a mask only where one is null
+abbrev pub tidied : {V : Type 0} → Flat V → Flat V
+tidied a = flat a.data_type a.values (needed_mask a.validity)
+
 -- the array of these slots, which stores this value for each null
 abbrev pub of_slots : {V : Type 0} → DataType → V → List (Option V) → Flat V
 of_slots data_type zero slots = flat data_type (map (λ slot. unwrap_or slot zero) slots) (mask_of (map is_some slots))

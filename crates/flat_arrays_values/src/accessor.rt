@@ -91,3 +91,9 @@ impl<A: ArrayAccessor + Drop> DoubleEndedIterator for ArrayValuesIter<A> {
         Some(self.array.value(self.stop))
     }
 }
+
+impl<A: ArrayAccessor + Drop> ExactSizeIterator for ArrayValuesIter<A> {
+    fn len(&self) -> usize {
+        self.stop - self.index
+    }
+}

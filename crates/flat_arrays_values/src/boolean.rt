@@ -13,7 +13,7 @@ use std::marker::Model;
 
 /// Booleans, any of which may be null (Arrow columnar format, "Fixed-size Primitive Layout", one bit a value). A contract sees its data
 /// type, its stored values and its mask. A cut has the same memory.
-#[derive(Drop)]
+#[derive(Debug, Drop)]
 pub struct BooleanArray {
     data_type: DataType,
     values: Bitmap,

@@ -3,7 +3,7 @@
 ghost use Rattle.std.specs.Prelude.{◌≡◌, ◌<◌, ◌≤◌, ℕ, Bool, List, [], ◌∷◌, ◌++◌, false, length, replicate, true, slice_get, take, ◌↔◌, IsTrue, Some};
 ghost use Rattle.std.specs.Option.{ForSome};
 ghost use Rattle.columnar_memory.specs.Results.{OrOutOfMemory};
-ghost use Rattle.flat_arrays_values.specs.Flat.{cut_mask, marks, IsMaskOf};
+ghost use Rattle.flat_arrays_values.specs.Flat.{cut_mask, marks, needed_mask, IsMaskOf};
 ghost use Rattle.either.specs.Either.{MatchEither};
 ghost use Rattle.flat_arrays_values.specs.Results.{AppliesTo};
 ghost use Rattle.flat_arrays_values.specs.Growth.{with_mark, with_marks};
@@ -54,6 +54,21 @@ pub fn truncate_mask(validity: &mut Option<MutableBitmap>, len: usize)
 {
     if let Some(mask) = validity {
         truncate_bits(mask, len);
+    }
+}
+
+/// Lets a mask go where no slot is null.
+#[tactic(auto, using(crate::proofs::Marked::needed_masked))]
+pub fn tidy_mask(validity: &mut Option<MutableBitmap>)
+    ensures value { validity.new ≡ needed_mask validity.old }
+    ensures masked { (n : ℕ) → IsMaskOf n validity.old → IsMaskOf n validity.new }
+{
+    let is_needless = match validity {
+        Some(mask) => mask.unset_bits() == 0,
+        None => false,
+    };
+    if is_needless {
+        *validity = None;
     }
 }
 
@@ -156,6 +171,19 @@ pub fn freeze_mask(validity: Option<MutableBitmap>) -> Result<Option<Bitmap>>
         Some(mask) => Ok(Some(mask.freeze()?)),
         None => Ok(None),
     }
+}
+
+/// The mask of an array, with no copy; none where no slot is null.
+///
+/// # Errors
+/// `OutOfMemory`: the count of owners found no memory.
+pub fn freeze_needed_mask(validity: Option<MutableBitmap>) -> Result<Option<Bitmap>>
+    ensures value { OrOutOfMemory result (λ mask. mask ≡ needed_mask validity) }
+    ensures masked { (n : ℕ) → IsMaskOf n validity → OrOutOfMemory result (IsMaskOf n) }
+{
+    let mut validity = validity;
+    tidy_mask(&mut validity);
+    freeze_mask(validity)
 }
 
 /// Adds `count` equal marks behind those of `held` values.

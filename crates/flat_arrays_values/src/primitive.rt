@@ -15,7 +15,7 @@ use std::marker::Model;
 
 /// Values of one width, any of which may be null (Arrow columnar format, "Fixed-size Primitive Layout"). A contract sees its data type, its
 /// stored values and its mask. A clone and a cut share the memory.
-#[derive(Drop)]
+#[derive(Debug, Drop)]
 pub struct PrimitiveArray<T: NativeType> {
     data_type: DataType,
     values: Buffer<T>,

@@ -60,6 +60,7 @@ pub use Rattle.ipc_format_files.specs.stream_writer.reader.chunk_writing.BatchRe
 pub use Rattle.ipc_format_files.specs.stream_writer.reader.chunk_writing.BufferCounts
 pub use Rattle.ipc_format_files.specs.stream_writer.reader.chunk_writing.Projections
 pub use Rattle.ipc_format_files.specs.stream_writer.reader.chunk_writing.DictionaryReads
+pub use Rattle.ipc_format_files.specs.stream_writer.reader.chunk_writing.NamedValues
 pub use Rattle.ipc_format_files.specs.stream_writer.reader.chunk_writing.Readable
 pub use Rattle.ipc_format_files.specs.stream_writer.reader.chunk_writing.Standing
 pub use Rattle.ipc_format_files.specs.stream_writer.reader.chunk_writing.ReadArrays
@@ -85,6 +86,7 @@ pub use Rattle.ipc_format_files.specs.stream_writer.reader.States as StreamState
 pub use Rattle.ipc_format_files.specs.stream_writer.reader.Hearing
 pub use Rattle.ipc_format_files.specs.stream_writer.reader.Readings
 pub use Rattle.ipc_format_files.specs.stream_writer.reader.Laws as TurnLaws
+pub use Rattle.ipc_format_files.specs.stream_writer.reader.TurnTables
 pub use Rattle.ipc_format_files.specs.stream_writer.Objections
 pub use Rattle.ipc_format_files.specs.stream_writer.Opening
 pub use Rattle.ipc_format_files.specs.stream_writer.Phases

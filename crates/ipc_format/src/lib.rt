@@ -4,11 +4,12 @@
 
 pub use ipc_format_files::stream_writer::reader::chunk_writing::{
     Chunk, Compression, Dictionaries, DictionaryTracker, Held, InMemory, ProjectionIter,
-    ProjectionResult, Record, Room, WriteOptions, apply_projection, choices_are_put_back,
-    encode_batch, encode_chunk, encode_chunk_amortized, have_one_form, is_choice, is_projection,
-    look_ups_are_enough, nested_arrays, prepare_projection, read, read_children, read_dictionary,
-    read_fixed_size_list, read_large_list, read_list, read_map, read_record_batch,
-    read_record_batch_counted, read_struct, read_union, rises, schemas_have_arrays, write,
+    ProjectionResult, Record, Room, ValuesById, WriteOptions, apply_projection,
+    choices_are_put_back, encode_batch, encode_chunk, encode_chunk_amortized, have_one_form,
+    is_choice, is_projection, look_ups_are_enough, nested_arrays, prepare_projection, read,
+    read_children, read_dictionary, read_dictionary_with, read_fixed_size_list, read_large_list,
+    read_list, read_map, read_record_batch, read_record_batch_counted, read_struct, read_union,
+    rises, schemas_have_arrays, values_by_id, write,
 };
 pub use ipc_format_files::stream_writer::reader::streams::metadata::{
     IpcField, IpcSchema, OutOfSpecKind, can_write, deserialize_schema, deserialize_schema_counted,
@@ -26,7 +27,7 @@ pub use ipc_format_files::stream_writer::reader::streams::{
 pub use ipc_format_files::stream_writer::reader::{
     Entry, FileMetadata, FileReader, MessageBlock, StreamReader, StreamState, file_entries,
     files_are_read_by_blocks, read_batch, read_file_dictionaries, read_file_metadata, stream_start,
-    streams_are_read_by_turns,
+    streams_are_read_by_turns, tables_are_read_by_turns,
 };
 pub use ipc_format_files::stream_writer::{StreamWriter, put_message, put_messages};
 pub use ipc_format_files::{FileBatches, FileWriter, append_file, metadata_of_file, read_file};
@@ -48,12 +49,13 @@ pub mod columns {
 pub mod format {
     pub use ipc_format_files::stream_writer::reader::streams::messages::{
         Block, BlocksRef, BodyCompressionRef, Buffer, BuffersRef, DateRef, DateUnit, DecimalRef,
-        DictionaryBatchParts, DictionaryBatchRef, DictionaryEncodingRef, DurationRef, Endianness,
-        Error, FieldNode, FieldNodesRef, FieldRef, FieldsRef, FixedSizeBinaryRef, FixedSizeListRef,
-        FooterRef, IntRef, IntervalRef, KeyValueRef, KeyValuesRef, MapRef, MessageHeaderRef,
-        MessageParts, MessageRef, MetadataVersion, RecordBatchParts, RecordBatchRef, SchemaRef,
-        TableRef, TablesRef, TimeRef, TimestampRef, TypeRef, UnionRef, as_memory_error,
-        dictionary_batch_in, message_in, record_batch_in, version_in,
+        DictionaryBatchParts, DictionaryBatchRef, DictionaryEncodingRef, DictionaryKind,
+        DurationRef, Endianness, Error, FieldNode, FieldNodesRef, FieldRef, FieldsRef,
+        FixedSizeBinaryRef, FixedSizeListRef, FooterRef, IntRef, IntervalRef, KeyValueRef,
+        KeyValuesRef, MapRef, MessageHeaderRef, MessageParts, MessageRef, MetadataVersion,
+        NumbersRef, RecordBatchParts, RecordBatchRef, SchemaRef, TableRef, TablesRef, TimeRef,
+        TimestampRef, TypeRef, UnionRef, as_memory_error, dictionary_batch_in, message_in,
+        record_batch_in, version_in,
     };
     pub use ipc_format_files::stream_writer::reader::streams::owned::{
         DictionaryBatch, DictionaryEncoding, Field, Footer, Int, KeyValue, Message, MessageHeader,

@@ -16,6 +16,7 @@ pub use Rattle.ipc_format_column_writing.proofs.reading_lemmas.NestedCounts
 pub use Rattle.ipc_format_column_writing.proofs.reading_lemmas.Skipping
 pub use Rattle.ipc_format_column_writing.proofs.grammar_lemmas.NormalReports
 pub use Rattle.ipc_format_column_writing.proofs.reading_lemmas.bytes_lemmas.streams_lemmas.Appending
+pub use Rattle.ipc_format_column_writing.proofs.reading_lemmas.bytes_lemmas.streams_lemmas.Finding
 pub use Rattle.ipc_format_column_writing.proofs.reading_lemmas.bytes_lemmas.streams_lemmas.writing_lemmas.BesideLists
 pub use Rattle.ipc_format_column_writing.proofs.reading_lemmas.bytes_lemmas.streams_lemmas.writing_lemmas.FittingLists
 pub use Rattle.ipc_format_column_writing.proofs.columns_lemmas.Claims

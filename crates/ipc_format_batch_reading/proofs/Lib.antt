@@ -14,6 +14,7 @@ pub mod ChosenReads
 pub mod BufferCounts
 pub mod ChosenCounts
 pub mod DictionaryReads
+pub mod NamedValues
 pub mod PutBack
 pub mod RisingColumns
 pub mod PutBackPlaces

@@ -2,6 +2,7 @@ pub mod Standing
 pub mod BatchReads
 pub mod BufferCounts
 pub mod DictionaryReads
+pub mod NamedValues
 pub mod Readable
 pub mod PassedOver
 pub mod Projections

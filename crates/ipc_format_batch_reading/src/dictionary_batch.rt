@@ -1,5 +1,6 @@
 //! Dictionary batches.
-ghost use Rattle.std.specs.Prelude.{◌≡◌, IfOk, None, false};
+ghost use Rattle.std.specs.Prelude.{◌≡◌, IfOk, None, option_copied, false};
+ghost use Rattle.std.specs.Option.{ForSome};
 ghost use Rattle.ipc_format_reading.specs.Below.{no_own_ids};
 ghost use Rattle.ipc_format_reading.specs.childless_reading.ReadArrays.{at_front, dictionary_of, standing_in};
 ghost use Rattle.ipc_format_reading.specs.Rooms.{ReadsAs};
@@ -10,13 +11,15 @@ ghost use Rattle.ipc_format_reading.specs.messages.MessageViews.{version_view};
 ghost use Rattle.ipc_format_reading.specs.metadata.Views.{ids_view, ids_views};
 ghost use Rattle.ipc_format_reading.specs.childless_reading.array_reading.column_writing.column_reading.column_bytes.streams.Queues.{is_compressed};
 ghost use Rattle.ipc_format_batch_reading.specs.BatchReads.{entry_in, sized};
+ghost use Rattle.ipc_format_batch_reading.specs.NamedValues.{AreValuesOf};
 ghost use Rattle.ipc_format_batch_reading.specs.DictionaryReads.{ReadsDictionary, dictionary_array, is_unread, placed_dictionary, stated_dictionary};
 
-use ipc_format_reading::columnar_memory::{DataType, Error, Field, Items, Result, Text};
+use crate::named_values::{ValuesById, copied_ids, known_values};
+use ipc_format_reading::columnar_memory::{DataType, Error, Field, Result, Text};
 use ipc_format_reading::nested_arrays::AnyArray;
 use ipc_format_reading::{
     Buffer, Dictionaries, DictionaryBatchRef, FieldNode, IpcField, IpcSchema, MetadataVersion,
-    RecordBatchRef, Room, batch_queues, dictionary_batch_in, dictionary_values, read,
+    RecordBatchRef, Room, batch_queues, dictionary_batch_in, read,
 };
 use std::alloc::{AllocError, Global};
 use std::collections::VecDeque;
@@ -34,12 +37,8 @@ fn field_of(alloc: Global, data_type: &DataType) -> std::result::Result<Field, A
 fn ids_over(alloc: Global, below: &[IpcField]) -> std::result::Result<IpcField, AllocError>
     ensures { IfOk result (λ made. ids_view made ≡ ids None (ids_views below.now)) }
 {
-    let mut copied = Items::new(alloc);
-    for field in below {
-        copied.push(field.clone()?)?;
-    }
     Ok(IpcField {
-        fields: copied,
+        fields: copied_ids(alloc, below)?,
         dictionary_id: None,
     })
 }
@@ -48,12 +47,13 @@ fn ids_over(alloc: Global, below: &[IpcField]) -> std::result::Result<IpcField, 
 ///
 /// # Errors
 /// As of `read`; `OutOfSpec` also where no field has the id.
-fn read_values<R: Room>(
+fn read_values<'a, R: Room>(
     alloc: Global,
     field_nodes: &mut VecDeque<FieldNode>,
     id: i64,
-    fields: &[Field],
-    ipc_schema: &IpcSchema,
+    fields: &'a [Field],
+    ipc_schema: &'a IpcSchema,
+    known: Option<&'a ValuesById>,
     buffers: &mut VecDeque<Buffer>,
     reader: &mut R,
     dictionaries: &Dictionaries,
@@ -61,6 +61,7 @@ fn read_values<R: Room>(
     version: MetadataVersion,
     scratch: &mut Vec<u8>,
 ) -> Result<AnyArray>
+    requires { ForSome (option_copied known) (AreValuesOf fields.now (ids_views ipc_schema.now.fields)) }
     ensures { ReadsAs false (R.told reader.old) (R.told reader.new) (λ array. dictionary_of (id, array))
         (λ room. placed_dictionary (record {
           fields = fields.now;
@@ -69,7 +70,7 @@ fn read_values<R: Room>(
         }) id (at_front field_nodes.old.items buffers.old.items (version_view version)
         ipc_schema.now.is_little_endian (standing_in dictionaries.now) None block_offset no_own_ids room)) result }
 {
-    let Some(values) = dictionary_values(fields, ipc_schema.fields.as_slice(), id) else {
+    let Some(values) = known_values(fields, ipc_schema, known, id) else {
         return Err(Error::OutOfSpec("a dictionary of no field"));
     };
     let field = field_of(alloc, values.data_type)?;
@@ -101,6 +102,7 @@ fn read_stated<R: Room>(
     id: i64,
     fields: &[Field],
     ipc_schema: &IpcSchema,
+    known: Option<&ValuesById>,
     dictionaries: &Dictionaries,
     version: MetadataVersion,
     reader: &mut R,
@@ -108,6 +110,7 @@ fn read_stated<R: Room>(
     file_size: u64,
     scratch: &mut Vec<u8>,
 ) -> Result<AnyArray>
+    requires { ForSome (option_copied known) (AreValuesOf fields.now (ids_views ipc_schema.now.fields)) }
     ensures { ReadsAs (is_compressed batch.now.table.bytes.now (table_of batch.now.table.place))
         (sized file_size (R.told reader.old)) (sized file_size (R.told reader.new)) (λ array. dictionary_of (id, array))
         (λ room. stated_dictionary (record {
@@ -125,6 +128,7 @@ fn read_stated<R: Room>(
         id,
         fields,
         ipc_schema,
+        known,
         &mut queues.buffers,
         reader,
         dictionaries,
@@ -132,6 +136,59 @@ fn read_stated<R: Room>(
         version,
         scratch,
     )
+}
+
+/// Reads a dictionary batch as `read_dictionary` does, and finds the type of its values under its id, where the values of each id are known
+/// (`values_by_id` finds them). A caller that reads many dictionaries of one schema so looks through its fields once.
+///
+/// # Errors
+/// As of `read_dictionary`.
+pub fn read_dictionary_with<R: Room>(
+    alloc: Global,
+    batch: &DictionaryBatchRef<'_>,
+    fields: &[Field],
+    ipc_schema: &IpcSchema,
+    known: Option<&ValuesById>,
+    dictionaries: &mut Dictionaries,
+    version: MetadataVersion,
+    reader: &mut R,
+    block_offset: u64,
+    file_size: u64,
+    scratch: &mut Vec<u8>,
+) -> Result<()>
+    requires { ForSome (option_copied known) (AreValuesOf fields.now (ids_views ipc_schema.now.fields)) }
+    ensures { ReadsDictionary (is_unread batch.now.table.bytes.now (table_of batch.now.table.place))
+        (sized file_size (R.told reader.old)) (sized file_size (R.told reader.new))
+        (λ room. dictionary_array (record {
+          fields = fields.now;
+          below = ids_views ipc_schema.now.fields;
+          is_little_endian = ipc_schema.now.is_little_endian;
+        }) (standing_in dictionaries.old)
+        (entry_in batch.now.table.bytes.now (dictionary_batch (table_of batch.now.table.place)) (version_view version) block_offset room)
+        (table_of batch.now.table.place)) dictionaries.old dictionaries.new result }
+{
+    let Some(parts) = dictionary_batch_in(batch) else {
+        return Err(Error::OutOfSpec("MissingData"));
+    };
+    if parts.is_delta {
+        return Err(Error::NotYetImplemented("dictionaries that are added to"));
+    }
+    let array = read_stated(
+        alloc,
+        &parts.values,
+        parts.id,
+        fields,
+        ipc_schema,
+        known,
+        dictionaries,
+        version,
+        reader,
+        block_offset,
+        file_size,
+        scratch,
+    )?;
+    dictionaries.insert(parts.id, array)?;
+    Ok(())
 }
 
 /// Reads a dictionary batch (Arrow IPC, "Dictionary Messages"): the array of its values, by the value type of the first field that has its id,
@@ -167,25 +224,17 @@ pub fn read_dictionary<R: Room>(
         (entry_in batch.now.table.bytes.now (dictionary_batch (table_of batch.now.table.place)) (version_view version) block_offset room)
         (table_of batch.now.table.place)) dictionaries.old dictionaries.new result }
 {
-    let Some(parts) = dictionary_batch_in(batch) else {
-        return Err(Error::OutOfSpec("MissingData"));
-    };
-    if parts.is_delta {
-        return Err(Error::NotYetImplemented("dictionaries that are added to"));
-    }
-    let array = read_stated(
+    read_dictionary_with(
         alloc,
-        &parts.values,
-        parts.id,
+        batch,
         fields,
         ipc_schema,
+        None,
         dictionaries,
         version,
         reader,
         block_offset,
         file_size,
         scratch,
-    )?;
-    dictionaries.insert(parts.id, array)?;
-    Ok(())
+    )
 }

@@ -5,11 +5,12 @@
 mod counted;
 mod dictionary_batch;
 mod laws;
+mod named_values;
 mod passing;
 mod projection;
 mod record_batch;
 
-pub use dictionary_batch::read_dictionary;
+pub use dictionary_batch::{read_dictionary, read_dictionary_with};
 pub use ipc_format_reading::{
     BodyCompressionRef, Buffer, Chunk, Compression, Dictionaries, DictionaryBatchRef, EncodedData,
     FieldNode, InMemory, IpcField, IpcSchema, MessageHeaderRef, MetadataVersion, Placed,
@@ -19,6 +20,7 @@ pub use ipc_format_reading::{
     record_metadata, write,
 };
 pub use laws::{look_ups_are_enough, schemas_have_arrays};
+pub use named_values::{KnownValues, ValuesById, values_by_id};
 pub use projection::{
     ProjectionIter, ProjectionResult, apply_projection, choices_are_put_back, is_choice,
     prepare_projection, rises,
@@ -75,12 +77,12 @@ pub mod streams {
         pub use ipc_format_reading::streams::messages::{
             Block, BlocksRef, BodyCompressionRef, Buffer, BuffersRef, DateRef, DateUnit,
             DecimalRef, DictionaryBatchParts, DictionaryBatchRef, DictionaryEncodingRef,
-            DurationRef, Endianness, Error, FieldNode, FieldNodesRef, FieldRef, FieldsRef,
-            FixedSizeBinaryRef, FixedSizeListRef, FooterRef, IntRef, IntervalRef, KeyValueRef,
-            KeyValuesRef, MapRef, MessageHeaderRef, MessageParts, MessageRef, MetadataVersion,
-            RecordBatchParts, RecordBatchRef, SchemaRef, TableRef, TablesRef, TimeRef,
-            TimestampRef, TypeRef, UnionRef, as_memory_error, dictionary_batch_in, message_in,
-            record_batch_in, version_in,
+            DictionaryKind, DurationRef, Endianness, Error, FieldNode, FieldNodesRef, FieldRef,
+            FieldsRef, FixedSizeBinaryRef, FixedSizeListRef, FooterRef, IntRef, IntervalRef,
+            KeyValueRef, KeyValuesRef, MapRef, MessageHeaderRef, MessageParts, MessageRef,
+            MetadataVersion, NumbersRef, RecordBatchParts, RecordBatchRef, SchemaRef, TableRef,
+            TablesRef, TimeRef, TimestampRef, TypeRef, UnionRef, as_memory_error,
+            dictionary_batch_in, message_in, record_batch_in, version_in,
         };
     }
 

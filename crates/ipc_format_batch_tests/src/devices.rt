@@ -66,6 +66,26 @@ impl Write for Full {
     }
 }
 
+/// A device that takes so many bytes, and behind them nothing, which is no failure of its own.
+#[derive(Drop)]
+pub(crate) struct Stopped {
+    pub(crate) bytes: Vec<u8>,
+    pub(crate) room: usize,
+}
+
+impl Write for Stopped {
+    fn write(&mut self, buffer: &[u8]) -> io::Result<usize> {
+        let count = buffer.len().min(self.room);
+        self.bytes.extend_from_slice(&buffer[..count])?;
+        self.room -= count;
+        Ok(count)
+    }
+
+    fn flush(&mut self) -> io::Result<()> {
+        Ok(())
+    }
+}
+
 /// A device that counts a failure at each call behind its first ones, though it answers each by `Ok`.
 #[derive(Drop)]
 pub(crate) struct Silent<T> {

@@ -1,7 +1,7 @@
 //! Streams of which a part is refused.
 use crate::answers::{Short, told};
 use crate::cases::{id, letters, numbers, numbers_schema, of_one, of_two, other_numbers};
-use crate::devices::{Full, Silent};
+use crate::devices::{Full, Silent, Stopped};
 use crate::samples::EXAMPLE;
 use crate::writers::{calls, start_numbers, started, write_numbers, write_one};
 use ipc_format::columnar_memory::Error;
@@ -76,6 +76,39 @@ fn a_device_fails(rt: HostRuntime) -> Result<(), Fail> {
     ];
     for (room, want) in cases {
         let (first, later, is_beginning) = full_at(rt.alloc(), room);
+        assert_eq!(rt; first, want, "room for {room}");
+        assert_eq!(rt; later, [refused, refused, refused], "room for {room}");
+        assert!(rt; is_beginning, "room for {room}");
+    }
+    Ok(())
+}
+
+/// The same where the device takes nothing more behind so many bytes.
+fn stopped_at(alloc: Global, room: usize) -> ([Short; 3], [Short; 3], bool) {
+    let device = Stopped {
+        bytes: Vec::new(alloc),
+        room,
+    };
+    let mut writer = StreamWriter::new(alloc, Counting::new(device), WriteOptions::new());
+    let first = calls(alloc, &mut writer);
+    let later = calls(alloc, &mut writer);
+    let counting = writer.into_inner();
+    let bytes = counting.device.bytes.as_slice();
+    let is_beginning = bytes.len() == room && EXAMPLE.starts_with(bytes);
+    (first, later, is_beginning)
+}
+
+#[test]
+fn a_device_takes_nothing(rt: HostRuntime) -> Result<(), Fail> {
+    let (done, refused) = (Short::Done, Short::OutOfSpec);
+    let cases = [
+        (0, [refused, refused, refused]),
+        (SCHEMA, [done, refused, refused]),
+        (BATCH - 1, [done, refused, refused]),
+        (BATCH, [done, done, refused]),
+    ];
+    for (room, want) in cases {
+        let (first, later, is_beginning) = stopped_at(rt.alloc(), room);
         assert_eq!(rt; first, want, "room for {room}");
         assert_eq!(rt; later, [refused, refused, refused], "room for {room}");
         assert!(rt; is_beginning, "room for {room}");

@@ -18,6 +18,7 @@ pub use Rattle.ipc_format_array_reading.proofs.NestedCounts
 pub use Rattle.ipc_format_array_reading.proofs.Skipping
 pub use Rattle.ipc_format_array_reading.proofs.NormalReports
 pub use Rattle.ipc_format_array_reading.proofs.Appending
+pub use Rattle.ipc_format_array_reading.proofs.Finding
 pub use Rattle.ipc_format_array_reading.proofs.BesideLists
 pub use Rattle.ipc_format_array_reading.proofs.FittingLists
 pub use Rattle.ipc_format_array_reading.proofs.Claims

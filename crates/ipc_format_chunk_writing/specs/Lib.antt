@@ -19,6 +19,7 @@ pub use Rattle.ipc_format_batch_reading.specs.BatchReads
 pub use Rattle.ipc_format_batch_reading.specs.BufferCounts
 pub use Rattle.ipc_format_batch_reading.specs.Projections
 pub use Rattle.ipc_format_batch_reading.specs.DictionaryReads
+pub use Rattle.ipc_format_batch_reading.specs.NamedValues
 pub use Rattle.ipc_format_batch_reading.specs.Readable
 pub use Rattle.ipc_format_batch_reading.specs.Standing
 pub use Rattle.ipc_format_batch_reading.specs.ReadArrays

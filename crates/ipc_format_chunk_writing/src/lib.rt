@@ -20,13 +20,13 @@ pub use ipc_format_batch_reading::streams::owned::writing::ids_fit;
 pub use ipc_format_batch_reading::{
     BodyCompressionRef, Buffer, Chunk, Compression, Dictionaries, DictionaryBatchRef, EncodedData,
     FieldNode, InMemory, IpcField, IpcSchema, MessageHeaderRef, MetadataVersion, Placed,
-    ProjectionIter, ProjectionResult, RecordBatchRef, Room, apply_projection, batch_queues,
-    choices_are_put_back, columnar_memory, dictionary_batch_in, dictionary_metadata,
+    ProjectionIter, ProjectionResult, RecordBatchRef, Room, ValuesById, apply_projection,
+    batch_queues, choices_are_put_back, columnar_memory, dictionary_batch_in, dictionary_metadata,
     dictionary_values, first_beside, is_choice, is_projection, look_ups_are_enough, message_in,
     nested_arrays, normalised, prepare_projection, read, read_children, read_dictionary,
-    read_fixed_size_list, read_large_list, read_list, read_map, read_record_batch,
-    read_record_batch_counted, read_struct, read_union, record_metadata, rises,
-    schemas_have_arrays, write,
+    read_dictionary_with, read_fixed_size_list, read_large_list, read_list, read_map,
+    read_record_batch, read_record_batch_counted, read_struct, read_union, record_metadata, rises,
+    schemas_have_arrays, values_by_id, write,
 };
 pub use options::WriteOptions;
 pub use record::Record;
@@ -83,12 +83,12 @@ pub mod streams {
         pub use ipc_format_batch_reading::streams::messages::{
             Block, BlocksRef, BodyCompressionRef, Buffer, BuffersRef, DateRef, DateUnit,
             DecimalRef, DictionaryBatchParts, DictionaryBatchRef, DictionaryEncodingRef,
-            DurationRef, Endianness, Error, FieldNode, FieldNodesRef, FieldRef, FieldsRef,
-            FixedSizeBinaryRef, FixedSizeListRef, FooterRef, IntRef, IntervalRef, KeyValueRef,
-            KeyValuesRef, MapRef, MessageHeaderRef, MessageParts, MessageRef, MetadataVersion,
-            RecordBatchParts, RecordBatchRef, SchemaRef, TableRef, TablesRef, TimeRef,
-            TimestampRef, TypeRef, UnionRef, as_memory_error, dictionary_batch_in, message_in,
-            record_batch_in, version_in,
+            DictionaryKind, DurationRef, Endianness, Error, FieldNode, FieldNodesRef, FieldRef,
+            FieldsRef, FixedSizeBinaryRef, FixedSizeListRef, FooterRef, IntRef, IntervalRef,
+            KeyValueRef, KeyValuesRef, MapRef, MessageHeaderRef, MessageParts, MessageRef,
+            MetadataVersion, NumbersRef, RecordBatchParts, RecordBatchRef, SchemaRef, TableRef,
+            TablesRef, TimeRef, TimestampRef, TypeRef, UnionRef, as_memory_error,
+            dictionary_batch_in, message_in, record_batch_in, version_in,
         };
     }
 

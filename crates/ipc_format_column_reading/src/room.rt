@@ -24,7 +24,7 @@ pub trait Room {
     fn as_memory(&self) -> Option<&[u8]>
         ensures { option_copied result ≡ (told self.now).bytes };
 
-    /// Puts `count` bytes in place of those that a vector holds: those from `origin + offset` on.
+    /// Puts `count` bytes in place of those that a vector holds: those from `origin + offset` on. Bytes in memory stay, whatever comes.
     ///
     /// # Errors
     /// - `Io`: the device failed, also where each of its reads was answered by `Ok`.
@@ -37,7 +37,8 @@ pub trait Room {
         count: usize,
         into: &mut Vec<u8>,
     ) -> Result<()>
-        ensures { FillsFrom (told self.old) (told self.new) (origin + offset) count into.new.items result };
+        ensures room { (told self.new).bytes ≡ (told self.old).bytes }
+        ensures fills { FillsFrom (told self.old) (told self.new) (origin + offset) count into.new.items result };
 
     /// Where the room begins, and where it ends: a device begins where it stands.
     ///
@@ -46,7 +47,8 @@ pub trait Room {
     /// - `OutOfSpec`: it refuses without a failure, or its count of failures falls.
     /// - `OutOfMemory`: it found no memory.
     fn extent(&mut self) -> Result<(u64, u64)>
-        ensures { TellsExtent (told self.old) (told self.new) result };
+        ensures room { (told self.new).bytes ≡ (told self.old).bytes }
+        ensures tells { TellsExtent (told self.old) (told self.new) result };
 }
 
 /// Bytes in memory.

@@ -1,8 +1,9 @@
 //! Columns with columns below them.
 use crate::cases::{column, field, list, no_ids, one_field};
 use ipc_format_reading::columnar_memory::{Boxed, DataType, Error, UnionMode};
-use ipc_format_reading::nested_arrays::Array;
+use ipc_format_reading::nested_arrays::{AnyArray, Array};
 use ipc_format_reading::{Dictionaries, MetadataVersion};
+use std::alloc::Global;
 use std::test::*;
 
 #[test]
@@ -22,20 +23,31 @@ fn lists_of_numbers(rt: HostRuntime) -> Result<(), Fail> {
     Ok(())
 }
 
-#[test]
-fn a_union_before_V5_has_a_buffer_more(rt: HostRuntime) -> Result<(), Fail> {
-    let alloc = rt.alloc();
-    let found = column(
+/// A sparse union of one number, as a schema of one version has it in buffers.
+fn union_of(
+    alloc: Global,
+    version: MetadataVersion,
+    buffers: &[(i64, i64)],
+) -> Result<AnyArray, Error> {
+    column(
         alloc,
         DataType::Union(one_field(alloc, DataType::Int32)?, None, UnionMode::Sparse),
         &no_ids(alloc)?,
         &Dictionaries::new(alloc),
-        MetadataVersion::V4,
+        version,
         &[(1, 0), (1, 0)],
-        &[(0, 0), (0, 1), (0, 0), (1, 4)],
+        buffers,
         &[0, 7, 0, 0, 0],
-    )?;
-    assert_eq!(rt; found.len(), 1);
+    )
+}
+
+#[test]
+fn a_union_before_V5_has_a_buffer_more(rt: HostRuntime) -> Result<(), Fail> {
+    let alloc = rt.alloc();
+    let (types, mask, numbers) = ((0, 1), (0, 0), (1, 4));
+    let older = union_of(alloc, MetadataVersion::V4, &[(0, 0), types, mask, numbers])?;
+    let newer = union_of(alloc, MetadataVersion::V5, &[types, mask, numbers])?;
+    assert_eq!(rt; (older.len(), older == newer), (1, true));
     Ok(())
 }
 

@@ -1,11 +1,15 @@
 -- What the slots of schemas, fields and what stands beside them give, each by itself (Schema.fbs).
 use Rattle.std.specs.Prelude.{ℕ, ℤ, pos, Bool, List, Option, Some, None, nat_lt, if◌then◌else◌}
+use Rattle.std.specs.Ordering.{int_eq}
 use Rattle.std.specs.Int.{w16, w32}
 use Rattle.ipc_format_metadata.specs.flatbuffers.Reading.{◌>>=◌}
 use Rattle.ipc_format_metadata.specs.flatbuffers.FlatBuffers.{signed_field, truth_field, string_field, element_at}
 use Rattle.ipc_format_metadata.specs.grammar.Schemas.{is_little_of}
 use Rattle.ipc_format_messages.specs.MessageSlots.{TableIn, VectorIn, table_in, vector_in, long_in}
 use Rattle.ipc_format_metadata.specs.grammar.SlotNumbers as slots
+use Rattle.ipc_format_metadata.specs.grammar.TagNumbers as tags
+use Rattle.ipc_format_messages.specs.declared.fields.DictionaryKind.{DictionaryKind}
+use Rattle.ipc_format_messages.specs.declared.fields.DictionaryKind.TheVariants.{DenseArray}
 
 -- a text, if it is there
 abbrev pub text_in : TableIn → ℕ → Option (Option (List ℕ))
@@ -62,6 +66,18 @@ encoding_index_type encoding = table_in encoding slots.dictionary_encoding_index
 
 abbrev pub encoding_is_ordered : TableIn → Option Bool
 encoding_is_ordered encoding = truth_in encoding slots.dictionary_encoding_is_ordered
+
+-- the slot of the kind, which schemas are read without
+abbrev pub dictionary_encoding_dictionary_kind : ℕ
+dictionary_encoding_dictionary_kind = 3
+
+abbrev pub kind_of : ℤ → Option DictionaryKind
+kind_of number = if int_eq number (pos tags.dense_array) then Some DenseArray else None
+
+abbrev pub encoding_kind : TableIn → Option DictionaryKind
+encoding_kind encoding = do
+  number ← signed_field w16 encoding.bytes encoding.table dictionary_encoding_dictionary_kind (pos 0)
+  kind_of number
 
 -- ---- Int
 

@@ -1,10 +1,13 @@
 -- Views of types, as the definitions of their slots have them.
 use Rattle.std.specs.Prelude.{Bool, true, false}
+use Rattle.ipc_format_metadata.specs.flatbuffers.Views.{vector_of}
 use Rattle.ipc_format_metadata.specs.grammar.Types as kind
+use Rattle.ipc_format_messages.specs.MessageSlots.{VectorIn}
 use Rattle.ipc_format_messages.specs.MessageViews.{table_view}
 use Rattle.ipc_format_messages.specs.TypeSlots.{TypeIn}
 use Rattle.ipc_format_messages.specs.declared.types.DateUnit.{DateUnit}
 use Rattle.ipc_format_messages.specs.declared.types.DateUnit.TheVariants.{Day, Millisecond}
+use Rattle.ipc_format_messages.specs.declared.vectors.NumbersRef.{NumbersRef}
 use Rattle.ipc_format_messages.specs.declared.types.TypeRef.{TypeRef}
 use Rattle.ipc_format_messages.specs.declared.types.TypeRef.TheVariants as types
 
@@ -12,6 +15,9 @@ use Rattle.ipc_format_messages.specs.declared.types.TypeRef.TheVariants as types
 abbrev pub is_day : DateUnit → Bool
 is_day Day = true
 is_day Millisecond = false
+
+abbrev pub numbers_view : NumbersRef → VectorIn
+numbers_view numbers = record { bytes = numbers.bytes.now; vector = vector_of numbers.vector }
 
 abbrev pub type_view : TypeRef → TypeIn
 type_view (types.Null table) = record { kind = kind.null; table = table_view table }

@@ -1,5 +1,5 @@
 -- What the slots of a field's type and of the types' tables give, each by itself (Schema.fbs, union Type and its tables).
-use Rattle.std.specs.Prelude.{ℕ, ℤ, pos, Bool, true, false, List, Option, Some, None, if◌then◌else◌}
+use Rattle.std.specs.Prelude.{ℕ, ◌+◌, ◌*◌, ℤ, pos, Bool, true, false, List, Option, Some, None, nat_lt, if◌then◌else◌}
 use Rattle.std.specs.Ordering.{int_eq}
 use Rattle.std.specs.Int.{w8, w16, w32}
 use Rattle.ipc_format_metadata.specs.columnar_memory.declared.TimeUnit.{TimeUnit}
@@ -7,10 +7,10 @@ use Rattle.ipc_format_metadata.specs.columnar_memory.declared.UnionMode.{UnionMo
 use Rattle.ipc_format_metadata.specs.columnar_memory.declared.IntervalUnit.{IntervalUnit}
 use Rattle.ipc_format_metadata.specs.columnar_memory.declared.IntervalUnit.TheVariants as intervals
 use Rattle.ipc_format_metadata.specs.flatbuffers.Reading.{◌>>=◌}
-use Rattle.ipc_format_metadata.specs.flatbuffers.FlatBuffers.{number_field, signed_field}
+use Rattle.ipc_format_metadata.specs.flatbuffers.FlatBuffers.{number_field, signed_at, signed_field}
 use Rattle.ipc_format_metadata.specs.grammar.Types.{Tag, tag_of, mode_of}
 use Rattle.ipc_format_metadata.specs.Leaves.{unit_in}
-use Rattle.ipc_format_messages.specs.MessageSlots.{TableIn, table_in}
+use Rattle.ipc_format_messages.specs.MessageSlots.{TableIn, VectorIn, table_in, vector_in}
 use Rattle.ipc_format_messages.specs.SchemaSlots.{text_in, truth_in}
 use Rattle.ipc_format_metadata.specs.grammar.SlotNumbers as slots
 use Rattle.ipc_format_metadata.specs.grammar.TagNumbers as tags
@@ -100,6 +100,13 @@ abbrev pub union_mode : TableIn → Option UnionMode
 union_mode union = do
   number ← signed_field w16 union.bytes union.table slots.union_mode (pos 0)
   mode_of number
+
+abbrev pub union_type_ids : TableIn → Option (Option VectorIn)
+union_type_ids union = vector_in union slots.union_type_ids slots.id_size
+
+-- number k of a vector of them, where there are so many
+unfoldable pub number_at : VectorIn → ℕ → Option ℤ
+number_at from k = if nat_lt k from.vector.count then signed_at w32 from.bytes (from.vector.place + slots.id_size * k) else None
 
 -- ---- FixedSizeBinary and FixedSizeList, whose sizes have one slot
 

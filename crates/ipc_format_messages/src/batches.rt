@@ -5,9 +5,9 @@ ghost use Rattle.std.specs.Result.{result_ok};
 ghost use Rattle.ipc_format_messages.specs.MessageSlots as slots;
 ghost use Rattle.ipc_format_messages.specs.MessageViews.{table_view, nodes_view, buffers_view, batch_view, compression_view};
 
-use crate::error::Error;
 use crate::tables::TableRef;
 use crate::vectors::{BuffersRef, FieldNodesRef};
+use ipc_format_metadata::Error;
 use ipc_format_metadata::sizes::PAIR_SIZE;
 use ipc_format_metadata::slots::{
     DICTIONARY_BATCH_DATA, DICTIONARY_BATCH_ID, DICTIONARY_BATCH_IS_DELTA, RECORD_BATCH_BUFFERS,

@@ -8,14 +8,15 @@ ghost use Rattle.ipc_format_messages.specs.SchemaSlots as slots;
 ghost use Rattle.ipc_format_messages.specs.TypeRefs.{type_view};
 ghost use Rattle.ipc_format_messages.specs.TypeSlots as types;
 
-use crate::error::Error;
 use crate::schemas::{FieldsRef, KeyValuesRef};
 use crate::tables::TableRef;
 use crate::types::{TypeRef, type_of};
+use ipc_format_metadata::Error;
 use ipc_format_metadata::slots::{
-    DICTIONARY_ENCODING_ID, DICTIONARY_ENCODING_INDEX_TYPE, DICTIONARY_ENCODING_IS_ORDERED,
-    FIELD_CHILDREN, FIELD_CUSTOM_METADATA, FIELD_DICTIONARY, FIELD_NAME, FIELD_NULLABLE,
-    FIELD_TYPE, FIELD_TYPE_TYPE, INT_BIT_WIDTH, INT_IS_SIGNED, KEY_VALUE_KEY, KEY_VALUE_VALUE,
+    DICTIONARY_ENCODING_DICTIONARY_KIND, DICTIONARY_ENCODING_ID, DICTIONARY_ENCODING_INDEX_TYPE,
+    DICTIONARY_ENCODING_IS_ORDERED, FIELD_CHILDREN, FIELD_CUSTOM_METADATA, FIELD_DICTIONARY,
+    FIELD_NAME, FIELD_NULLABLE, FIELD_TYPE, FIELD_TYPE_TYPE, INT_BIT_WIDTH, INT_IS_SIGNED,
+    KEY_VALUE_KEY, KEY_VALUE_VALUE,
 };
 
 /// A field (Schema.fbs, `Field`).
@@ -28,6 +29,12 @@ pub struct FieldRef<'a> {
 #[derive(Clone, Copy, Debug)]
 pub struct DictionaryEncodingRef<'a> {
     pub table: TableRef<'a>,
+}
+
+/// How the values of a dictionary stand (Schema.fbs, `DictionaryKind`).
+#[derive(Clone, Copy, Debug, PartialEq, Eq)]
+pub enum DictionaryKind {
+    DenseArray,
 }
 
 /// A type of whole numbers (Schema.fbs, `Int`).
@@ -149,6 +156,19 @@ impl<'a> DictionaryEncodingRef<'a> {
         ensures { result_ok result ≡ slots.encoding_is_ordered (table_view self.now.table) }
     {
         self.table.truth(DICTIONARY_ENCODING_IS_ORDERED)
+    }
+
+    /// How the values stand.
+    ///
+    /// # Errors
+    /// - `InvalidFlatbuffer`: the slot breaks a rule of FlatBuffers, or its number names no kind.
+    pub fn dictionary_kind(&self) -> Result<DictionaryKind, Error>
+        ensures { result_ok result ≡ slots.encoding_kind (table_view self.now.table) }
+    {
+        match self.table.short(DICTIONARY_ENCODING_DICTIONARY_KIND)? {
+            0 => Ok(DictionaryKind::DenseArray),
+            _ => Err(Error::InvalidFlatbuffer),
+        }
     }
 }
 

@@ -5,11 +5,11 @@ ghost use Rattle.std.specs.Result.{result_ok};
 ghost use Rattle.ipc_format_messages.specs.MessageSlots as slots;
 ghost use Rattle.ipc_format_messages.specs.MessageViews.{table_view, footer_view, version_view, schema_view, blocks_view};
 
-use crate::error::Error;
 use crate::schemas::SchemaRef;
 use crate::tables::TableRef;
 use crate::values::{MetadataVersion, version_of};
 use crate::vectors::BlocksRef;
+use ipc_format_metadata::Error;
 use ipc_format_metadata::sizes::BLOCK_SIZE;
 use ipc_format_metadata::slots::{
     FOOTER_DICTIONARIES, FOOTER_RECORD_BATCHES, FOOTER_SCHEMA, FOOTER_VERSION,

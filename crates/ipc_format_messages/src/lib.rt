@@ -9,6 +9,7 @@ mod error;
 mod fields;
 mod footer;
 mod messages;
+mod numbers;
 mod reading;
 mod schemas;
 mod structs;
@@ -18,10 +19,10 @@ mod values;
 mod vectors;
 
 pub use batches::{BodyCompressionRef, DictionaryBatchRef, RecordBatchRef};
-pub use error::{Error, as_memory_error};
-pub use fields::{DictionaryEncodingRef, FieldRef, IntRef, KeyValueRef};
+pub use error::as_memory_error;
+pub use fields::{DictionaryEncodingRef, DictionaryKind, FieldRef, IntRef, KeyValueRef};
 pub use footer::FooterRef;
-pub use ipc_format_metadata::{columnar_memory, flatbuffers};
+pub use ipc_format_metadata::{Error, columnar_memory, flatbuffers};
 pub use messages::{MessageHeaderRef, MessageRef};
 pub use reading::{
     DictionaryBatchParts, MessageParts, RecordBatchParts, dictionary_batch_in, message_in,
@@ -34,7 +35,7 @@ pub use types::{
     MapRef, TimeRef, TimestampRef, TypeRef, UnionRef,
 };
 pub use values::{Block, Buffer, FieldNode, MetadataVersion};
-pub use vectors::{BlocksRef, BuffersRef, FieldNodesRef, TablesRef};
+pub use vectors::{BlocksRef, BuffersRef, FieldNodesRef, NumbersRef, TablesRef};
 
 /// What `ipc_format_metadata` has, as far as packages above use it.
 pub mod metadata {

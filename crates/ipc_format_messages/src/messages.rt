@@ -6,10 +6,10 @@ ghost use Rattle.ipc_format_messages.specs.MessageSlots as slots;
 ghost use Rattle.ipc_format_messages.specs.MessageViews.{table_view, message_view, header_view, version_view};
 
 use crate::batches::{DictionaryBatchRef, RecordBatchRef};
-use crate::error::Error;
 use crate::schemas::SchemaRef;
 use crate::tables::TableRef;
 use crate::values::{MetadataVersion, version_of};
+use ipc_format_metadata::Error;
 use ipc_format_metadata::slots::{
     MESSAGE_BODY_LENGTH, MESSAGE_HEADER, MESSAGE_HEADER_TYPE, MESSAGE_VERSION,
 };

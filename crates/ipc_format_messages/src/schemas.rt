@@ -7,10 +7,10 @@ ghost use Rattle.ipc_format_messages.specs.MessageViews.{table_view};
 ghost use Rattle.ipc_format_messages.specs.SchemaRefs.{is_little, fields_view, pairs_view, field_view, pair_view};
 ghost use Rattle.ipc_format_messages.specs.SchemaSlots as slots;
 
-use crate::error::Error;
 use crate::fields::{FieldRef, KeyValueRef};
 use crate::tables::TableRef;
 use crate::vectors::TablesRef;
+use ipc_format_metadata::Error;
 use ipc_format_metadata::slots::{SCHEMA_CUSTOM_METADATA, SCHEMA_ENDIANNESS, SCHEMA_FIELDS};
 
 /// A schema's table (Schema.fbs, `Schema`).

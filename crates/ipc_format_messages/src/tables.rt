@@ -10,8 +10,8 @@ ghost use Rattle.ipc_format_messages.specs.MessageViews.{table_view};
 ghost use Rattle.ipc_format_messages.specs.SchemaSlots as schema_slots;
 ghost use Rattle.ipc_format_messages.specs.SchemaRefs.{tables_view};
 
-use crate::error::Error;
 use crate::vectors::TablesRef;
+use ipc_format_metadata::Error;
 use ipc_format_metadata::flatbuffers::{
     Table, Vector, element_at, i16_field, i32_field, i64_field, root_of, string_field, table_field,
     truth_field, u8_field, vector_field,

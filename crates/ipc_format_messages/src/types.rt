@@ -3,19 +3,20 @@ ghost use Rattle.std.specs.Prelude.{◌≡◌};
 ghost use Rattle.std.specs.Option.{option_map, option_copied};
 ghost use Rattle.std.specs.Result.{result_ok};
 ghost use Rattle.ipc_format_messages.specs.MessageViews.{table_view};
-ghost use Rattle.ipc_format_messages.specs.TypeRefs.{type_view, is_day};
+ghost use Rattle.ipc_format_messages.specs.TypeRefs.{type_view, is_day, numbers_view};
 ghost use Rattle.ipc_format_messages.specs.TypeSlots as slots;
 
-use crate::error::Error;
 use crate::fields::IntRef;
 use crate::tables::TableRef;
+use crate::vectors::NumbersRef;
 use ipc_format_metadata::columnar_memory::{IntervalUnit, TimeUnit, UnionMode};
 use ipc_format_metadata::flatbuffers::{i16_field, i32_field};
+use ipc_format_metadata::sizes::I32_SIZE;
 use ipc_format_metadata::slots::{
     DECIMAL_BIT_WIDTH, DECIMAL_PRECISION, DECIMAL_SCALE, FIXED_SIZE, MAP_KEYS_SORTED,
-    TIME_BIT_WIDTH, TIMESTAMP_TIMEZONE, UNION_MODE, UNIT,
+    TIME_BIT_WIDTH, TIMESTAMP_TIMEZONE, UNION_MODE, UNION_TYPE_IDS, UNIT,
 };
-use ipc_format_metadata::{Tag, mode_of, tag_of, unit_in};
+use ipc_format_metadata::{Error, Tag, mode_of, tag_of, unit_in};
 
 /// A field's type, by its own table (Schema.fbs, union `Type`). A table without slots that are looked at stands by itself.
 #[derive(Clone, Copy, Debug)]
@@ -240,6 +241,22 @@ impl<'a> UnionRef<'a> {
         ensures { result_ok result ≡ slots.union_mode (table_view self.now.0) }
     {
         mode_of(self.0.short(UNION_MODE)?).ok_or(Error::InvalidFlatbuffer)
+    }
+
+    /// The ids of the children in turn, if they are given.
+    ///
+    /// # Errors
+    /// - `InvalidFlatbuffer`: the slot breaks a rule of FlatBuffers, or the vector does not stand in the message.
+    pub fn type_ids(&self) -> Result<Option<NumbersRef<'a>>, Error>
+        ensures { option_map (option_map numbers_view) (result_ok result) ≡ slots.union_type_ids (table_view self.now.0) }
+    {
+        let Some(vector) = self.0.vector(UNION_TYPE_IDS, I32_SIZE)? else {
+            return Ok(None);
+        };
+        Ok(Some(NumbersRef {
+            bytes: self.0.bytes,
+            vector,
+        }))
     }
 }
 

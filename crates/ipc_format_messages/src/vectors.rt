@@ -1,4 +1,4 @@
-//! Where vectors of structs and of tables stand in a message.
+//! Where vectors of structs, of numbers and of tables stand in a message.
 ghost use Rattle.std.specs.Prelude.{◌+◌, ◌*◌, ◌≤◌, length};
 
 use ipc_format_metadata::flatbuffers::Vector;
@@ -25,6 +25,14 @@ pub struct BlocksRef<'a> {
     pub bytes: &'a [u8],
     pub vector: Vector,
     pub ghost inside: { vector.place + vector.count * 24 ≤ length bytes.now },
+}
+
+/// A vector of signed numbers of four bytes.
+#[derive(Clone, Copy, Debug)]
+pub struct NumbersRef<'a> {
+    pub bytes: &'a [u8],
+    pub vector: Vector,
+    pub ghost inside: { vector.place + vector.count * 4 ≤ length bytes.now },
 }
 
 /// A vector of tables, by references to them.

@@ -1,6 +1,7 @@
 //! Schemas of every type from the metadata of Arrow's messages, by FlatBuffers address: what the definitions of `ipc_format_grammar` give.
 #![tactic(auto)]
 
+mod error;
 mod ipc_schema;
 mod layers;
 mod messages;
@@ -14,6 +15,7 @@ mod tags;
 mod types;
 mod writable;
 
+pub use error::Error;
 pub use ipc_format_grammar::{columnar_memory, flatbuffers};
 pub use ipc_schema::{IpcField, IpcSchema};
 pub use messages::{

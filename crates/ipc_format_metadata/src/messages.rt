@@ -9,7 +9,7 @@ ghost use Rattle.ipc_format_metadata.specs.SchemaViews.{schema_view};
 ghost use Rattle.ipc_format_metadata.specs.Steps as steps;
 
 use crate::ipc_schema::IpcSchema;
-use crate::out_of_spec::OutOfSpecKind;
+use crate::out_of_spec::{INVALID_SCHEMA, OutOfSpecKind};
 use crate::pairs::metadata_in;
 use crate::schemas::each_in;
 use crate::sizes::REFERENCE_SIZE;
@@ -65,7 +65,7 @@ pub fn any_schema_in(
         (λ left. visits.new.count + left ≡ visits.old.count + length bytes.now)) }
 {
     let Some(is_little_endian) = order_in(bytes, table) else {
-        return Err(Error::OutOfSpec(OutOfSpecKind::InvalidFlatbufferSchema.name()));
+        return Err(Error::OutOfSpec(INVALID_SCHEMA.name()));
     };
     let Some(vector) = tables_in(bytes, table) else {
         return Err(Error::OutOfSpec(OutOfSpecKind::MissingFields.name()));

@@ -1,9 +1,10 @@
 ghost use Rattle.std.specs.Prelude.{◌≡◌};
 ghost use Rattle.ipc_format_metadata.specs.Names.{IsOutOfSpecBy, name_of};
 
+use crate::error::Error as FormatError;
 use ipc_format_grammar::columnar_memory::Error;
 
-/// Why bytes break a rule of the Arrow IPC format.
+/// Why bytes break a rule of the Arrow IPC format. An `InvalidFlatbuffer..` holds why the view of what it names does not answer.
 #[derive(Clone, Copy, Debug, PartialEq, Eq)]
 pub enum OutOfSpecKind {
     /// A file does not begin with its mark.
@@ -12,37 +13,37 @@ pub enum OutOfSpecKind {
     InvalidFooter,
     /// The length of a file's footer is negative.
     NegativeFooterLength,
-    InvalidFlatbufferFooter,
+    InvalidFlatbufferFooter(FormatError),
     /// A footer has no record batches.
     MissingRecordBatches,
-    InvalidFlatbufferRecordBatches,
+    InvalidFlatbufferRecordBatches(FormatError),
     /// A footer has no schema.
     MissingSchema,
-    InvalidFlatbufferSchema,
+    InvalidFlatbufferSchema(FormatError),
     /// A schema has no fields.
     MissingFields,
-    InvalidFlatbufferDictionaries,
-    InvalidFlatbufferBlock,
-    InvalidFlatbufferMessage,
+    InvalidFlatbufferDictionaries(FormatError),
+    InvalidFlatbufferBlock(FormatError),
+    InvalidFlatbufferMessage(FormatError),
     /// A message has no header.
     MissingMessageHeader,
-    InvalidFlatbufferHeader,
+    InvalidFlatbufferHeader(FormatError),
     /// A place or a length is negative.
     UnexpectedNegativeInteger,
     /// A message of another kind than can stand there.
     UnexpectedMessageType,
     /// A record batch has no buffers.
     MissingMessageBuffers,
-    InvalidFlatbufferBuffers,
+    InvalidFlatbufferBuffers(FormatError),
     /// A record batch has no nodes.
     MissingMessageNodes,
-    InvalidFlatbufferNodes,
-    InvalidFlatbufferBodyLength,
+    InvalidFlatbufferNodes(FormatError),
+    InvalidFlatbufferBodyLength(FormatError),
     /// A dictionary batch has no values.
     MissingData,
-    InvalidFlatbufferData,
-    InvalidFlatbufferVersion,
-    InvalidFlatbufferCompression,
+    InvalidFlatbufferData(FormatError),
+    InvalidFlatbufferVersion(FormatError),
+    InvalidFlatbufferCompression(FormatError),
     /// A record batch has too few buffers for its schema.
     ExpectedBuffer,
     /// A buffer has fewer bytes than its elements take.
@@ -66,8 +67,8 @@ pub enum OutOfSpecKind {
         length: usize,
         number_of_bits: usize,
     },
-    InvalidFlatbufferIsDelta,
-    InvalidFlatbufferId,
+    InvalidFlatbufferIsDelta(FormatError),
+    InvalidFlatbufferId(FormatError),
     /// A dictionary id that no field has.
     InvalidId {
         requested_id: i64,
@@ -79,6 +80,11 @@ pub enum OutOfSpecKind {
     /// A type does not fit what is read as it.
     InvalidDataType,
 }
+
+/// A schema's metadata, or what stands in it, breaks a rule of FlatBuffers or of the grammar.
+pub const INVALID_SCHEMA: OutOfSpecKind = OutOfSpecKind::InvalidFlatbufferSchema(
+    FormatError::InvalidFlatbuffer,
+);
 
 impl From<OutOfSpecKind> for Error {
     ghost from_gives = { λ kind error. IsOutOfSpecBy kind error };
@@ -98,34 +104,34 @@ impl OutOfSpecKind {
             OutOfSpecKind::InvalidHeader => "InvalidHeader",
             OutOfSpecKind::InvalidFooter => "InvalidFooter",
             OutOfSpecKind::NegativeFooterLength => "NegativeFooterLength",
-            OutOfSpecKind::InvalidFlatbufferFooter => "InvalidFlatbufferFooter",
+            OutOfSpecKind::InvalidFlatbufferFooter(_) => "InvalidFlatbufferFooter",
             OutOfSpecKind::MissingRecordBatches => "MissingRecordBatches",
-            OutOfSpecKind::InvalidFlatbufferRecordBatches => "InvalidFlatbufferRecordBatches",
+            OutOfSpecKind::InvalidFlatbufferRecordBatches(_) => "InvalidFlatbufferRecordBatches",
             OutOfSpecKind::MissingSchema => "MissingSchema",
-            OutOfSpecKind::InvalidFlatbufferSchema => "InvalidFlatbufferSchema",
+            OutOfSpecKind::InvalidFlatbufferSchema(_) => "InvalidFlatbufferSchema",
             OutOfSpecKind::MissingFields => "MissingFields",
-            OutOfSpecKind::InvalidFlatbufferDictionaries => "InvalidFlatbufferDictionaries",
-            OutOfSpecKind::InvalidFlatbufferBlock => "InvalidFlatbufferBlock",
-            OutOfSpecKind::InvalidFlatbufferMessage => "InvalidFlatbufferMessage",
+            OutOfSpecKind::InvalidFlatbufferDictionaries(_) => "InvalidFlatbufferDictionaries",
+            OutOfSpecKind::InvalidFlatbufferBlock(_) => "InvalidFlatbufferBlock",
+            OutOfSpecKind::InvalidFlatbufferMessage(_) => "InvalidFlatbufferMessage",
             OutOfSpecKind::MissingMessageHeader => "MissingMessageHeader",
-            OutOfSpecKind::InvalidFlatbufferHeader => "InvalidFlatbufferHeader",
+            OutOfSpecKind::InvalidFlatbufferHeader(_) => "InvalidFlatbufferHeader",
             OutOfSpecKind::UnexpectedNegativeInteger => "UnexpectedNegativeInteger",
             OutOfSpecKind::UnexpectedMessageType => "UnexpectedMessageType",
             OutOfSpecKind::MissingMessageBuffers => "MissingMessageBuffers",
-            OutOfSpecKind::InvalidFlatbufferBuffers => "InvalidFlatbufferBuffers",
+            OutOfSpecKind::InvalidFlatbufferBuffers(_) => "InvalidFlatbufferBuffers",
             OutOfSpecKind::MissingMessageNodes => "MissingMessageNodes",
-            OutOfSpecKind::InvalidFlatbufferNodes => "InvalidFlatbufferNodes",
-            OutOfSpecKind::InvalidFlatbufferBodyLength => "InvalidFlatbufferBodyLength",
+            OutOfSpecKind::InvalidFlatbufferNodes(_) => "InvalidFlatbufferNodes",
+            OutOfSpecKind::InvalidFlatbufferBodyLength(_) => "InvalidFlatbufferBodyLength",
             OutOfSpecKind::MissingData => "MissingData",
-            OutOfSpecKind::InvalidFlatbufferData => "InvalidFlatbufferData",
-            OutOfSpecKind::InvalidFlatbufferVersion => "InvalidFlatbufferVersion",
-            OutOfSpecKind::InvalidFlatbufferCompression => "InvalidFlatbufferCompression",
+            OutOfSpecKind::InvalidFlatbufferData(_) => "InvalidFlatbufferData",
+            OutOfSpecKind::InvalidFlatbufferVersion(_) => "InvalidFlatbufferVersion",
+            OutOfSpecKind::InvalidFlatbufferCompression(_) => "InvalidFlatbufferCompression",
             OutOfSpecKind::ExpectedBuffer => "ExpectedBuffer",
             OutOfSpecKind::InvalidBuffer { .. } => "InvalidBuffer",
             OutOfSpecKind::InvalidBuffersLength { .. } => "InvalidBuffersLength",
             OutOfSpecKind::InvalidBitmap { .. } => "InvalidBitmap",
-            OutOfSpecKind::InvalidFlatbufferIsDelta => "InvalidFlatbufferIsDelta",
-            OutOfSpecKind::InvalidFlatbufferId => "InvalidFlatbufferId",
+            OutOfSpecKind::InvalidFlatbufferIsDelta(_) => "InvalidFlatbufferIsDelta",
+            OutOfSpecKind::InvalidFlatbufferId(_) => "InvalidFlatbufferId",
             OutOfSpecKind::InvalidId { .. } => "InvalidId",
             OutOfSpecKind::InvalidIdDataType { .. } => "InvalidIdDataType",
             OutOfSpecKind::InvalidDataType => "InvalidDataType",

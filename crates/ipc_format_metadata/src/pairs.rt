@@ -7,7 +7,7 @@ ghost use Rattle.ipc_format_metadata.specs.Reading.{Reads};
 ghost use Rattle.ipc_format_metadata.specs.FieldViews.{encoding_view, encoded_view};
 ghost use Rattle.ipc_format_metadata.specs.Parts as parts;
 
-use crate::out_of_spec::OutOfSpecKind;
+use crate::out_of_spec::INVALID_SCHEMA;
 use crate::sizes::REFERENCE_SIZE;
 use crate::slots::{
     DICTIONARY_ENCODING_ID, DICTIONARY_ENCODING_INDEX_TYPE, DICTIONARY_ENCODING_IS_ORDERED,
@@ -50,14 +50,14 @@ pub fn metadata_in(alloc: Global, bytes: &[u8], table: &Table, slot: u8) -> Resu
 {
     let mut pairs = Metadata::new(alloc);
     let Some(vector) = vector_field(bytes, table, slot, REFERENCE_SIZE) else {
-        return Err(Error::OutOfSpec(OutOfSpecKind::InvalidFlatbufferSchema.name()));
+        return Err(Error::OutOfSpec(INVALID_SCHEMA.name()));
     };
     let Some(vector) = vector else {
         return Ok(pairs);
     };
     for k in 0..vector.count {
         let Some((key, value)) = pair_at(bytes, &vector, k) else {
-            return Err(Error::OutOfSpec(OutOfSpecKind::InvalidFlatbufferSchema.name()));
+            return Err(Error::OutOfSpec(INVALID_SCHEMA.name()));
         };
         put_found(alloc, &mut pairs, key, value)?;
     }
@@ -150,7 +150,7 @@ pub fn encoded_by(
         });
     };
     let Some(encoding) = encoding_in(bytes, table) else {
-        return Err(Error::OutOfSpec(OutOfSpecKind::InvalidFlatbufferSchema.name()));
+        return Err(Error::OutOfSpec(INVALID_SCHEMA.name()));
     };
     let values = Boxed::new(alloc, data_type)?;
     Ok(Encoded {

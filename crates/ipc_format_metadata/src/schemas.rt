@@ -11,7 +11,7 @@ ghost use Rattle.ipc_format_metadata.specs.Steps as steps;
 
 use crate::ipc_schema::IpcField;
 use crate::layers::{Layer, OverField, OverFields, layer_of};
-use crate::out_of_spec::OutOfSpecKind;
+use crate::out_of_spec::INVALID_SCHEMA;
 use crate::pairs::{encoded_by, extended, metadata_in};
 use crate::sizes::REFERENCE_SIZE;
 use crate::slots::{
@@ -162,7 +162,7 @@ fn completed(
     ensures left { IfOk result (λ read. read.left ≡ found.left) }
 {
     let Some(dictionary) = table_field(bytes, table, FIELD_DICTIONARY) else {
-        return Err(Error::OutOfSpec(OutOfSpecKind::InvalidFlatbufferSchema.name()));
+        return Err(Error::OutOfSpec(INVALID_SCHEMA.name()));
     };
     let metadata = metadata_in(alloc, bytes, table, FIELD_CUSTOM_METADATA)?;
     let data_type = extended(alloc, &metadata, found.data_type)?;
@@ -199,14 +199,14 @@ fn field_in(
         (λ _. visits.new.count ≤ visits.old.count + left) }
 {
     if levels == 0 {
-        return Err(Error::OutOfSpec(OutOfSpecKind::InvalidFlatbufferSchema.name()));
+        return Err(Error::OutOfSpec(INVALID_SCHEMA.name()));
     }
     if left == 0 {
-        return Err(Error::OutOfSpec(OutOfSpecKind::InvalidFlatbufferSchema.name()));
+        return Err(Error::OutOfSpec(INVALID_SCHEMA.name()));
     }
     visits.tick();
     let Some(head) = head_in(bytes, table) else {
-        return Err(Error::OutOfSpec(OutOfSpecKind::InvalidFlatbufferSchema.name()));
+        return Err(Error::OutOfSpec(INVALID_SCHEMA.name()));
     };
     let found = type_in(alloc, bytes, table, levels - 1, left - 1, visits)?;
     completed(alloc, bytes, table, head, found)
@@ -231,7 +231,7 @@ fn type_in(
         return Err(Error::NotYetImplemented("floating-point numbers"));
     }
     let Some(layer) = layer_in(alloc, bytes, field)? else {
-        return Err(Error::OutOfSpec(OutOfSpecKind::InvalidFlatbufferSchema.name()));
+        return Err(Error::OutOfSpec(INVALID_SCHEMA.name()));
     };
     match layer {
         Layer::Flat(data_type) => Ok(TypeRead {
@@ -241,14 +241,14 @@ fn type_in(
         }),
         Layer::Over(over) => {
             let Some(child) = first_child(bytes, field) else {
-                return Err(Error::OutOfSpec(OutOfSpecKind::InvalidFlatbufferSchema.name()));
+                return Err(Error::OutOfSpec(INVALID_SCHEMA.name()));
             };
             let found = field_in(alloc, bytes, &child, levels, left, visits)?;
             Ok(with_field(alloc, over, found)?)
         }
         Layer::OverAll(over) => {
             let Some(vector) = children(bytes, field) else {
-                return Err(Error::OutOfSpec(OutOfSpecKind::InvalidFlatbufferSchema.name()));
+                return Err(Error::OutOfSpec(INVALID_SCHEMA.name()));
             };
             let found = each_in(alloc, bytes, &vector, levels, left, visits)?;
             Ok(with_fields(over, found))
@@ -277,7 +277,7 @@ pub fn each_in(
     let mut still = left;
     for k in 0..vector.count {
         let Some(table) = element_at(bytes, vector, k) else {
-            return Err(Error::OutOfSpec(OutOfSpecKind::InvalidFlatbufferSchema.name()));
+            return Err(Error::OutOfSpec(INVALID_SCHEMA.name()));
         };
         let found = field_in(alloc, bytes, &table, levels, still, visits)?;
         fields.push(found.field)?;

@@ -43,6 +43,8 @@ pub const DICTIONARY_ENCODING_INDEX_TYPE: u8 = 1;
 
 pub const DICTIONARY_ENCODING_IS_ORDERED: u8 = 2;
 
+pub const DICTIONARY_ENCODING_DICTIONARY_KIND: u8 = 3;
+
 /// `RecordBatch`.
 pub const RECORD_BATCH_LENGTH: u8 = 0;
 

@@ -7,6 +7,8 @@ pub mod StreamParts
 pub mod Passed
 pub mod Dropped
 pub mod TurnLaws
+pub mod LimitedChoices
+pub mod TurnTables
 pub mod Headers
 pub mod Alike
 pub mod Heard

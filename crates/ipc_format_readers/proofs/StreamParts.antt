@@ -29,7 +29,7 @@ fitting schema given = do
   Some (record { schema = schema; rows = rows_of_batches batches })
 
 -- what comes of a schema and the messages behind it
-abbrev Rest : Type 0 → Type 0
+abbrev pub Rest : Type 0 → Type 0
 Rest A = Contents → Option A
 
 abbrev table_rest : Rest Table
@@ -38,7 +38,7 @@ table_rest contents = fitting (normalised contents.schema.schema) (batches_of (l
 abbrev batches_rest : Rest Batches
 batches_rest contents = batches_of (layout_of contents.schema) [] contents.entries
 
-abbrev contents_by : Start → List Framed → Contents
+abbrev pub contents_by : Start → List Framed → Contents
 contents_by start later = record { schema = start.schema; entries = map (stream_entry start.version) later }
 
 -- what comes of a stream's messages
@@ -59,7 +59,7 @@ start_by first = do
   Some (record { version = version; schema = found }, first.1)
 
 -- the messages behind a start, and what comes of them
-abbrev behind_start : {A : Type 0} → Rest A → (ℕ → Option (List Framed)) → Start × ℕ → Option A
+abbrev pub behind_start : {A : Type 0} → Rest A → (ℕ → Option (List Framed)) → Start × ℕ → Option A
 behind_start rest later begun = later begun.1 >>= (λ more. rest (contents_by begun.0 more))
 
 in_turn : {A : Type 0} (rest : Rest A) (later : ℕ → Option (List Framed)) (first : Framed × ℕ) (version : Option Version) (found : Option SchemaIn)
@@ -99,7 +99,7 @@ messages_behind rest bytes (Some first) e =
     (later_messages (length bytes) bytes first.1 0) refl)
 
 -- what comes of a stream comes of its start, and of the messages behind it
-stream_by : {A : Type 0} (rest : Rest A) (bytes : List ℕ)
+pub stream_by : {A : Type 0} (rest : Rest A) (bytes : List ℕ)
     → (contents_of stream bytes >>= rest) ≡ (start_in bytes >>= behind_start rest (λ place. later_messages (length bytes) bytes place 0))
 stream_by rest bytes = contents_first rest bytes ∙ messages_behind rest bytes (first_of bytes) refl
 

@@ -8,6 +8,7 @@ pub mod Hearing
 pub mod ReadingCodes
 pub mod Readings
 pub mod Laws
+pub mod TurnTables
 pub mod BlockMessages
 pub mod BlockRuns
 pub mod FileEntries

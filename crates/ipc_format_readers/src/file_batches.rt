@@ -4,6 +4,8 @@ ghost use Rattle.std.specs.Option.{option_copied};
 ghost use Rattle.ipc_format_chunk_writing.specs.BatchReads.{IsProjection, asked_fields, sized};
 ghost use Rattle.ipc_format_chunk_writing.specs.ReadArrays.{standing_in};
 ghost use Rattle.ipc_format_chunk_writing.specs.columns.StoredColumns.{column_type};
+ghost use Rattle.ipc_format_chunk_writing.specs.metadata.Views.{ids_views};
+ghost use Rattle.ipc_format_chunk_writing.specs.NamedValues.{AreValuesOf};
 ghost use Rattle.ipc_format_readers.specs.BlockMessages.{type_of};
 ghost use Rattle.ipc_format_readers.specs.FileReads.{ReadsBatchOf, ReadsDictionaries};
 ghost use Rattle.ipc_format_readers.specs.FileStarts.{block_view, layout_in};
@@ -15,7 +17,8 @@ use crate::file_metadata::FileMetadata;
 use ipc_format_chunk_writing::nested_arrays::AnyArray;
 use ipc_format_chunk_writing::streams::columnar_memory::{Error, Result};
 use ipc_format_chunk_writing::{
-    Chunk, Dictionaries, Room, look_ups_are_enough, read_dictionary, read_record_batch,
+    Chunk, Dictionaries, Room, ValuesById, look_ups_are_enough, read_dictionary_with,
+    read_record_batch, values_by_id,
 };
 use std::alloc::Global;
 
@@ -34,10 +37,12 @@ fn take_dictionary<R: Room>(
     reader: &mut R,
     metadata: &FileMetadata,
     block: &MessageBlock,
+    known: &ValuesById,
     dictionaries: &mut Dictionaries,
     message: &mut Vec<u8>,
     scratch: &mut Vec<u8>,
 ) -> Result<()>
+    requires { AreValuesOf metadata.now.one_form.fields (ids_views metadata.now.ipc_schema.fields) known.now }
     ensures { TakesDictionaryAt (layout_in metadata.now) (block_view block.now) (standing_in dictionaries.old) (standing_in dictionaries.new)
         (sized metadata.now.size (R.told reader.old)) (sized metadata.now.size (R.told reader.new)) result }
 {
@@ -45,11 +50,12 @@ fn take_dictionary<R: Room>(
     let Some((header, version)) = dictionary_in(message) else {
         return Err(Error::OutOfSpec("UnexpectedMessageType"));
     };
-    read_dictionary(
+    read_dictionary_with(
         alloc,
         &header,
         metadata.one_form.fields.as_slice(),
         &metadata.ipc_schema,
+        Some(known),
         dictionaries,
         version,
         reader,
@@ -83,6 +89,11 @@ pub fn read_file_dictionaries<R: Room>(
         return Err(Error::OutOfSpec("too many dictionaries"));
     }
     look_ups_are_enough();
+    let known = values_by_id(
+        alloc,
+        metadata.one_form.fields.as_slice(),
+        metadata.ipc_schema.fields.as_slice(),
+    )?;
     let mut message = Vec::new(alloc);
     for block in &metadata.dictionaries {
         take_dictionary(
@@ -90,6 +101,7 @@ pub fn read_file_dictionaries<R: Room>(
             reader,
             metadata,
             block,
+            &known,
             &mut dictionaries,
             &mut message,
             scratch,

@@ -25,23 +25,10 @@ pub use file_batches::{read_batch, read_file_dictionaries};
 pub use file_metadata::FileMetadata;
 pub use file_reader::FileReader;
 pub use footer::read_file_metadata;
-pub use laws::{files_are_read_by_blocks, streams_are_read_by_turns};
+pub use laws::{files_are_read_by_blocks, streams_are_read_by_turns, tables_are_read_by_turns};
 pub use reader::StreamReader;
 pub use start::stream_start;
 pub use state::StreamState;
-
-/// What `ipc_format_chunk_writing` has, as far as packages above use it.
-pub mod chunk_writing {
-    pub use ipc_format_chunk_writing::{
-        Chunk, Compression, Dictionaries, DictionaryTracker, Held, InMemory, ProjectionIter,
-        ProjectionResult, Record, Room, WriteOptions, apply_projection, choices_are_put_back,
-        columnar_memory, encode_batch, encode_chunk, encode_chunk_amortized, have_one_form,
-        ids_fit, is_choice, is_projection, look_ups_are_enough, nested_arrays, prepare_projection,
-        read, read_children, read_dictionary, read_fixed_size_list, read_large_list, read_list,
-        read_map, read_record_batch, read_record_batch_counted, read_struct, read_union, rises,
-        schemas_have_arrays, write,
-    };
-}
 
 /// Columns of batches, each read, passed over or written by itself.
 pub mod columns {
@@ -61,6 +48,20 @@ pub mod columns {
         read_fixed_size_binary, read_null,
     };
     pub use ipc_format_chunk_writing::childless_reading::read_dictionary;
+}
+
+/// What `ipc_format_chunk_writing` has, as far as packages above use it.
+pub mod chunk_writing {
+    pub use ipc_format_chunk_writing::{
+        Chunk, Compression, Dictionaries, DictionaryTracker, Held, InMemory, ProjectionIter,
+        ProjectionResult, Record, Room, ValuesById, WriteOptions, apply_projection,
+        choices_are_put_back, columnar_memory, encode_batch, encode_chunk, encode_chunk_amortized,
+        have_one_form, ids_fit, is_choice, is_projection, look_ups_are_enough, nested_arrays,
+        prepare_projection, read, read_children, read_dictionary, read_dictionary_with,
+        read_fixed_size_list, read_large_list, read_list, read_map, read_record_batch,
+        read_record_batch_counted, read_struct, read_union, rises, schemas_have_arrays,
+        values_by_id, write,
+    };
 }
 
 /// What `ipc_format_reading_laws` has, as far as packages above use it.
@@ -88,12 +89,12 @@ pub mod streams {
         pub use ipc_format_chunk_writing::streams::messages::{
             Block, BlocksRef, BodyCompressionRef, Buffer, BuffersRef, DateRef, DateUnit,
             DecimalRef, DictionaryBatchParts, DictionaryBatchRef, DictionaryEncodingRef,
-            DurationRef, Endianness, Error, FieldNode, FieldNodesRef, FieldRef, FieldsRef,
-            FixedSizeBinaryRef, FixedSizeListRef, FooterRef, IntRef, IntervalRef, KeyValueRef,
-            KeyValuesRef, MapRef, MessageHeaderRef, MessageParts, MessageRef, MetadataVersion,
-            RecordBatchParts, RecordBatchRef, SchemaRef, TableRef, TablesRef, TimeRef,
-            TimestampRef, TypeRef, UnionRef, as_memory_error, dictionary_batch_in, message_in,
-            record_batch_in, version_in,
+            DictionaryKind, DurationRef, Endianness, Error, FieldNode, FieldNodesRef, FieldRef,
+            FieldsRef, FixedSizeBinaryRef, FixedSizeListRef, FooterRef, IntRef, IntervalRef,
+            KeyValueRef, KeyValuesRef, MapRef, MessageHeaderRef, MessageParts, MessageRef,
+            MetadataVersion, NumbersRef, RecordBatchParts, RecordBatchRef, SchemaRef, TableRef,
+            TablesRef, TimeRef, TimestampRef, TypeRef, UnionRef, as_memory_error,
+            dictionary_batch_in, message_in, record_batch_in, version_in,
         };
     }
 

@@ -1,11 +1,12 @@
 //! What a message of a stream says to its reader (Arrow IPC, "RecordBatch message", "Dictionary Messages").
 ghost use Rattle.std.specs.Prelude.{◌≡◌, length};
-ghost use Rattle.std.specs.Option.{option_copied};
+ghost use Rattle.std.specs.Option.{ForSome, option_copied};
 ghost use Rattle.ipc_format_chunk_writing.specs.BatchReads.{IsProjection};
 ghost use Rattle.ipc_format_chunk_writing.specs.ReadArrays.{standing_in};
 ghost use Rattle.ipc_format_chunk_writing.specs.flatbuffers.Views.{table_of};
 ghost use Rattle.ipc_format_chunk_writing.specs.messages.MessageViews.{version_view};
 ghost use Rattle.ipc_format_chunk_writing.specs.metadata.Views.{ids_views};
+ghost use Rattle.ipc_format_chunk_writing.specs.NamedValues.{AreValuesOf};
 ghost use Rattle.ipc_format_readers.specs.Hearing.{Hears, HearsColumns, HearsDictionary};
 
 use ipc_format_chunk_writing::columnar_memory::{Error, Field, Result};
@@ -14,14 +15,16 @@ use ipc_format_chunk_writing::streams::messages::{
     DictionaryBatchRef, MessageHeaderRef, MetadataVersion, RecordBatchRef, message_in,
 };
 use ipc_format_chunk_writing::streams::metadata::IpcSchema;
-use ipc_format_chunk_writing::{Chunk, Dictionaries, InMemory, read_dictionary, read_record_batch};
+use ipc_format_chunk_writing::{
+    Chunk, Dictionaries, InMemory, ValuesById, read_dictionary_with, read_record_batch,
+};
 use std::alloc::Global;
 
 /// How many dictionary messages stand in a row at most.
 const MOST_DICTIONARIES: usize = 65536;
 
 /// Reads a message: of a dictionary, which stands from then on, nothing, and of a record batch the columns, all or those that are asked for, which
-/// rise. `in_a_row` is how many dictionary messages came directly before it.
+/// rise. `in_a_row` is how many dictionary messages came directly before it. `known` has the values of each id, where they were found.
 ///
 /// # Errors
 /// - `OutOfSpec`: the metadata is of a schema, or of no message; too many dictionaries came in a row; or what the message says is refused (as
@@ -34,13 +37,15 @@ pub(crate) fn read_message(
     body: &[u8],
     fields: &[Field],
     ipc_schema: &IpcSchema,
+    known: Option<&ValuesById>,
     version: MetadataVersion,
     columns: Option<&[usize]>,
     dictionaries: &mut Dictionaries,
     in_a_row: usize,
     scratch: &mut Vec<u8>,
 ) -> Result<Option<Chunk<AnyArray>>>
-    requires { IsProjection (length fields.now) (option_copied columns) }
+    requires asked { IsProjection (length fields.now) (option_copied columns) }
+    requires known { ForSome (option_copied known) (AreValuesOf fields.now (ids_views ipc_schema.now.fields)) }
     ensures { Hears (option_copied columns.entry) (record {
       fields = fields.now;
       below = ids_views ipc_schema.now.fields;
@@ -63,6 +68,7 @@ pub(crate) fn read_message(
                 body,
                 fields,
                 ipc_schema,
+                known,
                 version,
                 dictionaries,
                 scratch,
@@ -96,10 +102,12 @@ fn take_dictionary(
     body: &[u8],
     fields: &[Field],
     ipc_schema: &IpcSchema,
+    known: Option<&ValuesById>,
     version: MetadataVersion,
     dictionaries: &mut Dictionaries,
     scratch: &mut Vec<u8>,
 ) -> Result<()>
+    requires { ForSome (option_copied known) (AreValuesOf fields.now (ids_views ipc_schema.now.fields)) }
     ensures { HearsDictionary (record {
       fields = fields.now;
       below = ids_views ipc_schema.now.fields;
@@ -108,11 +116,12 @@ fn take_dictionary(
         (standing_in dictionaries.new) batch.now.table.bytes.now (table_of batch.now.table.place) body.now result }
 {
     let mut room = InMemory { bytes: body };
-    read_dictionary(
+    read_dictionary_with(
         alloc,
         batch,
         fields,
         ipc_schema,
+        known,
         dictionaries,
         version,
         &mut room,

@@ -1,12 +1,13 @@
 //! The messages of a stream up to a record batch.
 ghost use Rattle.std.specs.Prelude.{◌≡◌, ◌<◌, [], length, MatchResult};
-ghost use Rattle.std.specs.Option.{option_copied};
+ghost use Rattle.std.specs.Option.{ForSome, option_copied};
 ghost use Rattle.std.specs.Io.KnownBytes.{prepend_known};
 ghost use Rattle.ipc_format_chunk_writing.specs.BatchReads.{IsProjection};
 ghost use Rattle.ipc_format_chunk_writing.specs.ReadArrays.{standing_in};
 ghost use Rattle.ipc_format_chunk_writing.specs.columnar_memory.Error.{IsOutOfMemory};
 ghost use Rattle.ipc_format_chunk_writing.specs.messages.MessageViews.{version_view};
 ghost use Rattle.ipc_format_chunk_writing.specs.metadata.Views.{ids_views};
+ghost use Rattle.ipc_format_chunk_writing.specs.NamedValues.{AreValuesOf};
 ghost use Rattle.ipc_format_readers.specs.AskedStates.{HasKeptFound, found_as_asked};
 ghost use Rattle.ipc_format_readers.specs.Asking.{AreReady, asked_of};
 ghost use Rattle.ipc_format_readers.specs.Hearing.{TakesTurn};
@@ -18,8 +19,10 @@ use ipc_format_chunk_writing::columnar_memory::{Field, Result};
 use ipc_format_chunk_writing::streams::messages::MetadataVersion;
 use ipc_format_chunk_writing::streams::metadata::IpcSchema;
 use ipc_format_chunk_writing::streams::{Incoming, next_message};
-use ipc_format_chunk_writing::{Dictionaries, choices_are_put_back, look_ups_are_enough};
-use std::alloc::Global;
+use ipc_format_chunk_writing::{
+    Dictionaries, ValuesById, choices_are_put_back, look_ups_are_enough, values_by_id,
+};
+use std::alloc::{AllocError, Global};
 use std::io::Read;
 
 /// What a reader keeps of a stream between its calls.
@@ -52,6 +55,25 @@ impl Standing {
             in_a_row: 0,
         }
     }
+}
+
+/// Finds the values of each id, unless they were found.
+///
+/// # Errors
+/// There was no memory.
+fn find_values(
+    alloc: Global,
+    fields: &[Field],
+    ipc_schema: &IpcSchema,
+    known: &mut Option<ValuesById>,
+) -> std::result::Result<(), AllocError>
+    requires { ForSome known.old (AreValuesOf fields.now (ids_views ipc_schema.now.fields)) }
+    ensures { ForSome known.new (AreValuesOf fields.now (ids_views ipc_schema.now.fields)) }
+{
+    if known.is_none() {
+        *known = Some(values_by_id(alloc, fields, ipc_schema.fields.as_slice())?);
+    }
+    Ok(())
 }
 
 /// Reads the dictionaries of a stream that come next, and the record batch behind them: all columns, or those that are asked for, which rise. Where
@@ -92,6 +114,7 @@ fn take_turn<R: Read>(
     ensures held { length standing.new.held.items < 4 }
 {
     look_ups_are_enough();
+    let mut known = None;
     'messages: loop {
         match next_message(
             device,
@@ -109,6 +132,7 @@ fn take_turn<R: Read>(
             &standing.body,
             fields,
             ipc_schema,
+            known.as_ref(),
             version,
             columns,
             &mut standing.dictionaries,
@@ -119,7 +143,10 @@ fn take_turn<R: Read>(
                 standing.in_a_row = 0;
                 return Ok(Some(StreamState::Some(chunk)));
             }
-            None => standing.in_a_row += 1,
+            None => {
+                standing.in_a_row += 1;
+                find_values(alloc, fields, ipc_schema, &mut known)?;
+            }
         }
     }
 }

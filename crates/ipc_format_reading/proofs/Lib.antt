@@ -31,6 +31,7 @@ pub use Rattle.ipc_format_childless_reading.proofs.NextBuffers
 pub use Rattle.ipc_format_childless_reading.proofs.Readings
 pub use Rattle.ipc_format_childless_reading.proofs.NormalReports
 pub use Rattle.ipc_format_childless_reading.proofs.Appending
+pub use Rattle.ipc_format_childless_reading.proofs.Finding
 pub use Rattle.ipc_format_childless_reading.proofs.BesideLists
 pub use Rattle.ipc_format_childless_reading.proofs.FittingLists
 pub use Rattle.ipc_format_childless_reading.proofs.Claims

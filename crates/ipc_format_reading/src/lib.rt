@@ -66,12 +66,12 @@ pub mod streams {
         pub use ipc_format_childless_reading::streams::messages::{
             Block, BlocksRef, BodyCompressionRef, Buffer, BuffersRef, DateRef, DateUnit,
             DecimalRef, DictionaryBatchParts, DictionaryBatchRef, DictionaryEncodingRef,
-            DurationRef, Endianness, Error, FieldNode, FieldNodesRef, FieldRef, FieldsRef,
-            FixedSizeBinaryRef, FixedSizeListRef, FooterRef, IntRef, IntervalRef, KeyValueRef,
-            KeyValuesRef, MapRef, MessageHeaderRef, MessageParts, MessageRef, MetadataVersion,
-            RecordBatchParts, RecordBatchRef, SchemaRef, TableRef, TablesRef, TimeRef,
-            TimestampRef, TypeRef, UnionRef, as_memory_error, dictionary_batch_in, message_in,
-            record_batch_in, version_in,
+            DictionaryKind, DurationRef, Endianness, Error, FieldNode, FieldNodesRef, FieldRef,
+            FieldsRef, FixedSizeBinaryRef, FixedSizeListRef, FooterRef, IntRef, IntervalRef,
+            KeyValueRef, KeyValuesRef, MapRef, MessageHeaderRef, MessageParts, MessageRef,
+            MetadataVersion, NumbersRef, RecordBatchParts, RecordBatchRef, SchemaRef, TableRef,
+            TablesRef, TimeRef, TimestampRef, TypeRef, UnionRef, as_memory_error,
+            dictionary_batch_in, message_in, record_batch_in, version_in,
         };
     }
 

@@ -18,8 +18,22 @@ pub mod reader {
     pub use ipc_format_readers::{
         Entry, FileMetadata, FileReader, MessageBlock, StreamReader, StreamState, file_entries,
         files_are_read_by_blocks, read_batch, read_file_dictionaries, read_file_metadata,
-        stream_start, streams_are_read_by_turns,
+        stream_start, streams_are_read_by_turns, tables_are_read_by_turns,
     };
+
+    /// Of `chunk_writing`.
+    pub mod chunk_writing {
+        pub use ipc_format_readers::chunk_writing::{
+            Chunk, Compression, Dictionaries, DictionaryTracker, Held, InMemory, ProjectionIter,
+            ProjectionResult, Record, Room, ValuesById, WriteOptions, apply_projection,
+            choices_are_put_back, encode_batch, encode_chunk, encode_chunk_amortized,
+            have_one_form, is_choice, is_projection, look_ups_are_enough, nested_arrays,
+            prepare_projection, read, read_children, read_dictionary, read_dictionary_with,
+            read_fixed_size_list, read_large_list, read_list, read_map, read_record_batch,
+            read_record_batch_counted, read_struct, read_union, rises, schemas_have_arrays,
+            values_by_id, write,
+        };
+    }
 
     /// Of `columns`.
     pub mod columns {
@@ -30,19 +44,6 @@ pub mod reader {
             skip_fixed_size_list, skip_list, skip_map, skip_null, skip_primitive, skip_struct,
             skip_union, skip_utf8, write_binary, write_boolean, write_primitive, write_struct,
             write_union, write_utf8,
-        };
-    }
-
-    /// Of `chunk_writing`.
-    pub mod chunk_writing {
-        pub use ipc_format_readers::chunk_writing::{
-            Chunk, Compression, Dictionaries, DictionaryTracker, Held, InMemory, ProjectionIter,
-            ProjectionResult, Record, Room, WriteOptions, apply_projection, choices_are_put_back,
-            encode_batch, encode_chunk, encode_chunk_amortized, have_one_form, is_choice,
-            is_projection, look_ups_are_enough, nested_arrays, prepare_projection, read,
-            read_children, read_dictionary, read_fixed_size_list, read_large_list, read_list,
-            read_map, read_record_batch, read_record_batch_counted, read_struct, read_union, rises,
-            schemas_have_arrays, write,
         };
     }
 
@@ -72,12 +73,12 @@ pub mod reader {
             pub use ipc_format_readers::streams::messages::{
                 Block, BlocksRef, BodyCompressionRef, Buffer, BuffersRef, DateRef, DateUnit,
                 DecimalRef, DictionaryBatchParts, DictionaryBatchRef, DictionaryEncodingRef,
-                DurationRef, Endianness, Error, FieldNode, FieldNodesRef, FieldRef, FieldsRef,
-                FixedSizeBinaryRef, FixedSizeListRef, FooterRef, IntRef, IntervalRef, KeyValueRef,
-                KeyValuesRef, MapRef, MessageHeaderRef, MessageParts, MessageRef, MetadataVersion,
-                RecordBatchParts, RecordBatchRef, SchemaRef, TableRef, TablesRef, TimeRef,
-                TimestampRef, TypeRef, UnionRef, as_memory_error, dictionary_batch_in, message_in,
-                record_batch_in, version_in,
+                DictionaryKind, DurationRef, Endianness, Error, FieldNode, FieldNodesRef, FieldRef,
+                FieldsRef, FixedSizeBinaryRef, FixedSizeListRef, FooterRef, IntRef, IntervalRef,
+                KeyValueRef, KeyValuesRef, MapRef, MessageHeaderRef, MessageParts, MessageRef,
+                MetadataVersion, NumbersRef, RecordBatchParts, RecordBatchRef, SchemaRef, TableRef,
+                TablesRef, TimeRef, TimestampRef, TypeRef, UnionRef, as_memory_error,
+                dictionary_batch_in, message_in, record_batch_in, version_in,
             };
         }
 

@@ -1,7 +1,9 @@
 //! Views of schemas and fields.
-use crate::samples::{DICTIONARY, EXTENSION, NO_FIELDS, X};
+use crate::samples::{DICTIONARY, EXTENSION, NO_FIELDS, UNION, X};
+use ipc_format::OutOfSpecKind;
 use ipc_format::format::{
-    Endianness, FieldRef, KeyValuesRef, MessageHeaderRef, MessageRef, SchemaRef, TypeRef,
+    DictionaryEncodingRef, DictionaryKind, Endianness, Error, FieldRef, KeyValuesRef,
+    MessageHeaderRef, MessageRef, SchemaRef, TypeRef, UnionRef,
 };
 use std::test::*;
 
@@ -59,10 +61,15 @@ fn a_field_has_a_name(rt: HostRuntime) -> Result<(), Fail> {
     Ok(())
 }
 
+/// The dictionary of the first field of a message's schema.
+fn dictionary_of(bytes: &[u8]) -> Result<DictionaryEncodingRef<'_>, Fail> {
+    let found = first_field(bytes)?.dictionary().ok().ok_or("broken")?;
+    Ok(found.ok_or("no dictionary")?)
+}
+
 #[test]
 fn a_dictionary_has_keys(rt: HostRuntime) -> Result<(), Fail> {
-    let found = first_field(&DICTIONARY)?.dictionary().ok().ok_or("broken")?;
-    let dictionary = found.ok_or("no dictionary")?;
+    let dictionary = dictionary_of(&DICTIONARY)?;
     assert_eq!(rt; dictionary.id().ok(), Some(0));
     assert_eq!(rt; dictionary.is_ordered().ok(), Some(false));
     let int = dictionary
@@ -74,6 +81,63 @@ fn a_dictionary_has_keys(rt: HostRuntime) -> Result<(), Fail> {
         (int.bit_width().ok(), int.is_signed().ok()),
         (Some(32), Some(true))
     );
+    Ok(())
+}
+
+#[test]
+fn a_dictionary_is_a_dense_array(rt: HostRuntime) -> Result<(), Fail> {
+    for (number, want) in [(0, Some(DictionaryKind::DenseArray)), (1, None)] {
+        let mut bytes = DICTIONARY;
+        bytes[214] = number;
+        assert_eq!(rt; dictionary_of(&bytes)?.dictionary_kind().ok(), want);
+        bytes[186] = 0;
+        let absent = dictionary_of(&bytes)?.dictionary_kind().ok();
+        assert_eq!(rt; absent, Some(DictionaryKind::DenseArray));
+    }
+    Ok(())
+}
+
+/// The union of the first field of a message's schema.
+fn union_of(bytes: &[u8]) -> Result<UnionRef<'_>, Fail> {
+    match first_field(bytes)?.type_().ok().ok_or("broken")? {
+        Some(TypeRef::Union(union)) => Ok(union),
+        _ => Err(Fail::from("no union")),
+    }
+}
+
+#[test]
+fn a_union_has_ids_in_turn(rt: HostRuntime) -> Result<(), Fail> {
+    let found = union_of(&UNION)?.type_ids().ok().ok_or("broken")?;
+    let ids = found.ok_or("no ids")?;
+    assert_eq!(rt; ids.len(), 3);
+    assert!(rt; !ids.is_empty());
+    let want = [Some(5), Some(2), Some(-1), None];
+    for k in 0..want.len() {
+        assert_eq!(rt; ids.get(k), want[k]);
+    }
+    Ok(())
+}
+
+#[test]
+fn ids_may_be_absent_and_lie_in_the_message(rt: HostRuntime) -> Result<(), Fail> {
+    let mut bytes = UNION;
+    bytes[188] = 100;
+    assert!(rt; union_of(&bytes)?.type_ids().is_err());
+    let mut bytes = UNION;
+    bytes[166] = 0;
+    assert!(rt; matches!(union_of(&bytes)?.type_ids(), Ok(None)));
+    Ok(())
+}
+
+#[test]
+fn a_kind_of_refusal_holds_that_of_the_view(rt: HostRuntime) -> Result<(), Fail> {
+    let refusal = MessageRef::read_as_root(&[]).err().ok_or("a message")?;
+    let kind = OutOfSpecKind::InvalidFlatbufferMessage(refusal);
+    assert_eq!(rt;
+        kind,
+        OutOfSpecKind::InvalidFlatbufferMessage(Error::InvalidFlatbuffer)
+    );
+    assert_eq!(rt; kind.name(), "InvalidFlatbufferMessage");
     Ok(())
 }
 

@@ -1,15 +1,14 @@
 -- The pairs and types that stand in metadata, by the tables of its message (Schema.fbs). Each part is what its slot gives; there is nothing
 -- where a slot gives nothing.
-use Rattle.std.specs.Prelude.{ℕ, zero, suc, ◌+◌, ◌*◌, ℤ, pos, Bool, true, false, List, [], ◌∷◌, ◌++◌, Option, Some, None, if◌then◌else◌}
+use Rattle.std.specs.Prelude.{ℕ, zero, suc, ◌+◌, ℤ, pos, Bool, true, false, List, [], ◌∷◌, ◌++◌, Option, Some, None, if◌then◌else◌}
 use Rattle.std.specs.Ordering.{int_eq}
-use Rattle.std.specs.Int.{w16, w32}
+use Rattle.std.specs.Int.{w16}
 use Rattle.ipc_format_writing.specs.flatbuffers.Reading.{◌>>=◌}
-use Rattle.ipc_format_writing.specs.flatbuffers.FlatBuffers.{signed_at, signed_field}
-use Rattle.ipc_format_writing.specs.grammar.SlotNumbers as slots
+use Rattle.ipc_format_writing.specs.flatbuffers.FlatBuffers.{signed_field}
 use Rattle.ipc_format_writing.specs.grammar.TagNumbers as tags
 use Rattle.ipc_format_writing.specs.grammar.Types as kind
 use Rattle.ipc_format_writing.specs.grammar.Types.{Tag}
-use Rattle.ipc_format_writing.specs.messages.MessageSlots.{TableIn, VectorIn, vector_in}
+use Rattle.ipc_format_writing.specs.messages.MessageSlots.{TableIn, VectorIn}
 use Rattle.ipc_format_writing.specs.messages.SchemaSlots as schema
 use Rattle.ipc_format_writing.specs.messages.TypeSlots as type_slots
 use Rattle.ipc_format_writing.specs.messages.TypeSlots.{TypeIn}
@@ -126,14 +125,14 @@ timestamp_in table = do
   timezone ← type_slots.timestamp_timezone table
   Some (types.Timestamp unit timezone)
 
--- number k of a vector of them
-abbrev pub number_at : VectorIn → ℕ → Option (List ℤ)
-number_at from k = do
-  number ← signed_at w32 from.bytes (from.vector.place + 4 * k)
+-- number k of a vector of them, alone
+abbrev pub one_number_at : VectorIn → ℕ → Option (List ℤ)
+one_number_at from k = do
+  number ← type_slots.number_at from k
   Some (number ∷ [])
 
 abbrev pub numbers_of : VectorIn → Option (List ℤ)
-numbers_of from = gathered (number_at from) from.vector.count 0
+numbers_of from = gathered (one_number_at from) from.vector.count 0
 
 abbrev pub numbers_in : Option VectorIn → Option (Option (List ℤ))
 numbers_in None = Some None
@@ -144,7 +143,7 @@ numbers_in (Some from) = do
 abbrev pub union_in : TableIn → Option Type_
 union_in table = do
   mode ← type_slots.union_mode table
-  vector ← vector_in table slots.union_type_ids slots.id_size
+  vector ← type_slots.union_type_ids table
   type_ids ← numbers_in vector
   Some (types.Union mode type_ids)
 

@@ -27,7 +27,8 @@ encoding_in encoding = do
   keys ← found
   index_type ← int_in keys
   is_ordered ← slots.encoding_is_ordered encoding
-  Some (record { id = id; index_type = index_type; is_ordered = is_ordered })
+  dictionary_kind ← slots.encoding_kind encoding
+  Some (record { id = id; index_type = index_type; is_ordered = is_ordered; dictionary_kind = dictionary_kind })
 
 abbrev pub encoding_if : Option TableIn → Option (Option DictionaryEncoding)
 encoding_if None = Some None

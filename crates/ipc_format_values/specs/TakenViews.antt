@@ -1,14 +1,8 @@
 -- What is taken, and where it is taken from, as the definitions have them.
 use Rattle.std.specs.Prelude.{ℕ, List}
-use Rattle.ipc_format_writing.specs.flatbuffers.Views.{vector_of}
-use Rattle.ipc_format_writing.specs.messages.MessageSlots.{VectorIn}
 use Rattle.ipc_format_values.specs.declared.fields.Field.{Field}
-use Rattle.ipc_format_values.specs.declared.numbers.NumbersRef.{NumbersRef}
 use Rattle.ipc_format_values.specs.declared.taken_fields.FieldTaken.{FieldTaken}
 use Rattle.ipc_format_values.specs.declared.taken_fields.FieldsTaken.{FieldsTaken}
-
-abbrev pub numbers_view : NumbersRef → VectorIn
-numbers_view numbers = record { bytes = numbers.bytes.now; vector = vector_of numbers.vector }
 
 abbrev pub field_taken : FieldTaken → Field × ℕ
 field_taken taken = (taken.field, taken.left)

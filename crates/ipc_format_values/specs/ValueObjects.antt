@@ -6,12 +6,15 @@ use Rattle.ipc_format_writing.specs.flatbuffers.Objects.{no_object, object_then}
 use Rattle.ipc_format_writing.specs.grammar.SchemaObjects as objects
 use Rattle.ipc_format_writing.specs.grammar.SchemaObjects.{refers_if, metadata_object, text_if, numbers_if, truth, unit_number, interval_number}
 use Rattle.ipc_format_writing.specs.grammar.SchemaObjects.{mode_number, int_object, short_table, long_table, empty_table}
+use Rattle.ipc_format_writing.specs.grammar.TagNumbers as tags
 use Rattle.ipc_format_writing.specs.grammar.WrittenFiles.{blocks_object}
 use Rattle.ipc_format_writing.specs.MessageWriting.{batch_object}
 use Rattle.ipc_format_writing.specs.FooterWriting.{block_view}
 use Rattle.ipc_format_writing.specs.messages.declared.Block.{Block}
 use Rattle.ipc_format_writing.specs.messages.declared.DateUnit.{DateUnit}
 use Rattle.ipc_format_writing.specs.messages.declared.DateUnit.TheVariants.{Day, Millisecond}
+use Rattle.ipc_format_writing.specs.messages.declared.DictionaryKind.{DictionaryKind}
+use Rattle.ipc_format_writing.specs.messages.declared.DictionaryKind.TheVariants.{DenseArray}
 use Rattle.ipc_format_writing.specs.messages.declared.Endianness.{Endianness}
 use Rattle.ipc_format_writing.specs.messages.declared.Endianness.TheVariants.{Little, Big}
 use Rattle.ipc_format_writing.specs.messages.declared.MetadataVersion.{MetadataVersion}
@@ -98,10 +101,13 @@ pair_view pair = (pair.key, pair.value)
 abbrev pub pairs_value : List KeyValue → Option Object
 pairs_value pairs = metadata_object (map pair_view pairs)
 
+abbrev pub kind_number : DictionaryKind → ℕ
+kind_number DenseArray = tags.dense_array
+
 abbrev pub encoding_value : Option DictionaryEncoding → Option Object
 encoding_value None = None
 encoding_value (Some encoding) = Some (table (number_then w64 (cast_unsigned w64 encoding.id) (refers_then (int_value encoding.index_type)
-    (number_then w8 (truth encoding.is_ordered) (number_then w16 0 no_field)))))
+    (number_then w8 (truth encoding.is_ordered) (number_then w16 (kind_number encoding.dictionary_kind) no_field)))))
 
 -- objects before others
 abbrev pub objects_before : List Object → Objects → Objects

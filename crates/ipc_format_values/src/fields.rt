@@ -1,7 +1,7 @@
 //! Schemas and what stands in them (Schema.fbs).
 use crate::types::Type_;
 use ipc_format_writing::columnar_memory::{Items, Text};
-use ipc_format_writing::messages::Endianness;
+use ipc_format_writing::messages::{DictionaryKind, Endianness};
 
 /// A pair of custom metadata (Schema.fbs, `KeyValue`).
 #[derive(Debug, Drop)]
@@ -18,7 +18,7 @@ pub struct Int {
     pub is_signed: bool,
 }
 
-/// A field's dictionary, which is a dense array (Schema.fbs, `DictionaryEncoding`).
+/// A field's dictionary (Schema.fbs, `DictionaryEncoding`).
 #[derive(Clone, Copy, Debug, PartialEq, Eq)]
 pub struct DictionaryEncoding {
     /// The id under which its values are sent.
@@ -27,6 +27,8 @@ pub struct DictionaryEncoding {
     pub index_type: Int,
     /// Whether the order of the keys is that of the values.
     pub is_ordered: bool,
+    /// How the values stand.
+    pub dictionary_kind: DictionaryKind,
 }
 
 /// A field (Schema.fbs, `Field`). Without pairs its custom metadata is absent.

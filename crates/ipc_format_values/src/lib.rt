@@ -10,7 +10,6 @@
 
 mod fields;
 mod message_values;
-mod numbers;
 mod pairs;
 mod serializing;
 mod taken;
@@ -37,12 +36,13 @@ pub use types::{Precision, Type_};
 pub mod messages {
     pub use ipc_format_writing::messages::{
         Block, BlocksRef, BodyCompressionRef, Buffer, BuffersRef, DateRef, DateUnit, DecimalRef,
-        DictionaryBatchParts, DictionaryBatchRef, DictionaryEncodingRef, DurationRef, Endianness,
-        Error, FieldNode, FieldNodesRef, FieldRef, FieldsRef, FixedSizeBinaryRef, FixedSizeListRef,
-        FooterRef, IntRef, IntervalRef, KeyValueRef, KeyValuesRef, MapRef, MessageHeaderRef,
-        MessageParts, MessageRef, MetadataVersion, RecordBatchParts, RecordBatchRef, SchemaRef,
-        TableRef, TablesRef, TimeRef, TimestampRef, TypeRef, UnionRef, as_memory_error,
-        dictionary_batch_in, message_in, record_batch_in, version_in,
+        DictionaryBatchParts, DictionaryBatchRef, DictionaryEncodingRef, DictionaryKind,
+        DurationRef, Endianness, Error, FieldNode, FieldNodesRef, FieldRef, FieldsRef,
+        FixedSizeBinaryRef, FixedSizeListRef, FooterRef, IntRef, IntervalRef, KeyValueRef,
+        KeyValuesRef, MapRef, MessageHeaderRef, MessageParts, MessageRef, MetadataVersion,
+        NumbersRef, RecordBatchParts, RecordBatchRef, SchemaRef, TableRef, TablesRef, TimeRef,
+        TimestampRef, TypeRef, UnionRef, as_memory_error, dictionary_batch_in, message_in,
+        record_batch_in, version_in,
     };
 }
 

@@ -18,9 +18,9 @@ use crate::told::{Told, int_of, leaf, over};
 use ipc_format_writing::columnar_memory::{
     DataType, Field as Column, IntegerType, Items, Result as Answer, Schema as Columns,
 };
-use ipc_format_writing::messages::Endianness;
+use ipc_format_writing::messages::{DictionaryKind, Endianness};
 use ipc_format_writing::metadata::IpcField;
-use ipc_format_writing::{Named, first_beside, schema_to_bytes};
+use ipc_format_writing::{Named, first_beside, refuse_unwritten};
 use std::alloc::{AllocError, Global};
 
 /// The encoding of a dictionary, if the type has one. Without an id beside it the id is 0.
@@ -35,6 +35,7 @@ fn encoding_of(
         id: own.unwrap_or(0),
         index_type: int_of(keys),
         is_ordered,
+        dictionary_kind: DictionaryKind::DenseArray,
     })
 }
 
@@ -166,16 +167,15 @@ fn value_of(alloc: Global, schema: &Columns, ipc_fields: &[IpcField]) -> Result<
 }
 
 /// The value of the schema that `schema_to_bytes` lays, with the ids of its dictionaries beside its fields (Schema.fbs). It is refused as
-/// the bytes are.
+/// the bytes are, but not for their length: a value may be of a schema whose metadata would be too long.
 ///
 /// # Errors
 /// - `NotYetImplemented`: a field of floating-point numbers stands in the schema.
 /// - `InvalidArgumentError`: the schema is none that is written, or the ids are not those of its dictionaries.
-/// - `Overflow`: with its prefix of 8 bytes the metadata of the schema's message would have more than 2,147,483,640 bytes.
-/// - `OutOfMemory`: there was no memory for the value, or for the metadata, which tells its length.
+/// - `OutOfMemory`: there was no memory for the value.
 pub fn serialize_schema(alloc: Global, schema: &Columns, ipc_fields: &[IpcField]) -> Answer<Schema>
     ensures { SerializesSchema result schema.now (ids_views ipc_fields.now) }
 {
-    schema_to_bytes(alloc, schema, ipc_fields)?;
+    refuse_unwritten(schema, ipc_fields)?;
     Ok(value_of(alloc, schema, ipc_fields)?)
 }

@@ -131,10 +131,12 @@ pub fn dictionary_encoding_of(
     };
     let index_type = int_of(index_type)?;
     let is_ordered = encoding.is_ordered()?;
+    let dictionary_kind = encoding.dictionary_kind()?;
     Ok(DictionaryEncoding {
         id,
         index_type,
         is_ordered,
+        dictionary_kind,
     })
 }
 

@@ -2,41 +2,22 @@
 ghost use Rattle.std.specs.Prelude.{◌≡◌, IfOk, false, true, ◌+◌, ◌*◌, ◌≤◌, length};
 ghost use Rattle.std.specs.Option.{option_map};
 ghost use Rattle.std.specs.Result.{result_ok};
-ghost use Rattle.ipc_format_writing.specs.messages.MessageSlots.{vector_in};
 ghost use Rattle.ipc_format_writing.specs.messages.MessageViews.{table_view};
-ghost use Rattle.ipc_format_writing.specs.messages.TypeRefs.{type_view};
+ghost use Rattle.ipc_format_writing.specs.messages.TypeRefs.{type_view, numbers_view};
 ghost use Rattle.ipc_format_values.specs.Owned as owned;
 ghost use Rattle.ipc_format_values.specs.Taken.{Takes};
-ghost use Rattle.ipc_format_values.specs.TakenViews.{numbers_view};
 
-use crate::numbers::NumbersRef;
 use crate::taken::taken;
 use crate::taken_pairs::int_of;
 use crate::{Precision, Type_};
 use ipc_format_writing::columnar_memory::{Items, Result as Answer, Text};
-use ipc_format_writing::flatbuffers::i32_at;
 use ipc_format_writing::messages::{
-    DecimalRef, Error, TableRef, TimeRef, TimestampRef, TypeRef, UnionRef,
+    DecimalRef, Error, NumbersRef, TableRef, TimeRef, TimestampRef, TypeRef, UnionRef,
 };
-use ipc_format_writing::metadata::sizes::I32_SIZE;
-use ipc_format_writing::metadata::slots::UNION_TYPE_IDS;
 use std::alloc::{AllocError, Global};
 
 /// The slot of `FloatingPoint`.
 const PRECISION: u8 = 0;
-
-/// The numbers that a slot refers to, if there are any.
-fn numbers_of_slot<'a>(table: &TableRef<'a>, slot: u8) -> Result<Option<NumbersRef<'a>>, Error>
-    ensures { option_map (option_map numbers_view) (result_ok result) ≡ vector_in (table_view table.now) slot 4 }
-{
-    let Some(vector) = table.vector(slot, I32_SIZE)? else {
-        return Ok(None);
-    };
-    Ok(Some(NumbersRef {
-        bytes: table.bytes,
-        vector,
-    }))
-}
 
 /// The numbers of a vector.
 fn numbers_of(alloc: Global, numbers: &NumbersRef<'_>) -> Result<Option<Items<i32>>, AllocError>
@@ -44,7 +25,7 @@ fn numbers_of(alloc: Global, numbers: &NumbersRef<'_>) -> Result<Option<Items<i3
 {
     let mut made = Items::new(alloc);
     for k in 0..numbers.vector.count {
-        let Some(number) = i32_at(numbers.bytes, numbers.vector.place + 4 * k) else {
+        let Some(number) = numbers.get(k) else {
             return Ok(None);
         };
         made.push(number)?;
@@ -74,7 +55,7 @@ fn union_in(alloc: Global, union: &UnionRef<'_>) -> Result<Option<Type_>, AllocE
     let Ok(mode) = union.mode() else {
         return Ok(None);
     };
-    let Ok(numbers) = numbers_of_slot(&union.0, UNION_TYPE_IDS) else {
+    let Ok(numbers) = union.type_ids() else {
         return Ok(None);
     };
     match numbers_in(alloc, &numbers)? {

@@ -1,6 +1,7 @@
 //! Batches that are appended to files, in memory and on devices.
-use crate::answers::{Short, told};
+use crate::answers::{Short, told, told_beside};
 use crate::cases::{column, field, letters, letters_schema, numbers, numbers_schema, of_one};
+use crate::samples::{NOTED_END, NOTED_FOOTER, NOTED_MESSAGES};
 use ipc_format::columnar_memory::{DataType, Error, Items, Schema};
 use ipc_format::format::Block;
 use ipc_format::nested_arrays::flat_arrays::BooleanArray;
@@ -80,11 +81,7 @@ fn with_one_on_device(alloc: Global, file: Vec<u8>, array: AnyArray) -> Result<V
 
 /// What a reader answers next, beside some columns.
 fn next_of<R: Room + Drop>(reader: &mut FileReader<R>, wanted: &[AnyArray]) -> Short {
-    match reader.next() {
-        None => Short::Nothing,
-        Some(Ok(chunk)) if chunk.arrays() == wanted => Short::Expected,
-        Some(answer) => told(answer),
-    }
+    told_beside(reader.next(), wanted)
 }
 
 /// What a reader of a file answers to three calls, beside some columns.
@@ -118,34 +115,17 @@ fn a_batch_is_appended(rt: HostRuntime) -> Result<(), Fail> {
     Ok(())
 }
 
-/// Where the body of a block ends.
-fn end_of(block: &MessageBlock) -> Option<usize> {
-    let body = usize::try_from(block.body_length).ok()?;
-    block
-        .offset
-        .checked_add(block.metadata_length)?
-        .checked_add(body)
-}
-
-/// A file with 4,096 bytes more behind its last batch, which stand for an old footer that held more than a new one does.
-fn with_longer_tail(alloc: Global, file: &[u8]) -> Result<Vec<u8>, Error> {
-    let mut room = InMemory { bytes: file };
-    let metadata = read_file_metadata(alloc, &mut room)?;
+/// The file of truth values with another footer, which holds 4,096 bytes of custom metadata.
+fn with_note(alloc: Global, file: &[u8]) -> Result<Vec<u8>, Error> {
     let mut bytes = Vec::new(alloc);
-    let Some(block) = metadata.blocks.first() else {
-        return Ok(bytes);
-    };
-    let Some(end) = end_of(block) else {
-        return Ok(bytes);
-    };
-    let (Some(head), Some(tail)) = (file.get(..end), file.get(end..)) else {
-        return Ok(bytes);
-    };
-    bytes.extend_from_slice(head)?;
-    for _ in 0..4096 {
-        bytes.push(1)?;
+    if let Some(messages) = file.get(..NOTED_MESSAGES) {
+        bytes.extend_from_slice(messages)?;
     }
-    bytes.extend_from_slice(tail)?;
+    bytes.extend_from_slice(&NOTED_FOOTER)?;
+    for _ in 0..4096 {
+        bytes.push(b'm')?;
+    }
+    bytes.extend_from_slice(&NOTED_END)?;
     Ok(bytes)
 }
 
@@ -154,8 +134,8 @@ fn a_file_gets_no_shorter(rt: HostRuntime) -> Result<(), Fail> {
     let alloc = rt.alloc();
     let wanted = [truths(alloc)?];
     let short = truths_file(alloc)?;
-    let long = with_longer_tail(alloc, &short)?;
-    let again = with_longer_tail(alloc, &short)?;
+    let long = with_note(alloc, &short)?;
+    let again = with_note(alloc, &short)?;
     let length = long.len();
     let bytes = with_one(alloc, long, truths(alloc)?)?;
     let same = with_one_on_device(alloc, again, truths(alloc)?)?;
@@ -208,6 +188,15 @@ fn put_footer(
     bytes.extend_from_slice(&length.to_le_bytes())?;
     bytes.extend_from_slice(b"ARROW1")?;
     Ok(())
+}
+
+/// Where the body of a block ends.
+fn end_of(block: &MessageBlock) -> Option<usize> {
+    let body = usize::try_from(block.body_length).ok()?;
+    block
+        .offset
+        .checked_add(block.metadata_length)?
+        .checked_add(body)
 }
 
 /// A file whose dictionary stands behind its batch, made of one where it stands before it.

@@ -25,12 +25,21 @@ fn keyed_texts(alloc: Global) -> Result<DataType, Error> {
     Ok(DataType::Dictionary(IntegerType::Int8, Boxed::new(alloc, DataType::Utf8)?, false))
 }
 
-/// The keys 0, 1 and 0 into two texts.
-pub(crate) fn letters(alloc: Global, texts: &[&'static str]) -> Result<AnyArray, Error> {
+/// Keys into some texts.
+pub(crate) fn texts_by_key(
+    alloc: Global,
+    texts: &[&'static str],
+    keys: &[i8],
+) -> Result<AnyArray, Error> {
     let values: Utf8Array<i32> = Utf8Array::from_slice(alloc, texts)?;
     let values = Box::new(alloc, AnyArray::from(FlatArray::from(values)))?;
-    let keys: PrimitiveArray<i8> = PrimitiveArray::from_slice(alloc, &[0, 1, 0])?;
+    let keys = PrimitiveArray::from_slice(alloc, keys)?;
     Ok(DictionaryArray::try_new(keyed_texts(alloc)?, keys, values)?.into_any())
+}
+
+/// The keys 0, 1 and 0 into two texts.
+pub(crate) fn letters(alloc: Global, texts: &[&'static str]) -> Result<AnyArray, Error> {
+    texts_by_key(alloc, texts, &[0, 1, 0])
 }
 
 /// A batch of one column.

@@ -1,5 +1,5 @@
 //! Files that are read, from memory and from devices.
-use crate::answers::{Short, told};
+use crate::answers::{Short, told, told_beside};
 use crate::cases::{column, field, numbers, numbers_schema, of_one, of_two};
 use ipc_format::columnar_memory::{DataType, Error, Items, Schema};
 use ipc_format::nested_arrays::flat_arrays::Utf8Array;
@@ -21,7 +21,11 @@ fn schema_of(alloc: Global, first: DataType, second: DataType) -> Result<Schema,
 }
 
 /// The file of some batches.
-fn file_of(alloc: Global, schema: Schema, chunks: &[Chunk<AnyArray>]) -> Result<Vec<u8>, Error> {
+pub(crate) fn file_of(
+    alloc: Global,
+    schema: Schema,
+    chunks: &[Chunk<AnyArray>],
+) -> Result<Vec<u8>, Error> {
     let mut writer = FileWriter::try_new(
         alloc,
         Vec::new(alloc),
@@ -47,7 +51,7 @@ fn five_batches(alloc: Global) -> Result<Vec<u8>, Error> {
 }
 
 /// Where a word stands first in some bytes, or their length.
-fn place_of(bytes: &[u8], word: &[u8]) -> usize {
+pub(crate) fn place_of(bytes: &[u8], word: &[u8]) -> usize {
     for k in 0..bytes.len() {
         if bytes[k..].starts_with(word) {
             return k;
@@ -72,7 +76,10 @@ fn spoilt_texts(alloc: Global) -> Result<Vec<u8>, Error> {
 }
 
 /// A reader of all columns of a file.
-fn reader_of<R: Room + Drop>(alloc: Global, mut room: R) -> Result<FileReader<R>, Error> {
+pub(crate) fn reader_of<R: Room + Drop>(
+    alloc: Global,
+    mut room: R,
+) -> Result<FileReader<R>, Error> {
     let metadata = read_file_metadata(alloc, &mut room)?;
     FileReader::new(alloc, room, metadata, None, None)
 }
@@ -93,12 +100,8 @@ fn reader_of_columns<R: Room + Drop>(
 }
 
 /// What a reader answers next, beside some columns.
-fn next_of<R: Room + Drop>(reader: &mut FileReader<R>, wanted: &[AnyArray]) -> Short {
-    match reader.next() {
-        None => Short::Nothing,
-        Some(Ok(chunk)) if chunk.arrays() == wanted => Short::Expected,
-        Some(answer) => told(answer),
-    }
+pub(crate) fn next_of<R: Room + Drop>(reader: &mut FileReader<R>, wanted: &[AnyArray]) -> Short {
+    told_beside(reader.next(), wanted)
 }
 
 /// What a reader of y and x, of three rows, answers to seven calls.

@@ -11,7 +11,11 @@ mod calling_owned;
 #[cfg(test)]
 mod cases;
 #[cfg(test)]
+mod devices;
+#[cfg(test)]
 mod file_reader;
+#[cfg(test)]
+mod file_refusals;
 #[cfg(test)]
 mod file_writer;
 #[cfg(test)]

@@ -1,6 +1,6 @@
-//! The parts of a file from outside.
+//! The parts of files from outside, laid by `tools/writer`.
 
-/// A nullable column x with the rows 7 and null, laid by `tools/writer`.
+/// A nullable column x with the rows 7 and null.
 pub(crate) const EXAMPLE: [u8; 496] = [
     255, 255, 255, 255, 192, 0, 0, 0, 24, 0, 0, 0, 0, 0, 0, 0, 14, 0, 24, 0, 4, 0, 6, 0, 8, 0, 16,
     0, 0, 0, 0, 0, 16, 0, 0, 0, 4, 0, 1, 0, 32, 0, 0, 0, 0, 0, 0, 0, 0, 0, 0, 0, 0, 0, 0, 0, 12, 0,
@@ -32,4 +32,27 @@ pub(crate) const EXAMPLE_END: [u8; 242] = [
     0, 0, 0, 0, 0, 0, 0, 0, 0, 0, 0, 0, 0, 0, 0, 0, 0, 0, 0, 0, 0, 0, 0, 1, 0, 0, 0, 208, 0, 0, 0,
     0, 0, 0, 0, 160, 0, 0, 0, 0, 0, 0, 0, 128, 0, 0, 0, 0, 0, 0, 0, 232, 0, 0, 0, 65, 82, 82, 79,
     87, 49,
+];
+
+/// Where the messages and the end mark of the file end whose footer follows.
+pub(crate) const NOTED_MESSAGES: usize = 496;
+
+/// The footer of a file of a nullable column x with the truth values true, true, false and null, up to a note of 4,096 letters m in its custom
+/// metadata.
+pub(crate) const NOTED_FOOTER: [u8; 288] = [
+    24, 0, 0, 0, 0, 0, 0, 0, 14, 0, 24, 0, 4, 0, 8, 0, 12, 0, 16, 0, 20, 0, 0, 0, 16, 0, 0, 0, 4,
+    0, 0, 0, 32, 0, 0, 0, 152, 0, 0, 0, 156, 0, 0, 0, 184, 0, 0, 0, 12, 0, 12, 0, 4, 0, 8, 0, 0, 0,
+    0, 0, 0, 0, 0, 0, 16, 0, 0, 0, 0, 0, 0, 0, 12, 0, 0, 0, 0, 0, 0, 0, 0, 0, 0, 0, 1, 0, 0, 0, 32,
+    0, 0, 0, 0, 0, 0, 0, 18, 0, 20, 0, 4, 0, 8, 0, 9, 0, 12, 0, 0, 0, 16, 0, 0, 0, 0, 0, 0, 0, 0,
+    0, 24, 0, 0, 0, 24, 0, 0, 0, 1, 6, 0, 0, 36, 0, 0, 0, 44, 0, 0, 0, 0, 0, 0, 0, 0, 0, 0, 0, 1,
+    0, 0, 0, 120, 0, 0, 0, 0, 0, 0, 0, 4, 0, 4, 0, 0, 0, 0, 0, 8, 0, 0, 0, 0, 0, 0, 0, 0, 0, 0, 0,
+    0, 0, 0, 0, 0, 0, 0, 0, 0, 0, 0, 0, 0, 0, 0, 0, 1, 0, 0, 0, 200, 0, 0, 0, 0, 0, 0, 0, 160, 0,
+    0, 0, 0, 0, 0, 0, 128, 0, 0, 0, 0, 0, 0, 0, 0, 0, 0, 0, 1, 0, 0, 0, 16, 0, 0, 0, 0, 0, 0, 0, 8,
+    0, 12, 0, 4, 0, 8, 0, 8, 0, 0, 0, 16, 0, 0, 0, 28, 0, 0, 0, 0, 0, 0, 0, 0, 0, 0, 0, 4, 0, 0, 0,
+    110, 111, 116, 101, 0, 0, 0, 0, 0, 0, 0, 0, 0, 16, 0, 0,
+];
+
+/// What stands behind the note: the end of the footer, its length and the mark.
+pub(crate) const NOTED_END: [u8; 18] = [
+    0, 0, 0, 0, 0, 0, 0, 0, 40, 17, 0, 0, 65, 82, 82, 79, 87, 49,
 ];

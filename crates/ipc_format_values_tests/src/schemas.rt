@@ -3,7 +3,7 @@ use crate::calling::message_of;
 use columnar_memory_types::{
     Boxed, DataType, Error, Field, IntegerType, Items, Metadata, Schema, Text,
 };
-use ipc_format::format::{DictionaryEncoding, Footer, Int, MetadataVersion};
+use ipc_format::format::{DictionaryEncoding, DictionaryKind, Footer, Int, MetadataVersion};
 use ipc_format::metadata::IpcField;
 use ipc_format::serialize_schema;
 use std::alloc::Global;
@@ -46,6 +46,7 @@ fn a_schema_has_its_value(rt: HostRuntime) -> Result<(), Fail> {
             is_signed: true,
         },
         is_ordered: true,
+        dictionary_kind: DictionaryKind::DenseArray,
     };
     assert!(rt; field.dictionary == Some(want));
     assert_eq!(rt; field.name.as_str(), "x");

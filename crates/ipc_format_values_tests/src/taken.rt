@@ -1,6 +1,6 @@
 //! Values taken of views.
 use crate::schemas::{ids, schema};
-use columnar_memory_types::{DataType, Error, Field, Items, Schema, Text};
+use columnar_memory_types::{DataType, Error, Field, Items, Schema, Text, UnionMode};
 use ipc_format::format::{
     Block, Buffer, FieldNode, FieldRef, FooterRef, MessageHeaderRef, MessageRef, Type_,
     dictionary_batch_of, field_of, footer_of, key_value_of, message_header_of, message_of,
@@ -96,6 +96,41 @@ fn a_field_is_taken_with_its_children(rt: HostRuntime) -> Result<(), Fail> {
         assert_eq!(rt; child.name.as_str(), name);
     }
     Ok(())
+}
+
+/// u, a dense union of the field a with the id 7.
+fn unions(alloc: Global) -> Result<Schema, Fail> {
+    let mut below = Items::new(alloc);
+    let a = Text::from_str(alloc, "a")?;
+    below.push(Field::new(alloc, a, DataType::Int32, true))?;
+    let mut ids = Items::new(alloc);
+    ids.push(7)?;
+    let union = DataType::Union(below, Some(ids), UnionMode::Dense);
+    let mut fields = Items::new(alloc);
+    let name = Text::from_str(alloc, "u")?;
+    fields.push(Field::new(alloc, name, union, false))?;
+    Ok(Schema::from_fields(fields))
+}
+
+#[test]
+fn a_union_is_taken_with_its_ids(rt: HostRuntime) -> Result<(), Fail> {
+    let alloc = rt.alloc();
+    let schema = unions(alloc)?;
+    let ids = default_ipc_fields(alloc, schema.fields.as_slice())?;
+    let bytes = schema_to_bytes(alloc, &schema, ids.as_slice());
+    let bytes = bytes.ok().ok_or("not written")?;
+    let field = field_of(alloc, first_field(&bytes)?).ok().ok_or("refused")?;
+    match field.type_ {
+        Type_::Union {
+            mode,
+            type_ids: Some(type_ids),
+        } => {
+            assert!(rt; matches!(mode, UnionMode::Dense));
+            assert!(rt; type_ids.as_slice() == [7].as_slice());
+            Ok(())
+        }
+        _ => Err(Fail::from("no union with ids")),
+    }
 }
 
 #[test]

@@ -34,12 +34,13 @@ pub use written_pairs::Named;
 pub mod messages {
     pub use ipc_format_messages::{
         Block, BlocksRef, BodyCompressionRef, Buffer, BuffersRef, DateRef, DateUnit, DecimalRef,
-        DictionaryBatchParts, DictionaryBatchRef, DictionaryEncodingRef, DurationRef, Endianness,
-        Error, FieldNode, FieldNodesRef, FieldRef, FieldsRef, FixedSizeBinaryRef, FixedSizeListRef,
-        FooterRef, IntRef, IntervalRef, KeyValueRef, KeyValuesRef, MapRef, MessageHeaderRef,
-        MessageParts, MessageRef, MetadataVersion, RecordBatchParts, RecordBatchRef, SchemaRef,
-        TableRef, TablesRef, TimeRef, TimestampRef, TypeRef, UnionRef, as_memory_error,
-        dictionary_batch_in, message_in, record_batch_in, version_in,
+        DictionaryBatchParts, DictionaryBatchRef, DictionaryEncodingRef, DictionaryKind,
+        DurationRef, Endianness, Error, FieldNode, FieldNodesRef, FieldRef, FieldsRef,
+        FixedSizeBinaryRef, FixedSizeListRef, FooterRef, IntRef, IntervalRef, KeyValueRef,
+        KeyValuesRef, MapRef, MessageHeaderRef, MessageParts, MessageRef, MetadataVersion,
+        NumbersRef, RecordBatchParts, RecordBatchRef, SchemaRef, TableRef, TablesRef, TimeRef,
+        TimestampRef, TypeRef, UnionRef, as_memory_error, dictionary_batch_in, message_in,
+        record_batch_in, version_in,
     };
 }
 

@@ -15,6 +15,7 @@ pub use Rattle.nested_arrays_sized_builders.specs.nulls.columns.Tables
 pub use Rattle.nested_arrays_sized_builders.specs.nulls.flat.Checked
 pub use Rattle.nested_arrays_sized_builders.specs.nulls.flat.ColumnMasks
 pub use Rattle.nested_arrays_sized_builders.specs.nulls.flat.ColumnTypes
+pub use Rattle.nested_arrays_sized_builders.specs.nulls.flat.EqualArrays
 pub use Rattle.nested_arrays_sized_builders.specs.nulls.flat.FixedSizeItems
 pub use Rattle.nested_arrays_sized_builders.specs.nulls.flat.FlatColumns
 pub use Rattle.nested_arrays_sized_builders.specs.nulls.flat.Primitives
@@ -47,6 +48,7 @@ pub use Rattle.nested_arrays_sized_builders.specs.nulls.iterators.StringParts
 pub use Rattle.nested_arrays_sized_builders.specs.nulls.iterators.TextItems
 pub use Rattle.nested_arrays_sized_builders.specs.nulls.iterators.TypedValues
 pub use Rattle.nested_arrays_sized_builders.specs.nulls.iterators.WalkLaws
+pub use Rattle.nested_arrays_sized_builders.specs.nulls.Downcasts
 pub use Rattle.nested_arrays_sized_builders.specs.nulls.Lengths as PartLengths
 pub use Rattle.nested_arrays_sized_builders.specs.nulls.NullAnswers
 pub use Rattle.nested_arrays_sized_builders.specs.nulls.NullColumns
@@ -55,6 +57,8 @@ pub use Rattle.nested_arrays_sized_builders.specs.nulls.columnar_memory
 pub use Rattle.nested_arrays_sized_builders.specs.pushes as builders
 pub use Rattle.nested_arrays_sized_builders.specs.ListBuilders
 pub use Rattle.nested_arrays_sized_builders.specs.NullBuilders
+pub use Rattle.nested_arrays_sized_builders.specs.StructBuilders
 pub use Rattle.nested_arrays_sized_builders.specs.MarkedSlots
 pub use Rattle.nested_arrays_sized_builders.specs.SizedStrings
+pub use Rattle.nested_arrays_sized_builders.specs.FixedListBuilders
 pub use Rattle.nested_arrays_sized_builders.specs.pushes.cells.taken.OpenColumns

@@ -33,13 +33,14 @@ pub use nested_arrays_sized_builders::nulls::iterators::{
 };
 pub use nested_arrays_sized_builders::nulls::parts::{FlatArray, FlatNode, ListOffsets};
 pub use nested_arrays_sized_builders::nulls::{
-    NullArrays, columnar_memory, flat_arrays, new_empty_array, new_null_array,
+    Downcast, NullArrays, columnar_memory, flat_arrays, new_empty_array, new_null_array,
 };
 pub use nested_arrays_sized_builders::pushes::TryPushFrom;
 pub use nested_arrays_sized_builders::pushes::cells::builders::{AnyMutableArray, is_cell_of};
 pub use nested_arrays_sized_builders::pushes::cells::cell_at;
-pub use nested_arrays_sized_builders::pushes::cells::parts::AnyScalar;
+pub use nested_arrays_sized_builders::pushes::cells::parts::{AnyScalar, Marks};
 pub use nested_arrays_sized_builders::pushes::cells::taken::MutableArray;
 pub use nested_arrays_sized_builders::{
-    MutValues, MutableFixedSizeBinaryArray, MutableListArray, MutableNullArray,
+    MutValues, MutableFields, MutableFixedSizeBinaryArray, MutableFixedSizeListArray,
+    MutableListArray, MutableNullArray, MutableStructArray,
 };

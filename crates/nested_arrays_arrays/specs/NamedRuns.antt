@@ -1,5 +1,5 @@
 -- Slots of dictionaries by the places that their keys name.
-use Rattle.std.specs.Prelude.{◌≡◌, ◌<◌, ◌↔◌, ℕ, Bool, IsTrue, List, length, Option, Some, None, slice_index}
+use Rattle.std.specs.Prelude.{◌≡◌, ◌+◌, ◌<◌, ◌≤◌, ◌↔◌, ℕ, Bool, IsTrue, List, length, Option, Some, None, slice_index}
 use Rattle.nested_arrays_parts.specs.columns.Slots.{Slot, null}
 use Rattle.nested_arrays_parts.specs.columns.StoredColumns.{Column, column_len, slot_at}
 use Rattle.nested_arrays_parts.specs.Ranges.{range_nodes, SameRanges}
@@ -14,7 +14,9 @@ abbrev pub AreSamePairs : List ℕ → List ℕ → Column → Column → Type 0
 AreSamePairs lefts rights l r = (h : ℕ) → h < length lefts → slice_index lefts h < column_len l
     → slot_at l (slice_index lefts h) ≡ slot_at r (slice_index rights h)
 
--- a test tells whether n slots of a column from place i on are those of another from place j on; no slots stand inside those of the first
-pub record TellsRun (l : Column) (i : ℕ) (r : Column) (j n : ℕ) (test : Bool) : Type 0 where
+-- a test tells whether n slots of a column from place i on are those of another from place j on; by it a count of steps grew by as many as slots
+-- stand in the former, at every depth, where they are the same, and by no more where they are not
+pub record TellsRun (l : Column) (i : ℕ) (r : Column) (j n before after : ℕ) (test : Bool) : Type 0 where
   pub same : IsTrue test ↔ SameRanges l i r j n
-  pub alone : range_nodes l i n ≡ n
+  pub counted : after ≤ before + range_nodes l i n
+  pub used : IsTrue test → after ≡ before + range_nodes l i n

@@ -16,7 +16,7 @@ use std::marker::Model;
 
 /// An array, by how it lies in memory.
 #[cycle(arrays)]
-#[derive(Drop)]
+#[derive(Debug, Drop)]
 pub enum Node {
     Flat(FlatArray),
     List(ListNode),
@@ -29,7 +29,7 @@ pub enum Node {
 
 /// Lists of any length, one after another in a child.
 #[cycle(arrays)]
-#[derive(Drop)]
+#[derive(Debug, Drop)]
 pub struct ListNode {
     pub data_type: DataType,
     pub offsets: ListOffsets,
@@ -39,7 +39,7 @@ pub struct ListNode {
 
 /// Values by keys: each slot is the value at the place that its key names. The mask is that of the keys.
 #[cycle(arrays)]
-#[derive(Drop)]
+#[derive(Debug, Drop)]
 pub struct DictionaryNode {
     pub data_type: DataType,
     pub keys: AnyPrimitive,
@@ -48,7 +48,7 @@ pub struct DictionaryNode {
 
 /// An array of any type, which a contract sees as the column that it stores. It is sound at every depth.
 #[cycle(arrays)]
-#[derive(Drop)]
+#[derive(Debug, Drop)]
 pub struct AnyArray {
     pub node: Node,
 }

@@ -1,5 +1,5 @@
 //! Equality of arrays by their slots. A step is counted for each slot of the left side that is compared with one of the right; a run of slots of
-//! arrays without children, one of records, one of lists and one of dictionaries is counted as a whole.
+//! arrays without children, one of records and one of lists is counted as a whole.
 ghost use Rattle.std.specs.Prelude.{◌≡◌, ◌+◌, ◌<◌, ◌≤◌, ◌↔◌, IsTrue};
 ghost use Rattle.nested_arrays_parts.specs.columns.SlotNodes.{nodes_of, slot_nodes};
 ghost use Rattle.nested_arrays_parts.specs.columns.Slots.{in_slots, items, null, pick, window};
@@ -13,7 +13,7 @@ use crate::list_runs::list_run;
 use crate::named_runs::same_named_run;
 use crate::places::{fields_at, flat, items_at, pick_at, records_at, values_at};
 use nested_arrays_parts::columnar_memory::Steps;
-use nested_arrays_parts::{count_each, same_slots, same_slots_counted};
+use nested_arrays_parts::{count_each, same_slots_counted};
 
 /// Whether two arrays have one data type.
 pub(crate) fn same_types(left: &AnyArray, right: &AnyArray) -> bool
@@ -48,8 +48,7 @@ pub(crate) fn same_range(
         count_each(steps, count);
         return same_columns(fields, i, others, j, count, steps);
     }
-    if let Some(same) = same_named_run(left, i, right, j, count) {
-        count_each(steps, count);
+    if let Some(same) = same_named_run(left, i, right, j, count, steps) {
         return same;
     }
     let _left = left.len();
@@ -137,11 +136,13 @@ fn same_value(left: &AnyArray, i: usize, right: &AnyArray, j: usize, steps: &mut
     ensures counted { steps.new.count ≤ steps.old.count + slot_nodes (slot_at left.now i) }
     ensures used { IsTrue result → steps.new.count ≡ steps.old.count + slot_nodes (slot_at left.now i) }
 {
-    steps.tick();
     match (values_at(left, i), values_at(right, j)) {
-        (Some(values), Some(others)) => return same_slots(values, i, others, j, 1),
-        (None, None) => {}
-        _ => return false,
+        (Some(values), Some(others)) => return same_slots_counted(values, i, others, j, 1, steps),
+        (None, None) => steps.tick(),
+        _ => {
+            steps.tick();
+            return false;
+        }
     }
     match (items_at(left, i), items_at(right, j)) {
         (Some((child, start, len)), Some((other, other_start, other_len))) => {

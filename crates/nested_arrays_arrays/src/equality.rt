@@ -2,7 +2,8 @@
 ghost use Rattle.std.specs.Prelude.{◌≡◌, ◌+◌, ◌≤◌, ◌↔◌, IsTrue, sum_by};
 ghost use Rattle.nested_arrays_parts.specs.columns.SlotNodes.{slot_nodes};
 ghost use Rattle.nested_arrays_parts.specs.columns.StoredColumns.{slots};
-ghost use Rattle.nested_arrays_parts.specs.flat.SameArrays.{AreEqual, same_column, same_column-equivalence, same_column-per};
+ghost use Rattle.nested_arrays_parts.specs.flat.EqualArrays.{AreEqual};
+ghost use Rattle.nested_arrays_parts.specs.flat.SameArrays.{same_column, same_column-equivalence, same_column-per};
 
 use crate::any::AnyArray;
 use crate::comparisons::{same_range, same_types};

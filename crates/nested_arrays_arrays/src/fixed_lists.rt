@@ -20,7 +20,7 @@ use std::marker::Model;
 
 /// Lists of one size, one after another in a child (Arrow columnar format, "Fixed-Size List Layout"). A contract sees the column that it stores.
 #[cycle(arrays)]
-#[derive(Drop)]
+#[derive(Debug, Drop)]
 pub struct FixedSizeListArray {
     pub(crate) data_type: DataType,
     pub(crate) size: usize,

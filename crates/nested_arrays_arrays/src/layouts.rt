@@ -1,7 +1,8 @@
 //! `==` of arrays of one layout: of their data types and their slots.
 ghost use Rattle.std.specs.Prelude.{◌≡◌, ◌<◌, ◌↔◌, IsTrue};
 ghost use Rattle.nested_arrays_parts.specs.columns.StoredColumns.{Column, column_len, column_type, slot_at, slots};
-ghost use Rattle.nested_arrays_parts.specs.flat.SameArrays.{AreEqual, same_column, same_column-equivalence, same_column-per};
+ghost use Rattle.nested_arrays_parts.specs.flat.EqualArrays.{AreEqual};
+ghost use Rattle.nested_arrays_parts.specs.flat.SameArrays.{same_column, same_column-equivalence, same_column-per};
 
 use crate::comparisons::{same_fields, same_items, same_pick};
 use crate::fixed_lists::FixedSizeListArray;

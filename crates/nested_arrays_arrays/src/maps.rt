@@ -19,7 +19,7 @@ use std::marker::Model;
 /// Maps, each a list of entries, structs of a key and a value, one after another in a child (Arrow columnar format, "Map"). A contract sees
 /// the column that it stores.
 #[cycle(arrays)]
-#[derive(Drop)]
+#[derive(Debug, Drop)]
 pub struct MapArray {
     pub(crate) data_type: DataType,
     pub(crate) offsets: OffsetsBuffer<i32>,

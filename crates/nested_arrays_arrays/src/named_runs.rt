@@ -1,6 +1,6 @@
 //! Runs of slots of dictionaries whose values are arrays without children: keys are read, and values that they name are compared once for each
-//! pair of places that is remembered.
-ghost use Rattle.std.specs.Prelude.{◌≡◌, ◌+◌, ◌<◌, ◌≤◌, ◌↔◌, IfSome, IsTrue};
+//! pair of places that is remembered. A step is counted with each pair of slots, known or compared.
+ghost use Rattle.std.specs.Prelude.{◌≡◌, ◌+◌, ◌<◌, ◌≤◌, ◌↔◌, IfNone, IfSome, IsTrue};
 ghost use Rattle.nested_arrays_parts.specs.columns.StoredColumns.{column_len, slot_at};
 ghost use Rattle.nested_arrays_parts.specs.Ranges.{SameRanges};
 ghost use Rattle.nested_arrays_arrays.specs.AnyColumns.{column_of, IsWhole};
@@ -9,7 +9,8 @@ ghost use Rattle.nested_arrays_arrays.specs.NamedRuns.{named_slot, AreSamePairs,
 use crate::any::{AnyArray, DictionaryNode, Node};
 use crate::keys::key_at;
 use crate::places::flat;
-use nested_arrays_parts::{FlatArray, holds_values, is_null, same_slots};
+use nested_arrays_parts::columnar_memory::Steps;
+use nested_arrays_parts::{FlatArray, holds_values, is_null, same_slots_counted};
 
 /// How many pairs of values are remembered.
 const KNOWN: usize = 64;
@@ -35,25 +36,28 @@ fn named(node: &DictionaryNode, i: usize) -> Option<usize>
     Some(key_at(node, i))
 }
 
-/// Whether a value is that of another array. Where this is known it is not compared again.
+/// Whether a value is that of another array. Where this is known it is not compared again. Either is a step.
 fn same_value(
     known: &mut KnownPairs,
     values: &FlatArray,
     place: usize,
     others: &FlatArray,
     other: usize,
+    steps: &mut Steps,
 ) -> bool
     requires known { AreSamePairs known.old.lefts known.old.rights values.now others.now }
     requires within { place < column_len values.now }
     requires other_within { other < column_len others.now }
     ensures known { AreSamePairs known.new.lefts known.new.rights values.now others.now }
     ensures same { IsTrue result ↔ (slot_at values.now place ≡ slot_at others.now other) }
+    ensures counted { steps.new.count ≡ steps.old.count + 1 }
 {
     let h = place % KNOWN;
     if known.lefts[h] == place && known.rights[h] == other {
+        steps.tick();
         return true;
     }
-    if !same_slots(values, place, others, other, 1) {
+    if !same_slots_counted(values, place, others, other, 1, steps) {
         return false;
     }
     known.lefts[h] = place;
@@ -61,25 +65,36 @@ fn same_value(
     true
 }
 
-/// Whether the slot of a key is that of another, each by the place that it names, if any.
+/// Whether the slot of a key is that of another, each by the place that it names, if any. It is a step.
 fn same_slot(
     known: &mut KnownPairs,
     values: &FlatArray,
     place: Option<usize>,
     others: &FlatArray,
     other: Option<usize>,
+    steps: &mut Steps,
 ) -> bool
     requires known { AreSamePairs known.old.lefts known.old.rights values.now others.now }
     requires within { IfSome place (λ p. p < column_len values.now) }
     requires other_within { IfSome other (λ p. p < column_len others.now) }
     ensures known { AreSamePairs known.new.lefts known.new.rights values.now others.now }
     ensures same { IsTrue result ↔ (named_slot values.now place ≡ named_slot others.now other) }
+    ensures counted { steps.new.count ≡ steps.old.count + 1 }
 {
     match (place, other) {
-        (Some(place), Some(other)) => same_value(known, values, place, others, other),
-        (Some(place), None) => is_null(values, place),
-        (None, Some(other)) => is_null(others, other),
-        (None, None) => true,
+        (Some(place), Some(other)) => same_value(known, values, place, others, other, steps),
+        (Some(place), None) => {
+            steps.tick();
+            is_null(values, place)
+        }
+        (None, Some(other)) => {
+            steps.tick();
+            is_null(others, other)
+        }
+        (None, None) => {
+            steps.tick();
+            true
+        }
     }
 }
 
@@ -92,6 +107,7 @@ fn same_named(
     others: &FlatArray,
     j: usize,
     count: usize,
+    steps: &mut Steps,
 ) -> bool
     requires left_whole { IsWhole (Node.Dictionary left.now) }
     requires right_whole { IsWhole (Node.Dictionary right.now) }
@@ -99,7 +115,9 @@ fn same_named(
     requires right_values { others.now ≡ right.now.values.value }
     requires left_within { i + count ≤ column_len (column_of (Node.Dictionary left.now)) }
     requires right_within { j + count ≤ column_len (column_of (Node.Dictionary right.now)) }
-    ensures { IsTrue result ↔ SameRanges (column_of (Node.Dictionary left.now)) i (column_of (Node.Dictionary right.now)) j count }
+    ensures same { IsTrue result ↔ SameRanges (column_of (Node.Dictionary left.now)) i (column_of (Node.Dictionary right.now)) j count }
+    ensures counted { steps.new.count ≤ steps.old.count + count }
+    ensures used { IsTrue result → steps.new.count ≡ steps.old.count + count }
 {
     let _left = left.keys.len();
     let _right = right.keys.len();
@@ -111,7 +129,7 @@ fn same_named(
     for k in 0..count {
         let place = named(left, i + k);
         let other = named(right, j + k);
-        if !same_slot(&mut known, values, place, others, other) {
+        if !same_slot(&mut known, values, place, others, other, steps) {
             return false;
         }
     }
@@ -134,44 +152,49 @@ fn dictionaries(array: &AnyArray) -> Option<&DictionaryNode>
     }
 }
 
-/// The same of two dictionaries of any values: none where the values of one have children.
+/// The same of two dictionaries of any values: none, and no steps, where the values of one have children.
 fn same_nodes(
     left: &DictionaryNode,
     i: usize,
     right: &DictionaryNode,
     j: usize,
     count: usize,
+    steps: &mut Steps,
 ) -> Option<bool>
     requires left_whole { IsWhole (Node.Dictionary left.now) }
     requires right_whole { IsWhole (Node.Dictionary right.now) }
     requires left_within { i + count ≤ column_len (column_of (Node.Dictionary left.now)) }
     requires right_within { j + count ≤ column_len (column_of (Node.Dictionary right.now)) }
-    ensures { IfSome result (λ same. TellsRun (column_of (Node.Dictionary left.now)) i (column_of (Node.Dictionary right.now)) j count same) }
+    ensures told { IfSome result (λ same.
+        TellsRun (column_of (Node.Dictionary left.now)) i (column_of (Node.Dictionary right.now)) j count steps.old.count steps.new.count same) }
+    ensures untold { IfNone result (steps.new.count ≡ steps.old.count) }
 {
     match (flat(&left.values), flat(&right.values)) {
         (Some(values), Some(others)) => {
             holds_values(values);
-            Some(same_named(left, values, i, right, others, j, count))
+            Some(same_named(left, values, i, right, others, j, count, steps))
         }
         _ => None,
     }
 }
 
 /// Whether so many slots of an array from a place on are those of another from a place on, if both are dictionaries whose values have no
-/// children.
+/// children. A step is ticked as each pair of slots is compared; where one is no such dictionary, none.
 pub(crate) fn same_named_run(
     left: &AnyArray,
     i: usize,
     right: &AnyArray,
     j: usize,
     count: usize,
+    steps: &mut Steps,
 ) -> Option<bool>
     requires left_within { i + count ≤ column_len left.now }
     requires right_within { j + count ≤ column_len right.now }
-    ensures { IfSome result (λ same. TellsRun left.now i right.now j count same) }
+    ensures told { IfSome result (λ same. TellsRun left.now i right.now j count steps.old.count steps.new.count same) }
+    ensures untold { IfNone result (steps.new.count ≡ steps.old.count) }
 {
     match (dictionaries(left), dictionaries(right)) {
-        (Some(left), Some(right)) => same_nodes(left, i, right, j, count),
+        (Some(left), Some(right)) => same_nodes(left, i, right, j, count, steps),
         _ => None,
     }
 }

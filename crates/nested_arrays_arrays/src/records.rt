@@ -18,7 +18,7 @@ use std::marker::Model;
 
 /// Structs (Arrow columnar format, "Struct Layout").
 #[cycle(arrays)]
-#[derive(Drop)]
+#[derive(Debug, Drop)]
 pub struct StructArray {
     pub(crate) data_type: DataType,
     pub(crate) values: Vec<AnyArray>,

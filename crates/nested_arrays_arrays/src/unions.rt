@@ -20,7 +20,7 @@ use std::marker::Model;
 /// Slots each of one of several types, by its id: in a sparse union each child is as long as the union, in a dense one each slot has its
 /// place in its child (Arrow columnar format, "Union Layout"). A contract sees the column that it stores.
 #[cycle(arrays)]
-#[derive(Drop)]
+#[derive(Debug, Drop)]
 pub struct UnionArray {
     pub(crate) data_type: DataType,
     pub(crate) types: Buffer<i8>,

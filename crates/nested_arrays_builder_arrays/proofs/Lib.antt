@@ -1,3 +1,5 @@
+pub mod FlatKinds
+pub mod FlatSlots
 pub mod FrozenParts
 pub mod KeptArrays
 pub mod OpenColumns

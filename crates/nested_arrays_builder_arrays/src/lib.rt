@@ -1,6 +1,7 @@
 //! Arrays of what builders of any type hold.
 #![tactic(auto)]
 
+mod flat_builders;
 mod frozen;
 mod keys;
 mod mutable_array;
@@ -37,7 +38,7 @@ pub mod builders {
 /// What `nested_arrays_builders::nulls` has, as far as packages above use it.
 pub mod nulls {
     pub use nested_arrays_builders::nulls::{
-        NullArrays, columnar_memory, flat_arrays, new_empty_array, new_null_array,
+        Downcast, NullArrays, columnar_memory, flat_arrays, new_empty_array, new_null_array,
     };
 
     /// Of `access`.

@@ -46,7 +46,7 @@ pub mod arrays {
 /// What `nested_arrays_nulls` has, as far as packages above use it.
 pub mod nulls {
     pub use nested_arrays_nulls::{
-        NullArrays, columnar_memory, flat_arrays, new_empty_array, new_null_array,
+        Downcast, NullArrays, columnar_memory, flat_arrays, new_empty_array, new_null_array,
     };
 
     /// Of `access`.

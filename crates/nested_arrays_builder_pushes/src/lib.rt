@@ -40,7 +40,7 @@ pub mod cells {
 /// What `nested_arrays_builder_cells::nulls` has, as far as packages above use it.
 pub mod nulls {
     pub use nested_arrays_builder_cells::nulls::{
-        NullArrays, columnar_memory, flat_arrays, new_empty_array, new_null_array,
+        Downcast, NullArrays, columnar_memory, flat_arrays, new_empty_array, new_null_array,
     };
 
     /// Of `access`.

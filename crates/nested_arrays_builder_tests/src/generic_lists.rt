@@ -1,11 +1,10 @@
-use columnar_memory_types::{DataType, Error, Text};
+use columnar_memory_types::{DataType, Error};
 use nested_arrays_sized_builders::nulls::arrays::{AnyArray, ListNode, Node};
-use nested_arrays_sized_builders::nulls::columnar_memory::{MutableBitmap, Offsets};
 use nested_arrays_sized_builders::nulls::parts::ListOffsets;
 use nested_arrays_sized_builders::pushes::cells::builders::AnyMutableArray;
 use nested_arrays_sized_builders::pushes::cells::parts::AnyScalar;
 use nested_arrays_sized_builders::pushes::cells::taken::MutableArray;
-use nested_arrays_sized_builders::{MutValues, MutableListArray, MutableNullArray};
+use nested_arrays_sized_builders::{MutValues, MutableListArray};
 use std::alloc::Global;
 use std::test::Fail;
 
@@ -31,19 +30,6 @@ fn is_valid_at<M: MutableArray>(slots: &M, place: usize) -> Option<bool> {
     } else {
         None
     }
-}
-
-/// Lists of nulls, the first of which have no items, as many as a mask has bits.
-fn lists_without_items(
-    alloc: Global,
-    nulls: MutableNullArray,
-    mask: MutableBitmap,
-) -> Result<MutableListArray<i32, MutableNullArray>, Fail> {
-    let offsets = Offsets::<i32>::new_zeroed(alloc, mask.len())?;
-    if mask.len() != offsets.len_proxy() {
-        return Err(Fail::from("a mask of another length"));
-    }
-    Ok(MutableListArray::new_from_mutable(alloc, nulls, offsets, Some(mask))?)
 }
 
 /// Pushes a list of these numbers.
@@ -137,12 +123,17 @@ fn lists_that_are_cut_back_keep_their_items_alone(rt: HostRuntime) -> Result<(),
     Ok(())
 }
 
-/// A list of two numbers, of which one was taken away.
-fn list_without_an_item(alloc: Global) -> Result<MutableListArray<i32, AnyMutableArray>, Fail> {
-    let mut lists = new_lists(alloc)?;
-    push_list(&mut lists, &[1, 2])?;
-    keep(lists.mut_values(), 1)?;
-    Ok(lists)
+/// Keeps the first item of lists.
+fn keep_one_item(lists: &mut MutableListArray<i32, AnyMutableArray>) -> Result<(), Fail> {
+    keep(lists.mut_values(), 1)
+}
+
+/// Pushes a list of two numbers, and takes one of them away.
+fn push_list_without_an_item(
+    lists: &mut MutableListArray<i32, AnyMutableArray>,
+) -> Result<(), Fail> {
+    push_list(lists, &[1, 2])?;
+    keep_one_item(lists)
 }
 
 /// Whether no array was made of lists that have fewer items than they say.
@@ -150,85 +141,27 @@ fn is_out_of_spec(made: Result<AnyArray, Error>) -> bool {
     matches!(made, Err(Error::OutOfSpec(_)))
 }
 
+/// Whether lists that have fewer items than they say close no list and make no array.
+fn refuse(
+    lists: &mut MutableListArray<i32, AnyMutableArray>,
+    alloc: Global,
+) -> Result<(bool, bool), Fail> {
+    push_list_without_an_item(lists)?;
+    let is_overflow = matches!(lists.try_push_valid(), Err(Error::Overflow));
+    Ok((is_overflow, is_out_of_spec(lists.as_box(alloc))))
+}
+
 #[test]
 fn lists_without_their_items_make_no_array(rt: HostRuntime) -> Result<(), Fail> {
-    let mut lists = list_without_an_item(rt.alloc())?;
-    let is_overflow = matches!(lists.try_push_valid(), Err(Error::Overflow));
-    let is_refused = is_out_of_spec(lists.as_box(rt.alloc()));
+    let mut lists = new_lists(rt.alloc())?;
+    let refused = refuse(&mut lists, rt.alloc());
     let array = array_with(rt.alloc(), &mut lists, &[3]);
     drop(lists);
-    assert!(rt; is_overflow && is_refused);
-    assert!(rt; are_lists(array?, &[0, 1], &[], 1));
-    Ok(())
-}
-
-fn two_nulls() -> Result<MutableNullArray, Error> {
-    let mut nulls = MutableNullArray::new(DataType::Null, 0);
-    nulls.push_null()?;
-    nulls.push_null()?;
-    Ok(nulls)
-}
-
-/// A mask whose first slot alone has a value.
-fn mask_of_two(alloc: Global) -> Result<MutableBitmap, Error> {
-    let mut mask = MutableBitmap::new(alloc);
-    mask.push(true)?;
-    mask.push(false)?;
-    Ok(mask)
-}
-
-/// The array of two lists without items, one of all items, and a null.
-fn array_of_parts(alloc: Global) -> Result<AnyArray, Fail> {
-    let mut lists = lists_without_items(alloc, two_nulls()?, mask_of_two(alloc)?)?;
-    lists.try_push_valid()?;
-    lists.push_null()?;
-    let array = lists.as_box(alloc);
-    drop(lists);
-    Ok(array?)
-}
-
-#[test]
-fn lists_are_made_of_parts(rt: HostRuntime) -> Result<(), Fail> {
-    let array = array_of_parts(rt.alloc())?;
-    assert!(rt; are_lists(array, &[0, 0, 0, 2, 2], &[5], 2));
-    Ok(())
-}
-
-/// A builder of lists of lists of nulls.
-type ListsOfLists = MutableListArray<i32, MutableListArray<i64, MutableNullArray>>;
-
-fn new_lists_of_lists(alloc: Global) -> Result<ListsOfLists, Error> {
-    let name = Text::from_str(alloc, "nulls")?;
-    let nulls = MutableNullArray::new(DataType::Null, 0);
-    let inner = MutableListArray::new_with_field(alloc, nulls, name, false)?;
-    MutableListArray::new_with_capacity(alloc, inner, 0)
-}
-
-/// Pushes a list of a list of one null and of a null.
-fn push_lists(outer: &mut ListsOfLists) -> Result<(), Error> {
-    outer.mut_values().mut_values().push_null()?;
-    outer.mut_values().try_push_valid()?;
-    outer.mut_values().push_null()?;
-    outer.try_push_valid()?;
-    outer.reserve(1)
-}
-
-/// How many items stand in an array of lists.
-fn item_count(array: AnyArray) -> Option<usize> {
-    let lists = lists_of(array)?;
-    let count = lists.values.len();
-    drop(lists);
-    Some(count)
-}
-
-#[test]
-fn lists_of_lists_of_nulls(rt: HostRuntime) -> Result<(), Fail> {
-    let mut outer = new_lists_of_lists(rt.alloc())?;
-    let pushed = push_lists(&mut outer);
-    let array = outer.as_box(rt.alloc());
-    let is_empty = outer.is_empty();
-    drop(outer);
-    pushed?;
-    assert!(rt; is_empty && item_count(array?) == Some(2));
+    let is_there = match array {
+        Ok(array) => are_lists(array, &[0, 1], &[], 1),
+        Err(_) => false,
+    };
+    assert!(rt; is_there);
+    assert_eq!(rt; refused?, (true, true));
     Ok(())
 }

@@ -15,3 +15,5 @@ mod marks;
 mod sized_strings;
 #[cfg(test)]
 mod strings;
+#[cfg(test)]
+mod struct_builders;

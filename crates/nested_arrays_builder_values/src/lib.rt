@@ -14,6 +14,7 @@ pub use cells::{copy_of_cell, same_cell};
 pub use hashes::hash_of;
 pub use keys::{MutableKeys, add_use, learn, most_values_of, needed};
 pub use nested_arrays_builder_parts::columnar_memory;
+pub use places::Places;
 pub use uses::SlotUses;
 pub use values::CellMap;
 
@@ -42,7 +43,7 @@ pub mod arrays {
 /// What `nested_arrays_builder_parts::nulls` has, as far as packages above use it.
 pub mod nulls {
     pub use nested_arrays_builder_parts::nulls::{
-        NullArrays, columnar_memory, flat_arrays, new_empty_array, new_null_array,
+        Downcast, NullArrays, columnar_memory, flat_arrays, new_empty_array, new_null_array,
     };
 
     /// Of `access`.

@@ -6,7 +6,7 @@ use Rattle.columnar_memory.specs.declared.DataType.{DataType}
 use Rattle.nested_arrays_columns.proofs.Windows.{window_same, length-window}
 use Rattle.nested_arrays_columns.specs.Slots.{Slot, Slots, null, no_slot, slot_then, in_slots, window}
 use Rattle.nested_arrays_columns.specs.StoredColumns.{Column, column_len, column_type, nulls, slot_at, slots}
-use Rattle.nested_arrays_flat.specs.SameArrays.{AreEqual}
+use Rattle.nested_arrays_flat.specs.EqualArrays.{AreEqual}
 
 abbrev pub first_slot : Slots → Slot
 first_slot no_slot = null

@@ -4,6 +4,7 @@ pub mod ColumnTypes
 pub mod FixedSizeItems
 pub mod FlatColumns
 pub mod Primitives
+pub mod EqualArrays
 pub mod SameArrays
 pub mod Taken
 pub use Rattle.flat_arrays.specs as flat_arrays

@@ -1,5 +1,5 @@
--- Arrays that are equal: their types and their slots, whatever is stored under a null and whatever keys name the values.
-use Rattle.std.specs.Prelude.{◌≡◌, ◌&&◌, Bool}
+-- A test of whether arrays are equal.
+use Rattle.std.specs.Prelude.{◌&&◌, Bool}
 use Rattle.std.specs.Bool.{Decides}
 use Rattle.std.specs.Cmp.{IsEquivalence, IsPartialEquivalence, partial_equiv_from_equiv, and_equiv, on_equiv, first_so, second_so}
 use Rattle.std.specs.Cmp.Lexicographic.{pointwise, pointwise_decides, lists_equiv}
@@ -8,13 +8,9 @@ use Rattle.columnar_memory.specs.Sameness.{equivalence_from_Decides}
 use Rattle.nested_arrays_columns.proofs.SameSlotsDecide.{sameness_decides}
 use Rattle.nested_arrays_columns.specs.SameSlots.{same_slot}
 use Rattle.nested_arrays_columns.specs.StoredColumns.{Column, column_type, slots}
+use Rattle.nested_arrays_flat.specs.EqualArrays.{AreEqual}
 
--- columns of one type and with the same slots
-pub record AreEqual (a b : Column) : Type 0 where
-  pub types : column_type a ≡ column_type b
-  pub slots : slots a ≡ slots b
-
--- the same as a test
+-- whether columns are equal
 abbrev pub same_column : Column → Column → Bool
 same_column a b = same_type (column_type a) (column_type b) && pointwise same_slot (slots a) (slots b)
 

@@ -31,3 +31,7 @@ ArePartsOf kind number column data_type values validity =
 abbrev pub Shows : {T : Type 0} → PrimitiveType → (T → Numbers) → Column → Option (List T) → Type 0
 Shows kind number column r = MatchOption r (¬ IsOfKind kind column)
     (λ values. primitive_column kind number (flat (column_type column) values (column_mask column)) ≡ column)
+
+-- the array whose column it is, or none where it is of another kind
+abbrev pub IsInside : {T : Type 0} → PrimitiveType → (T → Numbers) → Column → Option (Flat T) → Type 0
+IsInside kind number column r = MatchOption r (¬ IsOfKind kind column) (λ array. primitive_column kind number array ≡ column)

@@ -11,7 +11,8 @@ ghost use Rattle.nested_arrays_flat.specs.Checked.{IsChecked};
 ghost use Rattle.nested_arrays_flat.specs.ColumnMasks.{column_mask, unset_in, with_mask, ReplacesMask};
 ghost use Rattle.nested_arrays_flat.specs.ColumnTypes.{with_type};
 ghost use Rattle.nested_arrays_flat.specs.FlatColumns.{byte_width, fixed_column};
-ghost use Rattle.nested_arrays_flat.specs.SameArrays.{AreEqual, same_column, same_column-equivalence, same_column-per};
+ghost use Rattle.nested_arrays_flat.specs.EqualArrays.{AreEqual};
+ghost use Rattle.nested_arrays_flat.specs.SameArrays.{same_column, same_column-equivalence, same_column-per};
 
 use crate::masks::{is_mask_of, mark_at, slice_mask, unset_marks};
 use crate::ranges::read_bytes;
@@ -21,7 +22,7 @@ use std::marker::Model;
 
 /// Byte strings of one size, any of which may be null (Arrow columnar format, "Fixed-size Primitive Layout"). A contract sees the column
 /// that it stores. A clone and a cut share the memory.
-#[derive(Drop)]
+#[derive(Debug, Drop)]
 pub struct FixedSizeBinaryArray {
     data_type: DataType,
     size: usize,

@@ -5,7 +5,7 @@ ghost use Rattle.columnar_memory.specs.declared.PhysicalType.TheVariants as phys
 ghost use Rattle.columnar_memory.specs.declared.PrimitiveType.TheVariants as kinds;
 ghost use Rattle.flat_arrays.specs.Flat.{flat, IsFlat};
 ghost use Rattle.nested_arrays_flat.specs.FlatColumns.{primitive_column};
-ghost use Rattle.nested_arrays_flat.specs.Taken.{ArePartsOf, IsLeft, Shows};
+ghost use Rattle.nested_arrays_flat.specs.Taken.{ArePartsOf, IsInside, IsLeft};
 
 use crate::primitive::{AnyPrimitive, Parts, PrimitiveKind, PrimitiveNode};
 use crate::sound::primitive_is_sound;
@@ -33,11 +33,11 @@ impl PrimitiveKind for i8 {
         }
     }
 
-    fn values(any: &AnyPrimitive) -> Option<&Buffer<i8>>
-        ensures { Shows kinds.Int8 one any.now (option_copied result) }
+    fn downcast_ref(any: &AnyPrimitive) -> Option<&PrimitiveArray<i8>>
+        ensures { IsInside kinds.Int8 one any.now (option_copied result) }
     {
         match &any.node {
-            PrimitiveNode::Int8(array) => Some(array.values()),
+            PrimitiveNode::Int8(array) => Some(array),
             _ => None,
         }
     }
@@ -64,11 +64,11 @@ impl PrimitiveKind for i16 {
         }
     }
 
-    fn values(any: &AnyPrimitive) -> Option<&Buffer<i16>>
-        ensures { Shows kinds.Int16 one any.now (option_copied result) }
+    fn downcast_ref(any: &AnyPrimitive) -> Option<&PrimitiveArray<i16>>
+        ensures { IsInside kinds.Int16 one any.now (option_copied result) }
     {
         match &any.node {
-            PrimitiveNode::Int16(array) => Some(array.values()),
+            PrimitiveNode::Int16(array) => Some(array),
             _ => None,
         }
     }
@@ -95,11 +95,11 @@ impl PrimitiveKind for i32 {
         }
     }
 
-    fn values(any: &AnyPrimitive) -> Option<&Buffer<i32>>
-        ensures { Shows kinds.Int32 one any.now (option_copied result) }
+    fn downcast_ref(any: &AnyPrimitive) -> Option<&PrimitiveArray<i32>>
+        ensures { IsInside kinds.Int32 one any.now (option_copied result) }
     {
         match &any.node {
-            PrimitiveNode::Int32(array) => Some(array.values()),
+            PrimitiveNode::Int32(array) => Some(array),
             _ => None,
         }
     }
@@ -126,11 +126,11 @@ impl PrimitiveKind for i64 {
         }
     }
 
-    fn values(any: &AnyPrimitive) -> Option<&Buffer<i64>>
-        ensures { Shows kinds.Int64 one any.now (option_copied result) }
+    fn downcast_ref(any: &AnyPrimitive) -> Option<&PrimitiveArray<i64>>
+        ensures { IsInside kinds.Int64 one any.now (option_copied result) }
     {
         match &any.node {
-            PrimitiveNode::Int64(array) => Some(array.values()),
+            PrimitiveNode::Int64(array) => Some(array),
             _ => None,
         }
     }
@@ -157,11 +157,11 @@ impl PrimitiveKind for i128 {
         }
     }
 
-    fn values(any: &AnyPrimitive) -> Option<&Buffer<i128>>
-        ensures { Shows kinds.Int128 one any.now (option_copied result) }
+    fn downcast_ref(any: &AnyPrimitive) -> Option<&PrimitiveArray<i128>>
+        ensures { IsInside kinds.Int128 one any.now (option_copied result) }
     {
         match &any.node {
-            PrimitiveNode::Int128(array) => Some(array.values()),
+            PrimitiveNode::Int128(array) => Some(array),
             _ => None,
         }
     }
@@ -188,11 +188,11 @@ impl PrimitiveKind for i256 {
         }
     }
 
-    fn values(any: &AnyPrimitive) -> Option<&Buffer<i256>>
-        ensures { Shows kinds.Int256 one any.now (option_copied result) }
+    fn downcast_ref(any: &AnyPrimitive) -> Option<&PrimitiveArray<i256>>
+        ensures { IsInside kinds.Int256 one any.now (option_copied result) }
     {
         match &any.node {
-            PrimitiveNode::Int256(array) => Some(array.values()),
+            PrimitiveNode::Int256(array) => Some(array),
             _ => None,
         }
     }
@@ -219,11 +219,11 @@ impl PrimitiveKind for u8 {
         }
     }
 
-    fn values(any: &AnyPrimitive) -> Option<&Buffer<u8>>
-        ensures { Shows kinds.UInt8 (λ x. one (pos x)) any.now (option_copied result) }
+    fn downcast_ref(any: &AnyPrimitive) -> Option<&PrimitiveArray<u8>>
+        ensures { IsInside kinds.UInt8 (λ x. one (pos x)) any.now (option_copied result) }
     {
         match &any.node {
-            PrimitiveNode::UInt8(array) => Some(array.values()),
+            PrimitiveNode::UInt8(array) => Some(array),
             _ => None,
         }
     }
@@ -250,11 +250,11 @@ impl PrimitiveKind for u16 {
         }
     }
 
-    fn values(any: &AnyPrimitive) -> Option<&Buffer<u16>>
-        ensures { Shows kinds.UInt16 (λ x. one (pos x)) any.now (option_copied result) }
+    fn downcast_ref(any: &AnyPrimitive) -> Option<&PrimitiveArray<u16>>
+        ensures { IsInside kinds.UInt16 (λ x. one (pos x)) any.now (option_copied result) }
     {
         match &any.node {
-            PrimitiveNode::UInt16(array) => Some(array.values()),
+            PrimitiveNode::UInt16(array) => Some(array),
             _ => None,
         }
     }
@@ -281,11 +281,11 @@ impl PrimitiveKind for u32 {
         }
     }
 
-    fn values(any: &AnyPrimitive) -> Option<&Buffer<u32>>
-        ensures { Shows kinds.UInt32 (λ x. one (pos x)) any.now (option_copied result) }
+    fn downcast_ref(any: &AnyPrimitive) -> Option<&PrimitiveArray<u32>>
+        ensures { IsInside kinds.UInt32 (λ x. one (pos x)) any.now (option_copied result) }
     {
         match &any.node {
-            PrimitiveNode::UInt32(array) => Some(array.values()),
+            PrimitiveNode::UInt32(array) => Some(array),
             _ => None,
         }
     }
@@ -312,11 +312,11 @@ impl PrimitiveKind for u64 {
         }
     }
 
-    fn values(any: &AnyPrimitive) -> Option<&Buffer<u64>>
-        ensures { Shows kinds.UInt64 (λ x. one (pos x)) any.now (option_copied result) }
+    fn downcast_ref(any: &AnyPrimitive) -> Option<&PrimitiveArray<u64>>
+        ensures { IsInside kinds.UInt64 (λ x. one (pos x)) any.now (option_copied result) }
     {
         match &any.node {
-            PrimitiveNode::UInt64(array) => Some(array.values()),
+            PrimitiveNode::UInt64(array) => Some(array),
             _ => None,
         }
     }
@@ -343,11 +343,11 @@ impl PrimitiveKind for days_ms {
         }
     }
 
-    fn values(any: &AnyPrimitive) -> Option<&Buffer<days_ms>>
-        ensures { Shows kinds.DaysMs (λ x. two x.0 x.1) any.now (option_copied result) }
+    fn downcast_ref(any: &AnyPrimitive) -> Option<&PrimitiveArray<days_ms>>
+        ensures { IsInside kinds.DaysMs (λ x. two x.0 x.1) any.now (option_copied result) }
     {
         match &any.node {
-            PrimitiveNode::DaysMs(array) => Some(array.values()),
+            PrimitiveNode::DaysMs(array) => Some(array),
             _ => None,
         }
     }
@@ -379,11 +379,11 @@ impl PrimitiveKind for months_days_ns {
         }
     }
 
-    fn values(any: &AnyPrimitive) -> Option<&Buffer<months_days_ns>>
-        ensures { Shows kinds.MonthDayNano (λ x. three x.0 x.1 x.2) any.now (option_copied result) }
+    fn downcast_ref(any: &AnyPrimitive) -> Option<&PrimitiveArray<months_days_ns>>
+        ensures { IsInside kinds.MonthDayNano (λ x. three x.0 x.1 x.2) any.now (option_copied result) }
     {
         match &any.node {
-            PrimitiveNode::MonthsDaysNs(array) => Some(array.values()),
+            PrimitiveNode::MonthsDaysNs(array) => Some(array),
             _ => None,
         }
     }

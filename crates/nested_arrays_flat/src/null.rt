@@ -6,14 +6,15 @@ ghost use Rattle.nested_arrays_columns.specs.SoundColumns.{is_sound};
 ghost use Rattle.nested_arrays_columns.specs.StoredColumns.{column_len, column_type, cut, nulls};
 ghost use Rattle.nested_arrays_flat.specs.Checked.{IsChecked};
 ghost use Rattle.nested_arrays_flat.specs.ColumnMasks.{column_mask, ReplacesMask};
-ghost use Rattle.nested_arrays_flat.specs.SameArrays.{AreEqual, same_column, same_column-equivalence, same_column-per};
+ghost use Rattle.nested_arrays_flat.specs.EqualArrays.{AreEqual};
+ghost use Rattle.nested_arrays_flat.specs.SameArrays.{same_column, same_column-equivalence, same_column-per};
 
 use columnar_memory::{Bitmap, DataType, Error, PhysicalType, Result};
 use std::alloc::AllocError;
 use std::marker::Model;
 
 /// Nulls alone, which take no memory (Arrow columnar format, "Null Layout"). A contract sees the column that it stores.
-#[derive(Drop)]
+#[derive(Debug, Drop)]
 pub struct NullArray {
     data_type: DataType,
     length: usize,

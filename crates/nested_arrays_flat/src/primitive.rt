@@ -8,7 +8,7 @@ ghost use Rattle.nested_arrays_columns.specs.StoredColumns.{column_len, column_t
 ghost use Rattle.nested_arrays_flat.specs.ColumnMasks.{column_mask, unset_in, with_mask, ReplacesMask};
 ghost use Rattle.nested_arrays_flat.specs.FlatColumns.{primitive_column};
 ghost use Rattle.nested_arrays_flat.specs.Primitives.{is_primitive};
-ghost use Rattle.nested_arrays_flat.specs.Taken.{ArePartsOf, IsLeft, Shows, Takes};
+ghost use Rattle.nested_arrays_flat.specs.Taken.{ArePartsOf, IsInside, IsLeft, Shows, Takes};
 
 use crate::masks::{is_mask_of, mark_at, unset_marks};
 use columnar_memory::{
@@ -19,7 +19,7 @@ use std::alloc::AllocError;
 use std::marker::Model;
 
 /// An array of numbers, by their kind.
-#[derive(Drop)]
+#[derive(Debug, Drop)]
 pub enum PrimitiveNode {
     Int8(PrimitiveArray<i8>),
     Int16(PrimitiveArray<i16>),
@@ -56,7 +56,7 @@ macro_rules! with_array {
 }
 
 /// An array of numbers of any kind (Arrow columnar format, "Fixed-size Primitive Layout"). A contract sees the column that it stores.
-#[derive(Drop)]
+#[derive(Debug, Drop)]
 pub struct AnyPrimitive {
     pub node: PrimitiveNode,
 }
@@ -229,9 +229,17 @@ pub trait PrimitiveKind: NativeType {
     fn unwrap(any: AnyPrimitive) -> std::result::Result<Parts<Self>, AnyPrimitive>
         ensures { MatchResult result (λ parts. ArePartsOf Self.PRIMITIVE Self.numbers any parts.0 parts.1 parts.2) (IsLeft Self.PRIMITIVE any) };
 
+    /// The array itself, or none where its values are of another kind.
+    fn downcast_ref(any: &AnyPrimitive) -> Option<&PrimitiveArray<Self>>
+        ensures { IsInside Self.PRIMITIVE Self.numbers any.now (option_copied result) };
+
     /// The stored values, those under nulls too, or none where the values are of another kind.
-    fn values(any: &AnyPrimitive) -> Option<&Buffer<Self>>
-        ensures { Shows Self.PRIMITIVE Self.numbers any.now (option_copied result) };
+    final fn values(any: &AnyPrimitive) -> Option<&Buffer<Self>>
+        ensures { Shows Self.PRIMITIVE Self.numbers any.now (option_copied result) }
+    {
+        let array = Self::downcast_ref(any)?;
+        Some(array.values())
+    }
 }
 
 /// A data type, stored values and a mask.

@@ -19,7 +19,7 @@ use std::marker::Model;
 
 /// Values that stand apart, and for each slot a key, which is the place of its value; a slot is null where its key is (Arrow columnar format,
 /// "Dictionary-encoded Layout"). A key under a null names nothing. A contract sees the column that the array stores.
-#[derive(Drop)]
+#[derive(Debug, Drop)]
 pub struct DictionaryArray<K: DictionaryKey> {
     pub(crate) data_type: DataType,
     pub(crate) keys: PrimitiveArray<K>,

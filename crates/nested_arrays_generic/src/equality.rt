@@ -2,7 +2,8 @@
 ghost use Rattle.std.specs.Prelude.{◌≡◌, ◌<◌, ◌↔◌, IsTrue, MatchOption};
 ghost use Rattle.nested_arrays_access.specs.columns.Slots.{null};
 ghost use Rattle.nested_arrays_access.specs.columns.StoredColumns.{column_len, slot_at};
-ghost use Rattle.nested_arrays_access.specs.flat.SameArrays.{AreEqual, same_column, same_column-equivalence, same_column-per};
+ghost use Rattle.nested_arrays_access.specs.flat.EqualArrays.{AreEqual};
+ghost use Rattle.nested_arrays_access.specs.flat.SameArrays.{same_column, same_column-equivalence, same_column-per};
 ghost use Rattle.nested_arrays_access.specs.arrays.Places.{AreItems};
 
 use crate::dictionaries::DictionaryArray;

@@ -1,7 +1,9 @@
 //! Keys of dictionaries.
-ghost use Rattle.std.specs.Prelude.{◌≡◌, ◌<◌, ◌≤ℤ◌, length, map, option_copied, pos, refl, true};
+ghost use Rattle.std.specs.Prelude.{◌≡◌, ◌+◌, ◌<◌, ◌≤◌, ◌≤ℤ◌, length, map, option_copied, pos, refl, true};
+ghost use Rattle.std.proofs.Common.{lit≤};
 ghost use Rattle.nested_arrays_access.specs.columnar_memory.declared.IntegerType.{IntegerType};
 ghost use Rattle.nested_arrays_access.specs.columnar_memory.declared.IntegerType.TheVariants as integers;
+ghost use Rattle.nested_arrays_access.specs.columns.Kinds.{most_values};
 ghost use Rattle.nested_arrays_access.specs.columns.SoundColumns.{has_value_at, holds_below, mask_fits};
 ghost use Rattle.nested_arrays_access.specs.parts.Keys.{kind_of_keys};
 ghost use Rattle.nested_arrays_generic.specs.Dictionaries.{has_no_sign};
@@ -19,6 +21,9 @@ pub trait DictionaryKey: Index + PrimitiveKind {
 
     // Keys are stored as values of one kind.
     ghost key_law: { Self.PRIMITIVE ≡ kind_of_keys KEY_TYPE };
+
+    // Each place is a key, as far as keys tell values apart.
+    ghost most_law: { most_values KEY_TYPE ≤ Self.greatest + 1 };
 
     /// The place that a key names, which is not below zero.
     final fn as_usize(self) -> usize
@@ -46,6 +51,8 @@ impl DictionaryKey for i8 {
     const KEY_TYPE: IntegerType = IntegerType::Int8;
 
     ghost key_law = { refl };
+
+    ghost most_law = { lit≤ tt };
 }
 
 impl DictionaryKey for i16 {
@@ -54,6 +61,8 @@ impl DictionaryKey for i16 {
     const KEY_TYPE: IntegerType = IntegerType::Int16;
 
     ghost key_law = { refl };
+
+    ghost most_law = { lit≤ tt };
 }
 
 impl DictionaryKey for i32 {
@@ -62,6 +71,8 @@ impl DictionaryKey for i32 {
     const KEY_TYPE: IntegerType = IntegerType::Int32;
 
     ghost key_law = { refl };
+
+    ghost most_law = { lit≤ tt };
 }
 
 impl DictionaryKey for i64 {
@@ -70,6 +81,8 @@ impl DictionaryKey for i64 {
     const KEY_TYPE: IntegerType = IntegerType::Int64;
 
     ghost key_law = { refl };
+
+    ghost most_law = { lit≤ tt };
 }
 
 impl DictionaryKey for u8 {
@@ -78,6 +91,8 @@ impl DictionaryKey for u8 {
     const KEY_TYPE: IntegerType = IntegerType::UInt8;
 
     ghost key_law = { refl };
+
+    ghost most_law = { lit≤ tt };
 }
 
 impl DictionaryKey for u16 {
@@ -86,6 +101,8 @@ impl DictionaryKey for u16 {
     const KEY_TYPE: IntegerType = IntegerType::UInt16;
 
     ghost key_law = { refl };
+
+    ghost most_law = { lit≤ tt };
 }
 
 impl DictionaryKey for u32 {
@@ -94,6 +111,8 @@ impl DictionaryKey for u32 {
     const KEY_TYPE: IntegerType = IntegerType::UInt32;
 
     ghost key_law = { refl };
+
+    ghost most_law = { lit≤ tt };
 }
 
 impl DictionaryKey for u64 {
@@ -102,6 +121,8 @@ impl DictionaryKey for u64 {
     const KEY_TYPE: IntegerType = IntegerType::UInt64;
 
     ghost key_law = { refl };
+
+    ghost most_law = { lit≤ tt };
 }
 
 /// Whether each key that a mask says is valid is the place of one of so many values.

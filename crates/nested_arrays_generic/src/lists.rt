@@ -18,7 +18,7 @@ use std::marker::Model;
 
 /// Lists of any length, one after another in a child, with offsets of one width (Arrow columnar format, "Variable-size List Layout"). A
 /// contract sees the column that it stores.
-#[derive(Drop)]
+#[derive(Debug, Drop)]
 pub struct ListArray<O: Offset> {
     pub(crate) data_type: DataType,
     pub(crate) offsets: OffsetsBuffer<O>,

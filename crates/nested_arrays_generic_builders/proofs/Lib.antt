@@ -1,3 +1,4 @@
+pub mod FieldLoops
 pub mod FirstSpans
 pub mod FrozenLists
 pub mod ListPushes
@@ -5,5 +6,9 @@ pub mod ListSlots
 pub mod ListsStored
 pub mod NullColumns
 pub mod OpenLists
+pub mod OpenStructs
+pub mod StructMakes
+pub mod StructRows
+pub mod StructsStored
 pub use Rattle.nested_arrays_builder_pushes.proofs.nulls_lemmas
 pub use Rattle.nested_arrays_builder_pushes.proofs as pushes_lemmas

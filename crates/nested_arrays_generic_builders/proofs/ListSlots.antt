@@ -29,7 +29,7 @@ pub marks_many : (n : ℕ) (mask : Option (List Bool)) → mask_fits mask n ≡ 
 marks_many n None h = length-replicate n true
 marks_many n (Some bits) h = eqb-true (length bits) n h
 
-valid_mark : (ms : List Bool) (i : ℕ) → i < length ms → is_valid_at (mask_of_marks ms) i ≡ get_or ms i false
+pub valid_mark : (ms : List Bool) (i : ℕ) → i < length ms → is_valid_at (mask_of_marks ms) i ≡ get_or ms i false
 valid_mark ms i h =
     marked_at (length ms) (mask_of_marks ms) i h ∙ ap (λ (bits : List Bool). get_or bits i false) (marks_back ms (length ms) refl)
 

@@ -1,4 +1,8 @@
+pub mod FieldLoans
 pub mod ListBuilders
 pub mod NullBuilders
+pub mod StructBuilders
+pub mod StructLoans
+pub mod TakenBack
 pub use Rattle.nested_arrays_builder_pushes.specs as pushes
 pub use Rattle.nested_arrays_builder_pushes.specs.nulls

@@ -1,18 +1,22 @@
 //! Builders of nested arrays over builders of any kind.
 #![tactic(auto)]
 
+mod fields;
 mod lending;
 mod lists;
 mod nulls_alone;
+mod structs;
 
+pub use fields::MutableFields;
 pub use lending::MutValues;
 pub use lists::{MutableListArray, marks_of};
 pub use nulls_alone::MutableNullArray;
+pub use structs::MutableStructArray;
 
 /// What `nested_arrays_builder_pushes::nulls` has, as far as packages above use it.
 pub mod nulls {
     pub use nested_arrays_builder_pushes::nulls::{
-        NullArrays, columnar_memory, flat_arrays, new_empty_array, new_null_array,
+        Downcast, NullArrays, columnar_memory, flat_arrays, new_empty_array, new_null_array,
     };
 
     /// Of `access`.

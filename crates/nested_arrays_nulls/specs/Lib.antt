@@ -1,3 +1,4 @@
+pub mod Downcasts
 pub mod Lengths
 pub mod NullAnswers
 pub mod NullColumns

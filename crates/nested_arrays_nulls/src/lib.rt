@@ -1,6 +1,7 @@
-//! Arrays of nulls, and arrays without slots, of each type.
+//! Arrays of nulls, and arrays without slots, of each type; and arrays of any type looked at as one of their kind.
 #![tactic(auto)]
 
+mod downcasts;
 mod flats;
 mod generic_layouts;
 mod kinds;
@@ -8,6 +9,7 @@ mod layouts;
 mod nulls;
 mod wholes;
 
+pub use downcasts::Downcast;
 pub use kinds::NullArrays;
 pub use nested_arrays_iterators::{columnar_memory, flat_arrays};
 pub use nulls::{new_empty_array, new_null_array};

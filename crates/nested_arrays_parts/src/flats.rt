@@ -12,7 +12,7 @@ use nested_arrays_flat::{AnyPrimitive, FixedSizeBinaryArray, NullArray};
 use std::marker::Model;
 
 /// An array without children, by how it lies in memory.
-#[derive(Drop)]
+#[derive(Debug, Drop)]
 pub enum FlatNode {
     Null(NullArray),
     Boolean(BooleanArray),
@@ -25,7 +25,7 @@ pub enum FlatNode {
 }
 
 /// An array of any type without children, which a contract sees as the column that it stores.
-#[derive(Drop)]
+#[derive(Debug, Drop)]
 pub struct FlatArray {
     pub node: FlatNode,
 }

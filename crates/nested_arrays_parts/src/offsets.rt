@@ -15,7 +15,7 @@ pub fn slice_offsets<O: Offset>(offsets: &mut OffsetsBuffer<O>, offset: usize, c
 }
 
 /// The offsets of lists, of 32 or of 64 bits.
-#[derive(Drop)]
+#[derive(Debug, Drop)]
 pub enum ListOffsets {
     Small(OffsetsBuffer<i32>),
     Large(OffsetsBuffer<i64>),

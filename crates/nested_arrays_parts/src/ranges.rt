@@ -146,7 +146,7 @@ fn same_block(left: &FlatArray, i: usize, right: &FlatArray, j: usize, count: us
 }
 
 /// Whether so many slots of an array from a place on are those of another from a place on. A value under a null is not seen.
-pub fn same_slots(left: &FlatArray, i: usize, right: &FlatArray, j: usize, count: usize) -> bool
+fn same_slots(left: &FlatArray, i: usize, right: &FlatArray, j: usize, count: usize) -> bool
     requires left_within { i + count ≤ column_len left.now }
     requires right_within { j + count ≤ column_len right.now }
     ensures { IsTrue result ↔ SameRanges left.now i right.now j count }
@@ -177,7 +177,8 @@ pub fn count_each(steps: &mut Steps, count: usize)
     }
 }
 
-/// The same, with a step for each slot of the left array that is asked for, whatever the answer.
+/// Whether so many slots of an array from a place on are those of another from a place on, with a step for each slot of the left array that is
+/// asked for, whatever the answer. A value under a null is not seen.
 pub fn same_slots_counted(
     left: &FlatArray,
     i: usize,

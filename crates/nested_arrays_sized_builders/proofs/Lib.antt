@@ -1,4 +1,9 @@
+pub mod FixedColumns
+pub mod FixedLists
+pub mod FixedPushes
+pub mod GrownColumns
 pub mod MarkedSlots
+pub mod SettledMarks
 pub mod SizedColumns
 pub mod SizedPushes
 pub use Rattle.nested_arrays_generic_builders.proofs.nulls_lemmas

@@ -51,7 +51,7 @@ abbrev content_at : ℕ → List ℕ → ℕ → Slot
 content_at size content i = bytes (slice_range content (size * i) (size * i + size))
 
 -- it ends within the bytes of the strings up to a place behind it
-ends_within : (size i n : ℕ) → i < n → size * i + size ≤ size * n
+pub ends_within : (size i n : ℕ) → i < n → size * i + size ≤ size * n
 ends_within size i n h =
     let next : i + 1 ≤ n = omega (arith, h) in
     omega (arith, mul-add size i 1, mul-le-mul_left {m = i + 1} {n = n} size next)

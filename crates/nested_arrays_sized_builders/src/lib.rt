@@ -1,15 +1,19 @@
-//! Builders of byte strings of one size.
+//! Builders of lists and of byte strings of one size.
 #![tactic(auto)]
 
+mod fixed_lists;
 mod sized_strings;
 
-pub use nested_arrays_generic_builders::{MutValues, MutableListArray, MutableNullArray};
+pub use fixed_lists::MutableFixedSizeListArray;
+pub use nested_arrays_generic_builders::{
+    MutValues, MutableFields, MutableListArray, MutableNullArray, MutableStructArray,
+};
 pub use sized_strings::MutableFixedSizeBinaryArray;
 
 /// What `nested_arrays_generic_builders::nulls` has, as far as packages above use it.
 pub mod nulls {
     pub use nested_arrays_generic_builders::nulls::{
-        NullArrays, columnar_memory, flat_arrays, new_empty_array, new_null_array,
+        Downcast, NullArrays, columnar_memory, flat_arrays, new_empty_array, new_null_array,
     };
 
     /// Of `access`.

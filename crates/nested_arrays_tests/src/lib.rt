@@ -10,6 +10,8 @@ mod counts;
 #[cfg(test)]
 mod dictionaries;
 #[cfg(test)]
+mod downcasts;
+#[cfg(test)]
 mod fixed_sizes;
 #[cfg(test)]
 mod flat;

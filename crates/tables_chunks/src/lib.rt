@@ -35,9 +35,9 @@ pub use ipc_format::reading_laws::{
 };
 pub use ipc_format::streams::{NextMessage, next_at};
 pub use ipc_format::{
-    Chunk, Counting, Dictionaries, Entry, Faults, InMemory, can_write, columnar_memory,
+    Chunk, Counting, Dictionaries, Entry, Faults, InMemory, ValuesById, can_write, columnar_memory,
     file_entries, look_ups_are_enough, metadata_of_file, nested_arrays, normalised, put,
-    read_dictionary, read_record_batch, schemas_have_arrays, stream_start,
+    read_dictionary_with, read_record_batch, schemas_have_arrays, stream_start, values_by_id,
 };
 pub use laws::{
     choices_have_columns, cuts_and_choices_commute, cuts_have_parts, joins_have_both,

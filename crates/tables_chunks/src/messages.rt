@@ -11,6 +11,8 @@ ghost use Rattle.ipc_format.specs.Tables.{batch_in};
 ghost use Rattle.ipc_format.specs.MessageViews.{version_view};
 ghost use Rattle.ipc_format.specs.metadata.Reading.{Reads};
 ghost use Rattle.ipc_format.specs.streams.Queues.{is_compressed};
+ghost use Rattle.ipc_format.specs.NamedValues.{AreValuesOf};
+ghost use Rattle.ipc_format.specs.metadata.Views.{ids_views};
 ghost use Rattle.ipc_format.specs.ReadArrays.{standing_in};
 ghost use Rattle.tables_chunks.specs.Messages.{AreOfFields, ReadsNext, TakesDictionary, layout_by};
 
@@ -19,7 +21,9 @@ use ipc_format::format::{DictionaryBatchRef, MessageHeaderRef, MetadataVersion, 
 use ipc_format::metadata::IpcSchema;
 use ipc_format::nested_arrays::AnyArray;
 use ipc_format::streams::{NextMessage, next_at};
-use ipc_format::{Chunk, Dictionaries, InMemory, read_dictionary, read_record_batch};
+use ipc_format::{
+    Chunk, Dictionaries, InMemory, ValuesById, read_dictionary_with, read_record_batch,
+};
 use std::alloc::Global;
 
 /// So many messages of dictionaries may stand in a row.
@@ -91,11 +95,13 @@ fn take_dictionary(
     body: &[u8],
     fields: &[Field],
     ipc_schema: &IpcSchema,
+    known: &ValuesById,
     version: MetadataVersion,
     dictionaries: &mut Dictionaries,
     scratch: &mut Vec<u8>,
 ) -> Result<()>
-    requires { HasArrays (layout_by fields.now ipc_schema.now) }
+    requires arrays { HasArrays (layout_by fields.now ipc_schema.now) }
+    requires known { AreValuesOf fields.now (ids_views ipc_schema.now.fields) known.now }
     ensures { TakesDictionary (standing_in dictionaries.old) (standing_in dictionaries.new)
         (is_unread header.now.table.bytes.now (table_of header.now.table.place) ≡ true)
         (dictionary_in (layout_by fields.now ipc_schema.now) (standing_in dictionaries.old)
@@ -103,11 +109,12 @@ fn take_dictionary(
         (table_of header.now.table.place)) result }
 {
     let mut room = InMemory { bytes: body };
-    read_dictionary(
+    read_dictionary_with(
         alloc,
         header,
         fields,
         ipc_schema,
+        Some(known),
         dictionaries,
         version,
         &mut room,
@@ -118,7 +125,7 @@ fn take_dictionary(
 }
 
 /// Reads the message at a place, behind `in_a_row` messages of dictionaries that follow one another. `fields` are those of the normalised schema,
-/// and `version` is that of the schema's message, by which unions lie.
+/// `known` has the values that each id names in them, and `version` is that of the schema's message, by which unions lie.
 ///
 /// # Errors
 /// - `OutOfSpec`: the bytes there are no batch and no dictionary of the schema, or too many dictionaries in a row.
@@ -131,11 +138,13 @@ pub(crate) fn read_next(
     in_a_row: usize,
     fields: &[Field],
     ipc_schema: &IpcSchema,
+    known: &ValuesById,
     version: MetadataVersion,
     dictionaries: &mut Dictionaries,
     scratch: &mut Vec<u8>,
 ) -> Result<Next>
-    requires { HasArrays (layout_by fields.now ipc_schema.now) }
+    requires arrays { HasArrays (layout_by fields.now ipc_schema.now) }
+    requires known { AreValuesOf fields.now (ids_views ipc_schema.now.fields) known.now }
     ensures { ReadsNext fields.now (layout_by fields.now ipc_schema.now) (version_view version) (standing_in dictionaries.old)
         (standing_in dictionaries.new) bytes.now place in_a_row result }
 {
@@ -157,6 +166,7 @@ pub(crate) fn read_next(
                 framed.body,
                 fields,
                 ipc_schema,
+                known,
                 version,
                 dictionaries,
                 scratch,

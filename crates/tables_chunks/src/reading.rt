@@ -11,7 +11,9 @@ use ipc_format::columnar_memory::Schema;
 use ipc_format::format::MetadataVersion;
 use ipc_format::metadata::IpcSchema;
 use ipc_format::nested_arrays::AnyArray;
-use ipc_format::{Chunk, look_ups_are_enough, normalised, schemas_have_arrays, stream_start};
+use ipc_format::{
+    Chunk, look_ups_are_enough, normalised, schemas_have_arrays, stream_start, values_by_id,
+};
 use std::alloc::Global;
 use std::collections::BTreeMap;
 
@@ -68,6 +70,11 @@ fn read_batches(
     ensures { ReadsBatches schema (layout_by schema.fields ipc_schema.now) (version_view version) bytes.now first result }
 {
     look_ups_are_enough();
+    let known = values_by_id(
+        alloc,
+        schema.fields.as_slice(),
+        ipc_schema.fields.as_slice(),
+    )?;
     let mut scratch = Vec::new(alloc);
     let mut dictionaries = BTreeMap::new(alloc);
     let mut chunks = Vec::new(alloc);
@@ -82,6 +89,7 @@ fn read_batches(
             in_a_row,
             schema.fields.as_slice(),
             ipc_schema,
+            &known,
             version,
             &mut dictionaries,
             &mut scratch,
@@ -103,6 +111,7 @@ fn read_batches(
             }
         }
     }
+    drop(known);
     Ok(StreamBatches {
         schema,
         chunks,

@@ -7,6 +7,8 @@ ghost use Rattle.tables_chunks.specs.ipc_format.columns.Tables.{chosen};
 ghost use Rattle.tables_chunks.specs.ipc_format.grammar.Tables.{left_of};
 ghost use Rattle.tables_chunks.specs.ipc_format.messages.declared.messages.MessageHeaderRef.TheVariants as headers;
 ghost use Rattle.tables_chunks.specs.ipc_format.metadata.Reading.{Reads};
+ghost use Rattle.tables_chunks.specs.ipc_format.metadata.Views.{ids_views};
+ghost use Rattle.tables_chunks.specs.ipc_format.NamedValues.{AreValuesOf};
 ghost use Rattle.tables_chunks.specs.Messages.{AreOfFields, TakesDictionary, layout_by};
 ghost use Rattle.tables_chunks.specs.ipc_format.FileEntries.{entries_of, entry_view};
 ghost use Rattle.tables_chunks.specs.ipc_format.BlockMessages.{dictionary_by};
@@ -21,7 +23,8 @@ use tables_chunks::columnar_memory::{Error, Field, Result};
 use tables_chunks::nested_arrays::AnyArray;
 use tables_chunks::{
     Chunk, Dictionaries, DictionaryBatchRef, Entry, InMemory, IpcSchema, MessageHeaderRef,
-    RecordBatchRef, choose_of, look_ups_are_enough, read_dictionary, read_record_batch,
+    RecordBatchRef, ValuesById, choose_of, look_ups_are_enough, read_dictionary_with,
+    read_record_batch, values_by_id,
 };
 
 /// Reads the dictionary of a message: it then stands under its id.
@@ -36,21 +39,24 @@ fn take_dictionary(
     header: &DictionaryBatchRef<'_>,
     fields: &[Field],
     ipc_schema: &IpcSchema,
+    known: &ValuesById,
     dictionaries: &mut Dictionaries,
     scratch: &mut Vec<u8>,
 ) -> Result<()>
     requires arrays { HasArrays (layout_by fields.now ipc_schema.now) }
+    requires known { AreValuesOf fields.now (ids_views ipc_schema.now.fields) known.now }
     requires header { entry.now.header ≡ headers.DictionaryBatch header.now }
     ensures { TakesDictionary (standing_in dictionaries.old) (standing_in dictionaries.new) (IsUnread (entry_view entry.now))
         (dictionary_by (layout_by fields.now ipc_schema.now) (standing_in dictionaries.old) (entry_view entry.now)
         (entry_view entry.now).header) result }
 {
     let mut room = InMemory { bytes: entry.room };
-    read_dictionary(
+    read_dictionary_with(
         alloc,
         header,
         fields,
         ipc_schema,
+        Some(known),
         dictionaries,
         entry.version,
         &mut room,
@@ -114,12 +120,14 @@ fn gather_entry(
     entry: &Entry<'_>,
     fields: &[Field],
     ipc_schema: &IpcSchema,
+    known: &ValuesById,
     order: &Order,
     limit: Option<usize>,
     dictionaries: &mut Dictionaries,
     scratch: &mut Vec<u8>,
 ) -> Result<Option<Chunk<AnyArray>>>
     requires arrays { HasArrays (layout_by fields.now ipc_schema.now) }
+    requires known { AreValuesOf fields.now (ids_views ipc_schema.now.fields) known.now }
     requires order { IsOrder (length fields.now) order.now }
     ensures { GathersEntry (layout_by fields.now ipc_schema.now) (asked order.now) (standing_in dictionaries.old) (standing_in dictionaries.new)
         limit (entry_view entry.now) result }
@@ -133,6 +141,7 @@ fn gather_entry(
                 &header,
                 fields,
                 ipc_schema,
+                known,
                 dictionaries,
                 scratch,
             )?;
@@ -185,6 +194,7 @@ pub(crate) fn gather_batches(
     ensures { GathersBatches (layout_by fields.now ipc_schema.now) (asked order.now) limit (entries_of entries.now) result }
 {
     look_ups_are_enough();
+    let known = values_by_id(alloc, fields, ipc_schema.fields.as_slice())?;
     let mut scratch = Vec::new(alloc);
     let mut dictionaries = BTreeMap::new(alloc);
     let mut chunks = Vec::new(alloc);
@@ -195,6 +205,7 @@ pub(crate) fn gather_batches(
             entry,
             fields,
             ipc_schema,
+            &known,
             order,
             left,
             &mut dictionaries,

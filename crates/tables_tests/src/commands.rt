@@ -6,9 +6,9 @@ use std::test::Fail;
 use tables::columnar_memory::{Error, Result};
 use tables::{MemoryPlaces, Places, number, run};
 
-const BEFORE: &[u8] = b"before";
+pub(crate) const BEFORE: &[u8] = b"before";
 
-const USAGE: &str = "usage: tables seal|same|pick|cut|join\n";
+pub(crate) const USAGE: &str = "usage: tables seal|same|pick|cut|join\n";
 
 const OUT_OF_SPEC: &str = "tables: ipc: out of specification\n";
 
@@ -58,14 +58,14 @@ impl Write for Closed {
 
 // What a command answered and printed, and what then stood under `out`.
 #[derive(Drop)]
-struct Outcome {
+pub(crate) struct Outcome {
     status: u8,
     line: Vec<u8>,
     output: Option<Vec<u8>>,
 }
 
 impl Outcome {
-    fn is(&self, status: u8, line: &str, output: &[u8]) -> bool {
+    pub(crate) fn is(&self, status: u8, line: &str, output: &[u8]) -> bool {
         let Some(bytes) = &self.output else {
             return false;
         };
@@ -75,7 +75,7 @@ impl Outcome {
     }
 }
 
-fn words_of(alloc: Global, words: &[&str]) -> Result<Vec<String>> {
+pub(crate) fn words_of(alloc: Global, words: &[&str]) -> Result<Vec<String>> {
     let mut owned = Vec::new(alloc);
     for word in words {
         owned.push(String::from_str(alloc, word)?)?;
@@ -83,14 +83,14 @@ fn words_of(alloc: Global, words: &[&str]) -> Result<Vec<String>> {
     Ok(owned)
 }
 
-fn places_with(alloc: Global, input: &[u8]) -> Result<MemoryPlaces> {
+pub(crate) fn places_with(alloc: Global, input: &[u8]) -> Result<MemoryPlaces> {
     let mut places = MemoryPlaces::new(alloc);
     places.put("in", Vec::from_slice(alloc, input)?)?;
     places.put("out", Vec::from_slice(alloc, BEFORE)?)?;
     Ok(places)
 }
 
-fn run_over(alloc: Global, input: &[u8], words: &[&str]) -> Result<Outcome> {
+pub(crate) fn run_over(alloc: Global, input: &[u8], words: &[&str]) -> Result<Outcome> {
     let mut places = places_with(alloc, input)?;
     let words = words_of(alloc, words)?;
     let mut line = Vec::new(alloc);

@@ -7,6 +7,8 @@ mod choices;
 #[cfg(test)]
 mod commands;
 #[cfg(test)]
+mod each_command;
+#[cfg(test)]
 mod parts;
 #[cfg(test)]
 mod reading;

@@ -1,6 +1,7 @@
 //! Tables that are joined, cut, chosen from, grown and compared.
 use crate::streams::{NESTED, REPLACED, ROWS, TWO_BATCHES};
 use std::alloc::Global;
+use tables::nested_arrays::{AnyArray, FlatNode, Node, PrimitiveKind};
 use tables::{Fault, Form, GrowingTable, Table, distinct, fits_schema, is_table_schema};
 
 fn read(alloc: Global, bytes: &[u8]) -> Result<Table, Fault> {
@@ -61,6 +62,56 @@ fn is_same(table: &Option<Table>, other: &Table) -> Result<bool, Fault> {
         Some(table) => Table::same(table, other),
         None => Ok(false),
     }
+}
+
+/// The stored numbers of an array, if it is one of 32-bit integers.
+fn numbers_in(array: &AnyArray) -> Option<&[i32]> {
+    let Node::Flat(flat) = &array.node else {
+        return None;
+    };
+    let FlatNode::Primitive(numbers) = &flat.node else {
+        return None;
+    };
+    let values = i32::values(numbers)?;
+    Some(values.as_slice())
+}
+
+/// Whether the batch of a place has one column, of these numbers.
+fn has_numbers(table: &Option<Table>, place: usize, wanted: &[i32]) -> bool {
+    let Some(table) = table else {
+        return false;
+    };
+    let Some(batch) = table.batches().get(place) else {
+        return false;
+    };
+    match batch.arrays() {
+        [array] => numbers_in(array) == Some(wanted),
+        _ => false,
+    }
+}
+
+/// The first row of a table, joined with the rows behind it.
+fn rejoined(alloc: Global, table: &Table) -> Result<Option<Table>, Fault> {
+    let first = cut(alloc, table, 0, 1)?;
+    let others = cut(alloc, table, 1, table.rows().saturating_sub(1))?;
+    match (&first, &others) {
+        (Some(first), Some(others)) => joined(alloc, first, others),
+        _ => Ok(None),
+    }
+}
+
+#[test]
+fn a_join_has_the_rows_of_both(rt: HostRuntime) -> Result<(), Fault> {
+    let alloc = rt.alloc();
+    let two = read(alloc, &TWO_BATCHES)?;
+    let both = rejoined(alloc, &two)?;
+    let is_first = has_numbers(&both, 0, &[1]);
+    let is_second = has_numbers(&both, 1, &[2, 3]);
+    let has_all = has(&both, 3, 2);
+    drop(both);
+    drop(two);
+    assert_eq!(rt; (is_first, is_second, has_all), (true, true, true));
+    Ok(())
 }
 
 #[test]

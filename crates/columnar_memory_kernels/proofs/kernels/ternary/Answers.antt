@@ -2,10 +2,11 @@ use Rattle.std.proofs.Common.{◌≡◌, ◌∙◌, ◌-◌, ◌*◌, min, lengt
 use Rattle.columnar_memory_bitmap.specs.bits.Words.{word_at}
 use Rattle.columnar_memory_kernels.specs.Kernels.{part}
 use Rattle.columnar_memory_kernels.proofs.Wordwise.{part_is_word, words_answered}
+use Rattle.columnar_memory_kernels.proofs.Pairwise.{threewise_or_none}
 use Rattle.columnar_memory_kernels.proofs.kernels.ternary.Goals as goal
 
-pub returns : goal.returns
-returns g c =
+pub returns-clause-words : goal.returns-clause-words
+returns-clause-words g c =
     let one = c.args.a1.now in
     let two = c.args.a2.now in
     let three = c.args.a3.now in
@@ -21,3 +22,13 @@ returns g c =
       part_is_word two n k (size ∙ c.requires.second),
       part_is_word three n k (size ∙ c.requires.third),
     ) at said)
+
+pub returns-clause-bits : goal.returns-clause-bits
+returns-clause-bits g c = λ table acts.
+    let one = c.args.a1.now in
+    let two = c.args.a2.now in
+    let three = c.args.a3.now in
+    threewise_or_none table (λ k y. g.F.Fn.post c.args.op (word_at 64 one k, (word_at 64 two k, (word_at 64 three k, tt))) y) one two three _
+    (returns-clause-words g c)
+    (λ k y i small1 small2 small3 said low.
+    acts (word_at 64 one k) (word_at 64 two k) (word_at 64 three k) y i small1 small2 small3 said low)

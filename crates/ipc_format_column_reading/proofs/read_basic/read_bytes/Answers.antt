@@ -16,8 +16,8 @@ returns-in-Ok-clause-read g c =
     let is : next_stated buffers ≡ Some (offset, stated) = search rules in
     let enough : c.args.count ≤ stated = omega arith in (
       uncompressed,
-      c.in-Ok.ensures.0,
-      λ room told. window_stated buffers c.args.block_offset c.args.count room offset stated is enough ∙ c.in-Ok.ensures.2 room told,
+      c.in-Ok.ensures.fills.0,
+      λ room told. window_stated buffers c.args.block_offset c.args.count room offset stated is enough ∙ c.in-Ok.ensures.fills.2 room told,
     )
 
 pub returns-in-Err-clause-read : goal.returns-in-Err-clause-read
@@ -32,4 +32,4 @@ returns-in-Err-clause-read g c =
     let enough : c.args.count ≤ stated = omega arith in
     rw uncompressed (refusal_for old new (ForBytes old (λ room. window_at room (c.args.block_offset + offset) c.args.count ≡ None))
     (ForBytes old (λ room. next_window buffers c.args.block_offset c.args.count room ≡ None)) c.in-Err.error false
-    (λ none room told. window_stated buffers c.args.block_offset c.args.count room offset stated is enough ∙ none room told) c.in-Err.ensures)
+    (λ none room told. window_stated buffers c.args.block_offset c.args.count room offset stated is enough ∙ none room told) c.in-Err.ensures.fills)

@@ -38,7 +38,7 @@ returns-in-Ok c told tells =
     let added = subst (λ (fields : List IpcField). IsAdded old new metadata.schema told (ids_views fields) c.args.columns.now messages)
     c.as_slice-ids.ensures (c.in_ok-dictionaries.ensures told tells) in
     let put : c.send.new.writer.items ≡ c.args.bytes.now.items ++ bytes_of_messages messages =
-    c.in-Ok.ensures ∙ ap (λ (them : List EncodedData). c.args.bytes.now.items
+    c.in-Ok.ensures.1 ∙ ap (λ (them : List EncodedData). c.args.bytes.now.items
     ++ bytes_of_messages (messages_in them ++ message_in c.add_batch.new.encoded ∷ [])) c.deref.ensures.value in
     appended_by metadata.schema (ids_views metadata.ipc_schema.fields) told old new c.args.columns.now messages c.args.bytes.now.items
     c.send.new.writer.items added put

@@ -11,13 +11,13 @@ pub returns-in_err-fill_from : goal.returns-in_err-fill_from
 returns-in_err-fill_from g c =
     let error = c.in_err-fill_from.field-0.0 in
     let is : c.from_residual.result ≡ Err error = search rules in
-    rw is (no_first (g.R.Room.told c.args.reader.now) (g.R.Room.told c.fill_from.new.self) c.args.place error c.in_err-fill_from.ensures)
+    rw is (no_first (g.R.Room.told c.args.reader.now) (g.R.Room.told c.fill_from.new.self) c.args.place error c.in_err-fill_from.ensures.fills)
 
 pub returns-in_default : goal.returns-in_default
 returns-in_default g c =
     let part = c.fill_from.new.into.items in
     let none : signed_at w32 part 0 ≡ None = search rules in
-    no_number (g.R.Room.told c.args.reader.now) c.args.place part c.in_ok-fill_from.ensures.2 none
+    no_number (g.R.Room.told c.args.reader.now) c.args.place part c.in_ok-fill_from.ensures.fills.2 none
 
 pub returns-then-first : goal.returns-then-first
 returns-then-first g c =
@@ -26,7 +26,7 @@ returns-then-first g c =
     let is : signed_at w32 part 0 ≡ Some first = search rules in
     let unmarked : first ≡ negsuc 0 → ⊥ = search rules in
     without_marker (g.R.Room.told c.args.reader.now) (g.R.Room.told c.fill_from.new.self) (g.R.Room.told c.take_stated.new.reader) c.args.place
-    part c.take_stated.new.metadata.items first c.take_stated.result c.in_ok-fill_from.ensures.0 c.in_ok-fill_from.ensures.2 is unmarked
+    part c.take_stated.new.metadata.items first c.take_stated.result c.in_ok-fill_from.ensures.fills.0 c.in_ok-fill_from.ensures.fills.2 is unmarked
     (subst (λ (z : ℤ). TakesStated (g.R.Room.told c.fill_from.new.self) (g.R.Room.told c.take_stated.new.reader) z (c.args.place + 4)
     c.take_stated.new.metadata.items c.take_stated.result) (to_z-of_z w32 first (search rules)) c.take_stated.ensures)
 
@@ -37,7 +37,7 @@ returns-in_err-fill_from-2 g c =
     let result : c.from_residual-in_err-fill_from-2.result ≡ Err error = search rules in
     let is : signed_at w32 part 0 ≡ Some (negsuc 0) = search rules in
     rw result (no_second (g.R.Room.told c.args.reader.now) (g.R.Room.told c.fill_from.new.self) (g.R.Room.told c.fill_from-2.new.self)
-    c.args.place part error c.in_ok-fill_from.ensures.0 c.in_ok-fill_from.ensures.2 is c.in_err-fill_from-2.ensures)
+    c.args.place part error c.in_ok-fill_from.ensures.fills.0 c.in_ok-fill_from.ensures.fills.2 is c.in_err-fill_from-2.ensures.fills)
 
 pub returns-in_default-i32_at : goal.returns-in_default-i32_at
 returns-in_default-i32_at g c =
@@ -45,8 +45,8 @@ returns-in_default-i32_at g c =
     let second = c.fill_from-2.new.into.items in
     let is : signed_at w32 part 0 ≡ Some (negsuc 0) = search rules in
     let none : signed_at w32 second 0 ≡ None = search rules in
-    no_second_number (g.R.Room.told c.args.reader.now) (g.R.Room.told c.fill_from.new.self) c.args.place part second c.in_ok-fill_from.ensures.0
-    c.in_ok-fill_from.ensures.2 is c.in_ok-fill_from-2.ensures.2 none
+    no_second_number (g.R.Room.told c.args.reader.now) (g.R.Room.told c.fill_from.new.self) c.args.place part second c.in_ok-fill_from.ensures.fills.0
+    c.in_ok-fill_from.ensures.fills.2 is c.in_ok-fill_from-2.ensures.fills.2 none
 
 pub returns : goal.returns
 returns g c =
@@ -57,7 +57,7 @@ returns g c =
     let says : signed_at w32 second 0 ≡ Some stated = search rules in
     behind_marker (g.R.Room.told c.args.reader.now) (g.R.Room.told c.fill_from.new.self) (g.R.Room.told c.fill_from-2.new.self)
     (g.R.Room.told c.take_stated-2.new.reader) c.args.place part second c.take_stated-2.new.metadata.items stated
-    c.take_stated-2.result c.in_ok-fill_from.ensures.0 c.in_ok-fill_from.ensures.2 is c.in_ok-fill_from-2.ensures.0
-    c.in_ok-fill_from-2.ensures.2 says
+    c.take_stated-2.result c.in_ok-fill_from.ensures.fills.0 c.in_ok-fill_from.ensures.fills.2 is c.in_ok-fill_from-2.ensures.fills.0
+    c.in_ok-fill_from-2.ensures.fills.2 says
     (subst (λ (z : ℤ). TakesStated (g.R.Room.told c.fill_from-2.new.self) (g.R.Room.told c.take_stated-2.new.reader) z (c.args.place + 8)
     c.take_stated-2.new.metadata.items c.take_stated-2.result) (to_z-of_z w32 stated (search rules)) c.take_stated-2.ensures)

@@ -16,7 +16,7 @@ returns-in_err-take_dictionary g c =
     let k = c.loop-block.block-index in
     let block = c.block-item.result in
     let error = c.in_err-take_dictionary.field-0.0 in
-    let is : c.from_residual.result ≡ Err error = search rules in
+    let is : c.from_residual-in_err-take_dictionary.result ≡ Err error = search rules in
     let some : 0 < length (blocks_view metadata.blocks) = search (rules, length-map metadata.blocks.items block_view) in
     let here : slice_get (blocks_view metadata.dictionaries) k ≡ Some (block_view block) =
     seen_at block_view metadata.dictionaries.items k block (search rules) (search rules) in

@@ -36,7 +36,7 @@ returns g c =
     let block = block_view c.args.block.now in
     let old = g.R.Room.told c.args.reader.now in
     let now = g.R.Room.told c.read_message_metadata.new.reader in
-    let new = g.R.Room.told c.read_dictionary.new.reader in
+    let new = g.R.Room.told c.read_dictionary_with.new.reader in
     let message = c.read_message_metadata.new.metadata.items in
     let carried = c.in-Some.header.table.bytes.now in
     let table = table_of c.in-Some.header.table.place in
@@ -45,9 +45,9 @@ returns g c =
     let is : message_in is_dictionary message ≡ Some (dictionary_batch table, version) = search rules in
     let layout = layout_is metadata c.as_slice.result.now (search rules) in
     dictionary_taken (layout_in metadata) block carried message table version metadata.size old now new c.args.dictionaries.now
-    c.read_dictionary.new.dictionaries c.read_dictionary.result metadata.has_arrays c.in_ok-read_message_metadata.ensures.1
+    c.read_dictionary_with.new.dictionaries c.read_dictionary_with.result metadata.has_arrays c.in_ok-read_message_metadata.ensures.1
     c.in_ok-read_message_metadata.ensures.2 same is
     (subst (λ (l : Layout). ReadsDictionary (is_unread carried table) (sized metadata.size now) (sized metadata.size new)
     (λ room. dictionary_array l (standing_in c.args.dictionaries.now)
     (entry_in carried (dictionary_batch table) version (block.offset + block.metadata_length) room) table)
-    c.args.dictionaries.now c.read_dictionary.new.dictionaries c.read_dictionary.result) layout c.read_dictionary.ensures)
+    c.args.dictionaries.now c.read_dictionary_with.new.dictionaries c.read_dictionary_with.result) layout c.read_dictionary_with.ensures)

@@ -11,7 +11,7 @@ returns-in_err-fill_from g c =
     let error = c.in_err-fill_from.field-0.0 in
     let is : c.from_residual-in_err-fill_from.result ≡ Err error = search rules in
     rw is (no_beginning (g.R.Room.told c.args.reader.now) (g.R.Room.told c.extent.new.self) (g.R.Room.told c.fill_from.new.self)
-    c.in_ok-start.start c.in_ok-start.end error c.in_ok-start.ensures c.in_err-fill_from.ensures)
+    c.in_ok-start.start c.in_ok-start.end error c.in_ok-start.ensures.tells c.in_err-fill_from.ensures.fills)
 
 pub returns-in_err-test_mark : goal.returns-in_err-test_mark
 returns-in_err-test_mark g c =
@@ -23,8 +23,8 @@ returns-in_err-test_mark g c =
     let error = c.in_err-test_mark.field-0.0 in
     let is : c.from_residual-in_err-test_mark.result ≡ Err error = search rules in
     let same : c.deref.result.now ≡ mark = search rules in
-    let begun = begins old (g.R.Room.told c.extent.new.self) second start end mark c.in_ok-start.ensures c.in_ok-fill_from.ensures.0
-    c.in_ok-fill_from.ensures.2 in
+    let begun = begins old (g.R.Room.told c.extent.new.self) second start end mark c.in_ok-start.ensures.tells c.in_ok-fill_from.ensures.fills.0
+    c.in_ok-fill_from.ensures.fills.2 in
     rw is (wrong_mark old second second start end mark error begun
     (subst (λ (m : List ℕ). TestsMark {A = ⊤} m (Err error)) same c.in_err-test_mark.ensures))
 
@@ -35,8 +35,8 @@ returns-in_default g c =
     let start = c.in_ok-start.start in
     let end = c.in_ok-start.end in
     let mark = c.fill_from.new.into.items in
-    let begun = begins old (g.R.Room.told c.extent.new.self) second start end mark c.in_ok-start.ensures c.in_ok-fill_from.ensures.0
-    c.in_ok-fill_from.ensures.2 in
+    let begun = begins old (g.R.Room.told c.extent.new.self) second start end mark c.in_ok-start.ensures.tells c.in_ok-fill_from.ensures.fills.0
+    c.in_ok-fill_from.ensures.fills.2 in
     not_behind old second start end mark begun c.in_default.ensures
 
 pub returns-then-size : goal.returns-then-size
@@ -47,8 +47,8 @@ returns-then-size g c =
     let end = c.in_ok-start.end in
     let mark = c.fill_from.new.into.items in
     let size : c.in-Some.size ≡ end - start = search rules in
-    let begun = begins old (g.R.Room.told c.extent.new.self) second start end mark c.in_ok-start.ensures c.in_ok-fill_from.ensures.0
-    c.in_ok-fill_from.ensures.2 in
+    let begun = begins old (g.R.Room.told c.extent.new.self) second start end mark c.in_ok-start.ensures.tells c.in_ok-fill_from.ensures.fills.0
+    c.in_ok-fill_from.ensures.fills.2 in
     too_short old second start end c.in-Some.size mark begun size c.if-size.true
 
 pub returns-in_err-fill_from-2 : goal.returns-in_err-fill_from-2
@@ -62,9 +62,9 @@ returns-in_err-fill_from-2 g c =
     let is : c.from_residual-in_err-fill_from-2.result ≡ Err error = search rules in
     let size : c.in-Some.size ≡ end - start = search rules in
     let enough : 10 ≤ end = omega (arith, size, c.if-size.false) in
-    let begun = begins old (g.R.Room.told c.extent.new.self) second start end mark c.in_ok-start.ensures c.in_ok-fill_from.ensures.0
-    c.in_ok-fill_from.ensures.2 in
-    rw is (no_end old second (g.R.Room.told c.fill_from-2.new.self) start end mark error begun enough c.in_err-fill_from-2.ensures)
+    let begun = begins old (g.R.Room.told c.extent.new.self) second start end mark c.in_ok-start.ensures.tells c.in_ok-fill_from.ensures.fills.0
+    c.in_ok-fill_from.ensures.fills.2 in
+    rw is (no_end old second (g.R.Room.told c.fill_from-2.new.self) start end mark error begun enough c.in_err-fill_from-2.ensures.fills)
 
 pub returns-in_err-length : goal.returns-in_err-length
 returns-in_err-length g c =
@@ -81,9 +81,10 @@ returns-in_err-length g c =
     let enough : 10 ≤ end = omega (arith, size, c.if-size.false) in
     let marked : stands_at file_mark mark 0 ≡ true = search rules in
     let same : c.deref-2.result.now ≡ tail = search rules in
-    let begun = begins old (g.R.Room.told c.extent.new.self) second start end mark c.in_ok-start.ensures c.in_ok-fill_from.ensures.0
-    c.in_ok-fill_from.ensures.2 in
-    let ended = ends old second third start end mark tail begun marked enough c.in_ok-fill_from-2.ensures.0 c.in_ok-fill_from-2.ensures.2 in
+    let begun = begins old (g.R.Room.told c.extent.new.self) second start end mark c.in_ok-start.ensures.tells c.in_ok-fill_from.ensures.fills.0
+    c.in_ok-fill_from.ensures.fills.2 in
+    let ended = ends old second third start end mark tail begun marked enough c.in_ok-fill_from-2.ensures.fills.0
+    c.in_ok-fill_from-2.ensures.fills.2 in
     rw is (no_size old third start end c.in-Some.size tail error ended size
     (subst (λ (t : List ℕ). SizesFooter t c.in-Some.size (Err error)) same c.in_err-length.ensures))
 
@@ -103,11 +104,12 @@ returns-in_err-fill_from-3 g c =
     let enough : 10 ≤ end = omega (arith, size, c.if-size.false) in
     let marked : stands_at file_mark mark 0 ≡ true = search rules in
     let same : c.deref-2.result.now ≡ tail = search rules in
-    let begun = begins old (g.R.Room.told c.extent.new.self) second start end mark c.in_ok-start.ensures c.in_ok-fill_from.ensures.0
-    c.in_ok-fill_from.ensures.2 in
-    let ended = ends old second third start end mark tail begun marked enough c.in_ok-fill_from-2.ensures.0 c.in_ok-fill_from-2.ensures.2 in
+    let begun = begins old (g.R.Room.told c.extent.new.self) second start end mark c.in_ok-start.ensures.tells c.in_ok-fill_from.ensures.fills.0
+    c.in_ok-fill_from.ensures.fills.2 in
+    let ended = ends old second third start end mark tail begun marked enough c.in_ok-fill_from-2.ensures.fills.0
+    c.in_ok-fill_from-2.ensures.fills.2 in
     rw is (no_footer old third (g.R.Room.told c.fill_from-3.new.self) start end c.in-Some.size count tail error ended size
-    (subst (λ (t : List ℕ). footer_size t c.in-Some.size ≡ Some count) same c.in_ok-length.ensures.0) c.in_err-fill_from-3.ensures)
+    (subst (λ (t : List ℕ). footer_size t c.in-Some.size ≡ Some count) same c.in_ok-length.ensures.0) c.in_err-fill_from-3.ensures.fills)
 
 pub returns : goal.returns
 returns g c =
@@ -123,9 +125,10 @@ returns g c =
     let enough : 10 ≤ end = omega (arith, size, c.if-size.false) in
     let marked : stands_at file_mark mark 0 ≡ true = search rules in
     let same : c.deref-2.result.now ≡ tail = search rules in
-    let begun = begins old (g.R.Room.told c.extent.new.self) second start end mark c.in_ok-start.ensures c.in_ok-fill_from.ensures.0
-    c.in_ok-fill_from.ensures.2 in
-    let ended = ends old second third start end mark tail begun marked enough c.in_ok-fill_from-2.ensures.0 c.in_ok-fill_from-2.ensures.2 in
+    let begun = begins old (g.R.Room.told c.extent.new.self) second start end mark c.in_ok-start.ensures.tells c.in_ok-fill_from.ensures.fills.0
+    c.in_ok-fill_from.ensures.fills.2 in
+    let ended = ends old second third start end mark tail begun marked enough c.in_ok-fill_from-2.ensures.fills.0
+    c.in_ok-fill_from-2.ensures.fills.2 in
     takes old third (g.R.Room.told c.fill_from-3.new.self) start end c.in-Some.size count tail c.fill_from-3.new.into.items ended size
-    (subst (λ (t : List ℕ). footer_size t c.in-Some.size ≡ Some count) same c.in_ok-length.ensures.0) c.in_ok-fill_from-3.ensures.0
-    c.in_ok-fill_from-3.ensures.2
+    (subst (λ (t : List ℕ). footer_size t c.in-Some.size ≡ Some count) same c.in_ok-length.ensures.0) c.in_ok-fill_from-3.ensures.fills.0
+    c.in_ok-fill_from-3.ensures.fills.2

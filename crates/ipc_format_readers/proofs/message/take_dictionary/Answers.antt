@@ -12,7 +12,7 @@ use Rattle.ipc_format_readers.proofs.message.take_dictionary.Goals as goal
 
 pub returns : goal.returns
 returns c =
-    let told : Told = sized (length c.args.body.now) (record { bytes = Some c.read_dictionary.new.reader.bytes.now; failures = 0 }) in
+    let told : Told = sized (length c.args.body.now) (record { bytes = Some c.read_dictionary_with.new.reader.bytes.now; failures = 0 }) in
     dictionary_heard (layout_with c.args.fields.now (ids_views c.args.ipc_schema.now.fields) c.args.ipc_schema.now.is_little_endian)
-    (version_view c.args.version) c.args.dictionaries.now c.read_dictionary.new.dictionaries c.args.batch.now.table.bytes.now
-    (table_of c.args.batch.now.table.place) c.args.body.now told c.read_dictionary.result refl c.read_dictionary.ensures
+    (version_view c.args.version) c.args.dictionaries.now c.read_dictionary_with.new.dictionaries c.args.batch.now.table.bytes.now
+    (table_of c.args.batch.now.table.place) c.args.body.now told c.read_dictionary_with.result refl c.read_dictionary_with.ensures

@@ -21,7 +21,7 @@ messages-init g c =
     let layout = layout_with c.args.fields.now (ids_views c.args.ipc_schema.now.fields) c.args.ipc_schema.now.is_little_endian in
     let spot = spot_of c.args.standing.now.held.items (g.R.Read.remaining c.args.device.now) (standing_in c.args.standing.now.dictionaries)
     c.args.standing.now.in_a_row in
-    record { held = c.requires.held; leads = stays_there asked layout (version_view c.args.version) spot }
+    record { held = c.requires.held; known = λ x is. absurd cc; leads = stays_there asked layout (version_view c.args.version) spot }
 
 pub returns-in_err-next_message-clause-taken : goal.returns-in_err-next_message-clause-taken
 returns-in_err-next_message-clause-taken g c =
@@ -131,6 +131,7 @@ messages-preserved g c =
     let none : length c.next_message.new.held.items ≡ 0 = ap length empty in
     record {
       held = omega (arith, none);
+      known = c.find_values.ensures;
       leads = leads_on c.look_ups_are_enough.ensures asked layout (version_view c.args.version) old now new metadata body c.messages.invariant.leads
           taken hears refl;
     }

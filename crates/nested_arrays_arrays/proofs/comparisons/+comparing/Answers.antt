@@ -145,7 +145,8 @@ same_range-returns-then-not-same_range-clause-counted t c =
     let run = c.in-Some-list_run.run' in
     let most = run_within c.args.left.now c.args.right.now run.items.now run.others.now c.args.i c.args.j c.loop-k.k run.count c.args.count
     run.start run.other_start run.len (omega (arith, c.in-Some-list_run.ensures.1, c.loop-k-test.true)) c.in-Some-list_run.ensures.2 in
-    omega (arith, most, c.loop-k.invariant.1.counted, c.count_each-in-Some-list_run.ensures, c.same_range.ensures.counted)
+    let untold : c.same_named_run.new.steps.count ≡ c.args.steps.now.count = search rules in
+    omega (arith, untold, most, c.loop-k.invariant.1.counted, c.count_each-in-Some-list_run.ensures, c.same_range.ensures.counted)
 
 pub same_range-loop-k-preserved-in-Some-list_run : goal.same_range-loop-k-preserved-in-Some-list_run
 same_range-loop-k-preserved-in-Some-list_run t c =
@@ -157,12 +158,14 @@ same_range-loop-k-preserved-in-Some-list_run t c =
     )
 
 pub same_range-returns-then-not-same_slot-clause-counted : goal.same_range-returns-then-not-same_slot-clause-counted
-same_range-returns-then-not-same_slot-clause-counted t c = omega (
-  arith,
-  c.loop-k.invariant.1.counted,
-  c.same_slot.ensures.counted,
-  nodes_up_to (slot_at c.args.left.now) c.args.i c.loop-k.k c.args.count c.loop-k-test.true,
-)
+same_range-returns-then-not-same_slot-clause-counted t c =
+    let untold : c.same_named_run.new.steps.count ≡ c.args.steps.now.count = search rules in omega (
+      arith,
+      untold,
+      c.loop-k.invariant.1.counted,
+      c.same_slot.ensures.counted,
+      nodes_up_to (slot_at c.args.left.now) c.args.i c.loop-k.k c.args.count c.loop-k-test.true,
+    )
 
 pub same_range-loop-k-preserved : goal.same_range-loop-k-preserved
 same_range-loop-k-preserved t c = (

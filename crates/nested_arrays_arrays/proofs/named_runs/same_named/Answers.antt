@@ -11,6 +11,7 @@ pub loop-k-init : goal.loop-k-init
 loop-k-init c = record {
   same = λ k h. absurd (omega (arith, h));
   known = no_pairs 64 18446744073709551615 (replicate 64 18446744073709551615) c.args.values.now c.args.others.now (omega arith);
+  counted = omega arith;
 }
 
 pub loop-k-preserved : goal.loop-k-preserved
@@ -23,10 +24,11 @@ loop-k-preserved c =
       same = below_next (λ (m : ℕ). slot_at l (c.args.i + m) ≡ slot_at r (c.args.j + m)) c.loop-k.k c.loop-k.invariant.same
           (both.0 (c.same_slot.ensures.same.0 c.if-not-same_slot.false));
       known = c.same_slot.ensures.known;
+      counted = omega (arith, c.loop-k.invariant.counted, c.same_slot.ensures.counted);
     }
 
-pub returns-then-not-same_slot : goal.returns-then-not-same_slot
-returns-then-not-same_slot c =
+pub returns-then-not-same_slot-clause-same : goal.returns-then-not-same_slot-clause-same
+returns-then-not-same_slot-clause-same c =
     let both = named_same (column_of (variant.Dictionary c.args.left.now)) (column_of (variant.Dictionary c.args.right.now)) c.args.values.now
     c.args.others.now c.args.left.now.values.value c.args.right.now.values.value (c.args.i + c.loop-k.k)
     (c.args.j + c.loop-k.k) c.named-place.result c.named-other.result c.requires.left_values c.requires.right_values

@@ -11,5 +11,5 @@ pub returns : goal.returns
 returns c =
     let table = table_of c.args.header.now.table.place in
     dictionary_read (layout_by c.args.fields.now c.args.ipc_schema.now) c.args.header.now.table.bytes.now (dictionary_batch table)
-    (version_view c.args.version) table 0 _ c.args.body.now _ c.args.dictionaries.now c.read_dictionary.new.dictionaries
-    c.read_dictionary.result c.requires (search rules) c.read_dictionary.ensures
+    (version_view c.args.version) table 0 _ c.args.body.now _ c.args.dictionaries.now c.read_dictionary_with.new.dictionaries
+    c.read_dictionary_with.result c.requires.arrays (search rules) c.read_dictionary_with.ensures

@@ -93,7 +93,7 @@ messages-preserved-in-Dictionary c =
     let is : c.read_next.result ≡ Ok (next.Dictionary after) = search rules in
     let known = subst (λ (fields : List Field).
     ReadsNext fields (layout_by fields c.args.ipc_schema.now) version old new bytes place in_a_row c.read_next.result)
-    c.as_slice.ensures c.read_next.ensures in
+    c.as_slice-in-messages.ensures c.read_next.ensures in
     let taken = subst (λ (result : Result Next Error). ReadsNext schema.fields layout version old new bytes place in_a_row result) is known in
     record {
       counted = c.messages.invariant.counted;

@@ -15,7 +15,9 @@ returns c =
     let entry = c.args.entry.now in
     let header = c.args.header.now in
     let table = table_of header.table.place in
-    entry_taken layout (standing_in c.args.dictionaries.now) (standing_in c.read_dictionary.new.dictionaries) entry header c.read_dictionary.result
+    entry_taken layout (standing_in c.args.dictionaries.now) (standing_in c.read_dictionary_with.new.dictionaries) entry header
+    c.read_dictionary_with.result
     c.requires.header
     (dictionary_read layout header.table.bytes.now (dictionary_batch table) (version_view entry.version) table entry.origin _ entry.room.now _
-    c.args.dictionaries.now c.read_dictionary.new.dictionaries c.read_dictionary.result c.requires.arrays (search rules) c.read_dictionary.ensures)
+    c.args.dictionaries.now c.read_dictionary_with.new.dictionaries c.read_dictionary_with.result c.requires.arrays (search rules)
+    c.read_dictionary_with.ensures)

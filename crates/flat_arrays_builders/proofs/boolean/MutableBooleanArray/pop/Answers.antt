@@ -9,4 +9,4 @@ returns-then-len-eq0 c =
 pub returns : goal.returns
 returns c =
     let place = ap (λ (n : ℕ). n - 1) c.len-len.ensures.value in
-    last_popped c.args.self.now c.truncate.new.self (c.len-len.result - 1) c.get-slot.result place c.get-slot.ensures c.truncate.ensures
+    last_popped c.args.self.now c.keep_first.new.self (c.len-len.result - 1) c.get-slot.result place c.get-slot.ensures c.keep_first.ensures

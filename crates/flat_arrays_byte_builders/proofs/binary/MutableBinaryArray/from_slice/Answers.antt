@@ -1,6 +1,5 @@
-use Rattle.std.proofs.Common.{rules}
+use Rattle.std.proofs.Common.{refl, rules}
 use Rattle.std.proofs.lemmas.Iterator.{YieldsList-from_slice}
-use Rattle.std.proofs.lemmas.Iterator.Consumers.{YieldsList-from_copied}
 use Rattle.std.specs.Prelude.{Some, None, []}
 use Rattle.flat_arrays_byte_values_builders.specs.columnar_memory.Spans.{no_spans}
 use Rattle.flat_arrays_byte_values_builders.specs.bytes.ByteStrings.{byte_strings}
@@ -11,5 +10,5 @@ use Rattle.flat_arrays_byte_builders.proofs.binary.MutableBinaryArray.from_slice
 pub returns : goal.returns
 returns g c =
     let empty = byte_strings (binary_type g.O.Offset.IS_LARGE) no_spans [] None in
-    gathered _ (λ value. Some (g.P.AsSlice.items value)) g.O.Index.greatest empty c.copied.result c.args.values.now c.from_iter_values.result
-    (YieldsList-from_copied (YieldsList-from_slice c.args.values.now (search rules))) c.from_iter_values.ensures
+    gathered (YieldsList-from_slice c.args.values.now (search rules)) (λ value. Some (g.P.AsSlice.items value.now))
+    (λ value. Some (g.P.AsSlice.items value)) (λ value. refl) g.O.Index.greatest empty c.from_iter_values.result c.from_iter_values.ensures

@@ -1,6 +1,5 @@
-use Rattle.std.proofs.Common.{rules}
+use Rattle.std.proofs.Common.{refl, rules}
 use Rattle.std.proofs.lemmas.Iterator.{YieldsList-from_slice}
-use Rattle.std.proofs.lemmas.Iterator.Consumers.{YieldsList-from_copied}
 use Rattle.std.specs.Prelude.{Some, None, []}
 use Rattle.flat_arrays_bytes.specs.columnar_memory.Spans.{no_spans}
 use Rattle.flat_arrays_bytes.specs.ByteStrings.{byte_strings}
@@ -11,5 +10,5 @@ use Rattle.flat_arrays_byte_values_builders.proofs.utf8_values.MutableUtf8Values
 pub returns : goal.returns
 returns g c =
     let empty = byte_strings (text_type g.O.Offset.IS_LARGE) no_spans [] None in
-    gathered _ (λ value. Some (g.P.AsStr.text value)) g.O.Index.greatest empty c.copied.result c.args.values.now c.try_from_iter.result
-    (YieldsList-from_copied (YieldsList-from_slice c.args.values.now (search rules))) c.try_from_iter.ensures
+    gathered (YieldsList-from_slice c.args.values.now (search rules)) (λ value. Some (g.P.AsStr.text value.now))
+    (λ value. Some (g.P.AsStr.text value)) (λ value. refl) g.O.Index.greatest empty c.try_from_iter.result c.try_from_iter.ensures

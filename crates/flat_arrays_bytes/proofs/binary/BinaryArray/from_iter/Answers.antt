@@ -14,6 +14,16 @@ loop-slot-preserved g c = record {
       c.loop-slot.invariant.marks;
 }
 
+pub loop-slot-preserved-in_ok-push : goal.loop-slot-preserved-in_ok-push
+loop-slot-preserved-in_ok-push g c = record {
+  gathered = gathered_more (stored_by g.T.AsSlice.items) g.O.Index.greatest c.loop-slot.yielded c.in-Some.slot c.stored_bytes.result.now
+      c.loop-slot.values.items
+      c.push_value.new.values.items c.loop-slot.offsets c.push_value.new.offsets c.stored_bytes.ensures c.loop-slot.invariant.gathered
+      c.in_ok-push_value.ensures;
+  marks = marks_more c.loop-slot.yielded c.in-Some.slot c.loop-slot.mask c.push.new.self c.is_some.result c.in_ok-push.ensures c.is_some.ensures
+      c.loop-slot.invariant.marks;
+}
+
 pub from_gathered-requires-clause-masked : goal.from_gathered-requires-clause-masked
 from_gathered-requires-clause-masked g c =
     masked_gathered (stored_by g.T.AsSlice.items) g.O.Index.greatest c.loop-slot.yielded c.loop-slot.offsets c.loop-slot.values.items

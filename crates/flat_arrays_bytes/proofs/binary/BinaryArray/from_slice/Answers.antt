@@ -1,9 +1,10 @@
-use Rattle.std.specs.Slice.Iter.{iter_rest}
-use Rattle.flat_arrays_bytes.proofs.Gathered.{values_of_slice}
+use Rattle.std.proofs.Common.{rules}
+use Rattle.std.proofs.lemmas.Iterator.{YieldsList-from_slice}
+use Rattle.flat_arrays_bytes.proofs.Gathered.{values_of_walk}
 use Rattle.flat_arrays_bytes.specs.Fits.{binary_type}
 use Rattle.flat_arrays_bytes.proofs.binary.BinaryArray.from_slice.Goals as goal
 
 pub returns : goal.returns
 returns g c =
-    values_of_slice iter_rest c.iter.result c.copied.result c.args.values.now c.iter.ensures.rest c.iter.ensures.runs c.copied.ensures.runs
-    g.T.AsSlice.items (binary_type g.O.Offset.IS_LARGE) g.O.Index.greatest c.from_iter_values.result c.from_iter_values.ensures
+    values_of_walk (YieldsList-from_slice c.args.values.now (search rules)) g.T.AsSlice.items (binary_type g.O.Offset.IS_LARGE) g.O.Index.greatest
+    c.from_iter_values.result c.from_iter_values.ensures

@@ -1,0 +1,130 @@
+//! The callers that the pages of the layers show (`CALLING.md` of `flat_arrays`, `flat_arrays_values`, `flat_arrays_builders`,
+//! `flat_arrays_byte_builders`, `nested_arrays` and `nested_arrays_arrays`).
+ghost use Rattle.std.specs.Prelude.{◌≡◌, ◌+◌, ◌≤◌, ◌↔◌, IsTrue, MatchResult, None, length, slice_get, unwrap_or};
+ghost use Rattle.std.specs.Option.{option_copied};
+ghost use Rattle.columnar_memory.specs.Conversions.{type_of_primitive};
+ghost use Rattle.columnar_memory.specs.Error.{IsOutOfMemory};
+ghost use Rattle.columnar_memory.specs.declared.PrimitiveType.TheVariants as kinds;
+ghost use Rattle.flat_arrays.specs.ByteStrings as byte_strings;
+ghost use Rattle.flat_arrays.specs.ByteStrings.{len_of, slots_of};
+ghost use Rattle.flat_arrays.specs.Flat as numbers;
+ghost use Rattle.flat_arrays.specs.Flat.{flat};
+ghost use Rattle.flat_arrays.specs.Growing.{Grows, joined, with_slot};
+ghost use Rattle.nested_arrays.specs.StoredColumns.{column_len, cut};
+ghost use Rattle.nested_arrays.specs.EqualArrays.{AreEqual};
+
+use columnar_memory::{Offset, Result};
+use flat_arrays::{
+    BinaryArray, Int32Array, Int32Vec, MutableBinaryArray, MutableUtf8Array, Utf8Array,
+};
+use nested_arrays::{AnyArray, Array, StructArray, equal};
+use std::alloc::Global;
+
+/// The words as a column, null where a word is empty.
+pub fn words_column(alloc: Global, words: &[&str]) -> Result<Utf8Array<i32>> {
+    let mut builder = MutableUtf8Array::<i32>::with_capacity(alloc, words.len())?;
+    for word in words {
+        if word.is_empty() {
+            builder.push_null()?;
+        } else {
+            builder.push(Some(*word))?;
+        }
+    }
+    builder.freeze()
+}
+
+/// The rows of a page of texts, in the same memory.
+pub fn page_of_texts(column: Utf8Array<i32>, first: usize, count: usize) -> Utf8Array<i32>
+    requires { first + count ≤ len_of column }
+    ensures { result ≡ byte_strings.cut column first count }
+{
+    column.sliced(first, count)
+}
+
+/// The text in a row, or another where the row is null or there is no such row.
+pub fn text_or<'a>(column: &'a Utf8Array<i32>, row: usize, other: &'a str) -> &'a str
+    ensures { result.now ≡ unwrap_or (unwrap_or (slice_get (slots_of column.now) row) None) other.now }
+{
+    column.get(row).unwrap_or(other)
+}
+
+/// Some of the values, as a column.
+pub fn part(alloc: Global, values: &[i32], offset: usize, count: usize) -> Result<Int32Array>
+    requires { offset + count ≤ length values.now }
+    ensures { MatchResult result (λ array. array ≡ numbers.cut (flat (type_of_primitive kinds.Int32) values.now None) offset count) IsOutOfMemory }
+{
+    let column = Int32Array::from_slice(alloc, values)?;
+    Ok(column.sliced(offset, count))
+}
+
+/// The number in a row, or `missing` where the row is null or there is no such row.
+pub fn number_or(column: &Int32Array, row: usize, missing: i32) -> i32
+    ensures { result ≡ unwrap_or (unwrap_or (slice_get (numbers.slots_of column.now) row) None) missing }
+{
+    column.get(row).unwrap_or(missing)
+}
+
+/// The numbers of some words, null where a word is no number, without the first one.
+pub fn numbers_column(alloc: Global, words: &[&str]) -> Result<Int32Array> {
+    let mut builder = Int32Vec::with_capacity(alloc, words.len())?;
+    for word in words {
+        builder.push(word.parse::<i32>().ok())?;
+    }
+    let column = builder.freeze()?;
+    let len = column.len();
+    if len == 0 {
+        return Ok(column);
+    }
+    Ok(column.sliced(1, len - 1))
+}
+
+/// Adds a key, or a null; a refused one changes nothing.
+pub fn add_key<O: Offset>(keys: &mut MutableBinaryArray<O>, key: Option<&[u8]>) -> Result<()>
+    ensures { Grows O.greatest keys.old (with_slot keys.old (option_copied key.entry)) keys.new result }
+{
+    keys.push(key)
+}
+
+/// Adds the keys of another builder behind the others, or changes nothing.
+pub fn add_keys<O: Offset>(
+    keys: &mut MutableBinaryArray<O>,
+    more: &MutableBinaryArray<O>,
+) -> Result<()>
+    ensures { Grows O.greatest keys.old (joined keys.old more.now) keys.new result }
+{
+    keys.try_extend_from_self(more)
+}
+
+/// The keys as a column, without the first.
+pub fn keys_column(alloc: Global, keys: &[&[u8]]) -> Result<BinaryArray<i64>> {
+    let array = MutableBinaryArray::<i64>::from_slice(alloc, keys)?.freeze()?;
+    let count = array.len();
+    if count == 0 {
+        return Ok(array);
+    }
+    Ok(array.sliced(1, count - 1))
+}
+
+/// The rows of a page of a column of any type, in the same memory.
+pub fn page(column: AnyArray, first: usize, count: usize) -> AnyArray
+    requires { first + count ≤ column_len column }
+    ensures { result ≡ cut column first count }
+{
+    column.sliced(first, count)
+}
+
+/// The rows of a table as an array, and how many they are.
+pub fn rows(table: StructArray) -> (AnyArray, usize)
+    ensures same { result.0 ≡ table }
+    ensures rows { result.1 ≡ column_len table }
+{
+    let count = table.len();
+    (AnyArray::from(table), count)
+}
+
+/// Whether two columns have one type and the same slots.
+pub fn agree(left: &AnyArray, right: &AnyArray) -> bool
+    ensures { IsTrue result ↔ AreEqual left.now right.now }
+{
+    equal(left, right)
+}

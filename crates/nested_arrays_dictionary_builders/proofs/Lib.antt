@@ -1,0 +1,10 @@
+pub mod FoundPlaces
+pub mod KeyedParts
+pub mod KeyedSlots
+pub mod KeyedStored
+pub mod NumberItems
+pub mod OpenKeys
+pub mod OpenParts
+pub mod SeveralSlots
+pub mod StringItems
+pub use Rattle.nested_arrays_sized_builders.proofs.nulls_lemmas

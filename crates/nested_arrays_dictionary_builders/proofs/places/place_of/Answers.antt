@@ -1,0 +1,41 @@
+use Rattle.std.proofs.Common.{◌∙◌, ◌-◌, ◌<◌, length, sym, arith}
+use Rattle.std.proofs.lemmas.Bool.{false≢true}
+use Rattle.nested_arrays_dictionary_builders.proofs.FoundPlaces.{many, newer_differ, older_differ}
+use Rattle.nested_arrays_dictionary_builders.proofs.places.place_of.Goals as goal
+
+pub walk-init : goal.walk-init
+walk-init g c =
+    let child = g.M.MutableArray.column c.args.values.now in
+    let places = c.args.places.now in
+    let s = g.M.TryPush.slot c.args.item.now in
+    let long = many child places s c.requires in
+    record {
+      within = omega (arith, c.newest-place.ensures.within, long);
+      here = λ some. c.newest-place.ensures.here some ∙ c.hash_of-hash.ensures;
+      none = λ k behind within. newer_differ child places s c.requires (length places) c.newest-place.result c.hash_of-hash.result
+          c.hash_of-hash.ensures c.newest-place.ensures k behind (omega (arith, within, long)) within;
+    }
+
+pub walk-preserved : goal.walk-preserved
+walk-preserved g c =
+    let child = g.M.MutableArray.column c.args.values.now in
+    let places = c.args.places.now in
+    let s = g.M.TryPush.slot c.args.item.now in
+    let place = c.walk.place in
+    let some : 0 < place = omega (arith, c.walk-test.true) in
+    let long = many child places s c.requires in
+    record {
+      within = omega (arith, c.older-place.ensures.within, c.walk.invariant.within);
+      here = λ more. c.older-place.ensures.here more ∙ c.walk.invariant.here some;
+      none = older_differ child places s c.requires place c.older-place.result some (c.walk.invariant.here some)
+          (λ e. false≢true (sym c.if-slot_is.false ∙ c.slot_is.ensures.1 e)) c.older-place.ensures c.walk.invariant.none;
+    }
+
+pub older-place-requires : goal.older-place-requires
+older-place-requires g c =
+    omega (
+      arith,
+      c.walk.invariant.within,
+      c.walk-test.true,
+      many (g.M.MutableArray.column c.args.values.now) c.args.places.now (g.M.TryPush.slot c.args.item.now) c.requires,
+    )

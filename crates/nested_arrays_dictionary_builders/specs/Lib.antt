@@ -1,0 +1,12 @@
+pub mod DictionaryBuilders
+pub mod NumberItems
+pub mod SeveralSlots
+pub mod SlotHashes
+pub use Rattle.nested_arrays_sized_builders.specs.nulls
+pub use Rattle.nested_arrays_sized_builders.specs.pushes
+pub use Rattle.nested_arrays_sized_builders.specs.ListBuilders
+pub use Rattle.nested_arrays_sized_builders.specs.MarkedSlots
+pub use Rattle.nested_arrays_sized_builders.specs.FixedListBuilders
+pub use Rattle.nested_arrays_sized_builders.specs.SizedStrings
+pub use Rattle.nested_arrays_sized_builders.specs.NullBuilders
+pub use Rattle.nested_arrays_sized_builders.specs.StructBuilders

@@ -1,0 +1,123 @@
+//! Builders of dictionaries, and items that are pushed to builders.
+#![tactic(auto)]
+
+mod dictionaries;
+mod items;
+mod keys;
+mod numbers;
+mod places;
+mod strings;
+
+pub use dictionaries::MutableDictionaryArray;
+pub use items::{SlotIs, TryExtend, TryPush};
+pub use nested_arrays_sized_builders::{
+    MutValues, MutableFields, MutableFixedSizeBinaryArray, MutableFixedSizeListArray,
+    MutableListArray, MutableNullArray, MutableStructArray,
+};
+
+/// What `nested_arrays_sized_builders::nulls` has, as far as packages above use it.
+pub mod nulls {
+    pub use nested_arrays_sized_builders::nulls::{
+        Downcast, NullArrays, columnar_memory, flat_arrays, new_empty_array, new_null_array,
+    };
+
+    /// Of `access`.
+    pub mod access {
+        pub use nested_arrays_sized_builders::nulls::access::{
+            Array, a_null_slot_has_no_value, a_slot_without_a_value_is_null, nulls_are_counted,
+            same_slot_ranges, same_slots,
+        };
+    }
+
+    /// Of `arrays`.
+    pub mod arrays {
+        pub use nested_arrays_sized_builders::nulls::arrays::{
+            AnyArray, DictionaryNode, FixedSizeListArray, ListNode, MapArray, Node, StructArray,
+            UnionArray, equal, equal_counted,
+        };
+    }
+
+    /// Of `columns`.
+    pub mod columns {
+        pub use nested_arrays_sized_builders::nulls::columns::{
+            a_beginning_of_what_fits_fits, a_choice_of_a_part_is_the_part_of_the_choice,
+            a_column_has_a_size, a_column_has_its_length, a_cut_has_a_range_of_the_slots,
+            a_cut_has_its_length, a_cut_is_sound, a_cut_keeps_its_size, a_cut_of_a_cut_is_one_cut,
+            a_limit_is_a_part, a_part_of_a_part_is_one_part,
+            a_slot_has_its_place_among_distinct_ones, distinct_slots_are_distinct,
+            joins_are_associative, null_fits_every_type, sameness_decides_equality,
+            two_parts_make_the_whole,
+        };
+    }
+
+    /// Of `flat`.
+    pub mod flat {
+        pub use nested_arrays_sized_builders::nulls::flat::{
+            AnyPrimitive, FixedSizeBinaryArray, NullArray, PrimitiveKind, PrimitiveNode,
+        };
+    }
+
+    /// Of `generic`.
+    pub mod generic {
+        pub use nested_arrays_sized_builders::nulls::generic::{
+            DictionaryArray, DictionaryKey, DictionaryKeys, DictionaryKeysIter, ListArray, ToBoxed,
+        };
+    }
+
+    /// Of `iterators`.
+    pub mod iterators {
+        pub use nested_arrays_sized_builders::nulls::iterators::{
+            ArrayPart, ArraySlot, ArrayValues, DictValue, DictionaryValues, DictionaryValuesIter,
+            DictionaryValuesIterTyped, FixedSizeBinaryValues, FixedSizeListValuesIter,
+            GenericBinaryArray, KeyPlaces, KeyedSlots, KeyedValues, ListValuesIter, MapValuesIter,
+            Slots, StructSlot, StructValueIter, TypedDictionaryValues, TypedSlots, TypedValues,
+            UnionIter, Values, a_walk_over_places_gives_each_value_once, keys_name_values,
+        };
+    }
+
+    /// Of `parts`.
+    pub mod parts {
+        pub use nested_arrays_sized_builders::nulls::parts::{FlatArray, FlatNode, ListOffsets};
+    }
+}
+
+/// What `nested_arrays_sized_builders::pushes` has, as far as packages above use it.
+pub mod pushes {
+    pub use nested_arrays_sized_builders::pushes::TryPushFrom;
+
+    /// Of `cells`.
+    pub mod cells {
+        pub use nested_arrays_sized_builders::pushes::cells::cell_at;
+
+        /// Of `arrays`.
+        pub mod arrays {
+            pub use nested_arrays_sized_builders::pushes::cells::arrays::{
+                AnyArray, DictionaryNode, Node, flat_arrays,
+            };
+
+            /// Of `parts`.
+            pub mod parts {
+                pub use nested_arrays_sized_builders::pushes::cells::arrays::parts::FlatNode;
+            }
+        }
+
+        /// Of `builders`.
+        pub mod builders {
+            pub use nested_arrays_sized_builders::pushes::cells::builders::{
+                AnyMutableArray, is_cell_of,
+            };
+        }
+
+        /// Of `parts`.
+        pub mod parts {
+            pub use nested_arrays_sized_builders::pushes::cells::parts::{
+                AnyScalar, Marks, Strings,
+            };
+        }
+
+        /// Of `taken`.
+        pub mod taken {
+            pub use nested_arrays_sized_builders::pushes::cells::taken::MutableArray;
+        }
+    }
+}
