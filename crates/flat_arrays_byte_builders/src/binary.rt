@@ -189,6 +189,13 @@ impl<O: Offset> MutableBinaryArray<O> {
         self.builder.truncate(len);
     }
 
+    /// Hands to a proof what holds of every such builder: its layout, a mark for each slot, and no bytes behind the last one.
+    pub fn whole(&self)
+        ensures { IsGrown (binary_layout O.IS_LARGE) self.now }
+    {
+        let _len = self.builder.len();
+    }
+
     /// The data type, the offsets, the bytes and the mask.
     pub fn into_inner(self) -> (DataType, Offsets<O>, Vec<u8>, Option<MutableBitmap>)
         ensures value { self ≡ byte_strings result.0 result.1 result.2.items result.3 }

@@ -7,6 +7,7 @@ ghost use Rattle.flat_arrays_byte_values_builders.specs.columnar_memory.Results.
 ghost use Rattle.flat_arrays_byte_values_builders.specs.columnar_memory.Spans.{no_spans};
 ghost use Rattle.flat_arrays_byte_values_builders.specs.bytes.ByteStrings.{byte_strings, len_of, values_of, with_mask};
 ghost use Rattle.flat_arrays_byte_values_builders.specs.bytes.Fits.{IsMaskOf, IsText, text_layout, text_type};
+ghost use Rattle.flat_arrays_byte_values_builders.specs.bytes.Texts.{AllTexts};
 ghost use Rattle.flat_arrays_byte_values_builders.specs.values.Results.{AppliesTo};
 ghost use Rattle.flat_arrays_byte_values_builders.specs.Growing.{Grows, IsTaken, IsGrown, OrUnchanged, Pops, tidied, with_slot, first_slots};
 
@@ -206,6 +207,15 @@ impl<O: Offset> MutableUtf8Array<O> {
         ensures { self.new ≡ tidied (first_slots self.old len) }
     {
         self.builder.truncate(len);
+    }
+
+    /// Hands to a proof what holds of every such builder: its layout, a mark for each slot, and no bytes behind the last one; each
+    /// stored value is a text by itself.
+    pub fn whole(&self)
+        ensures layout { IsGrown (text_layout O.IS_LARGE) self.now }
+        ensures texts { AllTexts (values_of self.now) }
+    {
+        let _len = self.builder.len();
     }
 
     /// The data type, the offsets, the bytes and the mask.
