@@ -33,6 +33,11 @@ pub mod arrays {
 /// What `nested_arrays_builders` has, as far as packages above use it.
 pub mod builders {
     pub use nested_arrays_builders::{AnyMutableArray, is_cell_of};
+
+    /// Of `values`.
+    pub mod values {
+        pub use nested_arrays_builders::values::{Places, SlotUses, add_use, most_values_of};
+    }
 }
 
 /// What `nested_arrays_builders::nulls` has, as far as packages above use it.

@@ -23,6 +23,13 @@ pub mod arrays {
 /// What `nested_arrays_builder_arrays::builders` has, as far as packages above use it.
 pub mod builders {
     pub use nested_arrays_builder_arrays::builders::{AnyMutableArray, is_cell_of};
+
+    /// Of `values`.
+    pub mod values {
+        pub use nested_arrays_builder_arrays::builders::values::{
+            Places, SlotUses, add_use, most_values_of,
+        };
+    }
 }
 
 /// What `nested_arrays_builder_arrays::nulls` has, as far as packages above use it.

@@ -24,6 +24,13 @@ pub mod cells {
     /// Of `builders`.
     pub mod builders {
         pub use nested_arrays_builder_cells::builders::{AnyMutableArray, is_cell_of};
+
+        /// Of `values`.
+        pub mod values {
+            pub use nested_arrays_builder_cells::builders::values::{
+                Places, SlotUses, add_use, most_values_of,
+            };
+        }
     }
 
     /// Of `parts`.

@@ -112,5 +112,7 @@ pub mod parts {
 
 /// What `nested_arrays_builder_values` has, as far as packages above use it.
 pub mod values {
-    pub use nested_arrays_builder_values::{MutableKeys, SlotUses};
+    pub use nested_arrays_builder_values::{
+        MutableKeys, Places, SlotUses, add_use, most_values_of,
+    };
 }

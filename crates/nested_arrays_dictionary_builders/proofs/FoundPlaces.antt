@@ -4,7 +4,7 @@ use Rattle.std.specs.Prelude.{◌⊎◌, ◌≢◌}
 use Rattle.std.proofs.Math.ListN.{get_or-map}
 use Rattle.std.proofs.lemmas.List.{length-map}
 use mathlib.Core.Logic.{inl, inr}
-use Rattle.nested_arrays_builder_values.specs.Newest.{IsNewest}
+use Rattle.nested_arrays_sized_builders.specs.values.Newest.{IsNewest}
 use Rattle.nested_arrays_sized_builders.specs.nulls.columns.Slots.{Slot, null}
 use Rattle.nested_arrays_sized_builders.specs.nulls.columns.StoredColumns.{Column, column_len, slot_at, slots}
 use Rattle.nested_arrays_sized_builders.proofs.nulls_lemmas.arrays_lemmas.columns_lemmas.ColumnSizes.{slots_lengths}

@@ -6,9 +6,9 @@ use Rattle.std.proofs.lemmas.Bool.{false_from_ne_true}
 use Rattle.std.proofs.lemmas.List.{length-append, length-map, map-append, take-map}
 use mathlib.Core.Logic.{inl, inr}
 use denote.Hole.Carrier
-use Rattle.nested_arrays_builder_values.specs.Keyed.{AddsUse}
-use Rattle.nested_arrays_builder_values.specs.Uses.{greatest, keys_from}
-use Rattle.nested_arrays_builder_values.proofs.Needs.{greatest_first}
+use Rattle.nested_arrays_sized_builders.specs.values.Keyed.{AddsUse}
+use Rattle.nested_arrays_sized_builders.specs.values.Uses.{greatest, keys_from}
+use Rattle.nested_arrays_sized_builders.proofs.values_lemmas.Needs.{greatest_first}
 use Rattle.nested_arrays_sized_builders.specs.nulls.access.Nulls.{is_null_at}
 use Rattle.nested_arrays_sized_builders.specs.nulls.arrays.Answers.{IsCheckedAs}
 use Rattle.nested_arrays_sized_builders.specs.nulls.columnar_memory.declared.DataType.{DataType}

@@ -6,8 +6,8 @@ use Rattle.std.specs.List.{list_all}
 use Rattle.std.proofs.Math.ListN.{get_or-map}
 use Rattle.std.proofs.lemmas.Bool.{and_from, le-leb, lt-ltb}
 use Rattle.std.proofs.lemmas.List.{get_or_append_left, get_or-take, length-append, length-map, length-take-le, map-append, take-map}
-use Rattle.nested_arrays_builder_values.specs.Uses.{greatest, key_of, keys_from}
-use Rattle.nested_arrays_builder_values.proofs.Needs.{greatest_first}
+use Rattle.nested_arrays_sized_builders.specs.values.Uses.{greatest, key_of, keys_from}
+use Rattle.nested_arrays_sized_builders.proofs.values_lemmas.Needs.{greatest_first}
 use Rattle.nested_arrays_sized_builders.specs.nulls.columnar_memory.declared.DataType.{DataType}
 use Rattle.nested_arrays_sized_builders.specs.nulls.columnar_memory.declared.DataType.TheOpen as layer
 use Rattle.nested_arrays_sized_builders.specs.nulls.columnar_memory.declared.IntegerType.{IntegerType}

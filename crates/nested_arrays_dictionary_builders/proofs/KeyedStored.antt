@@ -2,7 +2,7 @@
 use Rattle.std.proofs.Common.{◌≡◌, ◌∙◌, ℕ, zero, suc, List, [], ◌∷◌, length, map, Bool, true, false, refl, sym, ap}
 use Rattle.std.specs.Prelude.{ℤ, pos}
 use Rattle.std.proofs.lemmas.List.{length-map}
-use Rattle.nested_arrays_builder_values.specs.Uses.{key_of, keys_from, use_among, uses_among}
+use Rattle.nested_arrays_sized_builders.specs.values.Uses.{key_of, keys_from, use_among, uses_among}
 use Rattle.nested_arrays_sized_builders.specs.nulls.columnar_memory.declared.DataType.{DataType}
 use Rattle.nested_arrays_sized_builders.specs.nulls.columnar_memory.declared.DataType.TheOpen as layer
 use Rattle.nested_arrays_sized_builders.specs.nulls.columnar_memory.declared.IntegerType.{IntegerType}
@@ -14,9 +14,9 @@ use Rattle.nested_arrays_sized_builders.specs.nulls.flat.ColumnMasks.{column_mas
 use Rattle.nested_arrays_sized_builders.specs.nulls.generic.Dictionaries.{keys_of, values_of}
 use Rattle.nested_arrays_sized_builders.specs.pushes.cells.parts.Marks.{marks, mask_of_marks}
 use Rattle.nested_arrays_sized_builders.specs.pushes.cells.taken.builders.growth.OpenParts.{keys_among, marks_of, used_by}
-use Rattle.nested_arrays_builder_values.proofs.parts_lemmas.growth_lemmas.Laws.{dictionaries_stored}
-use Rattle.nested_arrays_builder_values.proofs.parts_lemmas.growth_lemmas.Masks.{mask_by_count, mask_is}
-use Rattle.nested_arrays_builder_values.proofs.parts_lemmas.MarkLists.{marks_back}
+use Rattle.nested_arrays_sized_builders.proofs.growth_lemmas.Laws.{dictionaries_stored}
+use Rattle.nested_arrays_sized_builders.proofs.growth_lemmas.Masks.{mask_by_count, mask_is}
+use Rattle.nested_arrays_sized_builders.proofs.values_lemmas.parts_lemmas.MarkLists.{marks_back}
 use Rattle.nested_arrays_dictionary_builders.specs.DictionaryBuilders.{is_used, keyed_over}
 
 -- ---- marks and keys by what slots need

@@ -11,7 +11,7 @@ use Rattle.std.proofs.lemmas.List.{get_or_append_left, get_or_at, get_or-replica
 use Rattle.std.proofs.lemmas.List.Folds.{list_all-append}
 use Rattle.std.proofs.lemmas.Option.{get_or_from_slice_get}
 use mathlib.Core.Logic.{inl, inr}
-use Rattle.nested_arrays_builder_values.proofs.Looked.{mapped_at}
+use Rattle.nested_arrays_sized_builders.proofs.values_lemmas.Looked.{mapped_at}
 use Rattle.nested_arrays_sized_builders.specs.nulls.columnar_memory.declared.DataType.{DataType}
 use Rattle.nested_arrays_sized_builders.specs.nulls.columnar_memory.declared.DataType.TheOpen as layer
 use Rattle.nested_arrays_sized_builders.specs.nulls.columnar_memory.declared.Error.{Error}
@@ -45,11 +45,11 @@ use Rattle.nested_arrays_sized_builders.proofs.nulls_lemmas.arrays_lemmas.column
 use Rattle.nested_arrays_sized_builders.proofs.nulls_lemmas.arrays_lemmas.columns_lemmas.Conditions.{parts_of_3}
 use Rattle.nested_arrays_sized_builders.proofs.nulls_lemmas.arrays_lemmas.columns_lemmas.FreshLengths.{Layer}
 use Rattle.nested_arrays_sized_builders.proofs.nulls_lemmas.arrays_lemmas.columns_lemmas.Windows.{window_same}
-use Rattle.nested_arrays_builder_values.proofs.parts_lemmas.growth_lemmas.LayerParts.{fresh_primitive}
-use Rattle.nested_arrays_builder_values.proofs.parts_lemmas.growth_lemmas.Limits.{fits_length}
-use Rattle.nested_arrays_builder_values.proofs.parts_lemmas.growth_lemmas.Masks.{marks_away, marks_there, mask_grows, mask_is}
-use Rattle.nested_arrays_builder_values.proofs.parts_lemmas.growth_lemmas.Masks.{mask_one_more, mask_stays_away}
-use Rattle.nested_arrays_builder_values.proofs.parts_lemmas.growth_lemmas.OneMore.{primitives_fit_one_more}
+use Rattle.nested_arrays_sized_builders.proofs.growth_lemmas.LayerParts.{fresh_primitive}
+use Rattle.nested_arrays_sized_builders.proofs.growth_lemmas.Limits.{fits_length}
+use Rattle.nested_arrays_sized_builders.proofs.growth_lemmas.Masks.{marks_away, marks_there, mask_grows, mask_is}
+use Rattle.nested_arrays_sized_builders.proofs.growth_lemmas.Masks.{mask_one_more, mask_stays_away}
+use Rattle.nested_arrays_sized_builders.proofs.growth_lemmas.OneMore.{primitives_fit_one_more}
 use Rattle.nested_arrays_sized_builders.proofs.nulls_lemmas.flat_lemmas.InRange.{native_in_range}
 use Rattle.nested_arrays_dictionary_builders.specs.NumberItems.{AddsNumber}
 

@@ -5,9 +5,9 @@ use Rattle.std.specs.Prelude.{pos, ◌&&◌, ◌||◌, ◌≢◌, if◌then◌el
 use Rattle.std.proofs.lemmas.Bool.{and_from, cases_Bool, false≢true, false_from_ne_true, le-leb, or_from}
 use Rattle.std.proofs.lemmas.List.{append-nil, get_or_at, length-append, length-map, length-take-le}
 use mathlib.Core.Logic.{inl, inr}
-use Rattle.nested_arrays_builder_values.specs.Uses.{greatest, key_of, use_among, uses_among}
-use Rattle.nested_arrays_builder_values.proofs.Needs.{greatest_first, value_needs}
-use Rattle.nested_arrays_builder_values.proofs.UsedValues.{uses_first, uses_one_more, values_first_used}
+use Rattle.nested_arrays_sized_builders.specs.values.Uses.{greatest, key_of, use_among, uses_among}
+use Rattle.nested_arrays_sized_builders.proofs.values_lemmas.Needs.{greatest_first, value_needs}
+use Rattle.nested_arrays_sized_builders.proofs.values_lemmas.UsedValues.{uses_first, uses_one_more, values_first_used}
 use Rattle.nested_arrays_sized_builders.specs.nulls.columnar_memory.declared.DataType.{DataType}
 use Rattle.nested_arrays_sized_builders.specs.nulls.columnar_memory.declared.DataType.TheOpen as layer
 use Rattle.nested_arrays_sized_builders.specs.nulls.columnar_memory.declared.IntegerType.{IntegerType}
@@ -33,13 +33,13 @@ use Rattle.nested_arrays_sized_builders.proofs.nulls_lemmas.arrays_lemmas.column
 use Rattle.nested_arrays_sized_builders.proofs.nulls_lemmas.arrays_lemmas.columns_lemmas.FreshLengths.{Layer}
 use Rattle.nested_arrays_sized_builders.proofs.nulls_lemmas.arrays_lemmas.columns_lemmas.FreshPlaces.{at_window}
 use Rattle.nested_arrays_sized_builders.proofs.nulls_lemmas.arrays_lemmas.columns_lemmas.SameSlotsDecide.{same_slot-implies, same_slot-itself}
-use Rattle.nested_arrays_builder_values.proofs.parts_lemmas.growth_lemmas.Below.{buildable_dictionary, values_fit_below}
-use Rattle.nested_arrays_builder_values.proofs.parts_lemmas.growth_lemmas.Laws.{one_more_key}
-use Rattle.nested_arrays_builder_values.proofs.parts_lemmas.growth_lemmas.LayersLaid.{layouts_tell}
-use Rattle.nested_arrays_builder_values.proofs.parts_lemmas.growth_lemmas.Limits.{first_ones_fit, fits_length}
-use Rattle.nested_arrays_builder_values.proofs.parts_lemmas.growth_lemmas.OneMore.{dictionary_takes_null}
-use Rattle.nested_arrays_builder_values.proofs.parts_lemmas.growth_lemmas.TypeSteps.{cell_by_layer}
-use Rattle.nested_arrays_builder_values.proofs.parts_lemmas.growth_lemmas.Values.{key_new, not_among, values_distinct, values_grow}
+use Rattle.nested_arrays_sized_builders.proofs.growth_lemmas.Below.{buildable_dictionary, values_fit_below}
+use Rattle.nested_arrays_sized_builders.proofs.growth_lemmas.Laws.{one_more_key}
+use Rattle.nested_arrays_sized_builders.proofs.growth_lemmas.LayersLaid.{layouts_tell}
+use Rattle.nested_arrays_sized_builders.proofs.growth_lemmas.Limits.{first_ones_fit, fits_length}
+use Rattle.nested_arrays_sized_builders.proofs.growth_lemmas.OneMore.{dictionary_takes_null}
+use Rattle.nested_arrays_sized_builders.proofs.growth_lemmas.TypeSteps.{cell_by_layer}
+use Rattle.nested_arrays_sized_builders.proofs.growth_lemmas.Values.{key_new, not_among, values_distinct, values_grow}
 use Rattle.nested_arrays_dictionary_builders.specs.DictionaryBuilders.{keyed_over}
 use Rattle.nested_arrays_dictionary_builders.proofs.KeyedSlots.{first_uses, greatest_more, one_use_more, slot_of_use, sound_below, sound_over}
 use Rattle.nested_arrays_dictionary_builders.proofs.OpenParts.{fresh_open}

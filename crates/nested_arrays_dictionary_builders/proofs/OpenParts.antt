@@ -5,7 +5,7 @@ use Rattle.std.specs.Prelude.{Some, None, pos, ◌==◌, if◌then◌else◌, sl
 use Rattle.std.proofs.lemmas.Bool.{eq-eqb}
 use Rattle.std.proofs.lemmas.List.{map-append, take_more}
 use Rattle.std.proofs.lemmas.Option.{get_or_from_slice_get}
-use Rattle.nested_arrays_builder_values.specs.Uses.{greatest, key_of, keys_from}
+use Rattle.nested_arrays_sized_builders.specs.values.Uses.{greatest, key_of, keys_from}
 use Rattle.nested_arrays_sized_builders.specs.nulls.columnar_memory.declared.DataType.{DataType}
 use Rattle.nested_arrays_sized_builders.specs.nulls.columnar_memory.Bits.{unset_count}
 use Rattle.nested_arrays_sized_builders.specs.nulls.columns.FreshColumns.{fresh}

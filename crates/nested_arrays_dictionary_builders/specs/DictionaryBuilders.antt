@@ -4,8 +4,8 @@ use Rattle.std.specs.Prelude.{Option, Result, Ok, Err, MatchOption, MatchResult}
 use Rattle.std.proofs.Common.{refl}
 use Rattle.std.specs.Coded.{Coded, code_by, coded×, coded_list, coded_ℕ}
 use Rattle.columnar_memory_types.specs.contracts.data_type.DataType as data_type
-use Rattle.nested_arrays_builder_values.specs.Keyed.{AddsUse}
-use Rattle.nested_arrays_builder_values.specs.Uses.{greatest, keys_from}
+use Rattle.nested_arrays_sized_builders.specs.values.Keyed.{AddsUse}
+use Rattle.nested_arrays_sized_builders.specs.values.Uses.{greatest, keys_from}
 use Rattle.nested_arrays_sized_builders.specs.nulls.columnar_memory.declared.DataType.{DataType}
 use Rattle.nested_arrays_sized_builders.specs.nulls.columnar_memory.declared.Error.{Error}
 use Rattle.nested_arrays_sized_builders.specs.nulls.columnar_memory.declared.IntegerType.{IntegerType}

@@ -1,6 +1,6 @@
 -- The hash of a slot, by which dictionaries find values: slots that are the same hash alike.
 use Rattle.std.specs.Prelude.{ℕ, ◌%◌, ◌^◌, if◌then◌else◌, unsigned_abs}
-use Rattle.nested_arrays_builder_values.specs.Hashes.{mixed, mixed_all}
+use Rattle.nested_arrays_sized_builders.specs.values.Hashes.{mixed, mixed_all}
 use Rattle.nested_arrays_sized_builders.specs.nulls.columns.Slots.{Slot, Slots, null, truth, number, pair, triple, text, bytes, items, fields, pick}
 use Rattle.nested_arrays_sized_builders.specs.nulls.columns.Slots.{no_slot, slot_then}
 

@@ -1,6 +1,6 @@
 //! Builders of dictionaries.
 ghost use Rattle.std.specs.Prelude.{◌≡◌, ◌<◌, ◌≤◌, ◌↔◌, length, not, take, true, IsTrue};
-ghost use Rattle.nested_arrays_builder_values.specs.Uses.{greatest};
+ghost use Rattle.nested_arrays_sized_builders.specs.values.Uses.{greatest};
 ghost use Rattle.nested_arrays_sized_builders.specs.nulls.columnar_memory.Layouts.{physical_type};
 ghost use Rattle.nested_arrays_sized_builders.specs.nulls.columnar_memory.Results.{OrOutOfMemory};
 ghost use Rattle.nested_arrays_sized_builders.specs.nulls.columnar_memory.declared.PhysicalType.TheVariants as physical;
@@ -16,13 +16,15 @@ ghost use Rattle.nested_arrays_dictionary_builders.specs.DictionaryBuilders.{Beg
 use crate::items::{SlotIs, TryExtend, TryPush};
 use crate::keys::{copy_of_keys, freeze_parts};
 use crate::places::{add_item, place_of, whole_values};
-use nested_arrays_builder_values::{Places, SlotUses, add_use, most_values_of};
 use nested_arrays_sized_builders::nulls::arrays::AnyArray;
 use nested_arrays_sized_builders::nulls::columnar_memory::{
     Boxed, DataType, Error, MutableBitmap, PhysicalType, Result,
 };
 use nested_arrays_sized_builders::nulls::flat_arrays::PrimitiveArray;
 use nested_arrays_sized_builders::nulls::generic::{DictionaryArray, DictionaryKey, ToBoxed};
+use nested_arrays_sized_builders::pushes::cells::builders::values::{
+    Places, SlotUses, add_use, most_values_of,
+};
 use nested_arrays_sized_builders::pushes::cells::parts::Marks;
 use nested_arrays_sized_builders::pushes::cells::taken::MutableArray;
 use std::alloc::Global;

@@ -1,6 +1,6 @@
 //! The arrays of keys and values that a builder of dictionaries held.
 ghost use Rattle.std.specs.Prelude.{◌≡◌, ◌+◌, ◌≤◌, length, map, option_copied, true};
-ghost use Rattle.nested_arrays_builder_values.specs.Uses.{greatest, key_of, keys_from};
+ghost use Rattle.nested_arrays_sized_builders.specs.values.Uses.{greatest, key_of, keys_from};
 ghost use Rattle.nested_arrays_sized_builders.specs.nulls.columnar_memory.Layouts.{physical_type};
 ghost use Rattle.nested_arrays_sized_builders.specs.nulls.columnar_memory.Results.{OrOutOfMemory};
 ghost use Rattle.nested_arrays_sized_builders.specs.nulls.columnar_memory.declared.PhysicalType.TheVariants as physical;
@@ -10,13 +10,13 @@ ghost use Rattle.nested_arrays_sized_builders.specs.pushes.cells.parts.Marks.{ma
 ghost use Rattle.nested_arrays_sized_builders.specs.ListBuilders.{IsFrozen};
 ghost use Rattle.nested_arrays_dictionary_builders.specs.DictionaryBuilders.{FreezesKeys};
 
-use nested_arrays_builder_values::SlotUses;
 use nested_arrays_sized_builders::nulls::arrays::AnyArray;
 use nested_arrays_sized_builders::nulls::columnar_memory::{
     Bitmap, Buffer, DataType, Index, MutableBitmap, Result,
 };
 use nested_arrays_sized_builders::nulls::flat_arrays::PrimitiveArray;
 use nested_arrays_sized_builders::nulls::generic::{DictionaryArray, DictionaryKey};
+use nested_arrays_sized_builders::pushes::cells::builders::values::SlotUses;
 use nested_arrays_sized_builders::pushes::cells::parts::Marks;
 use std::alloc::Global;
 

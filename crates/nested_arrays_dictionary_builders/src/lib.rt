@@ -89,18 +89,6 @@ pub mod pushes {
     pub mod cells {
         pub use nested_arrays_sized_builders::pushes::cells::cell_at;
 
-        /// Of `arrays`.
-        pub mod arrays {
-            pub use nested_arrays_sized_builders::pushes::cells::arrays::{
-                AnyArray, DictionaryNode, Node, flat_arrays,
-            };
-
-            /// Of `parts`.
-            pub mod parts {
-                pub use nested_arrays_sized_builders::pushes::cells::arrays::parts::FlatNode;
-            }
-        }
-
         /// Of `builders`.
         pub mod builders {
             pub use nested_arrays_sized_builders::pushes::cells::builders::{
@@ -110,9 +98,7 @@ pub mod pushes {
 
         /// Of `parts`.
         pub mod parts {
-            pub use nested_arrays_sized_builders::pushes::cells::parts::{
-                AnyScalar, Marks, Strings,
-            };
+            pub use nested_arrays_sized_builders::pushes::cells::parts::{AnyScalar, Marks};
         }
 
         /// Of `taken`.

@@ -6,8 +6,8 @@ ghost use Rattle.nested_arrays_dictionary_builders.specs.DictionaryBuilders.{Add
 ghost use Rattle.nested_arrays_dictionary_builders.specs.SlotHashes.{slot_hash};
 
 use crate::items::SlotIs;
-use nested_arrays_builder_values::{Places, SlotUses, add_use};
 use nested_arrays_sized_builders::nulls::columnar_memory::{Error, Result};
+use nested_arrays_sized_builders::pushes::cells::builders::values::{Places, SlotUses, add_use};
 use nested_arrays_sized_builders::pushes::cells::parts::Marks;
 use std::alloc::Global;
 

@@ -1,6 +1,6 @@
 //! Byte strings of one size as items of their builders.
 ghost use Rattle.std.specs.Prelude.{◌≡◌, ◌↔◌, ◌<◌, IsTrue, length, refl};
-ghost use Rattle.nested_arrays_builder_values.specs.Hashes.{mixed, mixed_all};
+ghost use Rattle.nested_arrays_sized_builders.specs.values.Hashes.{mixed, mixed_all};
 ghost use Rattle.nested_arrays_sized_builders.specs.nulls.columns.Slots.{bytes};
 ghost use Rattle.nested_arrays_sized_builders.specs.nulls.columns.StoredColumns.{slot_at};
 ghost use Rattle.nested_arrays_sized_builders.specs.SizedStrings.{sized_column};

@@ -102,6 +102,13 @@ pub mod pushes {
         /// Of `builders`.
         pub mod builders {
             pub use nested_arrays_builder_pushes::cells::builders::{AnyMutableArray, is_cell_of};
+
+            /// Of `values`.
+            pub mod values {
+                pub use nested_arrays_builder_pushes::cells::builders::values::{
+                    Places, SlotUses, add_use, most_values_of,
+                };
+            }
         }
 
         /// Of `parts`.

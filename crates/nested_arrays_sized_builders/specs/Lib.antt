@@ -6,3 +6,4 @@ pub use Rattle.nested_arrays_generic_builders.specs.pushes
 pub use Rattle.nested_arrays_generic_builders.specs.ListBuilders
 pub use Rattle.nested_arrays_generic_builders.specs.NullBuilders
 pub use Rattle.nested_arrays_generic_builders.specs.StructBuilders
+pub use Rattle.nested_arrays_generic_builders.specs.pushes.cells.builders.values

@@ -101,6 +101,13 @@ pub mod pushes {
             pub use nested_arrays_generic_builders::pushes::cells::builders::{
                 AnyMutableArray, is_cell_of,
             };
+
+            /// Of `values`.
+            pub mod values {
+                pub use nested_arrays_generic_builders::pushes::cells::builders::values::{
+                    Places, SlotUses, add_use, most_values_of,
+                };
+            }
         }
 
         /// Of `parts`.

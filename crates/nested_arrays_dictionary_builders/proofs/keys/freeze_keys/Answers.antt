@@ -1,5 +1,5 @@
 use Rattle.std.proofs.Common.{◌≡◌, ◌∙◌, map, ap, rules}
-use Rattle.nested_arrays_builder_values.specs.Uses.{keys_from}
+use Rattle.nested_arrays_sized_builders.specs.values.Uses.{keys_from}
 use Rattle.nested_arrays_sized_builders.specs.nulls.columns.StoredColumns.{dictionary}
 use Rattle.nested_arrays_sized_builders.specs.pushes.cells.parts.Marks.{mask_of_marks}
 use Rattle.nested_arrays_dictionary_builders.proofs.KeyedParts.{keys_frozen}

@@ -1,5 +1,5 @@
 use Rattle.std.proofs.Common.{◌≡◌, map, take}
-use Rattle.nested_arrays_builder_values.specs.Uses.{keys_from}
+use Rattle.nested_arrays_sized_builders.specs.values.Uses.{keys_from}
 use Rattle.nested_arrays_dictionary_builders.proofs.keys.keys_of.Given as goal
 
 -- the keys of the slots so far

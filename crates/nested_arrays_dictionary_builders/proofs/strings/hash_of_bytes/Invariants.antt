@@ -1,5 +1,5 @@
 use Rattle.std.proofs.Common.{◌≡◌, drop}
-use Rattle.nested_arrays_builder_values.specs.Hashes.{mixed_all}
+use Rattle.nested_arrays_sized_builders.specs.values.Hashes.{mixed_all}
 use Rattle.nested_arrays_dictionary_builders.proofs.strings.hash_of_bytes.Given as goal
 
 -- the others go on as all would

@@ -1,5 +1,5 @@
 use Rattle.std.proofs.Common.{◌∙◌, ap, arith, length, sym}
-use Rattle.nested_arrays_builder_values.specs.Uses.{greatest}
+use Rattle.nested_arrays_sized_builders.specs.values.Uses.{greatest}
 use Rattle.nested_arrays_dictionary_builders.proofs.KeyedParts.{emptied_keyed, marks_many, taken_keys}
 use Rattle.nested_arrays_dictionary_builders.proofs.dictionaries.MutableDictionaryArray.take.Goals as goal
 

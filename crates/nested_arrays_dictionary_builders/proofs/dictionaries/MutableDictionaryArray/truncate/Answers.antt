@@ -1,5 +1,5 @@
 use Rattle.std.proofs.Common.{arith}
-use Rattle.nested_arrays_builder_values.proofs.Needs.{greatest_first}
+use Rattle.nested_arrays_sized_builders.proofs.values_lemmas.Needs.{greatest_first}
 use Rattle.nested_arrays_dictionary_builders.proofs.KeyedParts.{first_kept, first_keyed, hashes_many}
 use Rattle.nested_arrays_dictionary_builders.proofs.dictionaries.MutableDictionaryArray.truncate.Goals as goal
 

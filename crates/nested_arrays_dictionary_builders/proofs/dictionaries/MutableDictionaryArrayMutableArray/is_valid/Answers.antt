@@ -1,7 +1,7 @@
 use Rattle.std.proofs.Common.{◌<◌, arith, length}
 use Rattle.std.proofs.lemmas.List.{length-map}
 use Rattle.std.specs.Prelude.{pos}
-use Rattle.nested_arrays_builder_values.specs.Uses.{key_of}
+use Rattle.nested_arrays_sized_builders.specs.values.Uses.{key_of}
 use Rattle.nested_arrays_dictionary_builders.proofs.KeyedParts.{marked_says, marks_many}
 use Rattle.nested_arrays_dictionary_builders.proofs.dictionaries.MutableDictionaryArrayMutableArray.is_valid.Goals as goal
 

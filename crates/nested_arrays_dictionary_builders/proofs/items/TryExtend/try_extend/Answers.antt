@@ -1,6 +1,6 @@
 use Rattle.std.proofs.Common.{◌≡◌, ◌∙◌, ◌<◌, ◌≤◌, length, map, get_or, ap, arith, sym}
 use Rattle.std.proofs.lemmas.List.{length-map}
-use Rattle.nested_arrays_builder_values.proofs.Looked.{mapped_at}
+use Rattle.nested_arrays_sized_builders.proofs.values_lemmas.Looked.{mapped_at}
 use Rattle.nested_arrays_sized_builders.specs.nulls.columns.Slots.{null}
 use Rattle.nested_arrays_dictionary_builders.proofs.SeveralSlots.{all_pushed, none_pushed, one_pushed, one_refused}
 use Rattle.nested_arrays_dictionary_builders.proofs.items.TryExtend.try_extend.Goals as goal
