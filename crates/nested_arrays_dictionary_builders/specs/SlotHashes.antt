@@ -1,5 +1,5 @@
 -- The hash of a slot, by which dictionaries find values: slots that are the same hash alike.
-use Rattle.std.specs.Prelude.{ℕ, ◌%◌, ◌^◌, if◌then◌else◌, unsigned_abs}
+use Rattle.std.specs.Prelude.{ℕ, Bool, ◌==◌, ◌%◌, ◌^◌, if◌then◌else◌, unsigned_abs}
 use Rattle.nested_arrays_sized_builders.specs.values.Hashes.{mixed, mixed_all}
 use Rattle.nested_arrays_sized_builders.specs.nulls.columns.Slots.{Slot, Slots, null, truth, number, pair, triple, text, bytes, items, fields, pick}
 use Rattle.nested_arrays_sized_builders.specs.nulls.columns.Slots.{no_slot, slot_then}
@@ -21,3 +21,7 @@ abbrev mutual
   pub slots_hash : ℕ → Slots → ℕ
   slots_hash hash no_slot = hash
   slots_hash hash (slot_then slot slots) = slots_hash (mixed hash (slot_hash slot)) slots
+
+-- whether a slot hashes as another
+abbrev pub hashes_as : Slot → Slot → Bool
+hashes_as item slot = slot_hash slot == slot_hash item

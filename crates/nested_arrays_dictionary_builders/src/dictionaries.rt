@@ -1,24 +1,26 @@
 //! Builders of dictionaries.
-ghost use Rattle.std.specs.Prelude.{◌≡◌, ◌<◌, ◌≤◌, ◌↔◌, length, not, take, true, IsTrue};
+ghost use Rattle.std.specs.Prelude.{◌≡◌, ◌+◌, ◌<◌, ◌≤◌, ◌↔◌, length, not, take, true, IsTrue};
+ghost use Rattle.std.specs.List.{count_by};
 ghost use Rattle.nested_arrays_sized_builders.specs.values.Uses.{greatest};
 ghost use Rattle.nested_arrays_sized_builders.specs.nulls.columnar_memory.Layouts.{physical_type};
 ghost use Rattle.nested_arrays_sized_builders.specs.nulls.columnar_memory.Results.{OrOutOfMemory};
 ghost use Rattle.nested_arrays_sized_builders.specs.nulls.columnar_memory.declared.PhysicalType.TheVariants as physical;
 ghost use Rattle.nested_arrays_sized_builders.specs.nulls.columns.Slots.{null};
-ghost use Rattle.nested_arrays_sized_builders.specs.nulls.columns.StoredColumns.{column_len, column_type, type_layer};
+ghost use Rattle.nested_arrays_sized_builders.specs.nulls.columns.StoredColumns.{column_len, column_type, slots, type_layer};
 ghost use Rattle.nested_arrays_sized_builders.specs.nulls.generic.Dictionaries.{dictionary_type, is_value_type, keyed_by};
 ghost use Rattle.nested_arrays_sized_builders.specs.pushes.cells.taken.OpenColumns.{KeepsFirst, TakesColumn};
 ghost use Rattle.nested_arrays_sized_builders.specs.ListBuilders.{IsFrozen};
 ghost use Rattle.nested_arrays_sized_builders.specs.MarkedSlots.{AddsSlot};
 ghost use Rattle.nested_arrays_dictionary_builders.specs.DictionaryBuilders.{dictionary_column, no_keys};
 ghost use Rattle.nested_arrays_dictionary_builders.specs.DictionaryBuilders.{Begins, IsKeyOf, KeepsUses, LeavesNoKeys};
+ghost use Rattle.nested_arrays_dictionary_builders.specs.SlotHashes.{hashes_as};
 
 use crate::items::{SlotIs, TryExtend, TryPush};
 use crate::keys::{copy_of_keys, freeze_parts};
 use crate::places::{add_item, place_of, whole_values};
 use nested_arrays_sized_builders::nulls::arrays::AnyArray;
 use nested_arrays_sized_builders::nulls::columnar_memory::{
-    Boxed, DataType, Error, MutableBitmap, PhysicalType, Result,
+    Boxed, DataType, Error, MutableBitmap, PhysicalType, Result, Steps,
 };
 use nested_arrays_sized_builders::nulls::flat_arrays::PrimitiveArray;
 use nested_arrays_sized_builders::nulls::generic::{DictionaryArray, DictionaryKey, ToBoxed};
@@ -97,7 +99,17 @@ impl<K: DictionaryKey, M: MutableArray> MutableDictionaryArray<K, M> {
         M: SlotIs<T>,
         ensures { IsKeyOf K.value (M.column self.now.values) (M.slot item.now) result }
     {
-        match place_of(&self.values, &self.places, item) {
+        self.key_of_counted(item, &mut Steps::new())
+    }
+
+    /// The same, with a step for each value that the item is compared with: no more than have its hash.
+    pub fn key_of_counted<T>(&self, item: &T, steps: &mut Steps) -> Option<K>
+    where
+        M: SlotIs<T>,
+        ensures key { IsKeyOf K.value (M.column self.now.values) (M.slot item.now) result }
+        ensures counted { steps.new.count ≤ steps.old.count + count_by (hashes_as (M.slot item.now)) (slots (M.column self.now.values)) }
+    {
+        match place_of(&self.values, &self.places, item, steps) {
             Some(place) => Some(K::from_as_usize(place)),
             None => None,
         }

@@ -1,24 +1,32 @@
 //! Values that are found by their hashes and told by what they are, and values that are added.
-ghost use Rattle.std.specs.Prelude.{◌≡◌, ◌<◌, map, true};
+ghost use Rattle.std.specs.Prelude.{◌≡◌, ◌+◌, ◌<◌, ◌≤◌, map, true};
+ghost use Rattle.std.specs.List.{count_by};
 ghost use Rattle.nested_arrays_sized_builders.specs.nulls.columns.SoundColumns.{is_sound};
 ghost use Rattle.nested_arrays_sized_builders.specs.nulls.columns.StoredColumns.{column_len, slots};
 ghost use Rattle.nested_arrays_dictionary_builders.specs.DictionaryBuilders.{AddsItem, AddsPlace, AddsValue, IsPlaceOf};
-ghost use Rattle.nested_arrays_dictionary_builders.specs.SlotHashes.{slot_hash};
+ghost use Rattle.nested_arrays_dictionary_builders.specs.SlotHashes.{hashes_as, slot_hash};
 
 use crate::items::SlotIs;
-use nested_arrays_sized_builders::nulls::columnar_memory::{Error, Result};
+use nested_arrays_sized_builders::nulls::columnar_memory::{Error, Result, Steps};
 use nested_arrays_sized_builders::pushes::cells::builders::values::{Places, SlotUses, add_use};
 use nested_arrays_sized_builders::pushes::cells::parts::Marks;
 use std::alloc::Global;
 
-/// The place of the value that an item is, among values whose hashes have these places.
-pub(crate) fn place_of<T, M: SlotIs<T>>(values: &M, places: &Places, item: &T) -> Option<usize>
+/// The place of the value that an item is, among values whose hashes have these places, with a step for each value that it is compared with.
+pub(crate) fn place_of<T, M: SlotIs<T>>(
+    values: &M,
+    places: &Places,
+    item: &T,
+    steps: &mut Steps,
+) -> Option<usize>
     requires { places.now ≡ map slot_hash (slots (M.column values.now)) }
-    ensures { IsPlaceOf (M.column values.now) (M.slot item.now) result }
+    ensures place { IsPlaceOf (M.column values.now) (M.slot item.now) result }
+    ensures counted { steps.new.count ≤ steps.old.count + count_by (hashes_as (M.slot item.now)) (slots (M.column values.now)) }
 {
     let hash = M::hash_of(item);
     let mut place = places.newest(hash);
     'walk: while place != 0 {
+        steps.tick();
         if values.slot_is(place - 1, item) {
             return Some(place - 1);
         }
@@ -108,7 +116,7 @@ pub(crate) fn add_item<T, M: SlotIs<T>>(
         (M.column values.new) result }
 {
     let _count = values.len();
-    match place_of(values, places, item) {
+    match place_of(values, places, item, &mut Steps::new()) {
         Some(place) => add_use(marks, uses, true, place + 1),
         None => add_value(alloc, most, marks, uses, places, values, item),
     }

@@ -1,6 +1,12 @@
-use Rattle.std.proofs.Common.{◌∙◌, ◌-◌, ◌<◌, length, sym, arith}
+use Rattle.std.proofs.Common.{◌∙◌, ◌-◌, ◌<◌, List, length, get_or, sym, ap, arith}
+use Rattle.std.specs.List.{count_by}
 use Rattle.std.proofs.lemmas.Bool.{false≢true}
-use Rattle.nested_arrays_dictionary_builders.proofs.FoundPlaces.{many, newer_differ, older_differ}
+use Rattle.std.proofs.lemmas.List.{take_all}
+use Rattle.nested_arrays_sized_builders.specs.nulls.columns.Slots.{Slot}
+use Rattle.nested_arrays_sized_builders.specs.nulls.columns.StoredColumns.{slots}
+use Rattle.nested_arrays_sized_builders.proofs.nulls_lemmas.arrays_lemmas.columns_lemmas.ColumnSizes.{slots_lengths}
+use Rattle.nested_arrays_dictionary_builders.specs.SlotHashes.{hashes_as}
+use Rattle.nested_arrays_dictionary_builders.proofs.FoundPlaces.{few_between, many, newer_differ, older_differ, one_alike}
 use Rattle.nested_arrays_dictionary_builders.proofs.places.place_of.Goals as goal
 
 pub walk-init : goal.walk-init
@@ -14,6 +20,10 @@ walk-init g c =
       here = λ some. c.newest-place.ensures.here some ∙ c.hash_of-hash.ensures;
       none = λ k behind within. newer_differ child places s c.requires (length places) c.newest-place.result c.hash_of-hash.result
           c.hash_of-hash.ensures c.newest-place.ensures k behind (omega (arith, within, long)) within;
+      counted =
+          let all = ap (λ (xs : List Slot). count_by (hashes_as s) xs) (take_all (length places) (slots child) (omega (arith, long, slots_lengths child))) in
+          let few = few_between child places s c.requires (length places) c.newest-place.result c.hash_of-hash.result c.hash_of-hash.ensures
+          c.newest-place.ensures (omega (arith, long)) in omega (arith, all, few);
     }
 
 pub walk-preserved : goal.walk-preserved
@@ -29,6 +39,10 @@ walk-preserved g c =
       here = λ more. c.older-place.ensures.here more ∙ c.walk.invariant.here some;
       none = older_differ child places s c.requires place c.older-place.result some (c.walk.invariant.here some)
           (λ e. false≢true (sym c.if-slot_is.false ∙ c.slot_is.ensures.1 e)) c.older-place.ensures c.walk.invariant.none;
+      counted =
+          let one = one_alike child places s c.requires place some c.walk.invariant.within (c.walk.invariant.here some) in
+          let few = few_between child places s c.requires (place - 1) c.older-place.result (get_or places (place - 1) 0) (c.walk.invariant.here some)
+          c.older-place.ensures (omega (arith, c.walk.invariant.within)) in omega (arith, one, few, c.walk.invariant.counted, c.tick.ensures);
     }
 
 pub older-place-requires : goal.older-place-requires
