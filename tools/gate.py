@@ -7,6 +7,9 @@ Without --minutes all is run, and the last line is that of `rt ci`, 'N passed, M
 N minutes after the start (SECONDS since 1970, else now). What it had not said by then is skipped: it is named, and
 the last line is 'N passed, M failed, K skipped'. N counts as `rt ci` does: packages proved with their tests, and edits
 refused; K counts besides them the programs and tests that were not seen to run. The status is 0 where nothing failed.
+
+Where something failed, the lines before the last say of each check that failed by itself what it said of that, and how much disk and memory were free
+at the least: a machine that runs out of either refuses what is right.
 """
 import argparse
 import os
@@ -35,6 +38,13 @@ SAID = [
     (r"rt: (\w+)(?: \(built by .*?\))?: (?:the program|what the program wrote|the file args|the file status).*", "{} (run)", False),
 ]
 SECONDS_TO_END = 30
+SECONDS_BETWEEN_LOOKS = 10
+
+# What a line says that tells why a check failed, and how many such lines are shown of a check and in all.
+TELLS = re.compile(r"\berror\b|not proved|no proof|killed|for memory|No space|panicked|FAILED|rt fmt|could not|NOT ")
+# A check that failed since another one did.
+FOLLOWS = re.compile(r"rt: \w+ NOT PROVED: its library")
+LINES_OF_EACH, LINES_IN_ALL, WIDEST = 3, 15, 160
 
 
 def expected_checks(root):
@@ -93,6 +103,46 @@ def summary(expected, seen):
     return [*lines, f"{len(passed)} passed, {len(failed)} failed, {skipped} skipped"], not failed
 
 
+def reason(line, section):
+    """Returns the lines of a failed check's output that tell why it failed, the last of which said so."""
+    told = [it for it in section if TELLS.search(it)] or section
+    return [it.strip()[:WIDEST] for it in [*told[:LINES_OF_EACH - 1], line]]
+
+
+class Reasons:
+    """Why checks failed, and how much was free at the least while they ran."""
+
+    def __init__(self):
+        self.section, self.lines, self.disk, self.memory = [], [], None, None
+
+    def take(self, line):
+        """Keeps what a line of `rt ci` says."""
+        if line.startswith("== "):
+            self.section = []
+            return
+        if any(re.fullmatch(pattern, line.rstrip("\n")) and not is_well for pattern, _, is_well in SAID):
+            if not FOLLOWS.match(line):
+                self.lines += reason(line, self.section)
+            self.section = []
+            return
+        self.section.append(line)
+
+    def look(self):
+        """Notes how much disk and memory are free, in megabytes."""
+        disk = shutil.disk_usage(".").free >> 20
+        self.disk = disk if self.disk is None else min(self.disk, disk)
+        with open("/proc/meminfo", encoding="utf-8") as file:
+            memory = int(re.search(r"MemAvailable:\s+(\d+)", file.read())[1]) >> 10
+        self.memory = memory if self.memory is None else min(self.memory, memory)
+
+    def told(self):
+        """Returns the lines to show where something failed."""
+        if not self.lines:
+            return []
+        free = [] if self.disk is None else [f"free at the least: {self.disk:,} MB of disk, {self.memory:,} MB of memory"]
+        return [*self.lines[:LINES_IN_ALL], *free]
+
+
 def below(process):
     """Returns the ids of the processes that this one started, and that those started."""
     parents = {}
@@ -129,8 +179,9 @@ def end(process):
 
 
 def watch(command, seconds, shows=True):
-    """Runs the command for so many seconds at most (None: to its end). Returns what it said, and its status, None where time was over."""
-    seen, over = {}, threading.Event()
+    """Runs the command for so many seconds at most (None: to its end). Returns what it said, why what failed did, and its status, None where time was
+    over."""
+    seen, over, reasons, ended = {}, threading.Event(), Reasons(), threading.Event()
     room = tempfile.mkdtemp(prefix="gate-")
     os.chmod(room, 0o711)
     how = {"stdin": subprocess.DEVNULL, "stdout": subprocess.PIPE, "stderr": subprocess.STDOUT, "text": True, "errors": "replace"}
@@ -140,9 +191,15 @@ def watch(command, seconds, shows=True):
         over.set()
         end(process)
 
+    def look():
+        reasons.look()
+        while not ended.wait(SECONDS_BETWEEN_LOOKS):
+            reasons.look()
+
     timer = threading.Timer(seconds if seconds is not None else 0, stop)
     if seconds is not None:
         timer.start()
+    threading.Thread(target=look, daemon=True).start()
     try:
         for line in process.stdout:
             # what is said once time is over comes of the end itself
@@ -150,12 +207,14 @@ def watch(command, seconds, shows=True):
                 if shows:
                     print(line, end="", flush=True)
                 take_note(line, seen)
+                reasons.take(line)
         status = process.wait()
     finally:
+        ended.set()
         timer.cancel()
         end(process)
         shutil.rmtree(room, ignore_errors=True)
-    return seen, None if over.is_set() else status
+    return seen, reasons.told(), None if over.is_set() else status
 
 
 def main():
@@ -170,11 +229,12 @@ def main():
     signal.signal(signal.SIGTERM, lambda *_: sys.exit(1))
     expected = expected_checks(os.getcwd())
     seconds = None if given.minutes is None else max(0, given.started + 60 * given.minutes - time.time())
-    seen, status = watch([*given.rt, "ci"], seconds)
+    seen, why, status = watch([*given.rt, "ci"], seconds)
     if status is not None:
+        print(*why, sep="\n", end="\n" if why else "", flush=True)
         return 1 if status else 0
     lines, is_well = summary(expected, seen)
-    print(f"The {given.minutes:g} minutes are over.", *lines, sep="\n", flush=True)
+    print(f"The {given.minutes:g} minutes are over.", *why, *lines, sep="\n", flush=True)
     return 0 if is_well else 1
 
 
@@ -229,9 +289,12 @@ def selftest():
         lines, is_well = summary_of(RECORDED.replace(old, new))
         assert not is_well and lines[-2] == f"failed: {name}" and ", 1 failed, 0 skipped" in lines[-1], (new, lines)
     begun = time.monotonic()
-    seen, status = watch(["sh", "-c", "echo rt: aa proved; sleep 60; echo rt: bb proved"], 0.2, shows=False)
+    seen, _, status = watch(["sh", "-c", "echo rt: aa proved; sleep 60; echo rt: bb proved"], 0.2, shows=False)
     assert seen == {"aa": True} and status is None and time.monotonic() - begun < 30, (seen, status)
-    assert watch(["sh", "-c", "echo rt: bb proved; exit 3"], None, shows=False) == ({"bb": True}, 3)
+    assert watch(["sh", "-c", "echo rt: bb proved; exit 3"], None, shows=False) == ({"bb": True}, [], 3)
+    said = ["== aa", "all", "error: none", "rt: aa NOT PROVED", "== bb", "rt: bb NOT PROVED: its library aa failed"]
+    _, why, _ = watch(["printf", "%s\\n", *said], None, shows=False)
+    assert why[:-1] == ["error: none", "rt: aa NOT PROVED"] and why[-1].startswith("free at the least: "), why
     print("gate.py: the recorded output is counted as it should be")
     return 0
 
