@@ -192,13 +192,13 @@ def watch(command, seconds, shows=True):
         end(process)
 
     def look():
-        reasons.look()
         while not ended.wait(SECONDS_BETWEEN_LOOKS):
             reasons.look()
 
     timer = threading.Timer(seconds if seconds is not None else 0, stop)
     if seconds is not None:
         timer.start()
+    reasons.look()
     threading.Thread(target=look, daemon=True).start()
     try:
         for line in process.stdout:
