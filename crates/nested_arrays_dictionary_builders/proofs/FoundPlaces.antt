@@ -1,5 +1,5 @@
 -- Values that are looked for by their hashes.
-use Rattle.std.proofs.Common.{◌≡◌, ◌∙◌, ℕ, zero, suc, ◌-◌, ◌<◌, ◌≤◌, List, length, map, take, get_or, false, true, refl, sym, ap, arith}
+use Rattle.std.proofs.Common.{◌≡◌, ◌∙◌, ℕ, zero, suc, ◌+◌, ◌-◌, ◌<◌, ◌≤◌, List, length, map, take, get_or, false, true, refl, sym, ap, arith}
 use Rattle.std.specs.Prelude.{◌⊎◌, ◌≢◌}
 use Rattle.std.specs.List.{count_by}
 use Rattle.std.proofs.Math.ListN.{get_or-map}
@@ -55,7 +55,7 @@ module _ (child : Column) (hashes : List ℕ) (s : Slot) (held : hashes ≡ map 
   alike n = count_by (hashes_as s) (take n (slots child))
 
   own_slot : (k : ℕ) → k < column_len child → get_or (slots child) k null ≡ slot_at child k
-  own_slot k lt = at_window (slot_at child) (column_len child) (slots child) k null refl lt
+  own_slot k lt = sym (at_window (slot_at child) (column_len child) (slots child) k null refl lt)
 
   skipped : (d p q : ℕ) → q ≡ p + d → q ≤ column_len child → ((k : ℕ) → p ≤ k → k < q → slot_hash (slot_at child k) ≢ slot_hash s)
       → alike q ≡ alike p

@@ -53,3 +53,11 @@ older-place-requires g c =
       c.walk-test.true,
       many (g.M.MutableArray.column c.args.values.now) c.args.places.now (g.M.TryPush.slot c.args.item.now) c.requires,
     )
+
+pub returns-then-slot_is-clause-counted : goal.returns-then-slot_is-clause-counted
+returns-then-slot_is-clause-counted g c =
+    let child = g.M.MutableArray.column c.args.values.now in
+    let s = g.M.TryPush.slot c.args.item.now in
+    let some : 0 < c.walk.place = omega (arith, c.walk-test.true) in
+    let one = one_alike child c.args.places.now s c.requires c.walk.place some c.walk.invariant.within (c.walk.invariant.here some) in
+    omega (arith, one, c.walk.invariant.counted, c.tick.ensures)
