@@ -168,7 +168,7 @@ first_are layout ls content n h =
     (list_all-take is_byte m content parts.1)
 
 -- each string passes a test
-abbrev Each : (List ℕ → Bool) → List ℕ → List ℕ → Type 0
+abbrev pub Each : (List ℕ → Bool) → List ℕ → List ℕ → Type 0
 Each test os content = (i : ℕ) → i < length os - 1 → test (string_at os content i) ≡ true
 
 more_each : (test : List ℕ → Bool) (ls content : List ℕ) → test [] ≡ true → Each test (offsets ls) content
@@ -190,19 +190,19 @@ first_each test ls content n le each = λ i lt.
 -- ---- how strings are stored
 
 -- How strings are stored by their offsets, what is shown of each, and which of them may be stored; and that columns of the type store slots so.
-record KeepsStrings (t : DataType) (make : List ℕ → List ℕ → Stored) (parts : Stored → List ℕ × List ℕ) (shown : List ℕ → Slot)
+pub record KeepsStrings (t : DataType) (make : List ℕ → List ℕ → Stored) (parts : Stored → List ℕ × List ℕ) (shown : List ℕ → Slot)
     (layout : PhysicalType) (test : List ℕ → Bool) : Type 0 where
-  long : (os content : List ℕ) → stored_len (make os content) ≡ length os - 1
-  seen : (os content : List ℕ) (i : ℕ) → stored_at (make os content) i ≡ shown (string_at os content i)
-  back : (os content : List ℕ) → parts (make os content) ≡ (os, content)
-  sized : (os content : List ℕ) → has_size (type_layer t) (make os content) ≡ true
-  told : (os content : List ℕ) → is_stored_as (physical_type t) (make os content) ≡ true
+  pub long : (os content : List ℕ) → stored_len (make os content) ≡ length os - 1
+  pub seen : (os content : List ℕ) (i : ℕ) → stored_at (make os content) i ≡ shown (string_at os content i)
+  pub back : (os content : List ℕ) → parts (make os content) ≡ (os, content)
+  pub sized : (os content : List ℕ) → has_size (type_layer t) (make os content) ≡ true
+  pub told : (os content : List ℕ) → is_stored_as (physical_type t) (make os content) ≡ true
       → (are_strings layout os content ≡ true) × Each test os content
-  tells : (os content : List ℕ) → are_strings layout os content ≡ true → Each test os content
+  pub tells : (os content : List ℕ) → are_strings layout os content ≡ true → Each test os content
       → is_stored_as (physical_type t) (make os content) ≡ true
-  none : test [] ≡ true
-  stores : (xs : List Slot) → fresh t xs ≡ flat t (mask_of xs) (make (content_offsets xs) (flat_map content_of xs))
-  room : (xs : List Slot) → fits t xs ≡ true → length xs < most_slots → fits t (xs ++ null ∷ []) ≡ true
+  pub none : test [] ≡ true
+  pub stores : (xs : List Slot) → fresh t xs ≡ flat t (mask_of xs) (make (content_offsets xs) (flat_map content_of xs))
+  pub room : (xs : List Slot) → fits t xs ≡ true → length xs < most_slots → fits t (xs ++ null ∷ []) ≡ true
 
 -- the lengths of strings, and their bytes
 abbrev Strings : Type 0

@@ -41,21 +41,33 @@ pub trait StringOffset: Offset {
 }
 
 impl StringOffset for i32 {
-    fn any_binary(array: BinaryArray<i32>) -> AnyArray {
+    fn any_binary(array: BinaryArray<i32>) -> AnyArray
+        ensures value { result ≡ binary_column array }
+        ensures sound { is_sound result ≡ true }
+    {
         whole_array(AnyArray::from(FlatArray::from(array)))
     }
 
-    fn any_text(array: Utf8Array<i32>) -> AnyArray {
+    fn any_text(array: Utf8Array<i32>) -> AnyArray
+        ensures value { result ≡ text_column array }
+        ensures sound { is_sound result ≡ true }
+    {
         whole_array(AnyArray::from(FlatArray::from(array)))
     }
 }
 
 impl StringOffset for i64 {
-    fn any_binary(array: BinaryArray<i64>) -> AnyArray {
+    fn any_binary(array: BinaryArray<i64>) -> AnyArray
+        ensures value { result ≡ binary_column array }
+        ensures sound { is_sound result ≡ true }
+    {
         whole_array(AnyArray::from(FlatArray::from(array)))
     }
 
-    fn any_text(array: Utf8Array<i64>) -> AnyArray {
+    fn any_text(array: Utf8Array<i64>) -> AnyArray
+        ensures value { result ≡ text_column array }
+        ensures sound { is_sound result ≡ true }
+    {
         whole_array(AnyArray::from(FlatArray::from(array)))
     }
 }
