@@ -1,12 +1,14 @@
 //! Arrays of what builders of any type hold.
 #![tactic(auto)]
 
+mod byte_builders;
 mod flat_builders;
 mod frozen;
 mod keys;
 mod mutable_array;
 mod taken;
 
+pub use byte_builders::StringOffset;
 pub use frozen::into_array;
 pub use mutable_array::MutableArray;
 
