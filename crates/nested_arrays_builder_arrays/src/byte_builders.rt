@@ -12,11 +12,11 @@ ghost use Rattle.nested_arrays_builder_arrays.specs.OpenColumns.{AddsNull, Keeps
 
 use crate::flat_builders::frozen_mask;
 use crate::mutable_array::MutableArray;
+use nested_arrays_builders::StringOffset;
 use nested_arrays_builders::arrays::AnyArray;
 use nested_arrays_builders::arrays::flat_arrays::{
     BinaryArray, ByteBuilder, MutableBinaryArray, MutableUtf8Array, Utf8Array,
 };
-use nested_arrays_builders::arrays::parts::FlatArray;
 use nested_arrays_builders::columnar_memory::{
     Buffer, DataType, Error, MutableBitmap, Offset, Offsets, Result,
 };
@@ -26,51 +26,6 @@ use std::rc::Rc;
 
 /// As many slots as an array may have.
 const MOST_SLOTS: usize = 9_223_372_036_854_775_807;
-
-/// An offset of byte strings and of texts whose arrays are made arrays of any type.
-pub trait StringOffset: Offset {
-    /// An array of byte strings as one of any type. Takes no memory.
-    fn any_binary(array: BinaryArray<Self>) -> AnyArray
-        ensures value { result ≡ binary_column array }
-        ensures sound { is_sound result ≡ true };
-
-    /// An array of texts as one of any type. Takes no memory.
-    fn any_text(array: Utf8Array<Self>) -> AnyArray
-        ensures value { result ≡ text_column array }
-        ensures sound { is_sound result ≡ true };
-}
-
-impl StringOffset for i32 {
-    fn any_binary(array: BinaryArray<i32>) -> AnyArray
-        ensures value { result ≡ binary_column array }
-        ensures sound { is_sound result ≡ true }
-    {
-        whole_array(AnyArray::from(FlatArray::from(array)))
-    }
-
-    fn any_text(array: Utf8Array<i32>) -> AnyArray
-        ensures value { result ≡ text_column array }
-        ensures sound { is_sound result ≡ true }
-    {
-        whole_array(AnyArray::from(FlatArray::from(array)))
-    }
-}
-
-impl StringOffset for i64 {
-    fn any_binary(array: BinaryArray<i64>) -> AnyArray
-        ensures value { result ≡ binary_column array }
-        ensures sound { is_sound result ≡ true }
-    {
-        whole_array(AnyArray::from(FlatArray::from(array)))
-    }
-
-    fn any_text(array: Utf8Array<i64>) -> AnyArray
-        ensures value { result ≡ text_column array }
-        ensures sound { is_sound result ≡ true }
-    {
-        whole_array(AnyArray::from(FlatArray::from(array)))
-    }
-}
 
 /// Cuts keep a mask exactly where a slot is null. A contract sees the column with offsets from 0 on, whatever the builder began with.
 impl<O: StringOffset> MutableArray for MutableBinaryArray<O> {
@@ -194,15 +149,6 @@ impl<O: StringOffset> MutableArray for MutableUtf8Array<O> {
         self.whole();
         MutableUtf8Array::truncate(self, len);
     }
-}
-
-/// Hands to a proof that an array of any type is sound.
-fn whole_array(array: AnyArray) -> AnyArray
-    ensures same { result ≡ array }
-    ensures sound { is_sound result ≡ true }
-{
-    array.whole();
-    array
 }
 
 /// How many slots there are.

@@ -8,7 +8,6 @@ mod keys;
 mod mutable_array;
 mod taken;
 
-pub use byte_builders::StringOffset;
 pub use frozen::into_array;
 pub use mutable_array::MutableArray;
 
@@ -34,7 +33,7 @@ pub mod arrays {
 
 /// What `nested_arrays_builders` has, as far as packages above use it.
 pub mod builders {
-    pub use nested_arrays_builders::{AnyMutableArray, is_cell_of};
+    pub use nested_arrays_builders::{AnyMutableArray, StringOffset, is_cell_of};
 
     /// Of `values`.
     pub mod values {

@@ -23,7 +23,9 @@ pub mod cells {
 
     /// Of `builders`.
     pub mod builders {
-        pub use nested_arrays_builder_cells::builders::{AnyMutableArray, is_cell_of};
+        pub use nested_arrays_builder_cells::builders::{
+            AnyMutableArray, StringOffset, is_cell_of,
+        };
 
         /// Of `values`.
         pub mod values {

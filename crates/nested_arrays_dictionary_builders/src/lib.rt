@@ -92,7 +92,7 @@ pub mod pushes {
         /// Of `builders`.
         pub mod builders {
             pub use nested_arrays_sized_builders::pushes::cells::builders::{
-                AnyMutableArray, is_cell_of,
+                AnyMutableArray, StringOffset, is_cell_of,
             };
         }
 

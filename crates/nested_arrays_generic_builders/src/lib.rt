@@ -101,7 +101,9 @@ pub mod pushes {
 
         /// Of `builders`.
         pub mod builders {
-            pub use nested_arrays_builder_pushes::cells::builders::{AnyMutableArray, is_cell_of};
+            pub use nested_arrays_builder_pushes::cells::builders::{
+                AnyMutableArray, StringOffset, is_cell_of,
+            };
 
             /// Of `values`.
             pub mod values {

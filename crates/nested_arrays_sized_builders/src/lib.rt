@@ -99,7 +99,7 @@ pub mod pushes {
         /// Of `builders`.
         pub mod builders {
             pub use nested_arrays_generic_builders::pushes::cells::builders::{
-                AnyMutableArray, is_cell_of,
+                AnyMutableArray, StringOffset, is_cell_of,
             };
 
             /// Of `values`.

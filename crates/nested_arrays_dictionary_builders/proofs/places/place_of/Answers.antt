@@ -21,7 +21,8 @@ walk-init g c =
       none = λ k behind within. newer_differ child places s c.requires (length places) c.newest-place.result c.hash_of-hash.result
           c.hash_of-hash.ensures c.newest-place.ensures k behind (omega (arith, within, long)) within;
       counted =
-          let all = ap (λ (xs : List Slot). count_by (hashes_as s) xs) (take_all (length places) (slots child) (omega (arith, long, slots_lengths child))) in
+          let whole = take_all (length places) (slots child) (omega (arith, long, slots_lengths child)) in
+          let all = ap (λ (xs : List Slot). count_by (hashes_as s) xs) whole in
           let few = few_between child places s c.requires (length places) c.newest-place.result c.hash_of-hash.result c.hash_of-hash.ensures
           c.newest-place.ensures (omega (arith, long)) in omega (arith, all, few);
     }
