@@ -59,16 +59,26 @@ fn push_and_replace(builder: &mut Numbers) -> Result<(), Fail> {
     Ok(())
 }
 
+/// Whether the dictionary of a builder has these keys and these numbers.
+fn freezes_to(
+    builder: Numbers,
+    alloc: Global,
+    keys: &[i8],
+    numbers: &[i32],
+) -> Result<bool, Error> {
+    let array = builder.freeze(alloc)?;
+    let found = stores(&array, keys, numbers);
+    drop(array);
+    Ok(found)
+}
+
 #[test]
 fn a_cut_forgets_values_and_keys(rt: HostRuntime) -> Result<(), Fail> {
     let mut builder = new_numbers(rt.alloc())?;
     let pushed = push_and_replace(&mut builder);
-    let array = builder.freeze(rt.alloc());
+    let found = freezes_to(builder, rt.alloc(), &[0, 1], &[7, 9]);
     pushed?;
-    let array = array?;
-    let found = stores(&array, &[0, 1], &[7, 9]);
-    drop(array);
-    assert!(rt; found);
+    assert!(rt; found?);
     Ok(())
 }
 
@@ -87,12 +97,13 @@ fn use_up(builder: &mut Numbers) -> Result<(bool, usize, usize), Error> {
     Ok((is_refused, builder.len(), builder.values().len()))
 }
 
-/// The last key of a dictionary, and how many slots it has.
-fn last_key(array: &DictionaryArray<i8>) -> (Option<i8>, usize) {
-    (
-        array.keys().values().as_slice().last().copied(),
-        array.len(),
-    )
+/// The last key of the dictionary of a builder, and how many slots it has.
+fn last_key(builder: Numbers, alloc: Global) -> Result<(Option<i8>, usize), Error> {
+    let array = builder.freeze(alloc)?;
+    let last = array.keys().values().as_slice().last().copied();
+    let count = array.len();
+    drop(array);
+    Ok((last, count))
 }
 
 #[test]
@@ -100,13 +111,10 @@ fn keys_that_are_used_up_refuse_a_new_value_alone(rt: HostRuntime) -> Result<(),
     let mut builder = new_numbers(rt.alloc())?;
     let used = use_up(&mut builder);
     let again = builder.try_push(&0);
-    let array = builder.freeze(rt.alloc());
+    let last = last_key(builder, rt.alloc());
     again?;
-    let array = array?;
-    let last = last_key(&array);
-    drop(array);
     assert_eq!(rt; used?, (true, 128, 128));
-    assert_eq!(rt; last, (Some(0), 129));
+    assert_eq!(rt; last?, (Some(0), 129));
     Ok(())
 }
 
@@ -138,11 +146,9 @@ fn extend(builder: &mut Numbers) -> Result<(usize, usize), Error> {
 fn several_items_are_pushed(rt: HostRuntime) -> Result<(), Fail> {
     let mut builder = new_numbers(rt.alloc())?;
     let counts = extend(&mut builder);
-    let array = builder.freeze(rt.alloc())?;
-    let found = stores(&array, &[0, 1, 0], &[5, 6]);
-    drop(array);
-    assert!(rt; found);
+    let found = freezes_to(builder, rt.alloc(), &[0, 1, 0], &[5, 6]);
     assert_eq!(rt; counts?, (3, 2));
+    assert!(rt; found?);
     Ok(())
 }
 
@@ -221,32 +227,33 @@ fn keyed(
     Ok(DataType::Dictionary(key, Boxed::new(alloc, value)?, is_ordered))
 }
 
-/// What calls to begin a builder of its own data type answer, with an order and without.
-fn own_types(alloc: Global) -> Result<(u8, u8), Error> {
-    let ordered = keyed(alloc, IntegerType::Int8, DataType::Int32, true)?;
-    let plain = keyed(alloc, IntegerType::Int8, DataType::Int32, false)?;
-    Ok((answer(alloc, &ordered, &[])?, answer(alloc, &plain, &[])?))
-}
-
-/// What calls to begin a builder of a type with other keys, of one with other values and of numbers answer.
-fn other_types(alloc: Global) -> Result<(u8, u8, u8), Error> {
-    let keys = keyed(alloc, IntegerType::Int16, DataType::Int32, false)?;
-    let values = keyed(alloc, IntegerType::Int8, DataType::Int64, false)?;
-    let others = (answer(alloc, &keys, &[])?, answer(alloc, &values, &[])?);
-    Ok((others.0, others.1, answer(alloc, &DataType::Int32, &[])?))
-}
-
-/// What a call to begin a builder over a value answers.
-fn with_a_value(alloc: Global) -> Result<u8, Error> {
-    let data_type = keyed(alloc, IntegerType::Int8, DataType::Int32, false)?;
-    answer(alloc, &data_type, &[1])
+/// What a call to begin a builder of a type of dictionaries over numbers answers.
+fn answer_to(
+    alloc: Global,
+    key: IntegerType,
+    value: DataType,
+    is_ordered: bool,
+    values: &[i32],
+) -> Result<u8, Error> {
+    let data_type = keyed(alloc, key, value, is_ordered)?;
+    answer(alloc, &data_type, values)
 }
 
 #[test]
-fn a_builder_is_begun_of_its_own_type_alone(rt: HostRuntime) -> Result<(), Fail> {
-    assert_eq!(rt; own_types(rt.alloc())?, (0, 0));
-    assert_eq!(rt; other_types(rt.alloc())?, (2, 2, 2));
-    assert_eq!(rt; with_a_value(rt.alloc())?, 2);
+fn a_builder_is_begun_of_its_own_type(rt: HostRuntime) -> Result<(), Fail> {
+    let ordered = answer_to(rt.alloc(), IntegerType::Int8, DataType::Int32, true, &[])?;
+    let plain = answer_to(rt.alloc(), IntegerType::Int8, DataType::Int32, false, &[])?;
+    assert_eq!(rt; (ordered, plain), (0, 0));
+    Ok(())
+}
+
+#[test]
+fn a_builder_is_begun_of_no_other_type_nor_over_values(rt: HostRuntime) -> Result<(), Fail> {
+    let keys = answer_to(rt.alloc(), IntegerType::Int16, DataType::Int32, false, &[])?;
+    let values = answer_to(rt.alloc(), IntegerType::Int8, DataType::Int64, false, &[])?;
+    let plain = answer(rt.alloc(), &DataType::Int32, &[])?;
+    let filled = answer_to(rt.alloc(), IntegerType::Int8, DataType::Int32, false, &[1])?;
+    assert_eq!(rt; (keys, values, plain, filled), (2, 2, 2, 2));
     Ok(())
 }
 
