@@ -1,10 +1,10 @@
 use columnar_memory_types::{DataType, Error};
-use nested_arrays_sized_builders::nulls::arrays::{AnyArray, ListNode, Node};
-use nested_arrays_sized_builders::nulls::parts::ListOffsets;
-use nested_arrays_sized_builders::pushes::cells::builders::AnyMutableArray;
-use nested_arrays_sized_builders::pushes::cells::parts::AnyScalar;
-use nested_arrays_sized_builders::pushes::cells::taken::MutableArray;
-use nested_arrays_sized_builders::{MutValues, MutableListArray};
+use nested_arrays_dictionary_builders::nulls::arrays::{AnyArray, ListNode, Node};
+use nested_arrays_dictionary_builders::nulls::parts::ListOffsets;
+use nested_arrays_dictionary_builders::pushes::cells::builders::AnyMutableArray;
+use nested_arrays_dictionary_builders::pushes::cells::parts::AnyScalar;
+use nested_arrays_dictionary_builders::pushes::cells::taken::MutableArray;
+use nested_arrays_dictionary_builders::{MutValues, MutableListArray};
 use std::alloc::Global;
 use std::test::Fail;
 

@@ -6,11 +6,15 @@ mod begun;
 #[cfg(test)]
 mod dictionaries;
 #[cfg(test)]
+mod dictionary_builders;
+#[cfg(test)]
 mod generic_lists;
 #[cfg(test)]
 mod lists;
 #[cfg(test)]
 mod marks;
+#[cfg(test)]
+mod nulls_alone;
 #[cfg(test)]
 mod sized_strings;
 #[cfg(test)]

@@ -98,7 +98,9 @@ pub mod pushes {
 
         /// Of `parts`.
         pub mod parts {
-            pub use nested_arrays_sized_builders::pushes::cells::parts::{AnyScalar, Marks};
+            pub use nested_arrays_sized_builders::pushes::cells::parts::{
+                AnyScalar, Marks, Strings,
+            };
         }
 
         /// Of `taken`.

@@ -1,7 +1,7 @@
 -- Columns of nulls alone: one more, the first ones, and none.
 use Rattle.std.proofs.Common.{◌≡◌, ◌∙◌, ◌<◌, ◌≤◌, ◌+◌, ℕ, zero, suc, List, [], ◌∷◌, ◌++◌, length, take, Bool, true, false, refl, sym, ap, subst}
 use Rattle.std.proofs.Common.{arith}
-use Rattle.std.specs.Prelude.{Result, Ok, Err}
+use Rattle.std.specs.Prelude.{◌↔◌, Result, Ok, Err}
 use Rattle.std.specs.List.{list_all}
 use Rattle.std.proofs.lemmas.Bool.{and_from, and_parts, cases_Bool, false≢true, le-leb, leb-true}
 use Rattle.std.proofs.lemmas.List.{length-append}
@@ -9,6 +9,8 @@ use mathlib.Core.Logic.{inl, inr}
 use Rattle.nested_arrays_builder_pushes.specs.nulls.columnar_memory.declared.DataType.{DataType}
 use Rattle.nested_arrays_builder_pushes.specs.nulls.columnar_memory.declared.DataType.TheOpen as layer
 use Rattle.nested_arrays_builder_pushes.specs.nulls.columnar_memory.declared.Error.{Error}
+use Rattle.nested_arrays_builder_pushes.specs.nulls.columnar_memory.declared.PhysicalType.TheVariants as physical
+use Rattle.nested_arrays_builder_pushes.specs.nulls.columnar_memory.Layouts.{physical_type}
 use Rattle.nested_arrays_builder_pushes.specs.nulls.columnar_memory.Results.{OrOutOfMemory}
 use Rattle.nested_arrays_builder_pushes.specs.nulls.columns.Cells.{is_null}
 use Rattle.nested_arrays_builder_pushes.specs.nulls.columns.FreshColumns.{fresh}
@@ -24,7 +26,18 @@ use Rattle.nested_arrays_builder_pushes.proofs.columns_lemmas.Windows.{window_sa
 use Rattle.nested_arrays_builder_pushes.proofs.growth_lemmas.Fits.{fits_nulls}
 use Rattle.nested_arrays_builder_pushes.proofs.growth_lemmas.LayerParts.{fresh_nulls}
 use Rattle.nested_arrays_builder_pushes.proofs.growth_lemmas.TypeSteps.{buildable_by_layer}
+use Rattle.nested_arrays_builder_pushes.proofs.nulls_lemmas.flat_lemmas.NullTypes.{null_types}
 use Rattle.nested_arrays_generic_builders.proofs.ListSlots.{window_first, window_more}
+
+pub laid_as_nulls : (t : DataType) → (physical_type t ≡ physical.Null) ↔ (is_null_type (type_layer t) ≡ true)
+laid_as_nulls = null_types
+
+pub laid_otherwise : (t : DataType) → ¬ (physical_type t ≡ physical.Null) → is_null_type (type_layer t) ≡ false
+laid_otherwise t other =
+    elim (cases_Bool (is_null_type (type_layer t))) [
+      | inl is ↦ absurd (other ((null_types t).1 is))
+      | inr unlike ↦ unlike
+    ]
 
 null_layer : (x : Layer) → is_null_type x ≡ true → x ≡ layer.Null
 null_layer layer.Null h = refl

@@ -2,15 +2,15 @@
 ghost use Rattle.std.specs.Prelude.{◌≡◌, ◌≤◌, true};
 ghost use Rattle.nested_arrays_builder_pushes.specs.nulls.columnar_memory.Results.{OrOutOfMemory};
 ghost use Rattle.nested_arrays_builder_pushes.specs.nulls.columns.Kinds.{most_slots};
-ghost use Rattle.nested_arrays_builder_pushes.specs.nulls.columns.SoundColumns.{is_sound};
-ghost use Rattle.nested_arrays_builder_pushes.specs.nulls.columns.StoredColumns.{nulls};
+ghost use Rattle.nested_arrays_builder_pushes.specs.nulls.columns.SoundColumns.{is_null_type, is_sound};
+ghost use Rattle.nested_arrays_builder_pushes.specs.nulls.columns.StoredColumns.{nulls, type_layer};
 ghost use Rattle.nested_arrays_builder_pushes.specs.cells.taken.OpenColumns.{AddsNull};
-ghost use Rattle.nested_arrays_generic_builders.specs.NullBuilders.{CountsNull};
+ghost use Rattle.nested_arrays_generic_builders.specs.NullBuilders.{BeginsNulls, CountsNull};
 
 use nested_arrays_builder_pushes::cells::taken::MutableArray;
 use nested_arrays_builder_pushes::nulls::arrays::AnyArray;
 use nested_arrays_builder_pushes::nulls::columnar_memory::{
-    DataType, Error, MutableBitmap, Result,
+    DataType, Error, MutableBitmap, PhysicalType, Result,
 };
 use nested_arrays_builder_pushes::nulls::flat::NullArray;
 use nested_arrays_builder_pushes::nulls::generic::ToBoxed;
@@ -43,7 +43,24 @@ impl Model for MutableNullArray {
 }
 
 impl MutableNullArray {
-    /// So many nulls of a data type whose arrays are of nulls alone.
+    /// So many nulls of a data type.
+    ///
+    /// # Errors
+    /// `OutOfSpec`: arrays of the data type are not of nulls alone.
+    /// `Overflow`: the nulls are more than a column may have.
+    pub fn try_new(data_type: DataType, length: usize) -> Result<Self>
+        ensures { BeginsNulls data_type length result }
+    {
+        if !is_of_nulls(&data_type) {
+            return Err(Error::OutOfSpec("a data type whose arrays are not of nulls alone"));
+        }
+        if length > MOST_SLOTS {
+            return Err(Error::Overflow);
+        }
+        Ok(MutableNullArray { data_type, length })
+    }
+
+    /// So many nulls of a data type whose arrays are of nulls alone, as `try_new` tests.
     pub fn new(data_type: DataType, length: usize) -> Self
         requires typed { is_sound (nulls data_type length) ≡ true }
         requires long { length ≤ most_slots }
@@ -112,6 +129,17 @@ impl MutableArray for MutableNullArray {
 
     fn truncate(&mut self, len: usize) {
         self.length = len;
+    }
+}
+
+/// Whether arrays of a data type are of nulls alone.
+#[tactic(auto, using(crate::proofs::NullColumns::laid_as_nulls, crate::proofs::NullColumns::laid_otherwise))]
+fn is_of_nulls(data_type: &DataType) -> bool
+    ensures { result ≡ is_null_type (type_layer data_type.now) }
+{
+    match data_type.to_physical_type() {
+        PhysicalType::Null => true,
+        _ => false,
     }
 }
 
