@@ -10,14 +10,7 @@ pub use cells::cell_at;
 
 /// What `nested_arrays_builder_arrays::arrays` has, as far as packages above use it.
 pub mod arrays {
-    pub use nested_arrays_builder_arrays::arrays::{
-        AnyArray, DictionaryNode, Node, columnar_memory, flat_arrays,
-    };
-
-    /// Of `parts`.
-    pub mod parts {
-        pub use nested_arrays_builder_arrays::arrays::parts::FlatNode;
-    }
+    pub use nested_arrays_builder_arrays::arrays::{AnyArray, columnar_memory};
 }
 
 /// What `nested_arrays_builder_arrays::builders` has, as far as packages above use it.

@@ -9,18 +9,6 @@ pub use pushes::TryPushFrom;
 pub mod cells {
     pub use nested_arrays_builder_cells::cell_at;
 
-    /// Of `arrays`.
-    pub mod arrays {
-        pub use nested_arrays_builder_cells::arrays::{
-            AnyArray, DictionaryNode, Node, flat_arrays,
-        };
-
-        /// Of `parts`.
-        pub mod parts {
-            pub use nested_arrays_builder_cells::arrays::parts::FlatNode;
-        }
-    }
-
     /// Of `builders`.
     pub mod builders {
         pub use nested_arrays_builder_cells::builders::{

@@ -310,12 +310,15 @@ fn push_list(lists: &mut MutableListArray<i32, Numbers>, items: &[i32]) -> Resul
     lists.try_push_valid()
 }
 
-/// A builder of lists of numbers by keys, of which there are two.
-fn two_lists(alloc: Global) -> Result<MutableListArray<i32, Numbers>, Error> {
-    let mut lists = MutableListArray::new_with_capacity(alloc, new_numbers(alloc)?, 2)?;
-    push_list(&mut lists, &[5, 6])?;
-    push_list(&mut lists, &[6])?;
-    Ok(lists)
+/// Pushes two lists.
+fn push_two(lists: &mut MutableListArray<i32, Numbers>) -> Result<(), Error> {
+    push_list(lists, &[5, 6])?;
+    push_list(lists, &[6])
+}
+
+/// A builder of lists of numbers by keys.
+fn new_lists(alloc: Global) -> Result<MutableListArray<i32, Numbers>, Error> {
+    MutableListArray::new_with_capacity(alloc, new_numbers(alloc)?, 2)
 }
 
 /// Whether lists of numbers by keys have these keys and these numbers.
@@ -326,10 +329,14 @@ fn has_items(lists: &ListArray<i32>, keys: &[i8], numbers: &[i32]) -> Result<boo
 
 #[test]
 fn dictionaries_stand_in_lists(rt: HostRuntime) -> Result<(), Fail> {
-    let lists = two_lists(rt.alloc())?.freeze(rt.alloc())?;
-    let count = lists.len();
-    let found = has_items(&lists, &[0, 1, 1], &[5, 6]);
-    drop(lists);
+    let mut lists = new_lists(rt.alloc())?;
+    let pushed = push_two(&mut lists);
+    let array = lists.freeze(rt.alloc());
+    pushed?;
+    let array = array?;
+    let count = array.len();
+    let found = has_items(&array, &[0, 1, 1], &[5, 6]);
+    drop(array);
     assert_eq!(rt; count, 2);
     assert!(rt; found?);
     Ok(())

@@ -4,7 +4,6 @@ pub mod FrozenLists
 pub mod ListPushes
 pub mod ListSlots
 pub mod ListsStored
-pub mod NullColumns
 pub mod OpenLists
 pub mod OpenStructs
 pub mod StructMakes

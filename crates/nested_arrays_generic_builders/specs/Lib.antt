@@ -1,6 +1,5 @@
 pub mod FieldLoans
 pub mod ListBuilders
-pub mod NullBuilders
 pub mod StructBuilders
 pub mod StructLoans
 pub mod TakenBack

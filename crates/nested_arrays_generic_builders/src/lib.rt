@@ -4,13 +4,11 @@
 mod fields;
 mod lending;
 mod lists;
-mod nulls_alone;
 mod structs;
 
 pub use fields::MutableFields;
 pub use lending::MutValues;
 pub use lists::{MutableListArray, marks_of};
-pub use nulls_alone::MutableNullArray;
 pub use structs::MutableStructArray;
 
 /// What `nested_arrays_builder_pushes::nulls` has, as far as packages above use it.
@@ -86,18 +84,6 @@ pub mod pushes {
     /// Of `cells`.
     pub mod cells {
         pub use nested_arrays_builder_pushes::cells::cell_at;
-
-        /// Of `arrays`.
-        pub mod arrays {
-            pub use nested_arrays_builder_pushes::cells::arrays::{
-                AnyArray, DictionaryNode, Node, flat_arrays,
-            };
-
-            /// Of `parts`.
-            pub mod parts {
-                pub use nested_arrays_builder_pushes::cells::arrays::parts::FlatNode;
-            }
-        }
 
         /// Of `builders`.
         pub mod builders {

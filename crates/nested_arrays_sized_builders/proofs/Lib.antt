@@ -3,6 +3,7 @@ pub mod FixedLists
 pub mod FixedPushes
 pub mod GrownColumns
 pub mod MarkedSlots
+pub mod NullColumns
 pub mod SettledMarks
 pub mod SizedColumns
 pub mod SizedPushes

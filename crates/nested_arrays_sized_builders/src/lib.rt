@@ -1,13 +1,15 @@
-//! Builders of lists and of byte strings of one size.
+//! Builders of nulls alone, and of lists and of byte strings of one size.
 #![tactic(auto)]
 
 mod fixed_lists;
+mod nulls_alone;
 mod sized_strings;
 
 pub use fixed_lists::MutableFixedSizeListArray;
 pub use nested_arrays_generic_builders::{
-    MutValues, MutableFields, MutableListArray, MutableNullArray, MutableStructArray,
+    MutValues, MutableFields, MutableListArray, MutableStructArray,
 };
+pub use nulls_alone::MutableNullArray;
 pub use sized_strings::MutableFixedSizeBinaryArray;
 
 /// What `nested_arrays_generic_builders::nulls` has, as far as packages above use it.
@@ -83,18 +85,6 @@ pub mod pushes {
     /// Of `cells`.
     pub mod cells {
         pub use nested_arrays_generic_builders::pushes::cells::cell_at;
-
-        /// Of `arrays`.
-        pub mod arrays {
-            pub use nested_arrays_generic_builders::pushes::cells::arrays::{
-                AnyArray, DictionaryNode, Node, flat_arrays,
-            };
-
-            /// Of `parts`.
-            pub mod parts {
-                pub use nested_arrays_generic_builders::pushes::cells::arrays::parts::FlatNode;
-            }
-        }
 
         /// Of `builders`.
         pub mod builders {

@@ -1,9 +1,9 @@
 use Rattle.std.proofs.Common.{arith}
 use mathlib.Core.Logic.{inr}
-use Rattle.nested_arrays_builder_pushes.specs.nulls.columns.StoredColumns.{nulls}
-use Rattle.nested_arrays_generic_builders.proofs.NullColumns.{null_full, null_more}
+use Rattle.nested_arrays_generic_builders.specs.nulls.columns.StoredColumns.{nulls}
+use Rattle.nested_arrays_sized_builders.proofs.NullColumns.{null_full, null_more}
 use Rattle.nested_arrays_generic_builders.proofs.OpenLists.{same_becomes}
-use Rattle.nested_arrays_generic_builders.proofs.nulls_alone.MutableNullArrayMutableArray.push_null.Goals as goal
+use Rattle.nested_arrays_sized_builders.proofs.nulls_alone.MutableNullArrayMutableArray.push_null.Goals as goal
 
 pub returns-then-self-eq-MOST_SLOTS-clause-column : goal.returns-then-self-eq-MOST_SLOTS-clause-column
 returns-then-self-eq-MOST_SLOTS-clause-column c =

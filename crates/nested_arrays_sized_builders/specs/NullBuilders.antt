@@ -1,11 +1,11 @@
 -- Builders of nulls alone.
 use Rattle.std.specs.Prelude.{◌≡◌, ◌⊎◌, ◌+◌, ◌<◌, ◌≤◌, ℕ, true, false, Result, MatchResult}
-use Rattle.nested_arrays_builder_pushes.specs.nulls.columnar_memory.declared.DataType.{DataType}
-use Rattle.nested_arrays_builder_pushes.specs.nulls.columnar_memory.declared.Error.{Error}
-use Rattle.nested_arrays_builder_pushes.specs.nulls.columnar_memory.Error.{IsOutOfSpec, IsOverflow}
-use Rattle.nested_arrays_builder_pushes.specs.nulls.columns.Kinds.{most_slots}
-use Rattle.nested_arrays_builder_pushes.specs.nulls.columns.SoundColumns.{is_null_type, is_sound}
-use Rattle.nested_arrays_builder_pushes.specs.nulls.columns.StoredColumns.{Column, column_len, column_type, nulls, type_layer}
+use Rattle.nested_arrays_generic_builders.specs.nulls.columnar_memory.declared.DataType.{DataType}
+use Rattle.nested_arrays_generic_builders.specs.nulls.columnar_memory.declared.Error.{Error}
+use Rattle.nested_arrays_generic_builders.specs.nulls.columnar_memory.Error.{IsOutOfSpec, IsOverflow}
+use Rattle.nested_arrays_generic_builders.specs.nulls.columns.Kinds.{most_slots}
+use Rattle.nested_arrays_generic_builders.specs.nulls.columns.SoundColumns.{is_null_type, is_sound}
+use Rattle.nested_arrays_generic_builders.specs.nulls.columns.StoredColumns.{Column, column_len, column_type, nulls, type_layer}
 
 -- a type of nulls alone, and no more of them than a column may have
 pub record AreNulls (data_type : DataType) (n : ℕ) : Type 0 where

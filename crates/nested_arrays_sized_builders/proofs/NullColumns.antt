@@ -6,27 +6,27 @@ use Rattle.std.specs.List.{list_all}
 use Rattle.std.proofs.lemmas.Bool.{and_from, and_parts, cases_Bool, false≢true, le-leb, leb-true}
 use Rattle.std.proofs.lemmas.List.{length-append}
 use mathlib.Core.Logic.{inl, inr}
-use Rattle.nested_arrays_builder_pushes.specs.nulls.columnar_memory.declared.DataType.{DataType}
-use Rattle.nested_arrays_builder_pushes.specs.nulls.columnar_memory.declared.DataType.TheOpen as layer
-use Rattle.nested_arrays_builder_pushes.specs.nulls.columnar_memory.declared.Error.{Error}
-use Rattle.nested_arrays_builder_pushes.specs.nulls.columnar_memory.declared.PhysicalType.TheVariants as physical
-use Rattle.nested_arrays_builder_pushes.specs.nulls.columnar_memory.Layouts.{physical_type}
-use Rattle.nested_arrays_builder_pushes.specs.nulls.columnar_memory.Results.{OrOutOfMemory}
-use Rattle.nested_arrays_builder_pushes.specs.nulls.columns.Cells.{is_null}
-use Rattle.nested_arrays_builder_pushes.specs.nulls.columns.FreshColumns.{fresh}
-use Rattle.nested_arrays_builder_pushes.specs.nulls.columns.Kinds.{most_slots}
-use Rattle.nested_arrays_builder_pushes.specs.nulls.columns.OpenBatch.{fits, is_length}
-use Rattle.nested_arrays_builder_pushes.specs.nulls.columns.Slots.{Slot, null, window}
-use Rattle.nested_arrays_builder_pushes.specs.nulls.columns.SoundColumns.{is_null_type, is_sound}
-use Rattle.nested_arrays_builder_pushes.specs.nulls.columns.StoredColumns.{Column, nulls, slot_at, slots, type_layer}
-use Rattle.nested_arrays_builder_pushes.specs.cells.taken.OpenColumns.{Becomes, IsEmptied, IsFresh, KeepsFirst, TakesColumn, slots_and}
-use Rattle.nested_arrays_builder_pushes.proofs.columns_lemmas.ColumnSizes.{slots_lengths}
-use Rattle.nested_arrays_builder_pushes.proofs.columns_lemmas.FreshLengths.{Layer}
-use Rattle.nested_arrays_builder_pushes.proofs.columns_lemmas.Windows.{window_same}
-use Rattle.nested_arrays_builder_pushes.proofs.growth_lemmas.Fits.{fits_nulls}
-use Rattle.nested_arrays_builder_pushes.proofs.growth_lemmas.LayerParts.{fresh_nulls}
-use Rattle.nested_arrays_builder_pushes.proofs.growth_lemmas.TypeSteps.{buildable_by_layer}
-use Rattle.nested_arrays_builder_pushes.proofs.nulls_lemmas.flat_lemmas.NullTypes.{null_types}
+use Rattle.nested_arrays_generic_builders.specs.nulls.columnar_memory.declared.DataType.{DataType}
+use Rattle.nested_arrays_generic_builders.specs.nulls.columnar_memory.declared.DataType.TheOpen as layer
+use Rattle.nested_arrays_generic_builders.specs.nulls.columnar_memory.declared.Error.{Error}
+use Rattle.nested_arrays_generic_builders.specs.nulls.columnar_memory.declared.PhysicalType.TheVariants as physical
+use Rattle.nested_arrays_generic_builders.specs.nulls.columnar_memory.Layouts.{physical_type}
+use Rattle.nested_arrays_generic_builders.specs.nulls.columnar_memory.Results.{OrOutOfMemory}
+use Rattle.nested_arrays_generic_builders.specs.nulls.columns.Cells.{is_null}
+use Rattle.nested_arrays_generic_builders.specs.nulls.columns.FreshColumns.{fresh}
+use Rattle.nested_arrays_generic_builders.specs.nulls.columns.Kinds.{most_slots}
+use Rattle.nested_arrays_generic_builders.specs.nulls.columns.OpenBatch.{fits, is_length}
+use Rattle.nested_arrays_generic_builders.specs.nulls.columns.Slots.{Slot, null, window}
+use Rattle.nested_arrays_generic_builders.specs.nulls.columns.SoundColumns.{is_null_type, is_sound}
+use Rattle.nested_arrays_generic_builders.specs.nulls.columns.StoredColumns.{Column, nulls, slot_at, slots, type_layer}
+use Rattle.nested_arrays_generic_builders.specs.pushes.cells.taken.OpenColumns.{Becomes, IsEmptied, IsFresh, KeepsFirst, TakesColumn, slots_and}
+use Rattle.nested_arrays_generic_builders.proofs.pushes_lemmas.columns_lemmas.ColumnSizes.{slots_lengths}
+use Rattle.nested_arrays_generic_builders.proofs.pushes_lemmas.columns_lemmas.FreshLengths.{Layer}
+use Rattle.nested_arrays_generic_builders.proofs.pushes_lemmas.columns_lemmas.Windows.{window_same}
+use Rattle.nested_arrays_generic_builders.proofs.pushes_lemmas.growth_lemmas.Fits.{fits_nulls}
+use Rattle.nested_arrays_generic_builders.proofs.pushes_lemmas.growth_lemmas.LayerParts.{fresh_nulls}
+use Rattle.nested_arrays_generic_builders.proofs.pushes_lemmas.growth_lemmas.TypeSteps.{buildable_by_layer}
+use Rattle.nested_arrays_generic_builders.proofs.nulls_lemmas.flat_lemmas.NullTypes.{null_types}
 use Rattle.nested_arrays_generic_builders.proofs.ListSlots.{window_first, window_more}
 
 pub laid_as_nulls : (t : DataType) → (physical_type t ≡ physical.Null) ↔ (is_null_type (type_layer t) ≡ true)

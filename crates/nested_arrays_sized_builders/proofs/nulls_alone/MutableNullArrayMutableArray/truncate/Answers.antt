@@ -1,5 +1,5 @@
-use Rattle.nested_arrays_generic_builders.proofs.NullColumns.{nulls_first}
-use Rattle.nested_arrays_generic_builders.proofs.nulls_alone.MutableNullArrayMutableArray.truncate.Goals as goal
+use Rattle.nested_arrays_sized_builders.proofs.NullColumns.{nulls_first}
+use Rattle.nested_arrays_sized_builders.proofs.nulls_alone.MutableNullArrayMutableArray.truncate.Goals as goal
 
 pub returns : goal.returns
 returns c =

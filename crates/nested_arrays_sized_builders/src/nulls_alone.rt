@@ -1,19 +1,19 @@
 //! Builders of nulls alone.
 ghost use Rattle.std.specs.Prelude.{◌≡◌, ◌≤◌, true};
-ghost use Rattle.nested_arrays_builder_pushes.specs.nulls.columnar_memory.Results.{OrOutOfMemory};
-ghost use Rattle.nested_arrays_builder_pushes.specs.nulls.columns.Kinds.{most_slots};
-ghost use Rattle.nested_arrays_builder_pushes.specs.nulls.columns.SoundColumns.{is_null_type, is_sound};
-ghost use Rattle.nested_arrays_builder_pushes.specs.nulls.columns.StoredColumns.{nulls, type_layer};
-ghost use Rattle.nested_arrays_builder_pushes.specs.cells.taken.OpenColumns.{AddsNull};
-ghost use Rattle.nested_arrays_generic_builders.specs.NullBuilders.{BeginsNulls, CountsNull};
+ghost use Rattle.nested_arrays_generic_builders.specs.nulls.columnar_memory.Results.{OrOutOfMemory};
+ghost use Rattle.nested_arrays_generic_builders.specs.nulls.columns.Kinds.{most_slots};
+ghost use Rattle.nested_arrays_generic_builders.specs.nulls.columns.SoundColumns.{is_null_type, is_sound};
+ghost use Rattle.nested_arrays_generic_builders.specs.nulls.columns.StoredColumns.{nulls, type_layer};
+ghost use Rattle.nested_arrays_generic_builders.specs.pushes.cells.taken.OpenColumns.{AddsNull};
+ghost use Rattle.nested_arrays_sized_builders.specs.NullBuilders.{BeginsNulls, CountsNull};
 
-use nested_arrays_builder_pushes::cells::taken::MutableArray;
-use nested_arrays_builder_pushes::nulls::arrays::AnyArray;
-use nested_arrays_builder_pushes::nulls::columnar_memory::{
+use nested_arrays_generic_builders::nulls::arrays::AnyArray;
+use nested_arrays_generic_builders::nulls::columnar_memory::{
     DataType, Error, MutableBitmap, PhysicalType, Result,
 };
-use nested_arrays_builder_pushes::nulls::flat::NullArray;
-use nested_arrays_builder_pushes::nulls::generic::ToBoxed;
+use nested_arrays_generic_builders::nulls::flat::NullArray;
+use nested_arrays_generic_builders::nulls::generic::ToBoxed;
+use nested_arrays_generic_builders::pushes::cells::taken::MutableArray;
 use std::alloc::Global;
 use std::marker::Model;
 use std::rc::Rc;
@@ -29,9 +29,9 @@ pub struct MutableNullArray {
 }
 
 impl Model for MutableNullArray {
-    ghost use Rattle.nested_arrays_builder_pushes.specs.nulls.columns.ColumnCodes.{column_code};
-    ghost use Rattle.nested_arrays_builder_pushes.specs.nulls.columns.StoredColumns.{Column, nulls};
-    ghost use Rattle.nested_arrays_generic_builders.specs.NullBuilders.{AreNulls};
+    ghost use Rattle.nested_arrays_generic_builders.specs.nulls.columns.ColumnCodes.{column_code};
+    ghost use Rattle.nested_arrays_generic_builders.specs.nulls.columns.StoredColumns.{Column, nulls};
+    ghost use Rattle.nested_arrays_sized_builders.specs.NullBuilders.{AreNulls};
 
     ghost Value = { Column };
 
