@@ -8,7 +8,7 @@ pub use fixed_lists::MutableFixedSizeListArray;
 pub use nested_arrays_generic_builders::{
     MutValues, MutableFields, MutableListArray, MutableNullArray, MutableStructArray,
 };
-pub use sized_strings::MutableFixedSizeBinaryArray;
+pub use sized_strings::{MutableFixedSizeBinaryArray, read_bytes};
 
 /// What `nested_arrays_generic_builders::nulls` has, as far as packages above use it.
 pub mod nulls {
@@ -119,7 +119,9 @@ pub mod pushes {
 
         /// Of `taken`.
         pub mod taken {
-            pub use nested_arrays_generic_builders::pushes::cells::taken::MutableArray;
+            pub use nested_arrays_generic_builders::pushes::cells::taken::{
+                MutableArray, rebase_strings, rebase_texts,
+            };
         }
     }
 }
