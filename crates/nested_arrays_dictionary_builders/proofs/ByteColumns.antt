@@ -18,8 +18,8 @@ use Rattle.nested_arrays_sized_builders.specs.nulls.columns.FreshColumns.{conten
 use Rattle.nested_arrays_sized_builders.specs.nulls.columns.Kinds.{most_offset, most_slots}
 use Rattle.nested_arrays_sized_builders.specs.nulls.columns.OpenBatch.{byte_count, bytes_within, fits, is_length}
 use Rattle.nested_arrays_sized_builders.specs.nulls.columns.Slots.{Slot, null, window}
-use Rattle.nested_arrays_sized_builders.specs.nulls.columns.SoundColumns.{are_offsets, are_strings, has_size, holds_below, is_byte, is_sound}
-use Rattle.nested_arrays_sized_builders.specs.nulls.columns.SoundColumns.{is_stored_as, mask_fits, rises_at}
+use Rattle.nested_arrays_sized_builders.specs.nulls.columns.SoundColumns.{are_offsets, are_strings, has_size, is_byte, is_sound, is_stored_as}
+use Rattle.nested_arrays_sized_builders.specs.nulls.columns.SoundColumns.{mask_fits}
 use Rattle.nested_arrays_sized_builders.specs.nulls.columns.StoredColumns.{Column, Stored, bits, flat, slot_at, slots, stored_at, stored_len}
 use Rattle.nested_arrays_sized_builders.specs.nulls.columns.StoredColumns.{string_at, type_layer}
 use Rattle.nested_arrays_sized_builders.specs.nulls.flat.ColumnMasks.{column_mask}
