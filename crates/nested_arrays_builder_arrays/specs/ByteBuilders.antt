@@ -29,3 +29,7 @@ abbrev pub AddsByteNull : {U : Type 0} → ByteStrings → ByteStrings → Resul
 AddsByteNull old new r =
     MatchResult r (λ _. (new ≡ with_slot old None) × (len_of old < most_slots))
     (λ e. (new ≡ old) × (IsOutOfMemory e ⊎ (IsOverflow e × (most_slots ≤ len_of old))))
+
+-- The slots are the same, with offsets from 0 on. Or nothing has changed: memory ran out.
+abbrev pub Rebases : {U : Type 0} → ByteStrings → ByteStrings → Result U Error → Type 0
+Rebases old new r = MatchResult r (λ _. new ≡ from_zero old) (λ e. (new ≡ old) × IsOutOfMemory e)

@@ -7,7 +7,7 @@ ghost use Rattle.nested_arrays_builders.specs.columnar_memory.Results.{OrOutOfMe
 ghost use Rattle.nested_arrays_builders.specs.columnar_memory.Spans.{last_of, no_spans};
 ghost use Rattle.nested_arrays_builders.specs.columns.SoundColumns.{is_sound};
 ghost use Rattle.nested_arrays_builders.specs.columns.StoredColumns.{column_len};
-ghost use Rattle.nested_arrays_builder_arrays.specs.ByteBuilders.{AddsByteNull, LeavesNoBytes, from_zero, open_binary, open_text};
+ghost use Rattle.nested_arrays_builder_arrays.specs.ByteBuilders.{AddsByteNull, LeavesNoBytes, Rebases, from_zero, open_binary, open_text};
 ghost use Rattle.nested_arrays_builder_arrays.specs.OpenColumns.{AddsNull, KeepsFirst, TakesColumn};
 
 use crate::flat_builders::frozen_mask;
@@ -216,21 +216,6 @@ fn take_strings<O: Offset>(
     }
 }
 
-/// A builder of the same slots with offsets from 0 on.
-#[tactic(auto, using(crate::proofs::ByteParts::from_start, crate::proofs::ByteParts::same_count))]
-fn move_strings<O: Offset>(
-    alloc: Global,
-    strings: MutableBinaryArray<O>,
-) -> Result<MutableBinaryArray<O>>
-    ensures { OrOutOfMemory result (λ moved. moved ≡ from_zero strings) }
-{
-    if start_of(&strings) == 0 {
-        return Ok(strings);
-    }
-    let moved = copy_of_strings(alloc, &strings)?;
-    Ok(mask_strings(moved, strings))
-}
-
 /// The values of a builder with offsets from 0 on.
 #[tactic(auto, using(crate::proofs::ByteParts::copied, crate::proofs::ByteParts::copy_fault))]
 fn copy_of_strings<O: Offset>(
@@ -245,18 +230,22 @@ fn copy_of_strings<O: Offset>(
     Ok(copy)
 }
 
-/// A builder under the mask of another of as many slots.
-fn mask_strings<O: Offset>(
-    strings: MutableBinaryArray<O>,
-    masked: MutableBinaryArray<O>,
-) -> MutableBinaryArray<O>
-    requires { len_of strings ≡ len_of masked }
-    ensures { result ≡ with_mask strings masked.validity }
+/// Keeps the slots with offsets from 0 on, or changes nothing. Takes no memory where they are from 0 on.
+///
+/// # Errors
+/// `OutOfMemory`: the copy of the bytes found no memory.
+#[tactic(auto, using(crate::proofs::ByteParts::from_start, crate::proofs::ByteParts::same_count))]
+pub fn rebase_strings<O: Offset>(strings: &mut MutableBinaryArray<O>) -> Result<()>
+    ensures { Rebases strings.old strings.new result }
 {
-    let mut strings = strings;
-    let (_, _, _, validity) = masked.into_inner();
+    if start_of(strings) == 0 {
+        return Ok(());
+    }
+    let alloc = *strings.values().allocator();
+    let copy = copy_of_strings(alloc, strings)?;
+    let (_, _, _, validity) = mem::replace(strings, copy).into_inner();
     strings.set_validity(validity);
-    strings
+    Ok(())
 }
 
 /// The array of the slots of a builder, which is left empty.
@@ -267,9 +256,9 @@ fn box_strings<O: StringOffset>(
     ensures left { LeavesNoBytes strings.old strings.new }
     ensures taken { OrOutOfMemory result (λ array. (array ≡ open_binary strings.old) × (is_sound array ≡ true)) }
 {
-    let taken = take_strings(alloc, strings)?;
-    let moved = move_strings(alloc, taken)?;
-    freeze_strings(moved)
+    let mut taken = take_strings(alloc, strings)?;
+    rebase_strings(&mut taken)?;
+    freeze_strings(taken)
 }
 
 /// The array of the slots of a builder behind a count of owners; the builder is left empty.
@@ -343,18 +332,6 @@ fn take_texts<O: Offset>(
     }
 }
 
-/// A builder of the same slots with offsets from 0 on.
-#[tactic(auto, using(crate::proofs::ByteParts::from_start, crate::proofs::ByteParts::same_count))]
-fn move_texts<O: Offset>(alloc: Global, texts: MutableUtf8Array<O>) -> Result<MutableUtf8Array<O>>
-    ensures { OrOutOfMemory result (λ moved. moved ≡ from_zero texts) }
-{
-    if start_of(&texts) == 0 {
-        return Ok(texts);
-    }
-    let moved = copy_of_texts(alloc, &texts)?;
-    Ok(mask_texts(moved, texts))
-}
-
 /// The values of a builder with offsets from 0 on.
 #[tactic(auto, using(crate::proofs::ByteParts::copied, crate::proofs::ByteParts::copy_fault))]
 fn copy_of_texts<O: Offset>(
@@ -369,18 +346,22 @@ fn copy_of_texts<O: Offset>(
     Ok(copy)
 }
 
-/// A builder under the mask of another of as many slots.
-fn mask_texts<O: Offset>(
-    texts: MutableUtf8Array<O>,
-    masked: MutableUtf8Array<O>,
-) -> MutableUtf8Array<O>
-    requires { len_of texts ≡ len_of masked }
-    ensures { result ≡ with_mask texts masked.validity }
+/// Keeps the slots with offsets from 0 on, or changes nothing. Takes no memory where they are from 0 on.
+///
+/// # Errors
+/// `OutOfMemory`: the copy of the bytes found no memory.
+#[tactic(auto, using(crate::proofs::ByteParts::from_start, crate::proofs::ByteParts::same_count))]
+pub fn rebase_texts<O: Offset>(texts: &mut MutableUtf8Array<O>) -> Result<()>
+    ensures { Rebases texts.old texts.new result }
 {
-    let mut texts = texts;
-    let (_, _, _, validity) = masked.into_data();
+    if start_of(texts) == 0 {
+        return Ok(());
+    }
+    let alloc = *texts.values().allocator();
+    let copy = copy_of_texts(alloc, texts)?;
+    let (_, _, _, validity) = mem::replace(texts, copy).into_data();
     texts.set_validity(validity);
-    texts
+    Ok(())
 }
 
 /// The array of the slots of a builder, which is left empty.
@@ -388,9 +369,9 @@ fn box_texts<O: StringOffset>(alloc: Global, texts: &mut MutableUtf8Array<O>) ->
     ensures left { LeavesNoBytes texts.old texts.new }
     ensures taken { OrOutOfMemory result (λ array. (array ≡ open_text texts.old) × (is_sound array ≡ true)) }
 {
-    let taken = take_texts(alloc, texts)?;
-    let moved = move_texts(alloc, taken)?;
-    freeze_texts(moved)
+    let mut taken = take_texts(alloc, texts)?;
+    rebase_texts(&mut taken)?;
+    freeze_texts(taken)
 }
 
 /// The array of the slots of a builder behind a count of owners; the builder is left empty.

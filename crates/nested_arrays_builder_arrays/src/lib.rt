@@ -8,6 +8,7 @@ mod keys;
 mod mutable_array;
 mod taken;
 
+pub use byte_builders::{rebase_strings, rebase_texts};
 pub use frozen::into_array;
 pub use mutable_array::MutableArray;
 

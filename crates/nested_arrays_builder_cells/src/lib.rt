@@ -98,5 +98,5 @@ pub mod parts {
 
 /// What `nested_arrays_builder_arrays` has, as far as packages above use it.
 pub mod taken {
-    pub use nested_arrays_builder_arrays::MutableArray;
+    pub use nested_arrays_builder_arrays::{MutableArray, rebase_strings, rebase_texts};
 }

@@ -30,7 +30,7 @@ pub mod cells {
 
     /// Of `taken`.
     pub mod taken {
-        pub use nested_arrays_builder_cells::taken::MutableArray;
+        pub use nested_arrays_builder_cells::taken::{MutableArray, rebase_strings, rebase_texts};
     }
 }
 

@@ -7,6 +7,7 @@ mod keys;
 mod numbers;
 mod places;
 mod strings;
+mod texts;
 
 pub use dictionaries::MutableDictionaryArray;
 pub use items::{SlotIs, TryExtend, TryPush};

@@ -106,7 +106,9 @@ pub mod pushes {
 
         /// Of `taken`.
         pub mod taken {
-            pub use nested_arrays_builder_pushes::cells::taken::MutableArray;
+            pub use nested_arrays_builder_pushes::cells::taken::{
+                MutableArray, rebase_strings, rebase_texts,
+            };
         }
     }
 }
