@@ -23,6 +23,10 @@ fn mixed(place: u64) -> u64 {
     number ^ (number >> 31)
 }
 
+fn number_at(place: u64) -> i32 {
+    (mixed(place) % 0x1_0000) as i32
+}
+
 // ---- cells
 
 enum Cell {
@@ -36,8 +40,8 @@ enum Cell {
 /// The four cells of the row at a place.
 fn cells_at(place: u64) -> Vec<Cell> {
     let number = mixed(place);
-    let first = if number % 8 == 0 { Cell::Null } else { Cell::Int64((number / 2) as i64) };
-    let items = (0..number / 64 % 4).map(|k| Cell::Int32((number % 0x1_0000) as i32 ^ k as i32)).collect();
+    let first = if number % 8 == 0 { Cell::Null } else { Cell::Int64(i64::from(number_at(number))) };
+    let items = (0..number / 64 % 4).map(|k| Cell::Int32(number_at(number.wrapping_add(k)))).collect();
     let text = Cell::Text(WORDS[(number % 8) as usize].to_string());
     vec![first, text, Cell::Text((number / 8 % TEXTS).to_string()), Cell::List(items)]
 }

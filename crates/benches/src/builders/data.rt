@@ -1,5 +1,5 @@
 //! The rows of the jobs.
-use crate::data::{WORDS, mixed};
+use crate::data::{WORDS, mixed, number_at};
 use columnar_memory_types::{Boxed, DataType, Field, IntegerType, Items, Result, Text};
 use ipc_format::nested_arrays::AnyScalar;
 use std::alloc::Global;
@@ -33,14 +33,14 @@ fn number_cell(number: u64) -> AnyScalar {
     if number % 8 == 0 {
         return AnyScalar::Null;
     }
-    AnyScalar::Int64((number / 2) as i64)
+    AnyScalar::Int64(i64::from(number_at(number)))
 }
 
 /// A list of up to three numbers.
 fn list_cell(alloc: Global, number: u64) -> Result<AnyScalar> {
     let mut items = Items::new(alloc);
     for k in 0..number / 64 % 4 {
-        items.push(AnyScalar::Int32((number % 0x1_0000) as i32 ^ k as i32))?;
+        items.push(AnyScalar::Int32(number_at(number.wrapping_add(k))))?;
     }
     Ok(AnyScalar::List(items))
 }
