@@ -1,3 +1,3 @@
-pub use Rattle.nested_arrays_sized_builders.proofs.nulls_lemmas.columns_lemmas
-pub use Rattle.nested_arrays_sized_builders.proofs.nulls_lemmas.flat_lemmas
-pub use Rattle.nested_arrays_sized_builders.proofs.nulls_lemmas.parts_lemmas
+pub use Rattle.nested_arrays_dictionary_builders.proofs.nulls_lemmas.columns_lemmas
+pub use Rattle.nested_arrays_dictionary_builders.proofs.nulls_lemmas.flat_lemmas
+pub use Rattle.nested_arrays_dictionary_builders.proofs.nulls_lemmas.parts_lemmas
