@@ -59,7 +59,7 @@ fn mix(hash: usize, byte: u8) -> usize
 }
 
 /// The hash of some bytes.
-pub(crate) fn hash_of_bytes(bytes: &[u8]) -> usize
+fn hash_of_bytes(bytes: &[u8]) -> usize
     ensures { result ≡ mixed_all 0 bytes.now }
 {
     let mut hash = 0;
