@@ -1,5 +1,5 @@
 use crate::timing::{Named, show_checksums, show_time};
-use crate::{builders, columns, flat, memory, metadata, nested};
+use crate::{columns, flat, memory, metadata, nested};
 use columnar_memory_types::Result;
 use std::rt::Clock;
 
@@ -15,9 +15,6 @@ pub(crate) enum Group {
     /// Those of nested arrays.
     Nested,
 
-    /// Those of builders.
-    Builders,
-
     /// Those of schemas.
     Metadata,
 
@@ -25,11 +22,10 @@ pub(crate) enum Group {
     Columns,
 }
 
-pub(crate) const GROUPS: [Group; 6] = [
+pub(crate) const GROUPS: [Group; 5] = [
     Group::Memory,
     Group::Flat,
     Group::Nested,
-    Group::Builders,
     Group::Metadata,
     Group::Columns,
 ];
@@ -40,7 +36,6 @@ impl Named for Group {
             Group::Memory => "memory",
             Group::Flat => "flat",
             Group::Nested => "nested",
-            Group::Builders => "builders",
             Group::Metadata => "metadata",
             Group::Columns => "columns",
         }
@@ -54,7 +49,6 @@ impl Group {
             Group::Memory => show_checksums(rt, self.name(), &memory::JOBS),
             Group::Flat => show_checksums(rt, self.name(), &flat::JOBS),
             Group::Nested => show_checksums(rt, self.name(), &nested::JOBS),
-            Group::Builders => show_checksums(rt, self.name(), &builders::JOBS),
             Group::Metadata => show_checksums(rt, self.name(), &metadata::JOBS),
             Group::Columns => show_checksums(rt, self.name(), &columns::JOBS),
         }
@@ -71,7 +65,6 @@ impl Group {
             Group::Memory => show_time(rt, &memory::JOBS, job, size),
             Group::Flat => show_time(rt, &flat::JOBS, job, size),
             Group::Nested => show_time(rt, &nested::JOBS, job, size),
-            Group::Builders => show_time(rt, &builders::JOBS, job, size),
             Group::Metadata => show_time(rt, &metadata::JOBS, job, size),
             Group::Columns => show_time(rt, &columns::JOBS, job, size),
         }
