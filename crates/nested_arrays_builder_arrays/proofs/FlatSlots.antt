@@ -36,7 +36,7 @@ use Rattle.nested_arrays_builder_arrays.specs.OpenColumns.{AddsNull, Becomes, Is
 
 -- ---- windows
 
-window_more : (f : ℕ → Slot) (a n : ℕ) → window f a (suc n) ≡ window f a n ++ f (a + n) ∷ []
+pub window_more : (f : ℕ → Slot) (a n : ℕ) → window f a (suc n) ≡ window f a n ++ f (a + n) ∷ []
 window_more f a zero = ap (λ (k : ℕ). f k ∷ []) (omega arith)
 window_more f a (suc n) =
     let next : a + 1 + n ≡ a + suc n = omega arith in

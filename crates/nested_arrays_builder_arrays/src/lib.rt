@@ -36,7 +36,9 @@ pub mod builders {
 
     /// Of `values`.
     pub mod values {
-        pub use nested_arrays_builders::values::{Places, SlotUses, add_use, most_values_of};
+        pub use nested_arrays_builders::values::{
+            Places, SlotUses, add_use, hash_of_bytes, most_values_of,
+        };
     }
 }
 

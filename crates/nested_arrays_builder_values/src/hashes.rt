@@ -15,7 +15,7 @@ fn mix(hash: usize, number: usize) -> usize
 }
 
 /// The hash of some bytes.
-fn hash_of_bytes(bytes: &[u8]) -> usize
+pub fn hash_of_bytes(bytes: &[u8]) -> usize
     ensures { result ≡ mixed_all 0 bytes.now }
 {
     let mut hash = 0;

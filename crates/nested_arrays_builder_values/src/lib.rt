@@ -11,7 +11,7 @@ mod uses;
 mod values;
 
 pub use cells::{copy_of_cell, same_cell};
-pub use hashes::hash_of;
+pub use hashes::{hash_of, hash_of_bytes};
 pub use keys::{MutableKeys, add_use, learn, most_values_of, needed};
 pub use nested_arrays_builder_parts::columnar_memory;
 pub use places::Places;

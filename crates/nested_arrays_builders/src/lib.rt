@@ -113,6 +113,6 @@ pub mod parts {
 /// What `nested_arrays_builder_values` has, as far as packages above use it.
 pub mod values {
     pub use nested_arrays_builder_values::{
-        MutableKeys, Places, SlotUses, add_use, most_values_of,
+        MutableKeys, Places, SlotUses, add_use, hash_of_bytes, most_values_of,
     };
 }

@@ -40,7 +40,7 @@ use Rattle.nested_arrays_sized_builders.specs.nulls.parts.Keys.{kind_of_keys}
 use Rattle.nested_arrays_sized_builders.specs.pushes.cells.taken.OpenColumns.{Becomes, IsFresh, slots_and}
 use Rattle.nested_arrays_sized_builders.specs.pushes.cells.taken.builders.growth.OpenParts.{is_of_kind, marks_of}
 use Rattle.nested_arrays_sized_builders.specs.MarkedSlots.{AddsSlot}
-use Rattle.nested_arrays_dictionary_builders.proofs.OpenParts.{window_more}
+use Rattle.nested_arrays_sized_builders.proofs.taken_lemmas.FlatSlots.{window_more}
 use Rattle.nested_arrays_sized_builders.proofs.nulls_lemmas.arrays_lemmas.columns_lemmas.ColumnSizes.{slots_lengths}
 use Rattle.nested_arrays_sized_builders.proofs.nulls_lemmas.arrays_lemmas.columns_lemmas.Conditions.{parts_of_3}
 use Rattle.nested_arrays_sized_builders.proofs.nulls_lemmas.arrays_lemmas.columns_lemmas.FreshLengths.{Layer}

@@ -1,6 +1,5 @@
 //! Byte strings of one size as items of their builders.
 ghost use Rattle.std.specs.Prelude.{◌≡◌, ◌↔◌, ◌<◌, IsTrue, length, refl};
-ghost use Rattle.nested_arrays_sized_builders.specs.values.Hashes.{mixed, mixed_all};
 ghost use Rattle.nested_arrays_sized_builders.specs.nulls.columns.Slots.{bytes};
 ghost use Rattle.nested_arrays_sized_builders.specs.nulls.columns.StoredColumns.{slot_at};
 ghost use Rattle.nested_arrays_sized_builders.specs.SizedStrings.{sized_column};
@@ -8,9 +7,7 @@ ghost use Rattle.nested_arrays_sized_builders.specs.SizedStrings.{sized_column};
 use crate::items::{SlotIs, TryExtend, TryPush};
 use nested_arrays_sized_builders::MutableFixedSizeBinaryArray;
 use nested_arrays_sized_builders::nulls::columnar_memory::Result;
-
-/// What a byte is spread with.
-const SPREAD: usize = 1_099_511_628_211;
+use nested_arrays_sized_builders::pushes::cells::builders::values::hash_of_bytes;
 
 /// Byte strings are pushed where they have the size.
 impl TryPush<Vec<u8>> for MutableFixedSizeBinaryArray {
@@ -49,22 +46,4 @@ fn is_string(strings: &MutableFixedSizeBinaryArray, place: usize, item: &[u8]) -
         Some(found) => found == item,
         None => false,
     }
-}
-
-/// A hash with one more byte.
-fn mix(hash: usize, byte: u8) -> usize
-    ensures { result ≡ mixed hash byte }
-{
-    hash.wrapping_add(usize::from(byte)).wrapping_mul(SPREAD)
-}
-
-/// The hash of some bytes.
-fn hash_of_bytes(bytes: &[u8]) -> usize
-    ensures { result ≡ mixed_all 0 bytes.now }
-{
-    let mut hash = 0;
-    for byte in bytes {
-        hash = mix(hash, *byte);
-    }
-    hash
 }

@@ -95,7 +95,7 @@ pub mod pushes {
             /// Of `values`.
             pub mod values {
                 pub use nested_arrays_generic_builders::pushes::cells::builders::values::{
-                    Places, SlotUses, add_use, most_values_of,
+                    Places, SlotUses, add_use, hash_of_bytes, most_values_of,
                 };
             }
         }

@@ -1,6 +1,6 @@
 use Rattle.std.proofs.Common.{◌≡◌, ◌∙◌, ◌++◌, ◌∷◌, [], get_or, map, refl, ap, arith}
 use Rattle.std.specs.Prelude.{pos}
-use Rattle.nested_arrays_dictionary_builders.proofs.OpenParts.{key_within, one_more_key}
+use Rattle.nested_arrays_sized_builders.proofs.taken_lemmas.FrozenParts.{key_within, one_more_key}
 use Rattle.nested_arrays_dictionary_builders.proofs.keys.keys_of.Goals as goal
 
 pub from_as_usize-requires : goal.from_as_usize-requires
