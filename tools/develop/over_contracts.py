@@ -77,8 +77,9 @@ def impl_name(head):
     head = re.split(r"\bwhere\b", head)[0].strip()
     parts = [p.strip() for p in re.split(r"\bfor\b", head)]
     last = lambda s: re.sub(r"\W", "", s.split("::")[-1].strip().lstrip("&").replace("mut ", ""))
-    if len(parts) == 2: return last(parts[1]) + last(parts[0])
-    return last(parts[0])
+    whole = last(parts[1]) + last(parts[0]) if len(parts) == 2 else last(parts[0])
+    # An impl for a type of the language, as i32, has a name that begins with a capital.
+    return whole[:1].upper() + whole[1:]
 
 
 def stub(text, names):
@@ -235,6 +236,7 @@ def check(copy, crate, more):
                              stderr=subprocess.STDOUT)
         wrong = set(re.findall(r'help: delete the folder `([^`]*)`', ran.stdout))
         lacking = {it for line in ran.stdout.split('\n') if ': no proof' in line for it in re.findall(r'`([a-z]\w*(?:::\w+)+)`', line)}
+        lacking |= set(re.findall(r'^fn ([a-z]\w*(?:::\w+)+): no proof: expected answers', ran.stdout, re.M))
         for it in wrong:
             shutil.rmtree(os.path.join(folder, it) if not os.path.isabs(it) else it, ignore_errors=True)
         # A whole impl has no proof of its own, so its name, which begins with a capital, wants no hole.
