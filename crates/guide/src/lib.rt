@@ -10,6 +10,8 @@ mod callers;
 #[cfg(test)]
 mod columns;
 #[cfg(test)]
+mod dictionaries;
+#[cfg(test)]
 mod flat;
 #[cfg(test)]
 mod records;

@@ -1,3 +1,5 @@
+pub mod ByteParts
+pub mod ByteSlots
 pub mod FlatKinds
 pub mod FlatSlots
 pub mod FrozenParts

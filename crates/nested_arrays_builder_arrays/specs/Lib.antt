@@ -1,3 +1,4 @@
+pub mod ByteBuilders
 pub mod FlatBuilders
 pub mod FrozenKeys
 pub mod Layouts

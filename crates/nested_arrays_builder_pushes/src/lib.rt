@@ -11,7 +11,9 @@ pub mod cells {
 
     /// Of `builders`.
     pub mod builders {
-        pub use nested_arrays_builder_cells::builders::{AnyMutableArray, is_cell_of};
+        pub use nested_arrays_builder_cells::builders::{
+            AnyMutableArray, StringOffset, is_cell_of,
+        };
 
         /// Of `values`.
         pub mod values {
@@ -28,7 +30,7 @@ pub mod cells {
 
     /// Of `taken`.
     pub mod taken {
-        pub use nested_arrays_builder_cells::taken::MutableArray;
+        pub use nested_arrays_builder_cells::taken::{MutableArray, rebase_strings, rebase_texts};
     }
 }
 

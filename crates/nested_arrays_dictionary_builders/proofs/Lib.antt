@@ -1,3 +1,5 @@
+pub mod ByteColumns
+pub mod ByteItems
 pub mod FoundPlaces
 pub mod KeyedParts
 pub mod KeyedSlots

@@ -1,3 +1,4 @@
+pub mod ByteItems
 pub mod DictionaryBuilders
 pub mod NumberItems
 pub mod SeveralSlots

@@ -7,6 +7,7 @@ mod keys;
 mod numbers;
 mod places;
 mod strings;
+mod texts;
 
 pub use dictionaries::MutableDictionaryArray;
 pub use items::{SlotIs, TryExtend, TryPush};
@@ -92,7 +93,7 @@ pub mod pushes {
         /// Of `builders`.
         pub mod builders {
             pub use nested_arrays_sized_builders::pushes::cells::builders::{
-                AnyMutableArray, is_cell_of,
+                AnyMutableArray, StringOffset, is_cell_of,
             };
         }
 
