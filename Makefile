@@ -3,11 +3,12 @@
 # make test    the whole gate: every proof from nothing, each test, each program, the must-fail edits;
 #              with MINUTES=n it ends after n minutes, and names what it skipped
 # make bench   measures bin/tables against cp and plain Rust on a stream of about 250 MB, and on a tenth of it, and its commands on large
-#              inputs of several types, on many columns and on many batches, after the five below
+#              inputs of several types, on many columns and on many batches, after the six below
 # make bench-tables   measures the latter alone
 # make bench-memory   measures jobs of the memory layer against plain Rust
 # make bench-flat   measures jobs of flat arrays and their builders against plain Rust
 # make bench-nested   measures jobs of nested arrays against plain Rust
+# make bench-builders   measures rows of cells that are pushed to columns against plain Rust
 # make bench-metadata   measures schemas read from and written as metadata against a copy of its bytes
 # make bench-columns   measures columns, files and streams read and written, against plain Rust and copies of the same bytes
 # make definitions   runs the definitions of specs/ on worked values, on laid and damaged inputs against an independent reader, and on what
@@ -18,7 +19,7 @@ PYTHON ?= python3 -B
 PROGRAM = crates/tables_program
 BENCHES = crates/benches
 
-.PHONY: demo test bench bench-tables bench-memory bench-flat bench-nested bench-metadata bench-columns definitions clean
+.PHONY: demo test bench bench-tables bench-memory bench-flat bench-nested bench-builders bench-metadata bench-columns definitions clean
 .PHONY: program benches
 
 # The worked values of the definitions.
@@ -58,14 +59,14 @@ definitions:
 	$(PYTHON) tools/definitions/compare.py --count $(COUNT) --seed $(SEED)
 	$(PYTHON) tools/definitions/compare_commands.py
 
-bench: program bench-memory bench-flat bench-nested bench-metadata bench-columns
+bench: program bench-memory bench-flat bench-nested bench-builders bench-metadata bench-columns
 	$(PYTHON) tools/benches/bench.py cut bin/tables bin
 	$(PYTHON) tools/benches/bench.py tables bin/tables bin
 
 bench-tables: program
 	$(PYTHON) tools/benches/bench.py tables bin/tables bin
 
-bench-memory bench-flat bench-nested bench-metadata bench-columns: bench-%: benches
+bench-memory bench-flat bench-nested bench-builders bench-metadata bench-columns: bench-%: benches
 	$(PYTHON) tools/benches/bench.py $* bin/benches bin
 
 benches:

@@ -7,6 +7,7 @@
     bench.py memory PROGRAM FOLDER     the jobs of `benches memory`, against plain_memory.rs, as a table
     bench.py flat PROGRAM FOLDER       the jobs of `benches flat`, against plain_flat.rs, as a table
     bench.py nested PROGRAM FOLDER     the jobs of `benches nested`, against plain_nested.rs, as a table
+    bench.py builders PROGRAM FOLDER   the jobs of `benches builders`, against plain_builders.rs, as a table
     bench.py metadata PROGRAM FOLDER   the jobs of `benches metadata` at three sizes, against plain_metadata.rs and a copy of the metadata's bytes
     bench.py columns PROGRAM FOLDER    the jobs of `benches columns`, against plain_columns.rs and copies of the same bytes, as a table
 
@@ -71,6 +72,12 @@ NESTED_JOBS = [
     ("texts", "`equal` of short texts", 22),
     ("lists", "`equal` of lists at other places of their items", 22),
     ("dictionaries", "`equal` of dictionaries with values in another order", 22),
+]
+
+# The same of builders. A row has a number, a short text, one of a thousand texts and a list of up to three numbers.
+BUILDERS_JOBS = [
+    ("cells", "rows of cells by `try_push_scalar`", 22),
+    ("copied", "rows of slots of arrays by `try_push_from`", 22),
 ]
 
 # The same of columns, files and streams. The table has a hundred columns of numbers, 2^26 in all, in batches of 65,536 rows.
@@ -247,6 +254,10 @@ def measure_nested(program, folder):
     measure_jobs(program, folder, "nested", NESTED_JOBS)
 
 
+def measure_builders(program, folder):
+    measure_jobs(program, folder, "builders", BUILDERS_JOBS)
+
+
 def measure_columns(program, folder):
     plain = built(folder, "plain_columns")
     print("| job | size | ours, ms | plain Rust, ms | ratio | copy, ms | to the copy |")
@@ -285,6 +296,7 @@ if __name__ == "__main__":
         "memory": measure_memory,
         "flat": measure_flat,
         "nested": measure_nested,
+        "builders": measure_builders,
         "metadata": measure_metadata,
         "columns": measure_columns,
     }

@@ -1,5 +1,5 @@
 use crate::timing::{Named, show_checksums, show_time};
-use crate::{columns, flat, memory, metadata, nested};
+use crate::{builders, columns, flat, memory, metadata, nested};
 use columnar_memory_types::Result;
 use std::rt::Clock;
 
@@ -15,6 +15,9 @@ pub(crate) enum Group {
     /// Those of nested arrays.
     Nested,
 
+    /// Those of builders.
+    Builders,
+
     /// Those of schemas.
     Metadata,
 
@@ -22,10 +25,11 @@ pub(crate) enum Group {
     Columns,
 }
 
-pub(crate) const GROUPS: [Group; 5] = [
+pub(crate) const GROUPS: [Group; 6] = [
     Group::Memory,
     Group::Flat,
     Group::Nested,
+    Group::Builders,
     Group::Metadata,
     Group::Columns,
 ];
@@ -36,6 +40,7 @@ impl Named for Group {
             Group::Memory => "memory",
             Group::Flat => "flat",
             Group::Nested => "nested",
+            Group::Builders => "builders",
             Group::Metadata => "metadata",
             Group::Columns => "columns",
         }
@@ -49,6 +54,7 @@ impl Group {
             Group::Memory => show_checksums(rt, self.name(), &memory::JOBS),
             Group::Flat => show_checksums(rt, self.name(), &flat::JOBS),
             Group::Nested => show_checksums(rt, self.name(), &nested::JOBS),
+            Group::Builders => show_checksums(rt, self.name(), &builders::JOBS),
             Group::Metadata => show_checksums(rt, self.name(), &metadata::JOBS),
             Group::Columns => show_checksums(rt, self.name(), &columns::JOBS),
         }
@@ -65,6 +71,7 @@ impl Group {
             Group::Memory => show_time(rt, &memory::JOBS, job, size),
             Group::Flat => show_time(rt, &flat::JOBS, job, size),
             Group::Nested => show_time(rt, &nested::JOBS, job, size),
+            Group::Builders => show_time(rt, &builders::JOBS, job, size),
             Group::Metadata => show_time(rt, &metadata::JOBS, job, size),
             Group::Columns => show_time(rt, &columns::JOBS, job, size),
         }

@@ -4,9 +4,10 @@
 //!     benches GROUP              each job of the group at a small size: the group, the job and the checksum alone
 //!     benches                    the same of every group
 //!
-//! The groups are `memory`, `flat`, `nested`, `metadata` and `columns`; what the size counts is said at each.
+//! The groups are `memory`, `flat`, `nested`, `builders`, `metadata` and `columns`; what the size counts is said at each.
 #![tactic(auto)]
 
+mod builders;
 mod columns;
 mod data;
 mod flat;

@@ -38,7 +38,7 @@ fn written(alloc: Global, array: &AnyArray) -> Result<Body> {
 }
 
 /// A checksum of the bytes that are written of a column, or 0 where there is no memory for them.
-fn column_checksum(alloc: Global, array: &AnyArray) -> u64 {
+pub(crate) fn column_checksum(alloc: Global, array: &AnyArray) -> u64 {
     match written(alloc, array) {
         Ok(body) => bytes_checksum(&body.bytes),
         Err(_) => 0,
