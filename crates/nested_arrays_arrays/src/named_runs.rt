@@ -12,13 +12,19 @@ use crate::places::flat;
 use nested_arrays_parts::columnar_memory::Steps;
 use nested_arrays_parts::{FlatArray, holds_values, is_null, same_slots_counted};
 
-/// How many pairs of values are remembered.
-const KNOWN: usize = 64;
+/// How many pairs of values are remembered in a short run.
+const FEW: usize = 64;
+
+/// How many pairs of values are remembered in a long run.
+const MANY: usize = 4096;
+
+/// How many slots a long run has at least: so many that the room for many pairs is made in a small part of the time.
+const LONG: usize = 8192;
 
 /// Pairs of values that are the same, by their places on the left and on the right: for each remainder of left places the last pair that was
 /// found. Where none was, the left place is past all values.
 #[derive(Drop)]
-struct KnownPairs {
+struct KnownPairs<const KNOWN: usize> {
     lefts: [usize; KNOWN],
     rights: [usize; KNOWN],
 }
@@ -37,14 +43,15 @@ fn named(node: &DictionaryNode, i: usize) -> Option<usize>
 }
 
 /// Whether a value is that of another array. Where this is known it is not compared again. Either is a step.
-fn same_value(
-    known: &mut KnownPairs,
+fn same_value<const KNOWN: usize>(
+    known: &mut KnownPairs<KNOWN>,
     values: &FlatArray,
     place: usize,
     others: &FlatArray,
     other: usize,
     steps: &mut Steps,
 ) -> bool
+    requires room { 0 < KNOWN }
     requires known { AreSamePairs known.old.lefts known.old.rights values.now others.now }
     requires within { place < column_len values.now }
     requires other_within { other < column_len others.now }
@@ -66,14 +73,15 @@ fn same_value(
 }
 
 /// Whether the slot of a key is that of another, each by the place that it names, if any. It is a step.
-fn same_slot(
-    known: &mut KnownPairs,
+fn same_slot<const KNOWN: usize>(
+    known: &mut KnownPairs<KNOWN>,
     values: &FlatArray,
     place: Option<usize>,
     others: &FlatArray,
     other: Option<usize>,
     steps: &mut Steps,
 ) -> bool
+    requires room { 0 < KNOWN }
     requires known { AreSamePairs known.old.lefts known.old.rights values.now others.now }
     requires within { IfSome place (λ p. p < column_len values.now) }
     requires other_within { IfSome other (λ p. p < column_len others.now) }
@@ -99,7 +107,7 @@ fn same_slot(
 }
 
 /// Whether so many slots of a dictionary from a place on are those of another from a place on.
-fn same_named(
+fn same_named<const KNOWN: usize>(
     left: &DictionaryNode,
     values: &FlatArray,
     i: usize,
@@ -109,6 +117,7 @@ fn same_named(
     count: usize,
     steps: &mut Steps,
 ) -> bool
+    requires room { 0 < KNOWN }
     requires left_whole { IsWhole (Node.Dictionary left.now) }
     requires right_whole { IsWhole (Node.Dictionary right.now) }
     requires left_values { values.now ≡ left.now.values.value }
@@ -122,7 +131,7 @@ fn same_named(
     let _left = left.keys.len();
     let _right = right.keys.len();
     let _values = values.len();
-    let mut known = KnownPairs {
+    let mut known: KnownPairs<KNOWN> = KnownPairs {
         lefts: [usize::MAX; KNOWN],
         rights: [usize::MAX; KNOWN],
     };
@@ -172,7 +181,11 @@ fn same_nodes(
     match (flat(&left.values), flat(&right.values)) {
         (Some(values), Some(others)) => {
             holds_values(values);
-            Some(same_named(left, values, i, right, others, j, count, steps))
+            if count < LONG {
+                Some(same_named::<FEW>(left, values, i, right, others, j, count, steps))
+            } else {
+                Some(same_named::<MANY>(left, values, i, right, others, j, count, steps))
+            }
         }
         _ => None,
     }
