@@ -1,14 +1,10 @@
 //! Dictionaries of texts: each text is held once.
+use crate::callers::{Words, add_word};
 use columnar_memory::{Boxed, DataType, Error, IntegerType};
 use flat_arrays::{MutableUtf8Array, Utf8Array};
-use nested_arrays::{
-    AnyArray, DictionaryArray, Downcast, MutableArray, MutableDictionaryArray, TryExtend, TryPush,
-};
+use nested_arrays::{AnyArray, DictionaryArray, Downcast, MutableArray, TryExtend};
 use std::alloc::Global;
 use std::test::Fail;
-
-/// A builder of texts by keys of 32 bits.
-type Words = MutableDictionaryArray<i32, MutableUtf8Array<i32>>;
 
 fn new_words(alloc: Global) -> Result<Words, Error> {
     let values = Boxed::new(alloc, DataType::Utf8)?;
@@ -19,7 +15,7 @@ fn new_words(alloc: Global) -> Result<Words, Error> {
 /// Pushes a text.
 fn push(words: &mut Words, alloc: Global, text: &str) -> Result<(), Error> {
     let text = String::from_str(alloc, text)?;
-    words.try_push(&text)
+    add_word(words, &text)
 }
 
 /// Whether an array is of texts that are these one behind another.

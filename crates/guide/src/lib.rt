@@ -17,6 +17,6 @@ mod flat;
 mod records;
 
 pub use callers::{
-    add_key, add_keys, agree, keys_column, number_or, numbers_column, page, page_of_texts, part,
-    rows, text_or, words_column,
+    Words, add_cell, add_key, add_keys, add_word, agree, keys_column, number_or, numbers_column,
+    page, page_of_texts, part, rows, text_or, words_column,
 };
