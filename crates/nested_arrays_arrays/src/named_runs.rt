@@ -118,6 +118,7 @@ fn same_named<const KNOWN: usize>(
     steps: &mut Steps,
 ) -> bool
     requires room { 0 < KNOWN }
+    requires small { KNOWN ≤ 65536 }
     requires left_whole { IsWhole (Node.Dictionary left.now) }
     requires right_whole { IsWhole (Node.Dictionary right.now) }
     requires left_values { values.now ≡ left.now.values.value }

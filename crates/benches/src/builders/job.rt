@@ -17,11 +17,7 @@ pub(crate) enum BuilderJob {
     Typed,
 }
 
-pub(crate) const JOBS: [BuilderJob; 3] = [
-    BuilderJob::Cells,
-    BuilderJob::Copied,
-    BuilderJob::Typed,
-];
+pub(crate) const JOBS: [BuilderJob; 3] = [BuilderJob::Cells, BuilderJob::Copied, BuilderJob::Typed];
 
 impl Named for BuilderJob {
     fn name(&self) -> &'static str {

@@ -18,12 +18,12 @@ loop-k-init g c = record {
 pub same_slot-requires : goal.same_slot-requires
 same_slot-requires g c =
     let place = c.named-place.result in
-    let other = c.named-other.result in record {
-      room = c.requires.room;
-      known = c.loop-k.invariant.known;
-      within = subst (λ (v : Column). IfSome place (λ (p : ℕ). p < column_len v)) (sym c.requires.left_values) c.named-place.ensures.within;
-      other_within = subst (λ (v : Column). IfSome other (λ (p : ℕ). p < column_len v)) (sym c.requires.right_values) c.named-other.ensures.within;
-    }
+    let other = c.named-other.result in
+    let within : IfSome place (λ (p : ℕ). p < column_len c.args.values.now) =
+    subst (λ (v : Column). IfSome place (λ (p : ℕ). p < column_len v)) (sym c.requires.left_values) c.named-place.ensures.within in
+    let other_within : IfSome other (λ (p : ℕ). p < column_len c.args.others.now) =
+    subst (λ (v : Column). IfSome other (λ (p : ℕ). p < column_len v)) (sym c.requires.right_values) c.named-other.ensures.within in
+    (omega (arith, c.requires.small), (c.requires.room, (c.loop-k.invariant.known, (within, other_within))))
 
 pub loop-k-preserved : goal.loop-k-preserved
 loop-k-preserved g c =
