@@ -15,6 +15,7 @@ use nested_arrays_scalars::AnyScalar;
 
 /// Whether a cell is no value.
 #[tactic(auto, using(crate::proofs::CellSlots::nulls))]
+#[inline(always)]
 pub fn is_null(cell: &AnyScalar) -> bool
     ensures { result ≡ is_null (scalar_slot cell.now) }
 {

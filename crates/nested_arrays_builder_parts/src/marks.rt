@@ -97,6 +97,7 @@ impl Marks {
     /// # Errors
     /// `Overflow`: there are as many slots as an array may have.
     /// `OutOfMemory`: the mark, or the bitmap that it makes, found no memory.
+    #[inline(always)]
     pub fn push(&mut self, mark: bool) -> Result<()>
         ensures { TakesMark self.old mark self.new result }
     {

@@ -22,6 +22,7 @@ pub enum CellPart<'a> {
 
 /// A cell as a value without children is stored.
 // match table: an arm for each cell.
+#[inline(always)]
 pub fn part_of(cell: &AnyScalar) -> CellPart<'_>
     ensures { IsPart (scalar_slot cell.now) result }
 {

@@ -65,6 +65,7 @@ pub fn learn(most: usize, known: &mut CellMap, cell: &AnyScalar) -> Result<()>
 }
 
 /// Adds the mark of a slot and what it needs.
+#[inline(always)]
 pub fn add_use(marks: &mut Marks, uses: &mut SlotUses, mark: bool, need: usize) -> Result<()>
     ensures { AddsUse marks.old uses.old mark need marks.new uses.new result }
 {
