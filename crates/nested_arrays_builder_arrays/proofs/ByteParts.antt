@@ -1,5 +1,5 @@
 -- Parts of builders of byte strings and of texts: where none are left, those of an array, and those with offsets from 0 on.
-use Rattle.std.proofs.Common.{◌≡◌, ◌∙◌, ◌≤◌, ◌<◌, ◌+◌, ℕ, List, [], ◌∷◌, length, drop, refl, sym, ap, arith}
+use Rattle.std.proofs.Common.{◌≡◌, ◌∙◌, ◌≤◌, ℕ, List, [], ◌∷◌, drop, refl, sym, ap, arith}
 use Rattle.std.specs.Prelude.{Bool, Option, None}
 use Rattle.std.proofs.lemmas.List.{drop-take}
 use Rattle.nested_arrays_builders.specs.arrays.flat_arrays.ByteStrings.{ByteStrings, byte_strings, len_of, with_mask}
