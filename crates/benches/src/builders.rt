@@ -4,6 +4,5 @@ mod columns;
 mod data;
 mod job;
 mod rows;
-mod typed;
 
 pub(crate) use job::{BuilderJob, JOBS};

@@ -66,4 +66,3 @@ pub use Rattle.nested_arrays_dictionary_builders.specs.DictionaryBuilders
 pub use Rattle.nested_arrays_dictionary_builders.specs.NumberItems
 pub use Rattle.nested_arrays_dictionary_builders.specs.SeveralSlots
 pub use Rattle.nested_arrays_dictionary_builders.specs.SlotHashes
-pub use Rattle.nested_arrays_dictionary_builders.specs.pushes.cells.taken.ByteBuilders

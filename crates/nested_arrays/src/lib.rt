@@ -36,9 +36,7 @@ pub use nested_arrays_dictionary_builders::nulls::{
     Downcast, NullArrays, columnar_memory, flat_arrays, new_empty_array, new_null_array,
 };
 pub use nested_arrays_dictionary_builders::pushes::TryPushFrom;
-pub use nested_arrays_dictionary_builders::pushes::cells::builders::{
-    AnyMutableArray, StringOffset, is_cell_of,
-};
+pub use nested_arrays_dictionary_builders::pushes::cells::builders::{AnyMutableArray, is_cell_of};
 pub use nested_arrays_dictionary_builders::pushes::cells::cell_at;
 pub use nested_arrays_dictionary_builders::pushes::cells::parts::{AnyScalar, Marks};
 pub use nested_arrays_dictionary_builders::pushes::cells::taken::MutableArray;

@@ -1,5 +1,3 @@
-pub mod ByteParts
-pub mod ByteSlots
 pub mod FlatKinds
 pub mod FlatSlots
 pub mod FrozenParts

@@ -1,4 +1,3 @@
-pub mod ByteBuilders
 pub mod FlatBuilders
 pub mod FrozenKeys
 pub mod Layouts

@@ -189,7 +189,7 @@ fn push_null_boolean(booleans: &mut MutableBooleanArray) -> Result<()>
 }
 
 /// A mask as it is, also where no slot is null.
-pub(crate) fn frozen_mask(validity: Option<MutableBitmap>) -> Result<Option<Bitmap>>
+fn frozen_mask(validity: Option<MutableBitmap>) -> Result<Option<Bitmap>>
     ensures { OrOutOfMemory result (λ mask. mask ≡ validity) }
 {
     match validity {

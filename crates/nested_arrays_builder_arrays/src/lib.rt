@@ -1,14 +1,12 @@
 //! Arrays of what builders of any type hold.
 #![tactic(auto)]
 
-mod byte_builders;
 mod flat_builders;
 mod frozen;
 mod keys;
 mod mutable_array;
 mod taken;
 
-pub use byte_builders::{rebase_strings, rebase_texts};
 pub use frozen::into_array;
 pub use mutable_array::MutableArray;
 
@@ -34,7 +32,7 @@ pub mod arrays {
 
 /// What `nested_arrays_builders` has, as far as packages above use it.
 pub mod builders {
-    pub use nested_arrays_builders::{AnyMutableArray, StringOffset, is_cell_of};
+    pub use nested_arrays_builders::{AnyMutableArray, is_cell_of};
 
     /// Of `values`.
     pub mod values {

@@ -15,7 +15,7 @@ pub mod arrays {
 
 /// What `nested_arrays_builder_arrays::builders` has, as far as packages above use it.
 pub mod builders {
-    pub use nested_arrays_builder_arrays::builders::{AnyMutableArray, StringOffset, is_cell_of};
+    pub use nested_arrays_builder_arrays::builders::{AnyMutableArray, is_cell_of};
 
     /// Of `values`.
     pub mod values {
@@ -98,5 +98,5 @@ pub mod parts {
 
 /// What `nested_arrays_builder_arrays` has, as far as packages above use it.
 pub mod taken {
-    pub use nested_arrays_builder_arrays::{MutableArray, rebase_strings, rebase_texts};
+    pub use nested_arrays_builder_arrays::MutableArray;
 }

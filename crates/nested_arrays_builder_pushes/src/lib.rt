@@ -11,9 +11,7 @@ pub mod cells {
 
     /// Of `builders`.
     pub mod builders {
-        pub use nested_arrays_builder_cells::builders::{
-            AnyMutableArray, StringOffset, is_cell_of,
-        };
+        pub use nested_arrays_builder_cells::builders::{AnyMutableArray, is_cell_of};
 
         /// Of `values`.
         pub mod values {
@@ -30,7 +28,7 @@ pub mod cells {
 
     /// Of `taken`.
     pub mod taken {
-        pub use nested_arrays_builder_cells::taken::{MutableArray, rebase_strings, rebase_texts};
+        pub use nested_arrays_builder_cells::taken::MutableArray;
     }
 }
 

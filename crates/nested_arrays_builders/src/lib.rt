@@ -11,13 +11,11 @@ mod new;
 mod offsets;
 mod records;
 mod room;
-mod string_offsets;
 
 pub use any::{AnyMutableArray, Head, MutableChildren, MutableNode};
 pub use fitting::is_cell_of;
 pub use nested_arrays_builder_values::columnar_memory;
 pub use offsets::MutableListOffsets;
-pub use string_offsets::StringOffset;
 
 /// What `nested_arrays_builder_values::arrays` has, as far as packages above use it.
 pub mod arrays {

@@ -1,5 +1,3 @@
-pub mod ByteColumns
-pub mod ByteItems
 pub mod FoundPlaces
 pub mod KeyedParts
 pub mod KeyedSlots

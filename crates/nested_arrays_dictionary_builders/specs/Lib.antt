@@ -1,4 +1,3 @@
-pub mod ByteItems
 pub mod DictionaryBuilders
 pub mod NumberItems
 pub mod SeveralSlots

@@ -7,7 +7,6 @@ mod keys;
 mod numbers;
 mod places;
 mod strings;
-mod texts;
 
 pub use dictionaries::MutableDictionaryArray;
 pub use items::{SlotIs, TryExtend, TryPush};
@@ -93,7 +92,7 @@ pub mod pushes {
         /// Of `builders`.
         pub mod builders {
             pub use nested_arrays_sized_builders::pushes::cells::builders::{
-                AnyMutableArray, StringOffset, is_cell_of,
+                AnyMutableArray, is_cell_of,
             };
         }
 

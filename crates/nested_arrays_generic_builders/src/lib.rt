@@ -87,9 +87,7 @@ pub mod pushes {
 
         /// Of `builders`.
         pub mod builders {
-            pub use nested_arrays_builder_pushes::cells::builders::{
-                AnyMutableArray, StringOffset, is_cell_of,
-            };
+            pub use nested_arrays_builder_pushes::cells::builders::{AnyMutableArray, is_cell_of};
 
             /// Of `values`.
             pub mod values {
@@ -106,9 +104,7 @@ pub mod pushes {
 
         /// Of `taken`.
         pub mod taken {
-            pub use nested_arrays_builder_pushes::cells::taken::{
-                MutableArray, rebase_strings, rebase_texts,
-            };
+            pub use nested_arrays_builder_pushes::cells::taken::MutableArray;
         }
     }
 }

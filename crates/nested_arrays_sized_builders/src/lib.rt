@@ -10,7 +10,7 @@ pub use nested_arrays_generic_builders::{
     MutValues, MutableFields, MutableListArray, MutableStructArray,
 };
 pub use nulls_alone::MutableNullArray;
-pub use sized_strings::{MutableFixedSizeBinaryArray, read_bytes};
+pub use sized_strings::MutableFixedSizeBinaryArray;
 
 /// What `nested_arrays_generic_builders::nulls` has, as far as packages above use it.
 pub mod nulls {
@@ -89,7 +89,7 @@ pub mod pushes {
         /// Of `builders`.
         pub mod builders {
             pub use nested_arrays_generic_builders::pushes::cells::builders::{
-                AnyMutableArray, StringOffset, is_cell_of,
+                AnyMutableArray, is_cell_of,
             };
 
             /// Of `values`.
@@ -109,9 +109,7 @@ pub mod pushes {
 
         /// Of `taken`.
         pub mod taken {
-            pub use nested_arrays_generic_builders::pushes::cells::taken::{
-                MutableArray, rebase_strings, rebase_texts,
-            };
+            pub use nested_arrays_generic_builders::pushes::cells::taken::MutableArray;
         }
     }
 }

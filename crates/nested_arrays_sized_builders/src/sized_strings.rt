@@ -397,7 +397,7 @@ impl MutableArray for MutableFixedSizeBinaryArray {
 }
 
 /// Reads each byte, by which a proof knows that it is one.
-pub fn read_bytes(bytes: &[u8])
+fn read_bytes(bytes: &[u8])
     ensures { list_all is_byte bytes.now ≡ true }
 {
     for byte in bytes {

@@ -1,5 +1,0 @@
-use Rattle.nested_arrays_dictionary_builders.proofs.ByteItems.{text_whole}
-use Rattle.nested_arrays_dictionary_builders.proofs.texts.MutableUtf8ArraySlotIsString.whole.Goals as goal
-
-pub returns : goal.returns
-returns g c = text_whole g.O.Offset.IS_LARGE c.args.self.now c.whole.ensures.layout c.requires
