@@ -19,10 +19,7 @@ use columnar_memory::{Offset, Result};
 use flat_arrays::{
     BinaryArray, Int32Array, Int32Vec, MutableBinaryArray, MutableUtf8Array, Utf8Array,
 };
-use nested_arrays::{
-    AnyArray, AnyMutableArray, AnyScalar, Array, MutableDictionaryArray, StructArray, TryPush,
-    equal,
-};
+use nested_arrays::{AnyArray, AnyMutableArray, AnyScalar, Array, StructArray, equal};
 use std::alloc::Global;
 
 /// The words as a column, null where a word is empty.
