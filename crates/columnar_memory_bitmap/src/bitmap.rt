@@ -1,4 +1,6 @@
 ghost use Rattle.std.specs.Prelude.{◌≡◌, ℕ, not, ◌+◌, ◌*◌, ◌≤◌, ◌<◌, ◌^◌, false, [], length, replicate, slice_get, slice_range, ◌↔◌, IsTrue, Some};
+ghost use Rattle.std.specs.Prelude.{MatchResult};
+ghost use Rattle.columnar_memory_types.specs.Error.{IsOutOfMemory};
 ghost use Rattle.columnar_memory_bits.specs.Bits.{bits_of, unset_count};
 ghost use Rattle.columnar_memory_bits.specs.Bits as format;
 ghost use Rattle.columnar_memory_bits.specs.Words.{whole_words, rest_bits};
@@ -20,6 +22,7 @@ use columnar_memory_types::{Error, Result};
 use either::Either;
 use std::alloc::{AllocError, Global};
 use std::marker::Model;
+use std::mem;
 use std::rc::Rc;
 
 /// Shared bits that are not changed, which a contract sees as their list, `true` where a bit is set (Arrow columnar format, "Validity
@@ -236,6 +239,33 @@ impl Bitmap {
             Either::Left(shared) => shared.to_mutable(),
             Either::Right(own) => Ok(own),
         }
+    }
+
+    /// Replaces the bits by what a function makes of them: of the bytes themselves, with no copy and no memory taken, where this is their
+    /// one owner and its first bit stands first in them; else of a copy.
+    ///
+    /// # Errors
+    /// `OutOfMemory`: the copy or its count of owners found no memory. The bitmap is as it was.
+    pub fn apply_mut<F: FnOnce(MutableBitmap) -> MutableBitmap + Drop>(
+        &mut self,
+        f: F,
+    ) -> Result<()>
+        requires { F.pre f self.old }
+        ensures { MatchResult result (λ _. F.post f self.old self.new) (λ e. IsOutOfMemory e × (self.new ≡ self.old)) }
+    {
+        if self.offset == 0 {
+            if let Some(bytes) = Rc::get_mut(&mut self.bytes) {
+                let alloc = *bytes.allocator();
+                let own = mem::replace(bytes, Vec::new(alloc));
+                let made = f(MutableBitmap::from_vec(own, self.len));
+                self.unset_bits = made.unset_bits();
+                (*bytes, self.len) = made.into_inner();
+                return Ok(());
+            }
+        }
+        let copy = self.to_mutable()?;
+        *self = f(copy).freeze()?;
+        Ok(())
     }
 
     /// The allocator of the bytes.

@@ -1,6 +1,8 @@
 ghost use Rattle.std.specs.Prelude.{◌≡◌, ◌+◌, ◌^◌, ◌<◌, ◌≤◌, [], length, ◌↔◌, IsTrue, MatchResult, IfSome};
 ghost use Rattle.std.specs.Bool.{Decides};
 ghost use Rattle.std.specs.Cmp.Lexicographic.{pointwise, lists_per, lists_equiv};
+ghost use Rattle.std.specs.declared.alloc.Global.{Global};
+ghost use Rattle.std.specs.declared.vec.Vec.{Vec};
 ghost use Rattle.std.specs.Iterator.{IsFinite};
 ghost use Rattle.std.specs.Iterator.Runs.{WholeRun};
 ghost use Rattle.columnar_memory_native.specs.types.Error.{IsOutOfMemory};
@@ -184,6 +186,32 @@ impl<T> Buffer<T> {
             count,
         } = self;
         (data, offset, count)
+    }
+}
+
+impl<T: Copy + Drop> Buffer<T> {
+    /// Replaces the elements by what a function makes of them: of the vector itself, with no copy and no memory taken, where this is the
+    /// one owner of its memory and a window on all of it; else of a copy.
+    ///
+    /// # Errors
+    /// `OutOfMemory`: the copy or its count of owners found no memory. The buffer is as it was.
+    pub fn apply_mut<F: FnOnce(Vec<T>) -> Vec<T> + Drop>(&mut self, f: F) -> Result<()>
+        requires { (elements : Vec T Global) → elements.items ≡ self.old → F.pre f elements }
+        ensures { MatchResult result
+            (λ _. (elements made : Vec T Global) × (elements.items ≡ self.old) × F.post f elements made × (self.new ≡ made.items))
+            (λ e. IsOutOfMemory e × (self.new ≡ self.old)) }
+    {
+        if self.count == self.data.len() {
+            if let Some(bytes) = Rc::get_mut(&mut self.data) {
+                let made = f(bytes.take());
+                self.count = made.len();
+                *bytes = Bytes::from_vec(made);
+                return Ok(());
+            }
+        }
+        let copy = Vec::from_slice(self.allocator(), self.as_slice())?;
+        *self = Buffer::from_vec(f(copy))?;
+        Ok(())
     }
 }
 

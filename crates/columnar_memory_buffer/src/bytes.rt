@@ -4,6 +4,7 @@ ghost use Rattle.columnar_memory_buffer.specs.Lending.{LendsElements};
 
 use std::alloc::Global;
 use std::marker::Model;
+use std::mem;
 
 /// The memory of a [`crate::Buffer`]: a plain vector, which a contract sees as the list of its elements.
 #[derive(Debug, Drop)]
@@ -36,6 +37,15 @@ impl<T> Bytes<T> {
     {
         let Bytes { vec } = self;
         vec
+    }
+
+    /// The vector, in whose place none is left. Takes no memory.
+    pub fn take(&mut self) -> Vec<T>
+        ensures taken { result.items ≡ self.old }
+        ensures left { self.new ≡ [] }
+    {
+        let alloc = self.allocator();
+        mem::replace(&mut self.vec, Vec::new(alloc))
     }
 
     pub fn as_slice(&self) -> &[T]

@@ -1,3 +1,5 @@
+ghost use Rattle.std.specs.Prelude.{◌≡◌, length, IfOk};
+
 use crate::cases::{BYTES, LENGTHS, marked, unset};
 use columnar_memory_bitmap::{Bitmap, MutableBitmap, SlicesIterator};
 use columnar_memory_bits::ZipValidity;
@@ -126,6 +128,61 @@ fn a_shared_bitmap_is_copied_to_change(rt: HostRuntime) -> Result<(), Fail> {
     let bits = Bitmap::new_zeroed(rt.alloc(), 9)?;
     assert!(rt; bits.clone()?.make_mut()?.unset_bits() == 9);
     assert!(rt; MutableBitmap::from_len_zeroed(rt.alloc(), 9)?.freeze()? == bits);
+    Ok(())
+}
+
+// Bits 1, 1, 0, in a vector with room for a thousand.
+fn roomy(alloc: Global) -> Result<Bitmap, Error>
+    ensures { IfOk result (λ bits. length bits ≡ 3) }
+{
+    let mut bits = MutableBitmap::with_capacity(alloc, 1000)?;
+    bits.extend_constant(2, true)?;
+    bits.push(false)?;
+    bits.freeze()
+}
+
+// Turns each bit, and says for how many bits the vector had room that was turned.
+fn turn(bitmap: &mut Bitmap) -> Result<usize, Error> {
+    let mut room = 0;
+    bitmap.apply_mut(|bits| {
+        room = bits.capacity();
+        !bits
+    })?;
+    Ok(room)
+}
+
+#[test]
+fn the_bits_of_one_owner_are_changed_in_place(rt: HostRuntime) -> Result<(), Fail> {
+    let mut one = roomy(rt.alloc())?;
+    let rooms = (turn(&mut one)?, turn(&mut one)?);
+    assert!(rt; rooms.0 >= 1000 && rooms.1 >= 1000);
+    assert!(rt; one == roomy(rt.alloc())?);
+    Ok(())
+}
+
+#[test]
+fn shared_bits_are_copied_to_change(rt: HostRuntime) -> Result<(), Fail> {
+    let one = roomy(rt.alloc())?;
+    let mut other = one.clone()?;
+    assert!(rt; turn(&mut other)? < 1000);
+    assert!(rt; one.unset_bits() == 1 && other.unset_bits() == 2);
+    assert!(rt; other.get(2) == Some(true));
+    Ok(())
+}
+
+#[test]
+fn bits_of_one_owner_behind_others_are_copied_to_change(rt: HostRuntime) -> Result<(), Fail> {
+    let mut window = roomy(rt.alloc())?.sliced(1, 2);
+    assert!(rt; turn(&mut window)? < 1000);
+    assert!(rt; (window.get(0), window.get(1)) == (Some(false), Some(true)));
+    Ok(())
+}
+
+#[test]
+fn first_bits_of_one_owner_are_changed_in_place(rt: HostRuntime) -> Result<(), Fail> {
+    let mut window = roomy(rt.alloc())?.sliced(0, 2);
+    assert!(rt; turn(&mut window)? >= 1000);
+    assert!(rt; window.len() == 2 && window.unset_bits() == 2);
     Ok(())
 }
 

@@ -1,3 +1,5 @@
+ghost use Rattle.std.specs.Prelude.{◌≡◌, length, IfOk};
+
 use columnar_memory_buffer::{Buffer, Bytes};
 use columnar_memory_types::Error;
 use either::Either;
@@ -29,6 +31,27 @@ fn vector_of(buffer: Buffer<u16>) -> Option<Vec<u16>> {
         Either::Left(_) => None,
         Either::Right(values) => Some(values),
     }
+}
+
+// Three numbers, in a vector with room for a hundred.
+fn roomy(alloc: Global) -> Result<Buffer<u16>, Error>
+    ensures { IfOk result (λ buffer. length buffer ≡ 3) }
+{
+    let mut values = Vec::with_capacity(alloc, 100)?;
+    values.extend_from_slice(&[1u16, 2, 3])?;
+    Buffer::from_vec(values)
+}
+
+// Turns the order, and says for how many numbers the vector had room that was turned.
+fn turn(buffer: &mut Buffer<u16>) -> Result<usize, Error> {
+    let mut room = 0;
+    buffer.apply_mut(|values| {
+        let mut values = values;
+        values.reverse();
+        room = values.capacity();
+        values
+    })?;
+    Ok(room)
 }
 
 #[test]
@@ -94,5 +117,36 @@ fn one_owner_gets_its_vector_back(rt: HostRuntime) -> Result<(), Fail> {
 #[test]
 fn a_new_buffer_is_empty(rt: HostRuntime) -> Result<(), Fail> {
     assert!(rt; Buffer::<u16>::new(rt.alloc())?.is_empty());
+    Ok(())
+}
+
+#[test]
+fn the_vector_of_one_owner_is_changed_in_place(rt: HostRuntime) -> Result<(), Fail> {
+    let mut one = roomy(rt.alloc())?;
+    let room = turn(&mut one)?;
+    let shown = one.as_slice() == [3u16, 2, 1].as_slice();
+    let kept = vector_of(one).map(|values| values.capacity() >= 100);
+    assert!(rt; room >= 100 && shown);
+    assert_eq!(rt; kept, Some(true));
+    Ok(())
+}
+
+#[test]
+fn a_shared_vector_is_copied_to_change(rt: HostRuntime) -> Result<(), Fail> {
+    let one = roomy(rt.alloc())?;
+    let mut other = one.clone()?;
+    let room = turn(&mut other)?;
+    assert!(rt; room < 100);
+    assert_eq!(rt; one.as_slice(), [1u16, 2, 3].as_slice());
+    assert_eq!(rt; other.as_slice(), [3u16, 2, 1].as_slice());
+    Ok(())
+}
+
+#[test]
+fn a_window_is_copied_to_change(rt: HostRuntime) -> Result<(), Fail> {
+    let mut window = roomy(rt.alloc())?.sliced(1, 2);
+    let room = turn(&mut window)?;
+    assert!(rt; room < 100);
+    assert_eq!(rt; window.as_slice(), [3u16, 2].as_slice());
     Ok(())
 }

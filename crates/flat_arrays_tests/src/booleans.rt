@@ -1,4 +1,6 @@
-use columnar_memory::{DataType, Error};
+ghost use Rattle.std.specs.Prelude.{◌≡◌, length, IfOk};
+
+use columnar_memory::{DataType, Error, MutableBitmap};
 use flat_arrays::BooleanArray;
 use std::alloc::Global;
 use std::test::Fail;
@@ -52,13 +54,57 @@ fn values_of_an_iterator_are_copied(rt: HostRuntime) -> Result<(), Fail> {
     Ok(())
 }
 
+// Three booleans and no null, in bytes with room for a thousand.
+fn roomy(alloc: Global) -> Result<BooleanArray, Error>
+    ensures { IfOk result (λ array. length array.values ≡ 3) }
+{
+    let mut values = MutableBitmap::with_capacity(alloc, 1000)?;
+    values.extend_constant(2, true)?;
+    values.push(false)?;
+    BooleanArray::try_new(DataType::Boolean, values.freeze()?, None)
+}
+
+// Turns each value, and says for how many of them the bytes had room that were turned.
+fn turn(array: &mut BooleanArray) -> Result<usize, Error> {
+    let mut room = 0;
+    array.apply_values_mut(|values| {
+        room = values.capacity();
+        !values
+    })?;
+    Ok(room)
+}
+
 #[test]
-fn changed_values_are_the_arrays(rt: HostRuntime) -> Result<(), Fail> {
-    let mut array = three(rt.alloc())?;
+fn values_of_one_owner_are_changed_in_place(rt: HostRuntime) -> Result<(), Fail> {
+    let mut array = roomy(rt.alloc())?;
+    let rooms = (turn(&mut array)?, turn(&mut array)?);
+    let unset = array.values().unset_bits();
+    drop(array);
+    assert!(rt; rooms.0 >= 1000 && rooms.1 >= 1000);
+    assert_eq!(rt; unset, 1);
+    Ok(())
+}
+
+#[test]
+fn shared_values_are_copied_to_change(rt: HostRuntime) -> Result<(), Fail> {
+    let mut array = roomy(rt.alloc())?;
     let same = array.clone()?;
-    assert!(rt; array.apply_values_mut(|values| values).is_ok());
-    assert!(rt; array == same);
+    let room = turn(&mut array)?;
+    let unset = (array.values().unset_bits(), same.values().unset_bits());
     drop(same);
     drop(array);
+    assert!(rt; room < 1000);
+    assert_eq!(rt; unset, (2, 1));
+    Ok(())
+}
+
+#[test]
+fn values_of_a_slice_are_copied_to_change(rt: HostRuntime) -> Result<(), Fail> {
+    let mut array = roomy(rt.alloc())?.sliced(1, 2);
+    let room = turn(&mut array)?;
+    let slots = (array.get(0), array.get(1));
+    drop(array);
+    assert!(rt; room < 1000);
+    assert_eq!(rt; slots, (Some(false), Some(true)));
     Ok(())
 }

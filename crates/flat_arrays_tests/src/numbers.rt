@@ -1,4 +1,6 @@
-use columnar_memory::{DataType, Error};
+ghost use Rattle.std.specs.Prelude.{◌≡◌, length, IfOk};
+
+use columnar_memory::{Buffer, DataType, Error};
 use flat_arrays::Int32Array;
 use std::alloc::Global;
 use std::test::Fail;
@@ -51,13 +53,56 @@ fn values_of_an_iterator_are_copied(rt: HostRuntime) -> Result<(), Fail> {
     Ok(())
 }
 
+// Three numbers and no null, in a vector with room for a hundred.
+fn roomy(alloc: Global) -> Result<Int32Array, Error>
+    ensures { IfOk result (λ array. length array.values ≡ 3) }
+{
+    let mut values = Vec::with_capacity(alloc, 100)?;
+    values.extend_from_slice(&[1, 2, 3])?;
+    Int32Array::try_new(DataType::Int32, Buffer::from_vec(values)?, None)
+}
+
+// Turns the order of the values, and says for how many of them the vector had room that was turned.
+fn turn(array: &mut Int32Array) -> Result<usize, Error> {
+    let mut room = 0;
+    array.apply_values_mut(|values| {
+        let mut values = values;
+        values.reverse();
+        room = values.capacity();
+        values
+    })?;
+    Ok(room)
+}
+
 #[test]
-fn changed_values_are_the_arrays(rt: HostRuntime) -> Result<(), Fail> {
-    let mut array = gathered(rt.alloc())?;
+fn values_of_one_owner_are_changed_in_place(rt: HostRuntime) -> Result<(), Fail> {
+    let mut array = roomy(rt.alloc())?;
+    let rooms = (turn(&mut array)?, turn(&mut array)?);
+    let shown = array.values().as_slice() == [1i32, 2, 3].as_slice();
+    drop(array);
+    assert!(rt; rooms.0 >= 100 && rooms.1 >= 100 && shown);
+    Ok(())
+}
+
+#[test]
+fn shared_values_are_copied_to_change(rt: HostRuntime) -> Result<(), Fail> {
+    let mut array = roomy(rt.alloc())?;
     let same = array.clone()?;
-    assert!(rt; array.apply_values_mut(|values| values).is_ok());
-    assert!(rt; array == same);
+    let room = turn(&mut array)?;
+    let shown = array.values().as_slice() == [3i32, 2, 1].as_slice();
+    let kept = same.values().as_slice() == [1i32, 2, 3].as_slice();
     drop(same);
     drop(array);
+    assert!(rt; room < 100 && shown && kept);
+    Ok(())
+}
+
+#[test]
+fn values_of_a_slice_are_copied_to_change(rt: HostRuntime) -> Result<(), Fail> {
+    let mut array = roomy(rt.alloc())?.sliced(1, 2);
+    let room = turn(&mut array)?;
+    let shown = array.values().as_slice() == [3i32, 2].as_slice();
+    drop(array);
+    assert!(rt; room < 100 && shown);
     Ok(())
 }

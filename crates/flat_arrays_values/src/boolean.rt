@@ -265,10 +265,11 @@ impl BooleanArray {
         apply_to_mask(&mut self.validity, f);
     }
 
-    /// Replaces the values by what a function makes of a copy of them, as many.
+    /// Replaces the values by what a function makes of them, as many: of the bytes themselves, with no copy and no memory taken, where this
+    /// is their one owner and the first value stands first in them; else of a copy.
     ///
     /// # Errors
-    /// `OutOfMemory`: the copy or the count of owners found no memory. The array is as it was.
+    /// `OutOfMemory`: the copy or its count of owners found no memory. The array is as it was.
     pub fn apply_values_mut<F: FnOnce(MutableBitmap) -> MutableBitmap + Drop>(
         &mut self,
         f: F,
@@ -279,8 +280,6 @@ impl BooleanArray {
             (λ _. (made : List Bool) × F.post f self.old.values made × (self.new ≡ flat self.old.data_type made self.old.validity))
             (λ e. IsOutOfMemory e × (self.new ≡ self.old)) }
     {
-        let values = self.values.clone()?.make_mut()?;
-        self.values = f(values).freeze()?;
-        Ok(())
+        self.values.apply_mut(f)
     }
 }

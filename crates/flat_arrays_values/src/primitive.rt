@@ -269,21 +269,20 @@ impl<T: NativeType> PrimitiveArray<T> {
         apply_to_mask(&mut self.validity, f);
     }
 
-    /// Replaces the values by what a function makes of a copy of them, as many.
+    /// Replaces the values by what a function makes of them, as many: of the vector itself, with no copy and no memory taken, where this
+    /// is the one owner of the values and a window on all of them; else of a copy.
     ///
     /// # Errors
-    /// `OutOfMemory`: the copy or the count of owners found no memory. The array is as it was.
+    /// `OutOfMemory`: the copy or its count of owners found no memory. The array is as it was.
     pub fn apply_values_mut<F: FnOnce(Vec<T>) -> Vec<T> + Drop>(&mut self, f: F) -> Result<()>
-        requires callable { (copy : Vec T Global) → copy.items ≡ self.old.values → F.pre f copy }
-        requires keeps { (copy made : Vec T Global) → copy.items ≡ self.old.values → F.post f copy made
+        requires callable { (values : Vec T Global) → values.items ≡ self.old.values → F.pre f values }
+        requires keeps { (values made : Vec T Global) → values.items ≡ self.old.values → F.post f values made
             → length made.items ≡ length self.old.values }
         ensures { MatchResult result
-            (λ _. (copy : Vec T Global) × (made : Vec T Global) × (copy.items ≡ self.old.values) × F.post f copy made
+            (λ _. (values made : Vec T Global) × (values.items ≡ self.old.values) × F.post f values made
             × (self.new ≡ flat self.old.data_type made.items self.old.validity))
             (λ e. IsOutOfMemory e × (self.new ≡ self.old)) }
     {
-        let copy = Vec::from_slice(self.values.allocator(), self.values.as_slice())?;
-        self.values = Buffer::from_vec(f(copy))?;
-        Ok(())
+        self.values.apply_mut(f)
     }
 }
