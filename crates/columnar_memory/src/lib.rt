@@ -17,8 +17,8 @@ pub use columnar_memory_buffer::{
 };
 pub use columnar_memory_kernels::bitmap::bits::{
     BitChunk, BitChunkIter, BitChunkIterExact, BitChunkOnes, BitChunks, BitChunksExact,
-    BitChunksExactMut, BitmapIter, Validity, ZipValidity, ZipValidityIter, bytes_for, count_zeros,
-    fmt, get_bit, is_set, set, set_bit,
+    BitChunksExactMut, BitmapIter, ChunkWidth, Validity, ZipValidity, ZipValidityIter, bytes_for,
+    count_zeros, fmt, get_bit, is_set, set, set_bit,
 };
 pub use columnar_memory_kernels::bitmap::{
     BitGatherer, Bitmap, IntoIter as BitmapIntoIter, MutableBitmap, SlicesIterator,

@@ -145,7 +145,7 @@ impl Bitmap {
 
     /// The bits in whole chunks, and the bits behind them.
     pub fn chunks<T: BitChunk>(&self) -> BitChunks<'_, T>
-        ensures { result ≡ (whole_words T.width self.now, rest_bits T.width self.now) }
+        ensures { result ≡ (whole_words T.bits self.now, rest_bits T.bits self.now) }
     {
         BitChunks::new(&self.bytes, self.offset, self.len)
     }

@@ -1,57 +1,71 @@
-ghost use Rattle.std.specs.Prelude.{◌≡◌, ℕ, ◌%◌, ◌^◌, ◌<◌, ◌≤◌};
-ghost use Rattle.std.proofs.Common.{rules};
+ghost use Rattle.std.specs.Prelude.{◌≡◌, ℕ, ◌*◌, ◌/◌, ◌%◌, ◌^◌, ◌<◌, ◌≤◌, bit_and, bit_or, bit_xor};
+ghost use Rattle.std.proofs.Common.{refl, rules};
 ghost use Rattle.std.specs.Int as number;
-ghost use Rattle.std.specs.Int.{w8, w16, w32, w64};
+ghost use Rattle.std.specs.Int.{bit_not, w8, w16, w32, w64};
+ghost use Rattle.num_traits.specs.Laws.{bit_len};
 
-/// An unsigned type whose bits are a chunk of booleans, the first in the least significant bit. Its bytes are those of this project's
-/// machines, the least significant first.
-pub trait BitChunk: Copy + Drop {
-    type Bytes;
+use num_traits::PrimInt;
 
+/// A type that has as many bits as a chunk: whole bytes of them, and no more than 64.
+pub trait ChunkWidth {
     // How many bits it has.
-    ghost width: { ℕ };
+    ghost bits: { ℕ };
 
-    // The number of a value.
-    ghost value: { Self → ℕ };
+    /// How many bits the type has.
+    fn bits() -> usize
+        ensures { result ≡ bits };
+
+    ghost few: { bits ≤ 64 };
+
+    ghost some: { 0 < bits };
+
+    // It is whole bytes.
+    ghost whole: { bits % 8 ≡ 0 };
+}
+
+/// An unsigned type whose bits are a chunk of booleans, the first in the least significant bit, with the operators of primitive integers. Its
+/// bytes are those of this project's machines, the least significant first.
+pub trait BitChunk: PrimInt + ChunkWidth {
+    type Bytes;
 
     // The bytes of a number.
     ghost bytes: { ℕ → Self.Bytes };
 
-    /// How many bits the type has.
-    fn bits() -> usize
-        ensures { result ≡ width };
-
     /// The value as a word, its further bits zeros.
     fn to_word(self) -> u64
-        ensures { result ≡ value self };
+        ensures { result ≡ Self.bits_of self };
 
     /// The value of a word that fits.
     fn from_word(word: u64) -> Self
-        requires { word < 2 ^ width }
-        ensures { value result ≡ word };
+        requires { word < 2 ^ Self.bits }
+        ensures { Self.bits_of result ≡ word };
 
     fn to_ne_bytes(self) -> Self::Bytes
-        ensures { result ≡ bytes (value self) };
+        ensures { result ≡ bytes (Self.bits_of self) };
 
     fn from_ne_bytes(raw: Self::Bytes) -> Self
-        ensures { bytes (value result) ≡ raw };
+        ensures { bytes (Self.bits_of result) ≡ raw };
 
-    ghost few: { width ≤ 64 };
+    // Its bits are all that the type has.
+    ghost bits_law: { Self.bits ≡ bit_len Self.width };
 
-    ghost some: { 0 < width };
+    // What operators make of the bits; those that a shift moves out are let go.
+    ghost bits_of_not: { (a r : Self) → Self.not_gives a r → Self.bits_of r ≡ bit_not Self.width (Self.bits_of a) };
 
-    // It is whole bytes.
-    ghost whole: { width % 8 ≡ 0 };
+    ghost bits_of_and: { (a b r : Self) → Self.bitand_gives a b r → Self.bits_of r ≡ bit_and (Self.bits_of a) (Self.bits_of b) };
+
+    ghost bits_of_or: { (a b r : Self) → Self.bitor_gives a b r → Self.bits_of r ≡ bit_or (Self.bits_of a) (Self.bits_of b) };
+
+    ghost bits_of_xor: { (a b r : Self) → Self.bitxor_gives a b r → Self.bits_of r ≡ bit_xor (Self.bits_of a) (Self.bits_of b) };
+
+    ghost bits_of_shl: { (a : Self) (k : ℕ) (r : Self) → Self.shl_gives a k r
+        → Self.bits_of r ≡ Self.bits_of a * 2 ^ k % 2 ^ Self.bits };
+
+    ghost bits_of_shr: { (a : Self) (k : ℕ) (r : Self) → Self.shr_gives a k r → Self.bits_of r ≡ Self.bits_of a / 2 ^ k };
 }
 
-impl BitChunk for u8 {
-    type Bytes = [u8; 1];
-
-    ghost width = { 8 };
-
-    ghost value = { λ n. n };
-
-    ghost bytes = { number.to_le_bytes w8 };
+impl ChunkWidth for u8 {
+    ghost bits = { 8 };
 
     ghost few = { Prim.search rules };
 
@@ -62,6 +76,26 @@ impl BitChunk for u8 {
     fn bits() -> usize {
         8
     }
+}
+
+impl BitChunk for u8 {
+    type Bytes = [u8; 1];
+
+    ghost bytes = { number.to_le_bytes w8 };
+
+    ghost bits_law = { refl };
+
+    ghost bits_of_not = { λ a r given. given };
+
+    ghost bits_of_and = { λ a b r given. given };
+
+    ghost bits_of_or = { λ a b r given. given };
+
+    ghost bits_of_xor = { λ a b r given. given };
+
+    ghost bits_of_shl = { λ a k r given. given };
+
+    ghost bits_of_shr = { λ a k r given. given };
 
     fn to_word(self) -> u64 {
         u64::from(self)
@@ -80,14 +114,8 @@ impl BitChunk for u8 {
     }
 }
 
-impl BitChunk for u16 {
-    type Bytes = [u8; 2];
-
-    ghost width = { 16 };
-
-    ghost value = { λ n. n };
-
-    ghost bytes = { number.to_le_bytes w16 };
+impl ChunkWidth for u16 {
+    ghost bits = { 16 };
 
     ghost few = { Prim.search rules };
 
@@ -98,6 +126,26 @@ impl BitChunk for u16 {
     fn bits() -> usize {
         16
     }
+}
+
+impl BitChunk for u16 {
+    type Bytes = [u8; 2];
+
+    ghost bytes = { number.to_le_bytes w16 };
+
+    ghost bits_law = { refl };
+
+    ghost bits_of_not = { λ a r given. given };
+
+    ghost bits_of_and = { λ a b r given. given };
+
+    ghost bits_of_or = { λ a b r given. given };
+
+    ghost bits_of_xor = { λ a b r given. given };
+
+    ghost bits_of_shl = { λ a k r given. given };
+
+    ghost bits_of_shr = { λ a k r given. given };
 
     fn to_word(self) -> u64 {
         u64::from(self)
@@ -116,14 +164,8 @@ impl BitChunk for u16 {
     }
 }
 
-impl BitChunk for u32 {
-    type Bytes = [u8; 4];
-
-    ghost width = { 32 };
-
-    ghost value = { λ n. n };
-
-    ghost bytes = { number.to_le_bytes w32 };
+impl ChunkWidth for u32 {
+    ghost bits = { 32 };
 
     ghost few = { Prim.search rules };
 
@@ -134,6 +176,26 @@ impl BitChunk for u32 {
     fn bits() -> usize {
         32
     }
+}
+
+impl BitChunk for u32 {
+    type Bytes = [u8; 4];
+
+    ghost bytes = { number.to_le_bytes w32 };
+
+    ghost bits_law = { refl };
+
+    ghost bits_of_not = { λ a r given. given };
+
+    ghost bits_of_and = { λ a b r given. given };
+
+    ghost bits_of_or = { λ a b r given. given };
+
+    ghost bits_of_xor = { λ a b r given. given };
+
+    ghost bits_of_shl = { λ a k r given. given };
+
+    ghost bits_of_shr = { λ a k r given. given };
 
     fn to_word(self) -> u64 {
         u64::from(self)
@@ -152,14 +214,8 @@ impl BitChunk for u32 {
     }
 }
 
-impl BitChunk for u64 {
-    type Bytes = [u8; 8];
-
-    ghost width = { 64 };
-
-    ghost value = { λ n. n };
-
-    ghost bytes = { number.to_le_bytes w64 };
+impl ChunkWidth for u64 {
+    ghost bits = { 64 };
 
     ghost few = { Prim.search rules };
 
@@ -170,6 +226,26 @@ impl BitChunk for u64 {
     fn bits() -> usize {
         64
     }
+}
+
+impl BitChunk for u64 {
+    type Bytes = [u8; 8];
+
+    ghost bytes = { number.to_le_bytes w64 };
+
+    ghost bits_law = { refl };
+
+    ghost bits_of_not = { λ a r given. given };
+
+    ghost bits_of_and = { λ a b r given. given };
+
+    ghost bits_of_or = { λ a b r given. given };
+
+    ghost bits_of_xor = { λ a b r given. given };
+
+    ghost bits_of_shl = { λ a k r given. given };
+
+    ghost bits_of_shr = { λ a k r given. given };
 
     fn to_word(self) -> u64 {
         u64::from(self)

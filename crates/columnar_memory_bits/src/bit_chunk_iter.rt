@@ -38,8 +38,8 @@ impl<T: BitChunk> Model for BitChunkIter<T> {
 impl<T: BitChunk> BitChunkIter<T> {
     /// The first `len` bits of a chunk.
     pub fn new(value: T, len: usize) -> Self
-        requires { len ≤ T.width }
-        ensures { result ≡ word_bits len (T.value value) }
+        requires { len ≤ T.bits }
+        ensures { result ≡ word_bits len (T.bits_of value) }
     {
         BitChunkIter {
             word: value.to_word(),
@@ -89,7 +89,7 @@ impl<T: BitChunk> Model for BitChunkOnes<T> {
 
 impl<T: BitChunk> BitChunkOnes<T> {
     pub fn new(value: T) -> Self
-        ensures { result ≡ set_places (T.value value) 0 T.width }
+        ensures { result ≡ set_places (T.bits_of value) 0 T.bits }
     {
         BitChunkOnes {
             word: value.to_word(),

@@ -28,12 +28,12 @@ impl<'a, T: BitChunk> Model for BitChunks<'a, T> {
 
     ghost Value = { List ℕ × List Bool };
 
-    ghost view = { λ it. (words_from T.width it.bytes.now it.start it.chunks, bits_of it.bytes.now (it.start + T.width * it.chunks) it.rest) };
+    ghost view = { λ it. (words_from T.bits it.bytes.now it.start it.chunks, bits_of it.bytes.now (it.start + T.bits * it.chunks) it.rest) };
 
     ghost invariant = { λ it.
-        (it.start + T.width * it.chunks + it.rest ≤ 8 * length it.bytes.now)
-        × (it.start + T.width * it.chunks + it.rest < 2 ^ 64)
-        × (it.rest < T.width) };
+        (it.start + T.bits * it.chunks + it.rest ≤ 8 * length it.bytes.now)
+        × (it.start + T.bits * it.chunks + it.rest < 2 ^ 64)
+        × (it.rest < T.bits) };
 }
 
 impl<'a, T: BitChunk> BitChunks<'a, T> {
@@ -41,7 +41,7 @@ impl<'a, T: BitChunk> BitChunks<'a, T> {
     pub fn new(bytes: &'a [u8], offset: usize, len: usize) -> Self
         requires in_range { offset + len ≤ 8 * length bytes.now }
         requires fits { offset + len < 2 ^ 64 }
-        ensures { result ≡ (whole_words T.width (bits_of bytes.now offset len), rest_bits T.width (bits_of bytes.now offset len)) }
+        ensures { result ≡ (whole_words T.bits (bits_of bytes.now offset len), rest_bits T.bits (bits_of bytes.now offset len)) }
     {
         BitChunks {
             bytes,
@@ -54,7 +54,7 @@ impl<'a, T: BitChunk> BitChunks<'a, T> {
 
     /// The bits behind the last chunk, as a chunk whose further bits are zeros.
     pub fn remainder(&self) -> T
-        ensures { T.value result ≡ word self.now.1 }
+        ensures { T.bits_of result ≡ word self.now.1 }
     {
         T::from_word(load_word(self.bytes, self.start + T::bits() * self.chunks, self.rest))
     }
@@ -62,7 +62,7 @@ impl<'a, T: BitChunk> BitChunks<'a, T> {
     /// How many bits stand behind the last chunk.
     pub fn remainder_len(&self) -> usize
         ensures len { result ≡ length self.now.1 }
-        ensures fewer { result < T.width }
+        ensures fewer { result < T.bits }
     {
         self.rest
     }
@@ -71,7 +71,7 @@ impl<'a, T: BitChunk> BitChunks<'a, T> {
 impl<'a, T: BitChunk> Iterator for BitChunks<'a, T> {
     type Item = T;
 
-    ghost next_gives = { YieldsWord T.value };
+    ghost next_gives = { YieldsWord T.bits_of };
 
     ghost remaining = { item_count (λ s. s.0) };
 

@@ -16,12 +16,12 @@ pub trait BitChunkIterExact<B: BitChunk>: Iterator<Item = B> {
 
     /// The bits behind the last chunk, as a chunk whose further bits are zeros.
     fn remainder(&self) -> B
-        ensures { B.value result ≡ word (rest self.now) };
+        ensures { B.bits_of result ≡ word (rest self.now) };
 
     /// How many bits stand behind the last chunk.
     fn remainder_len(&self) -> usize
         ensures len { result ≡ length (rest self.now) }
-        ensures fewer { result < B.width };
+        ensures fewer { result < B.bits };
 
     /// The bits behind the last chunk.
     fn remainder_iter(&self) -> BitChunkIter<B>
@@ -61,7 +61,7 @@ impl<'a, T: BitChunk> BitChunksExact<'a, T> {
     /// The first `len` bits.
     pub fn new(bytes: &'a [u8], len: usize) -> Self
         requires { len ≤ 8 * length bytes.now }
-        ensures { result ≡ (whole_words T.width (bits_of bytes.now 0 len), rest_bits T.width (bits_of bytes.now 0 len)) }
+        ensures { result ≡ (whole_words T.bits (bits_of bytes.now 0 len), rest_bits T.bits (bits_of bytes.now 0 len)) }
     {
         BitChunksExact {
             chunks: BitChunks::new(bytes, 0, len),
@@ -84,7 +84,7 @@ impl<'a, T: BitChunk> BitChunksExact<'a, T> {
 
     /// The bits behind the last chunk, as a chunk whose further bits are zeros.
     pub fn remainder(&self) -> T
-        ensures { T.value result ≡ word self.now.1 }
+        ensures { T.bits_of result ≡ word self.now.1 }
     {
         BitChunks::remainder(&self.chunks)
     }
@@ -92,7 +92,7 @@ impl<'a, T: BitChunk> BitChunksExact<'a, T> {
     /// How many bits stand behind the last chunk.
     pub fn remainder_len(&self) -> usize
         ensures len { result ≡ length self.now.1 }
-        ensures fewer { result < T.width }
+        ensures fewer { result < T.bits }
     {
         BitChunks::remainder_len(&self.chunks)
     }
@@ -101,7 +101,7 @@ impl<'a, T: BitChunk> BitChunksExact<'a, T> {
 impl<'a, T: BitChunk> Iterator for BitChunksExact<'a, T> {
     type Item = T;
 
-    ghost next_gives = { YieldsWord T.value };
+    ghost next_gives = { YieldsWord T.bits_of };
 
     ghost remaining = { item_count (λ s. s.0) };
 

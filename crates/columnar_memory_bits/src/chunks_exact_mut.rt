@@ -3,21 +3,21 @@ ghost use Rattle.std.specs.Iterator.{at_most};
 ghost use Rattle.columnar_memory_bits.specs.Bits as format;
 ghost use Rattle.columnar_memory_bits.specs.ChunksMut.{LendsChunk};
 
-use crate::bit_chunk::BitChunk;
+use crate::bit_chunk::ChunkWidth;
 use crate::utils::bytes_for;
 use std::marker::{Model, PhantomData};
 use std::slice::ChunksExactMut;
 
 /// The bytes of some bits in chunks, lent to be written, each as many bytes as a chunk has.
 #[derive(Drop)]
-pub struct BitChunksExactMut<'a, T: BitChunk> {
+pub struct BitChunksExactMut<'a, T: ChunkWidth> {
     chunks: ChunksExactMut<'a, u8>,
     rest: &'a mut [u8],
     rest_len: usize,
     kind: PhantomData<T>,
 }
 
-impl<'a, T: BitChunk> Model for BitChunksExactMut<'a, T> {
+impl<'a, T: ChunkWidth> Model for BitChunksExactMut<'a, T> {
     ghost use Rattle.std.specs.Prelude.{◌≡◌, ◌*◌, ◌<◌};
     ghost use Rattle.std.specs.Slice.Iter.{chunks_exact_mut_rest, chunks_exact_mut_size};
     ghost use Rattle.columnar_memory_bits.specs.ChunksMut.{ChunksLeft};
@@ -26,10 +26,10 @@ impl<'a, T: BitChunk> Model for BitChunksExactMut<'a, T> {
 
     ghost view = { λ it. record { chunks = chunks_exact_mut_rest it.chunks; rest = it.rest.now; rest_len = it.rest_len } };
 
-    ghost invariant = { λ it. (8 * chunks_exact_mut_size it.chunks ≡ T.width) × (it.rest_len < T.width) };
+    ghost invariant = { λ it. (8 * chunks_exact_mut_size it.chunks ≡ T.bits) × (it.rest_len < T.bits) };
 }
 
-impl<'a, T: BitChunk> BitChunksExactMut<'a, T> {
+impl<'a, T: ChunkWidth> BitChunksExactMut<'a, T> {
     ghost use mir.Syntax.{named};
     ghost use Rattle.std.specs.Prelude.{[]};
     ghost use Rattle.std.specs.Borrow.{Array, Lends, sem, u8};
@@ -39,9 +39,9 @@ impl<'a, T: BitChunk> BitChunksExactMut<'a, T> {
     /// The first `len` bits.
     pub fn new(bitmap: &'a mut [u8], len: usize) -> Self
         requires { len ≤ 8 * length bitmap.old }
-        ensures chunks { result.chunks ≡ take (len / T.width * (T.width / 8)) bitmap.old }
+        ensures chunks { result.chunks ≡ take (len / T.bits * (T.bits / 8)) bitmap.old }
         ensures rest { result.chunks ++ result.rest ≡ take (format.bytes_for len) bitmap.old }
-        ensures rest_len { result.rest_len ≡ len % T.width }
+        ensures rest_len { result.rest_len ≡ len % T.bits }
     {
         let width = T::bits();
         let bytes = &mut bitmap[..bytes_for(len)];
@@ -56,7 +56,7 @@ impl<'a, T: BitChunk> BitChunksExactMut<'a, T> {
 
     /// The bytes behind the last chunk.
     pub fn remainder(&mut self) -> &mut [u8]
-        ensures* written { sem 𝓛 (Lends (the_row (record { mir = named 0; lft = [] }) T.row T.Bytes.row T.BitChunk) (Array u8 0)
+        ensures* written { sem 𝓛 (Lends (the_row (record { mir = named 0; lft = [] }) T.row T.ChunkWidth) (Array u8 0)
             self.entry result (with_rest self.old)) }
         ensures shown { result.now ≡ self.old.rest }
     {
@@ -66,18 +66,18 @@ impl<'a, T: BitChunk> BitChunksExactMut<'a, T> {
     /// How many bits stand behind the last chunk.
     pub fn remainder_len(&self) -> usize
         ensures len { result ≡ self.now.rest_len }
-        ensures fewer { result < T.width }
+        ensures fewer { result < T.bits }
     {
         self.rest_len
     }
 }
 
-impl<'a, T: BitChunk> Iterator for BitChunksExactMut<'a, T> {
+impl<'a, T: ChunkWidth> Iterator for BitChunksExactMut<'a, T> {
     type Item = &'a mut [u8];
 
-    ghost next_gives = { LendsChunk T.width };
+    ghost next_gives = { LendsChunk T.bits };
 
-    ghost remaining = { λ it. at_most (8 * length it.chunks / T.width) };
+    ghost remaining = { λ it. at_most (8 * length it.chunks / T.bits) };
 
     fn next(&mut self) -> Option<&'a mut [u8]> {
         self.chunks.next()

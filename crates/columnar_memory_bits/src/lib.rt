@@ -19,7 +19,7 @@ mod zip_validity;
 mod zip_validity_iter;
 
 pub use append::{append_bits, append_constant, append_word, keep_bits};
-pub use bit_chunk::BitChunk;
+pub use bit_chunk::{BitChunk, ChunkWidth};
 pub use bit_chunk_iter::{BitChunkIter, BitChunkOnes};
 pub use chunk_iterator::BitChunks;
 pub use chunks_exact::{BitChunkIterExact, BitChunksExact};

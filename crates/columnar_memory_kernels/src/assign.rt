@@ -12,7 +12,7 @@ use columnar_memory_bitmap::{Bitmap, MutableBitmap};
 fn assign_one<T: BitChunk, F: Fn(T) -> T>(bytes: &mut [u8], len: usize, op: F)
     requires callable { F.IsAlwaysCallable op }
     requires in_range { len ≤ 8 * length bytes.old }
-    ensures { IsWordwise T.width (λ k. AnswersOne T.value (F.post op) (word_at T.width (bits_of bytes.old 0 len) k)) len (bits_of bytes.new 0 len) }
+    ensures { IsWordwise T.bits (λ k. AnswersOne T.bits_of (F.post op) (word_at T.bits (bits_of bytes.old 0 len) k)) len (bits_of bytes.new 0 len) }
 {
     let width = T::bits();
     for k in 0..len.div_ceil(width) {
@@ -35,9 +35,9 @@ fn assign_two<T: BitChunk, F: Fn(T, T) -> T>(
     requires in_range { len ≤ 8 * length bytes.old }
     requires other_in_range { offset + len ≤ 8 * length other.now }
     requires other_fits { offset + len < 2 ^ 64 }
-    ensures { IsWordwise T.width (λ k. AnswersTwo T.value (F.post op)
-        (word_at T.width (bits_of bytes.old 0 len) k)
-        (word_at T.width (bits_of other.now offset len) k)) len (bits_of bytes.new 0 len) }
+    ensures { IsWordwise T.bits (λ k. AnswersTwo T.bits_of (F.post op)
+        (word_at T.bits (bits_of bytes.old 0 len) k)
+        (word_at T.bits (bits_of other.now offset len) k)) len (bits_of bytes.new 0 len) }
 {
     let width = T::bits();
     for k in 0..len.div_ceil(width) {
@@ -53,7 +53,7 @@ fn assign_two<T: BitChunk, F: Fn(T, T) -> T>(
 /// Writes the answers of a function to the words of a bitmap over them.
 fn unary_in_place<T: BitChunk, F: Fn(T) -> T>(lhs: &mut MutableBitmap, op: F)
     requires { F.IsAlwaysCallable op }
-    ensures { IsWordwise T.width (λ k. AnswersOne T.value (F.post op) (word_at T.width lhs.old k)) (length lhs.old) lhs.new }
+    ensures { IsWordwise T.bits (λ k. AnswersOne T.bits_of (F.post op) (word_at T.bits lhs.old k)) (length lhs.old) lhs.new }
 {
     let none = MutableBitmap::new(lhs.allocator());
     let (mut bytes, len) = std::mem::replace(lhs, none).into_inner();
@@ -65,7 +65,7 @@ fn unary_in_place<T: BitChunk, F: Fn(T) -> T>(lhs: &mut MutableBitmap, op: F)
 fn binary_in_place<T: BitChunk, F: Fn(T, T) -> T>(lhs: &mut MutableBitmap, rhs: &Bitmap, op: F)
     requires callable { F.IsAlwaysCallable op }
     requires lengths { length lhs.old ≡ length rhs.now }
-    ensures { IsWordwise T.width (λ k. AnswersTwo T.value (F.post op) (word_at T.width lhs.old k) (word_at T.width rhs.now k))
+    ensures { IsWordwise T.bits (λ k. AnswersTwo T.bits_of (F.post op) (word_at T.bits lhs.old k) (word_at T.bits rhs.now k))
         (length lhs.old) lhs.new }
 {
     let none = MutableBitmap::new(lhs.allocator());
@@ -79,8 +79,8 @@ fn binary_in_place<T: BitChunk, F: Fn(T, T) -> T>(lhs: &mut MutableBitmap, rhs: 
 /// is filled with false.
 pub fn unary_assign<T: BitChunk, F: Fn(T) -> T>(lhs: &mut MutableBitmap, op: F)
     requires { F.IsAlwaysCallable op }
-    ensures words { IsWordwise T.width (λ k. AnswersOne T.value (F.post op) (word_at T.width lhs.old k)) (length lhs.old) lhs.new }
-    ensures bits { (table : Bool → Bool) → TurnsValues T.value T.width table (F.post op) → lhs.new ≡ map table lhs.old }
+    ensures words { IsWordwise T.bits (λ k. AnswersOne T.bits_of (F.post op) (word_at T.bits lhs.old k)) (length lhs.old) lhs.new }
+    ensures bits { (table : Bool → Bool) → TurnsValues T.bits_of T.bits table (F.post op) → lhs.new ≡ map table lhs.old }
 {
     unary_in_place(lhs, op);
 }
@@ -90,9 +90,9 @@ pub fn unary_assign<T: BitChunk, F: Fn(T) -> T>(lhs: &mut MutableBitmap, op: F)
 pub fn binary_assign<T: BitChunk, F: Fn(T, T) -> T>(lhs: &mut MutableBitmap, rhs: &Bitmap, op: F)
     requires callable { F.IsAlwaysCallable op }
     requires lengths { length lhs.old ≡ length rhs.now }
-    ensures words { IsWordwise T.width (λ k. AnswersTwo T.value (F.post op) (word_at T.width lhs.old k) (word_at T.width rhs.now k))
+    ensures words { IsWordwise T.bits (λ k. AnswersTwo T.bits_of (F.post op) (word_at T.bits lhs.old k) (word_at T.bits rhs.now k))
         (length lhs.old) lhs.new }
-    ensures bits { (table : Bool → Bool → Bool) → CombinesValues T.value T.width table (F.post op) →
+    ensures bits { (table : Bool → Bool → Bool) → CombinesValues T.bits_of T.bits table (F.post op) →
         lhs.new ≡ pairwise table lhs.old rhs.now }
 {
     binary_in_place(lhs, rhs, op);

@@ -1,3 +1,6 @@
+ghost use Rattle.std.specs.Prelude.{◌≡◌, ◌*◌, ◌/◌, ◌%◌, ◌^◌, ◌<◌, bit_and, count_ones};
+ghost use Rattle.std.specs.Int.{bit_not};
+
 use crate::cases::{BYTES, LENGTHS, bit, marked, unset};
 use columnar_memory_bits::{
     BitChunk, BitChunkIterExact, BitChunkOnes, BitChunks, BitChunksExact, BitChunksExactMut,
@@ -129,6 +132,35 @@ fn set_bits_of_a_chunk(rt: HostRuntime) {
     }
     assert!(rt; ones.next().is_none());
     assert!(rt; <u32 as BitChunk>::from_ne_bytes([1, 2, 0, 0]) == 513);
+}
+
+/// How many bits of a chunk are set that are not set in another, whatever the type of the chunks.
+fn ones_apart<T: BitChunk>(chunk: T, other: T) -> u32
+    ensures { result ≡ count_ones (bit_and (T.bits_of chunk) (bit_not T.width (T.bits_of other))) }
+{
+    (chunk & !other).count_ones()
+}
+
+/// The bits of a chunk one place further up; the last is let go.
+fn moved_up<T: BitChunk>(chunk: T) -> T
+    ensures { T.bits_of result ≡ T.bits_of chunk * 2 % 2 ^ T.bits }
+{
+    chunk << 1u32
+}
+
+/// The bits of a chunk some places further down.
+fn moved_down<T: BitChunk>(chunk: T, places: u32) -> T
+    requires { places < T.bits }
+    ensures { T.bits_of result ≡ T.bits_of chunk / 2 ^ places }
+{
+    chunk >> places
+}
+
+#[test]
+fn chunks_have_the_operators_of_integers(rt: HostRuntime) {
+    assert!(rt; ones_apart(0b1110u8, 0b0100) == 2 && ones_apart(u64::MAX, 1) == 63);
+    assert!(rt; moved_up(0b1000_0001u8) == 2 && moved_up(0b1000_0001u16) == 0b1_0000_0010);
+    assert!(rt; moved_down(0b1000_0001u32, 7) == 1);
 }
 
 #[test]

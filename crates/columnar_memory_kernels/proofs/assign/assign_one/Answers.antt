@@ -8,17 +8,17 @@ loop-k-init g c = record { callable = c.requires.callable; written = none_writte
 
 pub from_word-requires : goal.from_word-requires
 from_word-requires g c =
-    let few : c.bits_of_word-n.result ≤ g.T.BitChunk.width = omega (arith, c.bits_of_word-n.ensures.few, c.bits-width.ensures) in
-    word_fits c.loop-k.bytes _ c.bits_of_word-n.result g.T.BitChunk.width c.load_word.result few c.load_word.ensures
+    let few : c.bits_of_word-n.result ≤ g.T.ChunkWidth.bits = omega (arith, c.bits_of_word-n.ensures.few, c.bits-width.ensures) in
+    word_fits c.loop-k.bytes _ c.bits_of_word-n.result g.T.ChunkWidth.bits c.load_word.result few c.load_word.ensures
 
 pub loop-k-preserved : goal.loop-k-preserved
 loop-k-preserved g c =
     let n = c.bits_of_word-n.result in
-    let load = step_behind g.T.BitChunk.width c.bits-width.result c.args.len c.loop-k.k n c.bits-width.ensures c.bits_of_word-n.ensures.few
+    let load = step_behind g.T.ChunkWidth.bits c.bits-width.result c.args.len c.loop-k.k n c.bits-width.ensures c.bits_of_word-n.ensures.few
     c.bits_of_word-n.ensures.most _ _ _ c.load_word.result c.loop-k.invariant.written c.bits_of_word-n.ensures.within c.load_word.ensures in
     record {
       callable = c.loop-k.invariant.callable;
-      written = step_written g.T.BitChunk.width c.bits-width.result c.args.len c.loop-k.k n c.bits-width.ensures c.bits_of_word-n.ensures.few
+      written = step_written g.T.ChunkWidth.bits c.bits-width.result c.args.len c.loop-k.k n c.bits-width.ensures c.bits_of_word-n.ensures.few
           c.bits_of_word-n.ensures.most _ c.to_word.result _ _ _ c.loop-k.invariant.written record {
             given = c.from_word.result;
             result = c.op-answer.result;
@@ -31,5 +31,5 @@ loop-k-preserved g c =
 pub returns : goal.returns
 returns g c =
     let last : c.loop-k.k ≡ c.div_ceil-k-end.result = omega arith in
-    end_written g.T.BitChunk.width c.bits-width.result c.args.len c.loop-k.k c.div_ceil-k-end.result _ _ _ c.bits-width.ensures
-    g.met.T.BitChunk.some c.div_ceil-k-end.ensures last c.loop-k.invariant.written
+    end_written g.T.ChunkWidth.bits c.bits-width.result c.args.len c.loop-k.k c.div_ceil-k-end.result _ _ _ c.bits-width.ensures
+    g.met.T.ChunkWidth.some c.div_ceil-k-end.ensures last c.loop-k.invariant.written

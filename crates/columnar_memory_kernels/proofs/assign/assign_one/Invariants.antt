@@ -7,6 +7,6 @@ use Rattle.columnar_memory_kernels.proofs.assign.assign_one.Given as goal
 abbrev pub invariant-loop-k : goal.invariant-loop-k
 invariant-loop-k g l = record {
   callable : goal.F-IsAlwaysCallable g l.op;
-  written : IsWritten g.T.BitChunk.width (λ j. AnswersOne g.T.BitChunk.value (λ x y. g.F.Fn.post l.op (x, tt) y)
-      (word_at g.T.BitChunk.width (bits_of l.fn.bytes 0 l.len) j)) l.len l.k l.fn.bytes l.bytes;
+  written : IsWritten g.T.ChunkWidth.bits (λ j. AnswersOne g.T.FixedWidth.bits_of (λ x y. g.F.Fn.post l.op (x, tt) y)
+      (word_at g.T.ChunkWidth.bits (bits_of l.fn.bytes 0 l.len) j)) l.len l.k l.fn.bytes l.bytes;
 }

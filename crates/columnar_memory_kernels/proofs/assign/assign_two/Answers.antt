@@ -8,25 +8,25 @@ loop-k-init g c = record { callable = c.requires.callable; written = none_writte
 
 pub from_word-left-requires : goal.from_word-left-requires
 from_word-left-requires g c =
-    let few : c.bits_of_word-n.result ≤ g.T.BitChunk.width = omega (arith, c.bits_of_word-n.ensures.few, c.bits-width.ensures) in
-    word_fits c.loop-k.bytes _ c.bits_of_word-n.result g.T.BitChunk.width c.load_word.result few c.load_word.ensures
+    let few : c.bits_of_word-n.result ≤ g.T.ChunkWidth.bits = omega (arith, c.bits_of_word-n.ensures.few, c.bits-width.ensures) in
+    word_fits c.loop-k.bytes _ c.bits_of_word-n.result g.T.ChunkWidth.bits c.load_word.result few c.load_word.ensures
 
 pub from_word-right-requires : goal.from_word-right-requires
 from_word-right-requires g c =
-    let few : c.bits_of_word-n.result ≤ g.T.BitChunk.width = omega (arith, c.bits_of_word-n.ensures.few, c.bits-width.ensures) in
-    word_fits c.args.other.now _ c.bits_of_word-n.result g.T.BitChunk.width c.load_word-in-loop-k.result few c.load_word-in-loop-k.ensures
+    let few : c.bits_of_word-n.result ≤ g.T.ChunkWidth.bits = omega (arith, c.bits_of_word-n.ensures.few, c.bits-width.ensures) in
+    word_fits c.args.other.now _ c.bits_of_word-n.result g.T.ChunkWidth.bits c.load_word-in-loop-k.result few c.load_word-in-loop-k.ensures
 
 pub loop-k-preserved : goal.loop-k-preserved
 loop-k-preserved g c =
     let n = c.bits_of_word-n.result in
-    let left = step_behind g.T.BitChunk.width c.bits-width.result c.args.len c.loop-k.k n c.bits-width.ensures c.bits_of_word-n.ensures.few
+    let left = step_behind g.T.ChunkWidth.bits c.bits-width.result c.args.len c.loop-k.k n c.bits-width.ensures c.bits_of_word-n.ensures.few
     c.bits_of_word-n.ensures.most _ _ _ c.load_word.result c.loop-k.invariant.written c.bits_of_word-n.ensures.within c.load_word.ensures in
-    let right = step_other g.T.BitChunk.width c.bits-width.result c.args.len c.loop-k.k n c.bits-width.ensures c.bits_of_word-n.ensures.few
+    let right = step_other g.T.ChunkWidth.bits c.bits-width.result c.args.len c.loop-k.k n c.bits-width.ensures c.bits_of_word-n.ensures.few
     c.bits_of_word-n.ensures.most c.args.other.now c.args.offset c.load_word-in-loop-k.result c.bits_of_word-n.ensures.within
     c.load_word-in-loop-k.ensures in
     record {
       callable = c.loop-k.invariant.callable;
-      written = step_written g.T.BitChunk.width c.bits-width.result c.args.len c.loop-k.k n c.bits-width.ensures c.bits_of_word-n.ensures.few
+      written = step_written g.T.ChunkWidth.bits c.bits-width.result c.args.len c.loop-k.k n c.bits-width.ensures c.bits_of_word-n.ensures.few
           c.bits_of_word-n.ensures.most _ c.to_word.result _ _ _ c.loop-k.invariant.written record {
             left = c.from_word-left.result;
             right = c.from_word-right.result;
@@ -41,5 +41,5 @@ loop-k-preserved g c =
 pub returns : goal.returns
 returns g c =
     let last : c.loop-k.k ≡ c.div_ceil-k-end.result = omega arith in
-    end_written g.T.BitChunk.width c.bits-width.result c.args.len c.loop-k.k c.div_ceil-k-end.result _ _ _ c.bits-width.ensures
-    g.met.T.BitChunk.some c.div_ceil-k-end.ensures last c.loop-k.invariant.written
+    end_written g.T.ChunkWidth.bits c.bits-width.result c.args.len c.loop-k.k c.div_ceil-k-end.result _ _ _ c.bits-width.ensures
+    g.met.T.ChunkWidth.some c.div_ceil-k-end.ensures last c.loop-k.invariant.written

@@ -7,7 +7,7 @@ use Rattle.columnar_memory_kernels.proofs.assign.assign_two.Given as goal
 abbrev pub invariant-loop-k : goal.invariant-loop-k
 invariant-loop-k g l = record {
   callable : goal.F-IsAlwaysCallable g l.op;
-  written : IsWritten g.T.BitChunk.width (λ j. AnswersTwo g.T.BitChunk.value (λ x y z. g.F.Fn.post l.op (x, (y, tt)) z)
-      (word_at g.T.BitChunk.width (bits_of l.fn.bytes 0 l.len) j)
-      (word_at g.T.BitChunk.width (bits_of l.other l.offset l.len) j)) l.len l.k l.fn.bytes l.bytes;
+  written : IsWritten g.T.ChunkWidth.bits (λ j. AnswersTwo g.T.FixedWidth.bits_of (λ x y z. g.F.Fn.post l.op (x, (y, tt)) z)
+      (word_at g.T.ChunkWidth.bits (bits_of l.fn.bytes 0 l.len) j)
+      (word_at g.T.ChunkWidth.bits (bits_of l.other l.offset l.len) j)) l.len l.k l.fn.bytes l.bytes;
 }

@@ -4,7 +4,7 @@ use Rattle.columnar_memory_bits.proofs.chunk_iterator.BitChunks.remainder.Goals 
 
 pub from_word-requires : goal.from_word-requires
 from_word-requires g c =
-    word_fits c.self.inside.bytes.now _ c.self.inside.rest g.T.BitChunk.width c.load_word.result (omega (
+    word_fits c.self.inside.bytes.now _ c.self.inside.rest g.T.ChunkWidth.bits c.load_word.result (omega (
       arith,
       c.self.invariant.2,
     )) c.load_word.ensures

@@ -6,5 +6,5 @@ use Rattle.columnar_memory_bits.proofs.chunk_iterator.BitChunks.remainder_len.Go
 pub returns-clause-len : goal.returns-clause-len
 returns-clause-len g c =
     let it = c.self.inside in
-    sym (length_window (bit_at it.bytes.now) (it.start + g.T.BitChunk.width * it.chunks) it.rest)
+    sym (length_window (bit_at it.bytes.now) (it.start + g.T.ChunkWidth.bits * it.chunks) it.rest)
     ∙ ap (λ (s : List ℕ × List Bool). length s.1) c.self.view_is

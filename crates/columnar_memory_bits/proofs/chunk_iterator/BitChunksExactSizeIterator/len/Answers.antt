@@ -7,5 +7,5 @@ use Rattle.columnar_memory_bits.proofs.chunk_iterator.BitChunksExactSizeIterator
 pub returns-clause-value : goal.returns-clause-value
 returns-clause-value g c =
     let it = c.self.inside in
-    sym (length_window (λ k. word (bits_of it.bytes.now (it.start + g.T.BitChunk.width * k) g.T.BitChunk.width)) 0 it.chunks)
+    sym (length_window (λ k. word (bits_of it.bytes.now (it.start + g.T.ChunkWidth.bits * k) g.T.ChunkWidth.bits)) 0 it.chunks)
     ∙ ap (λ (s : List ℕ × List Bool). length s.0) c.self.view_is

@@ -5,7 +5,7 @@ use Rattle.columnar_memory_bits.proofs.chunk_iterator.BitChunksIterator.next.Goa
 
 pub from_word-chunk-requires : goal.from_word-chunk-requires
 from_word-chunk-requires g c =
-    word_fits c.self.inside.bytes.now c.self.inside.start c.bits-bits.result g.T.BitChunk.width c.load_word.result (omega (
+    word_fits c.self.inside.bytes.now c.self.inside.start c.bits-bits.result g.T.ChunkWidth.bits c.load_word.result (omega (
       arith,
       c.bits-bits.ensures,
     )) c.load_word.ensures
@@ -13,10 +13,10 @@ from_word-chunk-requires g c =
 pub returns-clause-steps : goal.returns-clause-steps
 returns-clause-steps g c =
     let it = c.self.inside in
-    let w = g.T.BitChunk.width in (
+    let w = g.T.ChunkWidth.bits in (
       ap (λ (s : List ℕ × List Bool). s.0) (sym c.self.view_is)
           ∙ chunk_step w c.bits-bits.result it.bytes.now it.start it.chunks
-          (g.T.BitChunk.value c.from_word-chunk.result) c.bits-bits.ensures c.if-self-eq0.false
+          (g.T.FixedWidth.bits_of c.from_word-chunk.result) c.bits-bits.ensures c.if-self-eq0.false
           (c.from_word-chunk.ensures ∙ c.load_word.ensures),
       chunk_rest w c.bits-bits.result it.bytes.now it.start it.chunks it.rest c.bits-bits.ensures c.if-self-eq0.false
           ∙ ap (λ (s : List ℕ × List Bool). s.1) c.self.view_is,
@@ -25,10 +25,10 @@ returns-clause-steps g c =
 pub returns-clause-goes : goal.returns-clause-goes
 returns-clause-goes g c =
     let it = c.self.inside in
-    let w = g.T.BitChunk.width in
+    let w = g.T.ChunkWidth.bits in
     let step = ap (λ (s : List ℕ × List Bool). s.0) (sym c.self.view_is)
     ∙ chunk_step w c.bits-bits.result it.bytes.now it.start it.chunks
-    (g.T.BitChunk.value c.from_word-chunk.result) c.bits-bits.ensures c.if-self-eq0.false
+    (g.T.FixedWidth.bits_of c.from_word-chunk.result) c.bits-bits.ensures c.if-self-eq0.false
     (c.from_word-chunk.ensures ∙ c.load_word.ensures) in
     let shorter : length (words_from w it.bytes.now (it.start + c.bits-bits.result) (it.chunks - 1)) < length c.args.self.now.0 = omega (
       arith,
