@@ -23,6 +23,62 @@ pub trait ChunkWidth {
     ghost whole: { bits % 8 ≡ 0 };
 }
 
+impl ChunkWidth for u8 {
+    ghost bits = { 8 };
+
+    ghost few = { Prim.search rules };
+
+    ghost some = { Prim.search rules };
+
+    ghost whole = { Prim.search rules };
+
+    fn bits() -> usize {
+        8
+    }
+}
+
+impl ChunkWidth for u16 {
+    ghost bits = { 16 };
+
+    ghost few = { Prim.search rules };
+
+    ghost some = { Prim.search rules };
+
+    ghost whole = { Prim.search rules };
+
+    fn bits() -> usize {
+        16
+    }
+}
+
+impl ChunkWidth for u32 {
+    ghost bits = { 32 };
+
+    ghost few = { Prim.search rules };
+
+    ghost some = { Prim.search rules };
+
+    ghost whole = { Prim.search rules };
+
+    fn bits() -> usize {
+        32
+    }
+}
+
+impl ChunkWidth for u64 {
+    ghost bits = { 64 };
+
+    ghost few = { Prim.search rules };
+
+    ghost some = { Prim.search rules };
+
+    ghost whole = { Prim.search rules };
+
+    fn bits() -> usize {
+        64
+    }
+}
+
 /// An unsigned type whose bits are a chunk of booleans, the first in the least significant bit, with the operators of primitive integers. Its
 /// bytes are those of this project's machines, the least significant first.
 pub trait BitChunk: PrimInt + ChunkWidth {
@@ -64,20 +120,6 @@ pub trait BitChunk: PrimInt + ChunkWidth {
     ghost bits_of_shr: { (a : Self) (k : ℕ) (r : Self) → Self.shr_gives a k r → Self.bits_of r ≡ Self.bits_of a / 2 ^ k };
 }
 
-impl ChunkWidth for u8 {
-    ghost bits = { 8 };
-
-    ghost few = { Prim.search rules };
-
-    ghost some = { Prim.search rules };
-
-    ghost whole = { Prim.search rules };
-
-    fn bits() -> usize {
-        8
-    }
-}
-
 impl BitChunk for u8 {
     type Bytes = [u8; 1];
 
@@ -111,20 +153,6 @@ impl BitChunk for u8 {
 
     fn from_ne_bytes(raw: [u8; 1]) -> Self {
         u8::from_le_bytes(raw)
-    }
-}
-
-impl ChunkWidth for u16 {
-    ghost bits = { 16 };
-
-    ghost few = { Prim.search rules };
-
-    ghost some = { Prim.search rules };
-
-    ghost whole = { Prim.search rules };
-
-    fn bits() -> usize {
-        16
     }
 }
 
@@ -164,20 +192,6 @@ impl BitChunk for u16 {
     }
 }
 
-impl ChunkWidth for u32 {
-    ghost bits = { 32 };
-
-    ghost few = { Prim.search rules };
-
-    ghost some = { Prim.search rules };
-
-    ghost whole = { Prim.search rules };
-
-    fn bits() -> usize {
-        32
-    }
-}
-
 impl BitChunk for u32 {
     type Bytes = [u8; 4];
 
@@ -211,20 +225,6 @@ impl BitChunk for u32 {
 
     fn from_ne_bytes(raw: [u8; 4]) -> Self {
         u32::from_le_bytes(raw)
-    }
-}
-
-impl ChunkWidth for u64 {
-    ghost bits = { 64 };
-
-    ghost few = { Prim.search rules };
-
-    ghost some = { Prim.search rules };
-
-    ghost whole = { Prim.search rules };
-
-    fn bits() -> usize {
-        64
     }
 }
 
