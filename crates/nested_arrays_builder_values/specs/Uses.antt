@@ -1,5 +1,5 @@
 -- What the slots of a dictionary need of its values.
-use Rattle.std.specs.Prelude.{ℕ, zero, suc, ℤ, pos, max, List, [], ◌∷◌, map}
+use Rattle.std.specs.Prelude.{ℕ, zero, suc, ◌+◌, ◌-◌, ℤ, pos, max, List, [], ◌∷◌, ◌++◌, map, replicate}
 use Rattle.nested_arrays_builder_parts.specs.arrays.columns.FreshColumns.{is_valid, key_among}
 use Rattle.nested_arrays_builder_parts.specs.arrays.columns.Slots.{Slot}
 use Rattle.nested_arrays_builder_parts.specs.growth.OpenParts.{used_by}
@@ -25,7 +25,7 @@ abbrev pub greatest : List ℕ → ℕ
 greatest [] = 0
 greatest (n ∷ ns) = max n (greatest ns)
 
--- the greatest of the first one, two .. of some numbers and a first one
-abbrev pub totals_from : ℕ → List ℕ → List ℕ
-totals_from m [] = []
-totals_from m (n ∷ ns) = max m n ∷ totals_from (max m n) ns
+-- the places at which the greatest of some numbers and a first one rises, once for each step by one
+abbrev pub raises_from : ℕ → ℕ → List ℕ → List ℕ
+raises_from place most [] = []
+raises_from place most (n ∷ ns) = replicate (n - most) place ++ raises_from (place + 1) (max most n) ns

@@ -1,8 +1,21 @@
 //! Chains of places with hashes of one bucket, from the newest to the oldest.
-ghost use Rattle.std.specs.Prelude.{◌≡◌, ◌≢◌, ◌+◌, ◌-◌, ◌%◌, ◌<◌, ◌≤◌, ℕ, List, length, slice_index_or, take, OnOk, OnErr, IfOk};
-ghost use Rattle.nested_arrays_builder_values.specs.Newest.{IsLast, IsLinked};
+ghost use Rattle.std.specs.Prelude.{◌≡◌, ◌≢◌, ◌+◌, ◌-◌, ◌<◌, ◌≤◌, ℕ, List, length, slice_index_or, take, OnOk, OnErr, IfOk};
+ghost use Rattle.nested_arrays_builder_values.specs.Newest.{IsLast, IsLinked, bucket_of};
 
 use std::alloc::{AllocError, Global};
+
+/// What a hash is spread with before its upper bits are taken.
+const SPREAD: usize = 11_400_714_819_323_198_485;
+
+/// The bucket of `count` that a hash falls into.
+#[inline(always)]
+pub(crate) fn bucket_of(count: usize, hash: usize) -> usize
+    requires { 0 < count }
+    ensures value { result ≡ bucket_of count hash }
+    ensures within { result < count }
+{
+    (hash.wrapping_mul(SPREAD) >> 32) & (count - 1)
+}
 
 /// The first along a chain that has this hash, from the one behind the place `start` on, and one more; 0 where none has it.
 pub(crate) fn first_with(
@@ -14,9 +27,9 @@ pub(crate) fn first_with(
 ) -> usize
     requires long { length before.now ≡ length hashes.now }
     requires within { start ≤ length hashes.now }
-    requires begins { 0 < start → slice_index_or hashes.now (start - 1) 0 % count ≡ hash % count }
+    requires begins { 0 < start → bucket_of count (slice_index_or hashes.now (start - 1) 0) ≡ bucket_of count hash }
     requires linked { (i : ℕ) → i < length hashes.now
-        → IsLast count hashes.now i (slice_index_or hashes.now i 0 % count) (slice_index_or before.now i 0) }
+        → IsLast count hashes.now i (bucket_of count (slice_index_or hashes.now i 0)) (slice_index_or before.now i 0) }
     ensures within { result ≤ start }
     ensures here { 0 < result → slice_index_or hashes.now (result - 1) 0 ≡ hash }
     ensures none { (i : ℕ) → result ≤ i → i < start → slice_index_or hashes.now i 0 ≢ hash }
@@ -42,7 +55,7 @@ pub(crate) fn link(
     ensures heads { OnErr result (heads.new.items ≡ heads.old.items) }
     ensures before { OnErr result (before.new.items ≡ before.old.items) }
 {
-    let bucket = hash % heads.len();
+    let bucket = bucket_of(heads.len(), hash);
     before.push(heads[bucket])?;
     heads[bucket] = before.len();
     Ok(())
@@ -59,7 +72,7 @@ pub(crate) fn unlink(hashes: &mut Vec<usize>, heads: &mut Vec<usize>, before: &m
 {
     if let Some(hash) = hashes.pop() {
         if let Some(older) = before.pop() {
-            let bucket = hash % heads.len();
+            let bucket = bucket_of(heads.len(), hash);
             heads[bucket] = older;
         }
     }

@@ -1,8 +1,8 @@
 //! Hashes at their places.
-ghost use Rattle.std.specs.Prelude.{◌≡◌, ◌<◌, ◌≤◌, ◌++◌, ◌∷◌, [], length, slice_index_or, take, OnOk, OnErr};
+ghost use Rattle.std.specs.Prelude.{◌≡◌, ◌^◌, ◌<◌, ◌≤◌, ◌++◌, ◌∷◌, [], length, slice_index_or, take, OnOk, OnErr};
 ghost use Rattle.nested_arrays_builder_values.specs.Newest.{AreKept, IsNewest};
 
-use crate::chains::{first_with, link, linked, unlink};
+use crate::chains::{bucket_of, first_with, link, linked, unlink};
 use std::alloc::{AllocError, Global};
 use std::marker::Model;
 
@@ -51,7 +51,7 @@ impl Places {
         if self.heads.is_empty() {
             return 0;
         }
-        let start = self.heads[hash % self.heads.len()];
+        let start = self.heads[bucket_of(self.heads.len(), hash)];
         first_with(
             self.heads.len(),
             self.before.as_slice(),
@@ -81,8 +81,9 @@ impl Places {
         ensures err { OnErr result (self.new ≡ self.old) }
     {
         let held = self.hashes.len();
-        if held >= self.heads.len() {
-            let (heads, before) = linked(alloc, self.hashes.as_slice(), held + held + 16)?;
+        if held + held >= self.heads.len() {
+            let count = more_buckets(self.heads.len());
+            let (heads, before) = linked(alloc, self.hashes.as_slice(), count)?;
             self.heads = heads;
             self.before = before;
         }
@@ -96,6 +97,14 @@ impl Places {
     {
         keep_first(&mut self.hashes, &mut self.heads, &mut self.before, len);
     }
+}
+
+/// How many buckets there are next, where there are so many: a power of two again.
+fn more_buckets(count: usize) -> usize
+    requires { count < 2 ^ 62 }
+    ensures { count < result }
+{
+    if count == 0 { 16 } else { count + count }
 }
 
 /// Adds a hash, which is linked, where there is a bucket for it.

@@ -1,28 +1,28 @@
 //! How many of its values each slot of a dictionary needs.
-ghost use Rattle.std.specs.Prelude.{◌≡◌, ◌≤◌, ◌++◌, ◌∷◌, [], length, max, take, OnErr, OnOk};
-ghost use Rattle.nested_arrays_builder_values.specs.Uses.{greatest, totals_from};
+ghost use Rattle.std.specs.Prelude.{◌≡◌, ◌-◌, ◌<◌, ◌≤◌, ◌++◌, ◌∷◌, [], ℕ, length, replicate, slice_index_or, take, OnErr, OnOk};
+ghost use Rattle.nested_arrays_builder_values.specs.Uses.{greatest, raises_from};
 
 use std::alloc::{AllocError, Global};
 use std::marker::Model;
 
 /// How many of the values each slot needs: one more than its key, and none under a null. A contract sees the list of these.
 ///
-/// Beside each stands how many values the slots up to it need, so that a cut takes no time for the slots that stay.
+/// Beside them stand the places at which one more of the values is needed, so that a cut takes no time for the slots that stay.
 #[derive(Drop)]
 pub struct SlotUses {
     uses: Vec<usize>,
-    totals: Vec<usize>,
+    raises: Vec<usize>,
 }
 
 impl Model for SlotUses {
     ghost use Rattle.std.specs.Prelude.{◌≡◌, ℕ, List};
-    ghost use Rattle.nested_arrays_builder_values.specs.Uses.{totals_from};
+    ghost use Rattle.nested_arrays_builder_values.specs.Uses.{raises_from};
 
     ghost Value = { List ℕ };
 
     ghost view = { λ it. it.uses.items };
 
-    ghost invariant = { λ it. it.totals.items ≡ totals_from 0 it.uses.items };
+    ghost invariant = { λ it. it.raises.items ≡ raises_from 0 0 it.uses.items };
 }
 
 impl SlotUses {
@@ -32,7 +32,7 @@ impl SlotUses {
     {
         SlotUses {
             uses: Vec::new(alloc),
-            totals: Vec::new(alloc),
+            raises: Vec::new(alloc),
         }
     }
 
@@ -55,7 +55,7 @@ impl SlotUses {
         ensures ok { OnOk result (self.new ≡ self.old ++ need ∷ []) }
         ensures err { OnErr result (self.new ≡ self.old) }
     {
-        push_use(&mut self.uses, &mut self.totals, need)
+        push_use(&mut self.uses, &mut self.raises, need)
     }
 
     /// Keeps what the first `len` slots need, and answers how many values this is.
@@ -64,15 +64,14 @@ impl SlotUses {
         ensures first { self.new ≡ take len self.old }
         ensures need { result ≡ greatest (take len self.old) }
     {
-        keep_first(&mut self.uses, &mut self.totals, len)
+        keep_first(&mut self.uses, &mut self.raises, len)
     }
 
     /// Makes room for some more slots. An error is for want of memory.
     pub fn reserve(&mut self, additional: usize) -> Result<(), AllocError>
         ensures { self.new ≡ self.old }
     {
-        self.uses.reserve(additional)?;
-        self.totals.reserve(additional)
+        self.uses.reserve(additional)
     }
 
     /// Gives back memory that no slot needs, as far as the allocator takes it.
@@ -80,59 +79,65 @@ impl SlotUses {
         ensures { self.new ≡ self.old }
     {
         self.uses.shrink_to_fit();
-        self.totals.shrink_to_fit();
+        self.raises.shrink_to_fit();
     }
-}
-
-/// How many values some slots need.
-#[tactic(auto, using(crate::proofs::Totals::last_total, crate::proofs::Totals::totals_length))]
-fn total_of(uses: &[usize], totals: &[usize]) -> usize
-    requires { totals.now ≡ totals_from 0 uses.now }
-    ensures { result ≡ greatest uses.now }
-{
-    let held = uses.len();
-    if held == 0 {
-        return 0;
-    }
-    totals[held - 1]
 }
 
 /// Adds what one more slot needs, or changes nothing.
-#[tactic(auto, using(crate::proofs::Totals::one_more_total))]
-fn push_use(uses: &mut Vec<usize>, totals: &mut Vec<usize>, need: usize) -> Result<(), AllocError>
-    requires { totals.old.items ≡ totals_from 0 uses.old.items }
-    ensures totals { totals.new.items ≡ totals_from 0 uses.new.items }
+#[tactic(auto, using(crate::proofs::Raises::one_more_raise))]
+fn push_use(uses: &mut Vec<usize>, raises: &mut Vec<usize>, need: usize) -> Result<(), AllocError>
+    requires { raises.old.items ≡ raises_from 0 0 uses.old.items }
+    ensures raises { raises.new.items ≡ raises_from 0 0 uses.new.items }
     ensures ok { OnOk result (uses.new.items ≡ uses.old.items ++ need ∷ []) }
     ensures err { OnErr result (uses.new.items ≡ uses.old.items) }
 {
-    let total = larger(total_of(uses.as_slice(), totals.as_slice()), need);
-    totals.push(total)?;
+    let total = raises.len();
+    raise(raises, need, uses.len())?;
     match uses.push(need) {
         Ok(()) => Ok(()),
         Err(error) => {
-            totals.pop();
+            raises.truncate(total);
             Err(error.into())
         }
     }
 }
 
+/// Adds a place for each value that is needed from there on, or changes nothing.
+#[tactic(auto, using(crate::proofs::Raises::no_raise))]
+fn raise(raises: &mut Vec<usize>, need: usize, place: usize) -> Result<(), AllocError>
+    ensures ok { OnOk result (raises.new.items ≡ raises.old.items ++ replicate (need - length raises.old.items) place) }
+    ensures err { OnErr result (raises.new.items ≡ raises.old.items) }
+{
+    if raises.len() < need {
+        raises.resize(need, place)?;
+    }
+    Ok(())
+}
+
 /// Keeps what the first slots need, and answers how many values this is.
-#[tactic(auto, using(crate::proofs::Totals::first_totals))]
-fn keep_first(uses: &mut Vec<usize>, totals: &mut Vec<usize>, len: usize) -> usize
+#[tactic(auto, using(crate::proofs::Raises::first_raises, crate::proofs::Raises::raises_count))]
+fn keep_first(uses: &mut Vec<usize>, raises: &mut Vec<usize>, len: usize) -> usize
     requires within { len ≤ length uses.old.items }
-    requires totals { totals.old.items ≡ totals_from 0 uses.old.items }
-    ensures totals { totals.new.items ≡ totals_from 0 uses.new.items }
+    requires raises { raises.old.items ≡ raises_from 0 0 uses.old.items }
+    ensures raises { raises.new.items ≡ raises_from 0 0 uses.new.items }
     ensures first { uses.new.items ≡ take len uses.old.items }
     ensures need { result ≡ greatest (take len uses.old.items) }
 {
+    let total = raised_before(raises.as_slice(), len);
+    raises.truncate(total);
     uses.truncate(len);
-    totals.truncate(len);
-    total_of(uses.as_slice(), totals.as_slice())
+    total
 }
 
-/// The larger of two numbers.
-fn larger(a: usize, b: usize) -> usize
-    ensures { result ≡ max a b }
+/// How many of some places, which rise, are before one.
+fn raised_before(raises: &[usize], len: usize) -> usize
+    ensures within { result ≤ length raises.now }
+    ensures before { 0 < result → slice_index_or raises.now (result - 1) 0 < len }
+    ensures behind { (i : ℕ) → result ≤ i → i < length raises.now → len ≤ slice_index_or raises.now i 0 }
 {
-    if a < b { b } else { a }
+    let mut count = raises.len();
+    'back: while count != 0 && raises[count - 1] >= len {
+        count -= 1;
+    }
+    count
 }

@@ -1,7 +1,5 @@
-use Rattle.std.proofs.Common.{rules, ◌≡◌, ◌∙◌, ◌+◌, ◌-◌, ◌<◌, ◌≤◌, ℕ, List, length, get_or, take, [], ◌∷◌, ◌++◌, sym, ap, subst, arith, length-append}
-use Rattle.std.specs.Prelude.{◌%◌, slice_set}
-use Rattle.std.proofs.Math.Nat.{mod-lt}
-use Rattle.nested_arrays_builder_values.specs.Newest.{AreKept, IsLinked}
+use Rattle.std.proofs.Common.{◌≡◌, ◌∙◌, ◌+◌, ◌<◌, ℕ, length, get_or, [], ◌∷◌, sym, ap, subst, arith, length-append}
+use Rattle.nested_arrays_builder_values.specs.Newest.{IsLinked}
 use Rattle.nested_arrays_builder_values.proofs.LinkedHashes.{linked_as, at_end, before_end}
 use Rattle.nested_arrays_builder_values.proofs.places.push_linked.Goals as goal
 
