@@ -78,6 +78,7 @@ NESTED_JOBS = [
 BUILDERS_JOBS = [
     ("cells", "rows of cells by `try_push_scalar`", 22),
     ("copied", "rows of slots of arrays by `try_push_from`", 22),
+    ("typed", "rows by the calls of a builder of each type", 22),
 ]
 
 # The same of columns, files and streams. The table has a hundred columns of numbers, 2^26 in all, in batches of 65,536 rows.

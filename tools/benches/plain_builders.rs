@@ -14,7 +14,7 @@ const SMALL: usize = 10_000;
 const ROWS: usize = 4096;
 const TEXTS: u64 = 1000;
 const WORDS: [&str; 8] = ["", "a", "north", "Zürich", "日本", "quick", "length", "columns"];
-const JOBS: [&str; 2] = ["cells", "copied"];
+const JOBS: [&str; 3] = ["cells", "copied", "typed"];
 
 fn mixed(place: u64) -> u64 {
     let number = place.wrapping_mul(0x9e37_79b9_7f4a_7c15);
@@ -37,13 +37,31 @@ enum Cell {
     List(Vec<Cell>),
 }
 
+/// A row of values.
+struct Row {
+    number: Option<i64>,
+    word: &'static str,
+    key: String,
+    items: Vec<i32>,
+}
+
+/// The row at a place.
+fn row_at(place: u64) -> Row {
+    let number = mixed(place);
+    Row {
+        number: if number % 8 == 0 { None } else { Some(i64::from(number_at(number))) },
+        word: WORDS[(number % 8) as usize],
+        key: (number / 8 % TEXTS).to_string(),
+        items: (0..number / 64 % 4).map(|k| number_at(number.wrapping_add(k))).collect(),
+    }
+}
+
 /// The four cells of the row at a place.
 fn cells_at(place: u64) -> Vec<Cell> {
-    let number = mixed(place);
-    let first = if number % 8 == 0 { Cell::Null } else { Cell::Int64(i64::from(number_at(number))) };
-    let items = (0..number / 64 % 4).map(|k| Cell::Int32(number_at(number.wrapping_add(k)))).collect();
-    let text = Cell::Text(WORDS[(number % 8) as usize].to_string());
-    vec![first, text, Cell::Text((number / 8 % TEXTS).to_string()), Cell::List(items)]
+    let row = row_at(place);
+    let first = row.number.map_or(Cell::Null, Cell::Int64);
+    let items = row.items.into_iter().map(Cell::Int32).collect();
+    vec![first, Cell::Text(row.word.to_string()), Cell::Text(row.key), Cell::List(items)]
 }
 
 // ---- columns
@@ -172,6 +190,108 @@ impl Column {
     }
 }
 
+// ---- columns of a type each
+
+#[derive(Default)]
+struct Numbers {
+    marks: Marks,
+    values: Vec<i64>,
+}
+
+#[derive(Default)]
+struct Texts {
+    marks: Marks,
+    offsets: Vec<i32>,
+    bytes: Vec<u8>,
+}
+
+#[derive(Default)]
+struct Keys {
+    marks: Marks,
+    keys: Vec<i32>,
+    known: HashMap<String, i32>,
+    values: Texts,
+}
+
+#[derive(Default)]
+struct Lists {
+    marks: Marks,
+    offsets: Vec<i32>,
+    items: Vec<i32>,
+    item_marks: Marks,
+}
+
+impl Numbers {
+    fn push(&mut self, number: Option<i64>) {
+        self.marks.push(number.is_some());
+        self.values.push(number.unwrap_or(0));
+    }
+}
+
+impl Texts {
+    fn new() -> Texts {
+        Texts { offsets: vec![0], ..Texts::default() }
+    }
+
+    fn push(&mut self, text: &str) {
+        self.marks.push(true);
+        self.bytes.extend_from_slice(text.as_bytes());
+        self.offsets.push(i32::try_from(self.bytes.len()).unwrap());
+    }
+}
+
+impl Keys {
+    fn push(&mut self, text: &String) {
+        self.marks.push(true);
+        if let Some(key) = self.known.get(text) {
+            return self.keys.push(*key);
+        }
+        let key = i32::try_from(self.known.len()).unwrap();
+        self.known.insert(text.clone(), key);
+        self.values.push(text);
+        self.keys.push(key);
+    }
+}
+
+impl Lists {
+    fn push(&mut self, items: &[i32]) {
+        self.marks.push(true);
+        for item in items {
+            self.item_marks.push(true);
+            self.items.push(*item);
+        }
+        self.offsets.push(i32::try_from(self.items.len()).unwrap());
+    }
+}
+
+struct Typed(Numbers, Texts, Keys, Lists);
+
+impl Typed {
+    fn new() -> Typed {
+        let keys = Keys { values: Texts::new(), ..Keys::default() };
+        Typed(Numbers::default(), Texts::new(), keys, Lists { offsets: vec![0], ..Lists::default() })
+    }
+
+    fn push(&mut self, row: &Row) {
+        self.0.push(row.number);
+        self.1.push(row.word);
+        self.2.push(&row.key);
+        self.3.push(&row.items);
+    }
+
+    fn columns(self) -> Vec<Column> {
+        let texts = |texts: Texts| Column { marks: texts.marks, values: Values::Texts(texts.offsets, texts.bytes) };
+        let Typed(numbers, words, keys, lists) = self;
+        let items = Column { marks: lists.item_marks, values: Values::Int32(lists.items) };
+        vec![
+            Column { marks: numbers.marks, values: Values::Int64(numbers.values) },
+            texts(words),
+            Column { marks: keys.marks, values: Values::Keys(keys.keys, keys.known, Box::new(texts(keys.values))) },
+            Column { marks: lists.marks, values: Values::Lists(lists.offsets, Box::new(items)) },
+        ]
+    }
+}
+
 // ---- what is compared
 
 /// A buffer, up to a multiple of 64 bytes.
@@ -223,6 +343,14 @@ fn push_slots(sources: &[Column], count: usize) -> Vec<Column> {
     columns
 }
 
+fn push_rows(rows: &[Row], count: usize) -> Vec<Column> {
+    let mut typed = Typed::new();
+    for k in 0..count {
+        typed.push(&rows[k % ROWS]);
+    }
+    typed.columns()
+}
+
 fn timed(rounds: usize, job: impl Fn() -> Vec<Column>) -> (u128, u64) {
     let (mut least, mut last) = (u128::MAX, 0);
     for _ in 0..rounds {
@@ -241,6 +369,10 @@ fn run(job: &str, size: usize, rounds: usize) -> (u128, u64) {
         "copied" => {
             let sources = push_cells(&rows, ROWS);
             timed(rounds, || push_slots(black_box(&sources), size))
+        }
+        "typed" => {
+            let rows: Vec<Row> = (0..ROWS as u64).map(row_at).collect();
+            timed(rounds, || push_rows(black_box(&rows), size))
         }
         _ => {
             eprintln!("a name of no job");

@@ -4,5 +4,6 @@ mod columns;
 mod data;
 mod job;
 mod rows;
+mod typed;
 
 pub(crate) use job::{BuilderJob, JOBS};

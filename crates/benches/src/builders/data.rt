@@ -29,25 +29,48 @@ pub(crate) fn column_types(alloc: Global) -> Result<Vec<DataType>> {
 }
 
 /// A number, about one in eight null.
-fn number_cell(number: u64) -> AnyScalar {
+pub(crate) fn number_of(number: u64) -> Option<i64> {
     if number % 8 == 0 {
-        return AnyScalar::Null;
+        return None;
     }
-    AnyScalar::Int64(i64::from(number_at(number)))
+    Some(i64::from(number_at(number)))
 }
 
-/// A list of up to three numbers.
-fn list_cell(alloc: Global, number: u64) -> Result<AnyScalar> {
-    let mut items = Items::new(alloc);
-    for k in 0..number / 64 % 4 {
-        items.push(AnyScalar::Int32(number_at(number.wrapping_add(k))))?;
-    }
-    Ok(AnyScalar::List(items))
+/// A short text.
+pub(crate) fn word_at(number: u64) -> &'static str {
+    WORDS[(number % 8) as usize]
 }
 
 /// The text that a key means.
-fn key_text(alloc: Global, number: u64) -> Result<Text> {
-    Ok(Text::new(format!(in alloc; "{}", number / 8 % TEXTS)?))
+pub(crate) fn key_text(alloc: Global, number: u64) -> Result<String> {
+    Ok(format!(in alloc; "{}", number / 8 % TEXTS)?)
+}
+
+/// A list of up to three numbers.
+pub(crate) fn list_at(alloc: Global, number: u64) -> Result<Vec<i32>> {
+    let mut items = Vec::new(alloc);
+    for k in 0..number / 64 % 4 {
+        items.push(number_at(number.wrapping_add(k)))?;
+    }
+    Ok(items)
+}
+
+/// A number as a cell.
+fn number_cell(number: u64) -> AnyScalar {
+    match number_of(number) {
+        Some(value) => AnyScalar::Int64(value),
+        None => AnyScalar::Null,
+    }
+}
+
+/// A list of numbers as a cell.
+fn list_cell(alloc: Global, number: u64) -> Result<AnyScalar> {
+    let numbers = list_at(alloc, number)?;
+    let mut items = Items::new(alloc);
+    for item in &numbers {
+        items.push(AnyScalar::Int32(*item))?;
+    }
+    Ok(AnyScalar::List(items))
 }
 
 /// The four cells of the row at a place.
@@ -55,8 +78,8 @@ fn cells_at(alloc: Global, place: u64) -> Result<Vec<AnyScalar>> {
     let number = mixed(place);
     let mut cells = Vec::new(alloc);
     cells.push(number_cell(number))?;
-    cells.push(AnyScalar::Text(Text::from_str(alloc, WORDS[(number % 8) as usize])?))?;
-    cells.push(AnyScalar::Text(key_text(alloc, number)?))?;
+    cells.push(AnyScalar::Text(Text::from_str(alloc, word_at(number))?))?;
+    cells.push(AnyScalar::Text(Text::new(key_text(alloc, number)?)))?;
     cells.push(list_cell(alloc, number)?)?;
     Ok(cells)
 }

@@ -1,4 +1,5 @@
 use crate::builders::rows::{Cells, Copied};
+use crate::builders::typed::Typed;
 use crate::timing::{Job, Named, Timed, time_rounds};
 use columnar_memory_types::Result;
 use std::rt::Clock;
@@ -11,15 +12,19 @@ pub(crate) enum BuilderJob {
 
     /// Rows of slots of arrays by `try_push_from`.
     Copied,
+
+    /// Rows by the calls of a builder of each type.
+    Typed,
 }
 
-pub(crate) const JOBS: [BuilderJob; 2] = [BuilderJob::Cells, BuilderJob::Copied];
+pub(crate) const JOBS: [BuilderJob; 3] = [BuilderJob::Cells, BuilderJob::Copied, BuilderJob::Typed];
 
 impl Named for BuilderJob {
     fn name(&self) -> &'static str {
         match self {
             BuilderJob::Cells => "cells",
             BuilderJob::Copied => "copied",
+            BuilderJob::Typed => "typed",
         }
     }
 }
@@ -34,6 +39,7 @@ impl Job for BuilderJob {
         match self {
             BuilderJob::Cells => time_rounds(rt, rounds, &Cells::of(alloc, size)?),
             BuilderJob::Copied => time_rounds(rt, rounds, &Copied::of(alloc, size)?),
+            BuilderJob::Typed => time_rounds(rt, rounds, &Typed::of(alloc, size)?),
         }
     }
 }
