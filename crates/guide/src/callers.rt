@@ -2,6 +2,7 @@
 //! `flat_arrays_byte_builders`, `nested_arrays`, `nested_arrays_arrays` and `nested_arrays_dictionary_builders`).
 ghost use Rattle.std.specs.Prelude.{◌≡◌, ◌+◌, ◌≤◌, ◌↔◌, IsTrue, MatchResult, None, length, slice_get, unwrap_or};
 ghost use Rattle.std.specs.Option.{option_copied};
+ghost use Rattle.std.specs.String.{string_bytes};
 ghost use Rattle.columnar_memory.specs.Conversions.{type_of_primitive};
 ghost use Rattle.columnar_memory.specs.Error.{IsOutOfMemory};
 ghost use Rattle.columnar_memory.specs.declared.PrimitiveType.TheVariants as kinds;
@@ -10,7 +11,11 @@ ghost use Rattle.flat_arrays.specs.ByteStrings.{len_of, slots_of};
 ghost use Rattle.flat_arrays.specs.Flat as numbers;
 ghost use Rattle.flat_arrays.specs.Flat.{flat};
 ghost use Rattle.flat_arrays.specs.Growing.{Grows, joined, with_slot};
+ghost use Rattle.nested_arrays.specs.ByteBuilders.{open_text};
+ghost use Rattle.nested_arrays.specs.DictionaryBuilders.{dictionary_column};
 ghost use Rattle.nested_arrays.specs.EqualArrays.{AreEqual};
+ghost use Rattle.nested_arrays.specs.MarkedSlots.{AddsSlot};
+ghost use Rattle.nested_arrays.specs.Slots.{text};
 ghost use Rattle.nested_arrays.specs.StoredColumns.{column_len, cut};
 ghost use Rattle.nested_arrays.specs.builders.cells.parts.Open.{IsPushed};
 ghost use Rattle.nested_arrays.specs.builders.cells.parts.Scalars.{scalar_slot};
@@ -19,7 +24,10 @@ use columnar_memory::{Offset, Result};
 use flat_arrays::{
     BinaryArray, Int32Array, Int32Vec, MutableBinaryArray, MutableUtf8Array, Utf8Array,
 };
-use nested_arrays::{AnyArray, AnyMutableArray, AnyScalar, Array, StructArray, equal};
+use nested_arrays::{
+    AnyArray, AnyMutableArray, AnyScalar, Array, MutableDictionaryArray, StructArray, TryPush,
+    equal,
+};
 use std::alloc::Global;
 
 /// The words as a column, null where a word is empty.
@@ -131,9 +139,19 @@ pub fn agree(left: &AnyArray, right: &AnyArray) -> bool
     equal(left, right)
 }
 
+/// Texts, each of which is held once.
+pub type Words = MutableDictionaryArray<i32, MutableUtf8Array<i32>>;
+
 /// Adds a cell to a column of any type, or changes nothing.
 pub fn add_cell(column: &mut AnyMutableArray, cell: &AnyScalar) -> Result<()>
     ensures { IsPushed column.old (scalar_slot cell.now) column.new result }
 {
     column.try_push_scalar(cell)
+}
+
+/// Adds a word, or changes nothing.
+pub fn add_word(words: &mut Words, word: &String) -> Result<()>
+    ensures { AddsSlot (dictionary_column open_text words.old) (text (string_bytes word.now)) (dictionary_column open_text words.new) result }
+{
+    words.try_push(word)
 }

@@ -1,7 +1,11 @@
 //! Columns of builders that stand over one another: each call that takes memory finds it here.
-use columnar_memory::{Error, Text};
-use flat_arrays::{MutableBooleanArray, MutablePrimitiveArray};
-use nested_arrays::{Array, MutValues, MutableArray, MutableFixedSizeListArray, MutableListArray};
+use columnar_memory::{DataType, Error, Offsets, Text};
+use flat_arrays::{
+    MutableBinaryArray, MutableBooleanArray, MutablePrimitiveArray, MutableUtf8Array, Utf8Array,
+};
+use nested_arrays::{
+    Array, Downcast, MutValues, MutableArray, MutableFixedSizeListArray, MutableListArray,
+};
 use std::alloc::Global;
 use std::test::Fail;
 
@@ -31,6 +35,72 @@ fn a_builder_of_booleans_is_frozen_as_a_column(rt: HostRuntime) -> Result<(), Fa
     let found = frozen_twice(&mut booleans, rt.alloc());
     drop(booleans);
     assert_eq!(rt; found?, (2, 2));
+    Ok(())
+}
+
+#[test]
+fn a_builder_of_texts_is_frozen_as_a_column(rt: HostRuntime) -> Result<(), Fail> {
+    let mut texts = MutableUtf8Array::<i32>::from_slice(rt.alloc(), &["a", "bc"])?;
+    let found = frozen_twice(&mut texts, rt.alloc());
+    drop(texts);
+    assert_eq!(rt; found?, (3, 2));
+    Ok(())
+}
+
+#[test]
+fn a_builder_of_byte_strings_is_frozen_as_a_column(rt: HostRuntime) -> Result<(), Fail> {
+    let mut strings = MutableBinaryArray::<i64>::new(rt.alloc())?;
+    let found = frozen_twice(&mut strings, rt.alloc());
+    drop(strings);
+    assert_eq!(rt; found?, (1, 2));
+    Ok(())
+}
+
+/// A builder of the text that stands behind the first byte of two.
+fn second_text(alloc: Global) -> Result<MutableUtf8Array<i32>, Error> {
+    let (mut places, mut bytes) = (Vec::new(alloc), Vec::new(alloc));
+    places.push(1)?;
+    places.push(2)?;
+    bytes.extend_from_slice(b"ab")?;
+    MutableUtf8Array::try_new(DataType::Utf8, Offsets::try_from(places)?, bytes, None)
+}
+
+/// How many bytes the column of that text has, and whether it is that text.
+fn frozen_text(alloc: Global) -> Result<Option<(usize, bool)>, Error> {
+    let array = second_text(alloc)?.as_box(alloc)?;
+    let Some(texts) = Utf8Array::<i32>::downcast_ref(&array) else {
+        return Ok(None);
+    };
+    Ok(Some((texts.values().len(), texts.get(0) == Some("b"))))
+}
+
+#[test]
+fn offsets_that_begin_elsewhere_begin_at_0_in_a_column(rt: HostRuntime) -> Result<(), Fail> {
+    assert_eq!(rt; frozen_text(rt.alloc())?, Some((1, true)));
+    Ok(())
+}
+
+/// Pushes a list of a text and a null.
+fn push_names(lists: &mut MutableListArray<i32, MutableUtf8Array<i32>>) -> Result<(), Error> {
+    lists.mut_values().push(Some("a"))?;
+    lists.mut_values().push(None)?;
+    lists.try_push_valid()
+}
+
+/// How many lists of texts there are, and how many are null.
+fn lists_of_names(alloc: Global) -> Result<(usize, usize), Error> {
+    let texts = MutableUtf8Array::<i32>::new(alloc)?;
+    let mut lists: MutableListArray<i32, MutableUtf8Array<i32>> =
+        MutableListArray::new_with_capacity(alloc, texts, 1)?;
+    push_names(&mut lists)?;
+    lists.push_null()?;
+    let array = lists.freeze(alloc)?;
+    Ok((array.len(), array.null_count()))
+}
+
+#[test]
+fn lists_of_texts_are_built(rt: HostRuntime) -> Result<(), Fail> {
+    assert_eq!(rt; lists_of_names(rt.alloc())?, (2, 1));
     Ok(())
 }
 

@@ -10,11 +10,15 @@ mod callers;
 #[cfg(test)]
 mod columns;
 #[cfg(test)]
+mod dictionaries;
+#[cfg(test)]
+mod extends;
+#[cfg(test)]
 mod flat;
 #[cfg(test)]
 mod records;
 
 pub use callers::{
-    add_cell, add_key, add_keys, agree, keys_column, number_or, numbers_column, page,
-    page_of_texts, part, rows, text_or, words_column,
+    Words, add_cell, add_key, add_keys, add_word, agree, keys_column, number_or, numbers_column,
+    page, page_of_texts, part, rows, text_or, words_column,
 };

@@ -63,6 +63,9 @@ pub use Rattle.nested_arrays_dictionary_builders.specs.SizedStrings
 pub use Rattle.nested_arrays_dictionary_builders.specs.FixedListBuilders
 pub use Rattle.nested_arrays_dictionary_builders.specs.pushes.cells.taken.OpenColumns
 pub use Rattle.nested_arrays_dictionary_builders.specs.DictionaryBuilders
+pub use Rattle.nested_arrays_dictionary_builders.specs.JoinedArrays
+pub use Rattle.nested_arrays_dictionary_builders.specs.JoinedColumns
 pub use Rattle.nested_arrays_dictionary_builders.specs.NumberItems
 pub use Rattle.nested_arrays_dictionary_builders.specs.SeveralSlots
 pub use Rattle.nested_arrays_dictionary_builders.specs.SlotHashes
+pub use Rattle.nested_arrays_dictionary_builders.specs.pushes.cells.taken.builders.values.ByteBuilders

@@ -43,5 +43,5 @@ pub use nested_arrays_dictionary_builders::pushes::cells::taken::MutableArray;
 pub use nested_arrays_dictionary_builders::{
     MutValues, MutableDictionaryArray, MutableFields, MutableFixedSizeBinaryArray,
     MutableFixedSizeListArray, MutableListArray, MutableNullArray, MutableStructArray, SlotIs,
-    TryExtend, TryPush,
+    TryExtend, TryExtendFromSelf, TryPush,
 };

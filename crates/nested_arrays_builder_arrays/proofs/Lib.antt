@@ -1,3 +1,4 @@
+pub mod ByteSlots
 pub mod FlatKinds
 pub mod FlatSlots
 pub mod FrozenParts

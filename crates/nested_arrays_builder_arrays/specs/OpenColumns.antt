@@ -44,8 +44,11 @@ pub record IsEmptied (old new : Column) : Type 0 where
   pub long : column_len new ≡ 0
   pub begun : is_sound old ≡ true → new ≡ fresh (column_type old) []
 
--- An array is taken out of a builder, which is left empty. It is exactly the column, a sound one. Or memory ran out, or the column was not
--- sound.
+-- The array of a column, a sound one. Or memory ran out, or the column is not sound.
+abbrev pub IsFrozen : {A : Type 0} → (A → Column) → Column → Result A Error → Type 0
+IsFrozen content column r = MatchResult r (λ a. (content a ≡ column) × (is_sound column ≡ true))
+    (λ e. IsOutOfMemory e ⊎ (IsOutOfSpec e × (is_sound column ≡ false)))
+
+-- An array is taken out of a builder, which is left empty. It is exactly the column, or there is none.
 abbrev pub TakesColumn : {A : Type 0} → Column → Column → (A → Column) → Result A Error → Type 0
-TakesColumn old new content r = IsEmptied old new × MatchResult r (λ a. (content a ≡ old) × (is_sound old ≡ true))
-    (λ e. IsOutOfMemory e ⊎ (IsOutOfSpec e × (is_sound old ≡ false)))
+TakesColumn old new content r = IsEmptied old new × IsFrozen content old r

@@ -18,8 +18,9 @@ use nested_arrays_builders::arrays::flat_arrays::{
 };
 use nested_arrays_builders::arrays::parts::FlatArray;
 use nested_arrays_builders::columnar_memory::{
-    Bitmap, Buffer, DataType, Error, MutableBitmap, NativeType, Result,
+    Buffer, DataType, Error, MutableBitmap, NativeType, Result,
 };
+use nested_arrays_builders::values::frozen_mask;
 use std::alloc::Global;
 use std::mem;
 use std::rc::Rc;
@@ -186,16 +187,6 @@ fn push_null_boolean(booleans: &mut MutableBooleanArray) -> Result<()>
         return Err(Error::Overflow);
     }
     booleans.push_null()
-}
-
-/// A mask as it is, also where no slot is null.
-fn frozen_mask(validity: Option<MutableBitmap>) -> Result<Option<Bitmap>>
-    ensures { OrOutOfMemory result (λ mask. mask ≡ validity) }
-{
-    match validity {
-        Some(mask) => Ok(Some(mask.freeze()?)),
-        None => Ok(None),
-    }
 }
 
 /// A builder without slots, of the data type of another.

@@ -1,6 +1,7 @@
 //! Arrays of what builders of any type hold.
 #![tactic(auto)]
 
+mod byte_builders;
 mod flat_builders;
 mod frozen;
 mod keys;
@@ -37,7 +38,7 @@ pub mod builders {
     /// Of `values`.
     pub mod values {
         pub use nested_arrays_builders::values::{
-            Places, SlotUses, add_use, hash_of_bytes, most_values_of,
+            Places, SlotUses, add_use, hash_of_bytes, most_values_of, rebase_strings, rebase_texts,
         };
     }
 }

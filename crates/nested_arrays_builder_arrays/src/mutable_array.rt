@@ -5,7 +5,7 @@ ghost use Rattle.nested_arrays_builders.specs.columnar_memory.Error.{IsOutOfMemo
 ghost use Rattle.nested_arrays_builders.specs.columns.StoredColumns.{Column, column_len, column_type};
 ghost use Rattle.nested_arrays_builders.specs.nulls.access.Nulls.{is_null_at};
 ghost use Rattle.nested_arrays_builders.specs.parts.Open.{column_of};
-ghost use Rattle.nested_arrays_builder_arrays.specs.OpenColumns.{AddsNull, KeepsFirst, TakesColumn};
+ghost use Rattle.nested_arrays_builder_arrays.specs.OpenColumns.{AddsNull, IsFrozen, KeepsFirst, TakesColumn};
 ghost use Rattle.nested_arrays_builder_arrays.specs.Taken.{IsTaken};
 
 use crate::taken::{as_arc, as_array};
@@ -52,7 +52,11 @@ pub trait MutableArray: Drop + Sized {
     /// `OutOfMemory`: the array, the count, or what is left, found no memory.
     /// `OutOfSpec`: the column is not sound. In either case this is left empty too.
     fn as_arc(&mut self, alloc: Global) -> Result<Rc<AnyArray>>
-        ensures { TakesColumn (column self.old) (column self.new) (λ counted. counted.value) result };
+        ensures { TakesColumn (column self.old) (column self.new) (λ counted. counted.value) result }
+    {
+        let array = self.as_box(alloc)?;
+        Ok(Rc::new(alloc, array)?)
+    }
 
     /// Pushes a null.
     ///
@@ -78,6 +82,30 @@ pub trait MutableArray: Drop + Sized {
     fn truncate(&mut self, len: usize)
         requires { len ≤ column_len (column self.old) }
         ensures { KeepsFirst (column self.old) len (column self.new) };
+
+    /// The array of the slots.
+    ///
+    /// # Errors
+    /// `OutOfMemory`: the array found no memory.
+    /// `OutOfSpec`: the column is not sound.
+    fn into_box(self, alloc: Global) -> Result<AnyArray>
+        ensures { IsFrozen (λ array. array) (column self) result }
+    {
+        let mut builder = self;
+        builder.as_box(alloc)
+    }
+
+    /// The array of the slots behind a count of owners.
+    ///
+    /// # Errors
+    /// `OutOfMemory`: the array or the count found no memory.
+    /// `OutOfSpec`: the column is not sound.
+    fn into_arc(self, alloc: Global) -> Result<Rc<AnyArray>>
+        ensures { IsFrozen (λ counted. counted.value) (column self) result }
+    {
+        let mut builder = self;
+        builder.as_arc(alloc)
+    }
 
     fn is_empty(&self) -> bool
         ensures { IsTrue result ↔ (column_len (column self.now) ≡ 0) }

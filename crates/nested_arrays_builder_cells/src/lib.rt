@@ -20,7 +20,7 @@ pub mod builders {
     /// Of `values`.
     pub mod values {
         pub use nested_arrays_builder_arrays::builders::values::{
-            Places, SlotUses, add_use, hash_of_bytes, most_values_of,
+            Places, SlotUses, add_use, hash_of_bytes, most_values_of, rebase_strings, rebase_texts,
         };
     }
 }

@@ -16,7 +16,8 @@ pub mod cells {
         /// Of `values`.
         pub mod values {
             pub use nested_arrays_builder_cells::builders::values::{
-                Places, SlotUses, add_use, hash_of_bytes, most_values_of,
+                Places, SlotUses, add_use, hash_of_bytes, most_values_of, rebase_strings,
+                rebase_texts,
             };
         }
     }

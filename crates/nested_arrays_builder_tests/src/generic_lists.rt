@@ -165,3 +165,30 @@ fn lists_without_their_items_make_no_array(rt: HostRuntime) -> Result<(), Fail> 
     assert_eq!(rt; refused?, (true, true));
     Ok(())
 }
+
+/// Pushes numbers as items of no list yet.
+fn push_items(
+    lists: &mut MutableListArray<i32, AnyMutableArray>,
+    items: &[i32],
+) -> Result<(), Error> {
+    for item in items {
+        lists
+            .mut_values()
+            .try_push_scalar(&AnyScalar::Int32(*item))?;
+    }
+    Ok(())
+}
+
+#[test]
+fn lists_of_given_lengths_are_closed(rt: HostRuntime) -> Result<(), Fail> {
+    let mut lists = new_lists(rt.alloc())?;
+    push_items(&mut lists, &[1, 2, 3])?;
+    lists.try_extend_from_lengths(&[Some(2), None, Some(0), Some(1)])?;
+    assert_eq!(rt; lists.len(), 4);
+    let refused = lists.try_extend_from_lengths(&[Some(0), Some(1), Some(0)]);
+    assert!(rt; matches!(refused, Err(Error::Overflow)));
+    assert_eq!(rt; lists.len(), 5);
+    let array = lists.into_box(rt.alloc())?;
+    assert!(rt; are_lists(array, &[0, 2, 2, 2, 3, 3], &[29], 3));
+    Ok(())
+}

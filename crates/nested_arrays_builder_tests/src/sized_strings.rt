@@ -75,3 +75,30 @@ fn parts_of_another_length_are_refused(rt: HostRuntime) -> Result<(), Fail> {
     drop(refused);
     Ok(())
 }
+
+/// How many slots of a builder there are, and how many bytes those have that are not null.
+fn counted(strings: &MutableFixedSizeBinaryArray) -> (usize, usize) {
+    let mut slots: usize = 0;
+    let mut bytes: usize = 0;
+    for slot in strings {
+        slots = slots.saturating_add(1);
+        if let Some(value) = slot {
+            bytes = bytes.saturating_add(value.len());
+        }
+    }
+    (slots, bytes)
+}
+
+#[test]
+fn strings_of_one_size_are_read_in_order(rt: HostRuntime) -> Result<(), Fail> {
+    let mut strings = MutableFixedSizeBinaryArray::with_capacity(rt.alloc(), 2, 4)?;
+    push(&mut strings, "ab".as_bytes())?;
+    strings.push_null()?;
+    push(&mut strings, "cd".as_bytes())?;
+    assert_eq!(rt; counted(&strings), (3, 4));
+    assert_eq!(rt; strings.iter().len(), 3);
+    assert!(rt; strings.iter_values().next_back() == Some("cd".as_bytes()));
+    assert!(rt; strings.capacity() >= 4);
+    drop(strings);
+    Ok(())
+}

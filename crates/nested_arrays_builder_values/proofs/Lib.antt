@@ -1,3 +1,4 @@
+pub mod ByteParts
 pub mod CellLayers
 pub mod LinkedHashes
 pub mod Looked

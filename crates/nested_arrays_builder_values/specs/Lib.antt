@@ -1,3 +1,4 @@
+pub mod ByteBuilders
 pub mod Found
 pub mod Hashes
 pub mod Keyed

@@ -1,7 +1,8 @@
 //! What a dictionary that grows is made of: its values as cells, which are copied, told apart and found by their hashes, and what its slots
-//! need of them.
+//! need of them; and what builders of byte strings and of texts are to builders of any type.
 #![tactic(auto)]
 
+mod byte_builders;
 mod cells;
 mod chains;
 mod hashes;
@@ -10,6 +11,10 @@ mod places;
 mod uses;
 mod values;
 
+pub use byte_builders::{
+    frozen_mask, push_null_to_strings, push_null_to_texts, rebase_strings, rebase_texts,
+    take_binary_array, take_text_array,
+};
 pub use cells::{copy_of_cell, same_cell};
 pub use hashes::{hash_of, hash_of_bytes};
 pub use keys::{MutableKeys, add_use, learn, most_values_of, needed};

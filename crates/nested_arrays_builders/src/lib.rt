@@ -113,6 +113,8 @@ pub mod parts {
 /// What `nested_arrays_builder_values` has, as far as packages above use it.
 pub mod values {
     pub use nested_arrays_builder_values::{
-        MutableKeys, Places, SlotUses, add_use, hash_of_bytes, most_values_of,
+        MutableKeys, Places, SlotUses, add_use, frozen_mask, hash_of_bytes, most_values_of,
+        push_null_to_strings, push_null_to_texts, rebase_strings, rebase_texts, take_binary_array,
+        take_text_array,
     };
 }

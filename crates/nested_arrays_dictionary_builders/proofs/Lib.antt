@@ -1,4 +1,11 @@
+pub mod ByteColumns
+pub mod ByteItems
 pub mod FoundPlaces
+pub mod JoinedFlats
+pub mod JoinedMarks
+pub mod JoinedSized
+pub mod JoinedSlots
+pub mod JoinedStrings
 pub mod KeyedParts
 pub mod KeyedSlots
 pub mod KeyedStored

@@ -1,12 +1,12 @@
 -- Columns of integers with one more, and which slot an integer is.
-use Rattle.std.proofs.Common.{◌≡◌, ◌∙◌, ◌<◌, ◌≤◌, ◌+◌, ℕ, suc, ℤ, pos, List, [], ◌∷◌, ◌++◌, length, map, get_or, Bool, true, false, not}
+use Rattle.std.proofs.Common.{◌≡◌, ◌∙◌, ◌<◌, ◌≤◌, ◌+◌, ℕ, suc, ℤ, pos, List, [], ◌∷◌, ◌++◌, length, map, get_or, Bool, true, false}
 use Rattle.std.proofs.Common.{refl, sym, ap, subst, arith}
 use Rattle.std.specs.Prelude.{Option, Some, None, negsuc, ◌<ℤ◌, ◌+ℤ◌, ◌%◌, ◌^◌, unsigned_abs, ◌&&◌, ◌==◌, ◌⊎◌, if◌then◌else◌, nat_le, slice_get}
 use Rattle.std.specs.Prelude.{Result, Ok, Err}
 use Rattle.std.specs.List.{list_all}
 use Rattle.std.proofs.Math.Nat.{mod-eq_of_lt}
 use Rattle.std.proofs.lemmas.Int.{ints}
-use Rattle.std.proofs.lemmas.Bool.{and_from, and_parts, eq-eqb, eqb-true, false≢true, false_from_ne_true, le-leb}
+use Rattle.std.proofs.lemmas.Bool.{and_from, and_parts, eq-eqb, false≢true, false_from_ne_true, le-leb}
 use Rattle.std.proofs.lemmas.List.{get_or_append_left, get_or_at, get_or-replicate, length-append, length-map, length_push, map-append}
 use Rattle.std.proofs.lemmas.List.Folds.{list_all-append}
 use Rattle.std.proofs.lemmas.Option.{get_or_from_slice_get}
@@ -38,17 +38,16 @@ use Rattle.nested_arrays_sized_builders.specs.nulls.flat_arrays.Flat.{Flat, IsFl
 use Rattle.nested_arrays_sized_builders.specs.nulls.flat_arrays.Growth.{with_marks, with_values}
 use Rattle.nested_arrays_sized_builders.specs.nulls.parts.Keys.{kind_of_keys}
 use Rattle.nested_arrays_sized_builders.specs.pushes.cells.taken.OpenColumns.{Becomes, IsFresh, slots_and}
-use Rattle.nested_arrays_sized_builders.specs.pushes.cells.taken.builders.growth.OpenParts.{is_of_kind, marks_of}
+use Rattle.nested_arrays_sized_builders.specs.pushes.cells.taken.builders.growth.OpenParts.{is_of_kind}
 use Rattle.nested_arrays_sized_builders.specs.MarkedSlots.{AddsSlot}
 use Rattle.nested_arrays_sized_builders.proofs.taken_lemmas.FlatSlots.{window_more}
+use Rattle.nested_arrays_dictionary_builders.proofs.OpenParts.{mask_with_value, marks_before, marks_more, value_marked}
 use Rattle.nested_arrays_sized_builders.proofs.nulls_lemmas.arrays_lemmas.columns_lemmas.ColumnSizes.{slots_lengths}
 use Rattle.nested_arrays_sized_builders.proofs.nulls_lemmas.arrays_lemmas.columns_lemmas.Conditions.{parts_of_3}
 use Rattle.nested_arrays_sized_builders.proofs.nulls_lemmas.arrays_lemmas.columns_lemmas.FreshLengths.{Layer}
 use Rattle.nested_arrays_sized_builders.proofs.nulls_lemmas.arrays_lemmas.columns_lemmas.Windows.{window_same}
 use Rattle.nested_arrays_sized_builders.proofs.growth_lemmas.LayerParts.{fresh_primitive}
 use Rattle.nested_arrays_sized_builders.proofs.growth_lemmas.Limits.{fits_length}
-use Rattle.nested_arrays_sized_builders.proofs.growth_lemmas.Masks.{marks_away, marks_there, mask_grows, mask_is}
-use Rattle.nested_arrays_sized_builders.proofs.growth_lemmas.Masks.{mask_one_more, mask_stays_away}
 use Rattle.nested_arrays_sized_builders.proofs.growth_lemmas.OneMore.{primitives_fit_one_more}
 use Rattle.nested_arrays_sized_builders.proofs.nulls_lemmas.flat_lemmas.InRange.{native_in_range}
 use Rattle.nested_arrays_dictionary_builders.specs.NumberItems.{AddsNumber}
@@ -88,33 +87,7 @@ hash_below (negsuc k) n low is few =
 
 -- ---- masks
 
-value_marked : (n : ℕ) (mask : Option (List Bool)) → mask_fits mask n ≡ true → is_valid_at (with_marks n mask (true ∷ [])) n ≡ true
-value_marked n None h = refl
-value_marked n (Some marks) h = get_or_at marks true [] false n (eqb-true (length marks) n h)
-
-marks_before : (n : ℕ) (mask : Option (List Bool)) (i : ℕ) → mask_fits mask n ≡ true → i < n
-    → is_valid_at (with_marks n mask (true ∷ [])) i ≡ is_valid_at mask i
-marks_before n None i h lt = refl
-marks_before n (Some marks) i h lt = get_or_append_left marks (true ∷ []) false i (omega (arith, lt, eqb-true (length marks) n h))
-
-marks_more : (n : ℕ) (mask : Option (List Bool)) → mask_fits mask n ≡ true → mask_fits (with_marks n mask (true ∷ [])) (n + 1) ≡ true
-marks_more n None h = refl
-marks_more n (Some marks) h =
-    eq-eqb (length (marks ++ true ∷ [])) (n + 1) (length_push marks true ∙ ap (λ (k : ℕ). k + 1) (eqb-true (length marks) n h))
-
-mask_with_value : (n : ℕ) (mask : Option (List Bool)) (xs : List Slot) (kind : PrimitiveType) (v : ℤ) → mask ≡ mask_of xs
-    → with_marks n mask (true ∷ []) ≡ mask_of (xs ++ number kind v ∷ [])
-mask_with_value n None xs kind v is =
-    let none = marks_away (marks_of xs) (sym (is ∙ mask_is xs)) in
-    sym (mask_one_more xs (number kind v) ∙ mask_stays_away (marks_of xs) none)
-mask_with_value n (Some marks) xs kind v is =
-    let there = marks_there (marks_of xs) marks (sym (is ∙ mask_is xs)) in
-    sym (
-    mask_one_more xs (number kind v) ∙ mask_grows (marks_of xs) true there.0
-    ∙ ap (λ (ms : List Bool). Some (ms ++ true ∷ [])) (sym there.1)
-    )
-
-fits_mask : (mask : Option (List Bool)) (n : ℕ) → IsMaskOf n mask → mask_fits mask n ≡ true
+pub fits_mask : (mask : Option (List Bool)) (n : ℕ) → IsMaskOf n mask → mask_fits mask n ≡ true
 fits_mask None n h = refl
 fits_mask (Some marks) n h = eq-eqb (length marks) n (h marks refl)
 
@@ -189,7 +162,7 @@ module _ (t : DataType) (kind : PrimitiveType) (p : Plain kind) (lies : physical
         let parts : old ≡ col (mask_of xs) (map number_of xs) =
         f.stored ∙ fresh_primitive t kind lies xs ∙ ap (flat t (mask_of xs)) (p.made xs) in
         let masks : with_marks (length vs) mask (true ∷ []) ≡ mask_of (xs ++ s ∷ []) =
-        mask_with_value (length vs) mask xs kind v (ap column_mask parts) in
+        mask_with_value (length vs) mask xs s refl (ap column_mask parts) in
         let values : vs ++ v ∷ [] ≡ map number_of (xs ++ s ∷ []) =
         ap (λ (ws : List ℤ). ws ++ v ∷ []) (ap integers_in parts) ∙ sym (map-append number_of xs (s ∷ [])) in
         let stored : new ≡ fresh t (xs ++ s ∷ []) =

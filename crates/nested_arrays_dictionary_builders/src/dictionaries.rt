@@ -8,8 +8,7 @@ ghost use Rattle.nested_arrays_sized_builders.specs.nulls.columnar_memory.declar
 ghost use Rattle.nested_arrays_sized_builders.specs.nulls.columns.Slots.{null};
 ghost use Rattle.nested_arrays_sized_builders.specs.nulls.columns.StoredColumns.{column_len, column_type, slots, type_layer};
 ghost use Rattle.nested_arrays_sized_builders.specs.nulls.generic.Dictionaries.{dictionary_type, is_value_type, keyed_by};
-ghost use Rattle.nested_arrays_sized_builders.specs.pushes.cells.taken.OpenColumns.{KeepsFirst, TakesColumn};
-ghost use Rattle.nested_arrays_sized_builders.specs.ListBuilders.{IsFrozen};
+ghost use Rattle.nested_arrays_sized_builders.specs.pushes.cells.taken.OpenColumns.{IsFrozen, KeepsFirst, TakesColumn};
 ghost use Rattle.nested_arrays_sized_builders.specs.MarkedSlots.{AddsSlot};
 ghost use Rattle.nested_arrays_dictionary_builders.specs.DictionaryBuilders.{dictionary_column, no_keys};
 ghost use Rattle.nested_arrays_dictionary_builders.specs.DictionaryBuilders.{Begins, IsKeyOf, KeepsUses, LeavesNoKeys};

@@ -7,8 +7,8 @@ ghost use Rattle.nested_arrays_sized_builders.specs.nulls.columnar_memory.declar
 ghost use Rattle.nested_arrays_sized_builders.specs.nulls.columns.SoundColumns.{mask_fits};
 ghost use Rattle.nested_arrays_sized_builders.specs.nulls.columns.StoredColumns.{dictionary};
 ghost use Rattle.nested_arrays_sized_builders.specs.pushes.cells.parts.Marks.{mask_of_marks};
-ghost use Rattle.nested_arrays_sized_builders.specs.ListBuilders.{IsFrozen};
 ghost use Rattle.nested_arrays_dictionary_builders.specs.DictionaryBuilders.{FreezesKeys};
+ghost use Rattle.nested_arrays_sized_builders.specs.pushes.cells.taken.OpenColumns.{IsFrozen};
 
 use nested_arrays_sized_builders::nulls::arrays::AnyArray;
 use nested_arrays_sized_builders::nulls::columnar_memory::{

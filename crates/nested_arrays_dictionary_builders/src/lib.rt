@@ -2,13 +2,16 @@
 #![tactic(auto)]
 
 mod dictionaries;
+mod extends;
 mod items;
 mod keys;
 mod numbers;
 mod places;
 mod strings;
+mod texts;
 
 pub use dictionaries::MutableDictionaryArray;
+pub use extends::TryExtendFromSelf;
 pub use items::{SlotIs, TryExtend, TryPush};
 pub use nested_arrays_sized_builders::{
     MutValues, MutableFields, MutableFixedSizeBinaryArray, MutableFixedSizeListArray,

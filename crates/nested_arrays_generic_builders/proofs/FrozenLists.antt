@@ -10,8 +10,8 @@ use Rattle.nested_arrays_builder_pushes.specs.nulls.columns.SoundColumns.{is_sou
 use Rattle.nested_arrays_builder_pushes.specs.nulls.columns.StoredColumns.{Column, column_type, type_layer}
 use Rattle.nested_arrays_builder_pushes.specs.nulls.arrays.Answers.{IsCheckedAs}
 use Rattle.nested_arrays_builder_pushes.specs.nulls.generic.ListTypes.{items_field, list_layout}
+use Rattle.nested_arrays_builder_pushes.specs.cells.taken.OpenColumns.{IsFrozen}
 use Rattle.nested_arrays_builder_pushes.proofs.nulls_lemmas.flat_lemmas.Layers.{layer_layout, type_lies}
-use Rattle.nested_arrays_generic_builders.specs.ListBuilders.{IsFrozen}
 use Rattle.nested_arrays_generic_builders.proofs.ListsStored.{layered, list_layer, there}
 
 layout_of : (large : Bool) (item : Field) → layer_layout (list_layer large item) ≡ list_layout large

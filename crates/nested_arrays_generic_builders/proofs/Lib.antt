@@ -1,6 +1,7 @@
 pub mod FieldLoops
 pub mod FirstSpans
 pub mod FrozenLists
+pub mod ListLengths
 pub mod ListPushes
 pub mod ListSlots
 pub mod ListsStored

@@ -25,7 +25,7 @@ use Rattle.nested_arrays_builder_pushes.specs.nulls.columns.StoredColumns.{Colum
 use Rattle.nested_arrays_builder_pushes.specs.nulls.generic.ListTypes.{items_field}
 use Rattle.nested_arrays_builder_pushes.specs.cells.parts.Marks.{mask_of_marks}
 use Rattle.nested_arrays_builder_pushes.specs.cells.parts.Open.{opened}
-use Rattle.nested_arrays_builder_pushes.specs.cells.taken.OpenColumns.{AddsNull, Becomes, IsEmptied, IsFresh, KeepsFirst, TakesColumn, slots_and}
+use Rattle.nested_arrays_builder_pushes.specs.cells.taken.OpenColumns.{AddsNull, Becomes, IsEmptied, IsFresh, IsFrozen, KeepsFirst, TakesColumn, slots_and}
 use Rattle.nested_arrays_builder_pushes.specs.cells.taken.builders.growth.OpenParts.{item_spans, marks_of}
 use Rattle.nested_arrays_builder_pushes.proofs.cells_lemmas.taken_lemmas.OpenColumns.{open_fresh, open_slots, open_sound, open_type}
 use Rattle.nested_arrays_builder_pushes.proofs.columns_lemmas.ColumnSizes.{slots_lengths}
@@ -39,7 +39,7 @@ use Rattle.nested_arrays_builder_pushes.proofs.nulls_lemmas.generic_lemmas.ListP
 use Rattle.nested_arrays_builder_pushes.proofs.nulls_lemmas.arrays_lemmas.flat_lemmas.Offsets.{spans_count}
 use Rattle.nested_arrays_builder_pushes.proofs.nulls_lemmas.arrays_lemmas.columnar_memory_lemmas.buffer_lemmas.Runs.{offset_at-le-last_of}
 use Rattle.nested_arrays_generic_builders.specs.ListBuilders.{AddsList, AddsNullList, AreLists, ClosesColumn, ClosesList, FreezesParts}
-use Rattle.nested_arrays_generic_builders.specs.ListBuilders.{IsFrozen, ListParts, list_parts, list_slot, lists_column, no_lists}
+use Rattle.nested_arrays_generic_builders.specs.ListBuilders.{ListParts, list_parts, list_slot, lists_column, no_lists}
 use Rattle.nested_arrays_generic_builders.proofs.ListSlots.{first_lists, list_at, list_slots, one_list_more, window_rest}
 use Rattle.nested_arrays_generic_builders.proofs.ListsStored.{items_stored, list_buildable, marks_fit, marks_stored, one_null_fits}
 use Rattle.nested_arrays_generic_builders.proofs.ListsStored.{item_is, sound_parts, sound_whole, spans_stored}

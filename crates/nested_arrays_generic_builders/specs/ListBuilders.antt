@@ -1,6 +1,6 @@
 -- Builders of lists: marks and offsets that grow, over a builder of the items (Arrow columnar format, "Variable-size List Layout").
-use Rattle.std.specs.Prelude.{◌≡◌, ◌⊎◌, ◌+◌, ◌-◌, ◌<◌, ◌≤◌, ℕ, Bool, true, false, List, [], ◌∷◌, ◌++◌, drop, length, take, is_some}
-use Rattle.std.specs.Prelude.{Result, Ok, Err, MatchResult}
+use Rattle.std.specs.Prelude.{◌≡◌, ◌⊎◌, ◌+◌, ◌-◌, ◌<◌, ◌≤◌, ℕ, Bool, true, false, List, [], ◌∷◌, ◌++◌, drop, length, map, take, is_some}
+use Rattle.std.specs.Prelude.{Option, Some, None, get_or, Result, Ok, Err, MatchResult}
 use Rattle.std.proofs.Common.{refl}
 use Rattle.std.specs.Coded.{Coded, code_by, coded×, coded_list, coded_bool, coded_ℕ}
 use Rattle.columnar_memory_types.specs.contracts.data_type.DataType as data_type
@@ -8,7 +8,7 @@ use Rattle.nested_arrays_builder_pushes.specs.nulls.columnar_memory.declared.Dat
 use Rattle.nested_arrays_builder_pushes.specs.nulls.columnar_memory.declared.DataType.TheVariants as types
 use Rattle.nested_arrays_builder_pushes.specs.nulls.columnar_memory.declared.Error.{Error}
 use Rattle.nested_arrays_builder_pushes.specs.nulls.columnar_memory.declared.Field.{Field}
-use Rattle.nested_arrays_builder_pushes.specs.nulls.columnar_memory.Error.{IsOutOfMemory, IsOutOfSpec, IsOverflow}
+use Rattle.nested_arrays_builder_pushes.specs.nulls.columnar_memory.Error.{IsOutOfMemory, IsOverflow}
 use Rattle.nested_arrays_builder_pushes.specs.nulls.columnar_memory.Spans.{Spans, extended, first_spans, last_of, no_spans, offsets_of}
 use Rattle.nested_arrays_builder_pushes.specs.nulls.columns.Kinds.{most_slots}
 use Rattle.nested_arrays_builder_pushes.specs.nulls.columns.Slots.{Slot, in_slots, items}
@@ -16,7 +16,7 @@ use Rattle.nested_arrays_builder_pushes.specs.nulls.columns.SoundColumns.{is_sou
 use Rattle.nested_arrays_builder_pushes.specs.nulls.columns.StoredColumns.{Column, column_len, column_type, lists, slots, type_layer}
 use Rattle.nested_arrays_builder_pushes.specs.nulls.generic.ListTypes.{items_field}
 use Rattle.nested_arrays_builder_pushes.specs.cells.parts.Marks.{mask_of_marks}
-use Rattle.nested_arrays_builder_pushes.specs.cells.taken.OpenColumns.{IsEmptied, slots_and}
+use Rattle.nested_arrays_builder_pushes.specs.cells.taken.OpenColumns.{IsEmptied, IsFrozen, slots_and}
 
 -- The data type, a mark for each list, the span of each among the items, and the builder of these.
 pub record ListParts (M : Type 0) : Type 0 where
@@ -111,10 +111,48 @@ AddsSpan greatest marks spans mark count new_marks new_spans r =
     (λ e. (new_marks ≡ marks) × (new_spans ≡ spans)
     × (IsOutOfMemory e ⊎ (IsOverflow e × ((length marks ≡ most_slots) ⊎ (greatest < last_of spans + count)))))
 
--- the array of a column, a sound one, or memory ran out, or the column is not sound
-abbrev pub IsFrozen : {A : Type 0} → (A → Column) → Column → Result A Error → Type 0
-IsFrozen content column r = MatchResult r (λ a. (content a ≡ column) × (is_sound column ≡ true))
-    (λ e. IsOutOfMemory e ⊎ (IsOutOfSpec e × (is_sound column ≡ false)))
+-- how many items a list of a length has, none where it is null
+abbrev pub count_of : Option ℕ → ℕ
+count_of None = 0
+count_of (Some count) = count
+
+-- lists of some lengths more, of the items behind those of the lists before them
+abbrev pub with_lists : {M : Type 0} → ListParts M → List (Option ℕ) → ListParts M
+with_lists p lengths = list_parts p.data_type (p.marks ++ map is_some lengths) (extended p.spans (map count_of lengths)) p.values
+
+-- why a list of a length was not closed: there are as many as a column may have, fewer items than it ends at, or its end is past the offsets
+abbrev pub LacksRoom : ℕ → ℕ → List Bool → Spans → ℕ → Type 0
+LacksRoom greatest held marks spans count =
+    (length marks ≡ most_slots) ⊎ (held < last_of spans + count) ⊎ (greatest < last_of spans + count)
+
+-- A list of a length stands behind the others; or nothing has changed.
+abbrev pub AddsLength : {U : Type 0} → ℕ → ℕ → List Bool → Spans → Option ℕ → List Bool → Spans → Result U Error → Type 0
+AddsLength greatest held marks spans count new_marks new_spans r =
+    MatchResult r
+    (λ _. (new_marks ≡ marks ++ is_some count ∷ []) × (new_spans ≡ extended spans (count_of count ∷ [])) × (last_of new_spans ≤ held))
+    (λ e. (new_marks ≡ marks) × (new_spans ≡ spans)
+    × (IsOutOfMemory e ⊎ (IsOverflow e × LacksRoom greatest held marks spans (count_of count))))
+
+-- one of some lengths is refused behind those before it
+abbrev pub IsRefusedAt : ℕ → ℕ → List Bool → Spans → List (Option ℕ) → ℕ → Error → Type 0
+IsRefusedAt greatest held marks spans lengths n e =
+    IsOutOfMemory e ⊎ (IsOverflow e × LacksRoom greatest held (marks ++ map is_some (take n lengths)) (extended spans (map count_of (take n lengths)))
+    (count_of (get_or lengths n None)))
+
+-- Lists of some lengths stand behind the others; or only those before one that is refused.
+abbrev pub AddsLengths : {U : Type 0} → ℕ → ℕ → List Bool → Spans → List (Option ℕ) → List Bool → Spans → Result U Error → Type 0
+AddsLengths greatest held marks spans lengths new_marks new_spans r =
+    MatchResult r
+    (λ _. (new_marks ≡ marks ++ map is_some lengths) × (new_spans ≡ extended spans (map count_of lengths))
+    × (0 < length lengths → last_of new_spans ≤ held))
+    (λ e. (n : ℕ) × (n < length lengths) × (new_marks ≡ marks ++ map is_some (take n lengths))
+    × (new_spans ≡ extended spans (map count_of (take n lengths))) × IsRefusedAt greatest held marks spans lengths n e)
+
+-- The same of a builder, whose data type and items stay.
+abbrev pub ClosesLists : {M U : Type 0} → ℕ → ℕ → ListParts M → List (Option ℕ) → ListParts M → Result U Error → Type 0
+ClosesLists greatest held old lengths new r =
+    (new ≡ list_parts old.data_type new.marks new.spans old.values)
+    × AddsLengths greatest held old.marks old.spans lengths new.marks new.spans r
 
 -- The array of lists that these parts make; or what stood in the way of a part, first of the items.
 abbrev pub FreezesParts : DataType → List Bool → Result Spans Error → Result Column Error → Result Column Error → Type 0

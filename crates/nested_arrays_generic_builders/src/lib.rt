@@ -3,6 +3,7 @@
 
 mod fields;
 mod lending;
+mod lengths;
 mod lists;
 mod structs;
 
@@ -92,7 +93,8 @@ pub mod pushes {
             /// Of `values`.
             pub mod values {
                 pub use nested_arrays_builder_pushes::cells::builders::values::{
-                    Places, SlotUses, add_use, hash_of_bytes, most_values_of,
+                    Places, SlotUses, add_use, hash_of_bytes, most_values_of, rebase_strings,
+                    rebase_texts,
                 };
             }
         }

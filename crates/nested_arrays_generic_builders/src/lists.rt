@@ -9,9 +9,9 @@ ghost use Rattle.nested_arrays_builder_pushes.specs.nulls.columns.SoundColumns.{
 ghost use Rattle.nested_arrays_builder_pushes.specs.nulls.columns.StoredColumns.{column_len, column_type, lists, type_layer};
 ghost use Rattle.nested_arrays_builder_pushes.specs.nulls.generic.ListTypes.{items_field, list_type};
 ghost use Rattle.nested_arrays_builder_pushes.specs.cells.parts.Marks.{marks, mask_of_marks};
-ghost use Rattle.nested_arrays_builder_pushes.specs.cells.taken.OpenColumns.{AddsNull, KeepsFirst, TakesColumn};
+ghost use Rattle.nested_arrays_builder_pushes.specs.cells.taken.OpenColumns.{AddsNull, IsFrozen, KeepsFirst, TakesColumn};
 ghost use Rattle.nested_arrays_generic_builders.specs.ListBuilders.{list_parts, lists_column, lists_of, no_lists, with_values};
-ghost use Rattle.nested_arrays_generic_builders.specs.ListBuilders.{AddsNullList, AddsSpan, ClosesColumn, ClosesList, FreezesParts, IsFrozen, KeepsParts, LeavesNone};
+ghost use Rattle.nested_arrays_generic_builders.specs.ListBuilders.{AddsNullList, AddsSpan, ClosesColumn, ClosesList, FreezesParts, KeepsParts, LeavesNone};
 
 use crate::lending::MutValues;
 use nested_arrays_builder_pushes::cells::parts::Marks;
@@ -33,9 +33,9 @@ use std::rc::Rc;
 #[derive(Drop)]
 pub struct MutableListArray<O: Offset, M: MutableArray> {
     data_type: DataType,
-    marks: Marks,
-    offsets: Offsets<O>,
-    values: M,
+    pub(crate) marks: Marks,
+    pub(crate) offsets: Offsets<O>,
+    pub(crate) values: M,
 }
 
 impl<O: Offset, M: MutableArray> Model for MutableListArray<O, M> {
@@ -412,7 +412,7 @@ fn lists_of<O: Offset>(field: Boxed<Field>) -> DataType
 }
 
 /// Adds a mark and a span of so many items behind the others, or changes nothing.
-fn push_list<O: Offset>(
+pub(crate) fn push_list<O: Offset>(
     marks: &mut Marks,
     offsets: &mut Offsets<O>,
     mark: bool,

@@ -9,8 +9,7 @@ ghost use Rattle.nested_arrays_builder_pushes.specs.nulls.columns.SoundColumns.{
 ghost use Rattle.nested_arrays_builder_pushes.specs.nulls.columns.StoredColumns.{column_len, in_columns, records};
 ghost use Rattle.nested_arrays_builder_pushes.specs.cells.parts.Marks.{marks, mask_of_marks};
 ghost use Rattle.nested_arrays_builder_pushes.specs.cells.parts.Open.{column_of};
-ghost use Rattle.nested_arrays_builder_pushes.specs.cells.taken.OpenColumns.{AddsNull, KeepsFirst, TakesColumn};
-ghost use Rattle.nested_arrays_generic_builders.specs.ListBuilders.{IsFrozen};
+ghost use Rattle.nested_arrays_builder_pushes.specs.cells.taken.OpenColumns.{AddsNull, IsFrozen, KeepsFirst, TakesColumn};
 ghost use Rattle.nested_arrays_generic_builders.specs.StructBuilders.{emptied, field_columns, first_records, masked_column, no_records};
 ghost use Rattle.nested_arrays_generic_builders.specs.StructBuilders.{struct_parts, structs_column, with_fields};
 ghost use Rattle.nested_arrays_generic_builders.specs.StructBuilders.{AddsMark, AddsNullRecord, AddsNulls, AreMarked, ClosesRow, IsBuilt, IsMeasured};

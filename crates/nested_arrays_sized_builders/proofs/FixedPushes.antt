@@ -16,8 +16,7 @@ use Rattle.nested_arrays_generic_builders.specs.nulls.columns.Slots.{Slot, null}
 use Rattle.nested_arrays_generic_builders.specs.nulls.columns.SoundColumns.{is_sound}
 use Rattle.nested_arrays_generic_builders.specs.nulls.columns.StoredColumns.{Column, column_len, column_type, slots}
 use Rattle.nested_arrays_generic_builders.specs.pushes.cells.parts.Marks.{TakesMark}
-use Rattle.nested_arrays_generic_builders.specs.pushes.cells.taken.OpenColumns.{Becomes, IsEmptied, IsFresh, KeepsFirst, TakesColumn, slots_and}
-use Rattle.nested_arrays_generic_builders.specs.ListBuilders.{IsFrozen}
+use Rattle.nested_arrays_generic_builders.specs.pushes.cells.taken.OpenColumns.{Becomes, IsEmptied, IsFresh, IsFrozen, KeepsFirst, TakesColumn, slots_and}
 use Rattle.nested_arrays_generic_builders.proofs.OpenLists.{same_becomes}
 use Rattle.nested_arrays_generic_builders.proofs.pushes_lemmas.columns_lemmas.ColumnSizes.{slots_lengths}
 use Rattle.nested_arrays_sized_builders.specs.FixedListBuilders.{AddsFixedList, AreFixedLists, ClosesFixedColumn, ClosesFixedList}

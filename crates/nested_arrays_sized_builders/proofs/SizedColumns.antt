@@ -47,7 +47,7 @@ use Rattle.nested_arrays_sized_builders.proofs.MarkedSlots.{first_marked, marks_
 -- ---- the bytes of one string
 
 -- the string at a place, by its bytes
-abbrev content_at : ℕ → List ℕ → ℕ → Slot
+abbrev pub content_at : ℕ → List ℕ → ℕ → Slot
 content_at size content i = bytes (slice_range content (size * i) (size * i + size))
 
 -- it ends within the bytes of the strings up to a place behind it
@@ -60,7 +60,7 @@ part_is : (size o : ℕ) → o + size - o ≡ size
 part_is size o = omega arith
 
 -- it is the same with more bytes behind
-same_with_more : (size n : ℕ) (content more : List ℕ) (i : ℕ) → length content ≡ size * n → i < n
+pub same_with_more : (size n : ℕ) (content more : List ℕ) (i : ℕ) → length content ≡ size * n → i < n
     → content_at size (content ++ more) i ≡ content_at size content i
 same_with_more size n content more i long h =
     let o = size * i in
@@ -93,7 +93,7 @@ pub type_width : (size : ℕ) → byte_width (sized_type size) ≡ size
 unfolding roll-DataType denote.Hole.Carrier.roll
 type_width size = ap layer_width (layer_itself (layer.FixedSizeBinary size) refl)
 
-sized_layer : (x : Layer) → 0 < layer_width x → x ≡ layer.FixedSizeBinary (layer_width x)
+pub sized_layer : (x : Layer) → 0 < layer_width x → x ≡ layer.FixedSizeBinary (layer_width x)
 sized_layer (layer.FixedSizeBinary size) some = refl
 sized_layer _ some = absurd (omega (arith, some))
 

@@ -25,8 +25,8 @@ use Rattle.nested_arrays_generic_builders.proofs.pushes_lemmas.columns_lemmas.Fi
 use Rattle.nested_arrays_generic_builders.proofs.pushes_lemmas.columns_lemmas.FreshLengths.{cell_layer}
 use Rattle.nested_arrays_generic_builders.proofs.pushes_lemmas.growth_lemmas.TypeSteps.{cell_is}
 use Rattle.nested_arrays_sized_builders.specs.MarkedSlots.{AddsSlot}
-use Rattle.nested_arrays_sized_builders.specs.SizedStrings.{AddsBytes, AddsString, AreSized, SizedParts, is_sized, sized_column, sized_parts, stored_for}
-use Rattle.nested_arrays_sized_builders.specs.SizedStrings.{sized_type, string_slot}
+use Rattle.nested_arrays_sized_builders.specs.SizedStrings.{AddsBytes, AddsString, AreSized, JoinsBytes, SizedParts, is_sized}
+use Rattle.nested_arrays_sized_builders.specs.SizedStrings.{sized_column, sized_parts, sized_type, stored_for, string_slot}
 use Rattle.nested_arrays_sized_builders.proofs.MarkedSlots.{too_many}
 use Rattle.nested_arrays_sized_builders.proofs.SizedColumns.{first_left, layered, other_unfit, string_added, strings_long}
 use Rattle.nested_arrays_sized_builders.proofs.SizedColumns.{strings_sound, strings_taken, type_width}
@@ -88,6 +88,32 @@ module _ {t : DataType} {size : ℕ} {ms : List Bool} {content : List ℕ} (are 
   pub null_sized : {U : Type 0} (bits : List Bool) (grown : List ℕ) (r : Result U Error) → AddsBytes ms content false (replicate size 0) bits grown r
       → AreSized t size bits grown
   null_sized bits grown r h = pushed_sized false (replicate size 0) (length-replicate size 0) (zeros_are_bytes size) bits grown r h
+
+  -- the strings of another builder of the size
+  pub joined_sized : {U : Type 0} (more_marks : List Bool) (more : List ℕ) → length more ≡ size * length more_marks → list_all is_byte more ≡ true
+      → (bits : List Bool) (grown : List ℕ) (r : Result U Error) → JoinsBytes ms content more_marks more bits grown r → AreSized t size bits grown
+  joined_sized more_marks more long each bits grown (Ok u) h = record {
+    wide = are.wide;
+    some = are.some;
+    counted = omega (
+      arith,
+      ap length h.1,
+      length-append content more,
+      long,
+      are.counted,
+      ap (λ (bits : List Bool). size * length bits) h.0,
+      ap (λ (n : ℕ). size * n) (length-append ms more_marks),
+      mul-add size (length ms) (length more_marks),
+    );
+    bytes = ap (list_all is_byte) h.1 ∙ list_all-append is_byte content more
+        ∙ and_from (list_all is_byte content) (list_all is_byte more) are.bytes each;
+  }
+  joined_sized more_marks more long each bits grown (Err e) h = record {
+    wide = are.wide;
+    some = are.some;
+    counted = ap length h.1 ∙ are.counted ∙ ap (λ (bits : List Bool). size * length bits) (sym h.0);
+    bytes = ap (list_all is_byte) h.1 ∙ are.bytes;
+  }
 
   -- the first strings
   module _ (k : ℕ) (le : k ≤ length ms) (bits : List Bool) (left : List ℕ) (first : bits ≡ take k ms) (held : left ≡ take (size * k) content) where

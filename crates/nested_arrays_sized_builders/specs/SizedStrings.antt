@@ -1,5 +1,6 @@
 -- Builders of byte strings of one size: marks and bytes that grow (Arrow columnar format, "Fixed-size Primitive Layout").
-use Rattle.std.specs.Prelude.{◌≡◌, ◌⊎◌, ◌+◌, ◌*◌, ◌-◌, ◌==◌, ◌<◌, ◌/◌, ℕ, Bool, true, false, if◌then◌else◌, List, [], ◌∷◌, ◌++◌, length, take, replicate}
+use Rattle.std.specs.Prelude.{◌≡◌, ◌≢◌, ◌⊎◌, ◌+◌, ◌*◌, ◌-◌, ◌==◌, ◌<◌, ◌≤◌, ◌/◌, ℕ, Bool, true, false, if◌then◌else◌, List, [], ◌∷◌, ◌++◌, length}
+use Rattle.std.specs.Prelude.{take, replicate}
 use Rattle.std.specs.Prelude.{Option, Some, None, is_some, slice_index_or, slice_range, Result, MatchResult}
 use Rattle.std.specs.List.{list_all}
 use Rattle.std.proofs.Common.{refl}
@@ -110,3 +111,31 @@ IsBuilt data_type content mask r =
     × (is_sound (fixed_column data_type (byte_width data_type) content mask) ≡ true))
     (λ e. IsOutOfMemory e ⊎ (IsOutOfSpec e × ¬ (is_sound (fixed_column data_type (byte_width data_type) content mask) ≡ true))
     ⊎ (IsOverflow e × (most_slots < length content / byte_width data_type)))
+
+-- Marks stand behind the others; or they are as they were: memory ran out, or both are more than a column may have slots.
+abbrev pub JoinsMarks : {U : Type 0} → List Bool → List Bool → List Bool → Result U Error → Type 0
+JoinsMarks marks more new_marks r =
+    MatchResult r (λ _. (new_marks ≡ marks ++ more) × (length marks + length more ≤ most_slots))
+    (λ e. (new_marks ≡ marks) × (IsOutOfMemory e ⊎ (IsOverflow e × (most_slots < length marks + length more))))
+
+-- Marks and bytes stand behind the others; or nothing has changed.
+abbrev pub JoinsBytes : {U : Type 0} → List Bool → List ℕ → List Bool → List ℕ → List Bool → List ℕ → Result U Error → Type 0
+JoinsBytes marks content more_marks more new_marks new_content r =
+    MatchResult r
+    (λ _. (new_marks ≡ marks ++ more_marks) × (new_content ≡ content ++ more) × (length marks + length more_marks ≤ most_slots))
+    (λ e. (new_marks ≡ marks) × (new_content ≡ content)
+    × (IsOutOfMemory e ⊎ (IsOverflow e × (most_slots < length marks + length more_marks))))
+
+-- the strings of another behind these
+abbrev pub with_strings : SizedParts → SizedParts → SizedParts
+with_strings p more = sized_parts p.data_type (p.marks ++ more.marks) (p.content ++ more.content)
+
+-- The strings of another stand behind the others. Or nothing has changed: memory ran out, they have another size, or both are more than a column
+-- may have.
+abbrev pub JoinsStrings : {U : Type 0} → SizedParts → SizedParts → SizedParts → Result U Error → Type 0
+JoinsStrings old more new r =
+    MatchResult r
+    (λ _. (new ≡ with_strings old more) × (byte_width more.data_type ≡ byte_width old.data_type)
+    × (length old.marks + length more.marks ≤ most_slots))
+    (λ e. (new ≡ old) × (IsOutOfMemory e ⊎ (IsInvalidArgument e × (byte_width more.data_type ≢ byte_width old.data_type))
+    ⊎ (IsOverflow e × (byte_width more.data_type ≡ byte_width old.data_type) × (most_slots < length old.marks + length more.marks))))

@@ -7,8 +7,7 @@ ghost use Rattle.nested_arrays_generic_builders.specs.nulls.columnar_memory.Erro
 ghost use Rattle.nested_arrays_generic_builders.specs.nulls.columnar_memory.Results.{OrOutOfMemory};
 ghost use Rattle.nested_arrays_generic_builders.specs.nulls.columns.StoredColumns.{column_len, column_type};
 ghost use Rattle.nested_arrays_generic_builders.specs.pushes.cells.parts.Marks.{mask_of_marks};
-ghost use Rattle.nested_arrays_generic_builders.specs.pushes.cells.taken.OpenColumns.{AddsNull, KeepsFirst, TakesColumn};
-ghost use Rattle.nested_arrays_generic_builders.specs.ListBuilders.{IsFrozen};
+ghost use Rattle.nested_arrays_generic_builders.specs.pushes.cells.taken.OpenColumns.{AddsNull, IsFrozen, KeepsFirst, TakesColumn};
 ghost use Rattle.nested_arrays_sized_builders.specs.FixedListBuilders.{fixed_lists_column, fixed_lists_of, items_with_one, lists_over};
 ghost use Rattle.nested_arrays_sized_builders.specs.FixedListBuilders.{no_fixed_lists, with_items, AddsNullFixedList, AddsNulls, ClosesFixedColumn};
 ghost use Rattle.nested_arrays_sized_builders.specs.FixedListBuilders.{ClosesFixedList, FillsMarks, FreezesLists, KeepsMarks, LeavesNoLists, MarksBehind};

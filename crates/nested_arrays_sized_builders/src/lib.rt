@@ -3,6 +3,7 @@
 
 mod fixed_lists;
 mod nulls_alone;
+mod sized_slots;
 mod sized_strings;
 
 pub use fixed_lists::MutableFixedSizeListArray;
@@ -10,7 +11,7 @@ pub use nested_arrays_generic_builders::{
     MutValues, MutableFields, MutableListArray, MutableStructArray,
 };
 pub use nulls_alone::MutableNullArray;
-pub use sized_strings::MutableFixedSizeBinaryArray;
+pub use sized_strings::{MutableFixedSizeBinaryArray, read_bytes};
 
 /// What `nested_arrays_generic_builders::nulls` has, as far as packages above use it.
 pub mod nulls {
@@ -95,7 +96,8 @@ pub mod pushes {
             /// Of `values`.
             pub mod values {
                 pub use nested_arrays_generic_builders::pushes::cells::builders::values::{
-                    Places, SlotUses, add_use, hash_of_bytes, most_values_of,
+                    Places, SlotUses, add_use, hash_of_bytes, most_values_of, rebase_strings,
+                    rebase_texts,
                 };
             }
         }

@@ -12,7 +12,8 @@ ghost use Rattle.nested_arrays_generic_builders.specs.nulls.flat.FlatColumns.{by
 ghost use Rattle.nested_arrays_generic_builders.specs.pushes.cells.parts.Marks.{mask_of_marks};
 ghost use Rattle.nested_arrays_generic_builders.specs.pushes.cells.taken.OpenColumns.{AddsNull, KeepsFirst, TakesColumn};
 ghost use Rattle.nested_arrays_sized_builders.specs.MarkedSlots.{AddsSlot};
-ghost use Rattle.nested_arrays_sized_builders.specs.SizedStrings.{AddsBytes, AddsString, IsBuilt, TakesLast, first_strings, is_sized, no_strings};
+ghost use Rattle.nested_arrays_sized_builders.specs.SizedStrings.{AddsBytes, AddsString, IsBuilt, JoinsBytes, JoinsMarks, JoinsStrings};
+ghost use Rattle.nested_arrays_sized_builders.specs.SizedStrings.{TakesLast, first_strings, is_sized, no_strings};
 ghost use Rattle.nested_arrays_sized_builders.specs.SizedStrings.{sized_column, sized_type, sized_string_at, string_slot, value_at};
 
 use nested_arrays_generic_builders::marks_of;
@@ -28,6 +29,9 @@ use std::alloc::Global;
 use std::marker::Model;
 use std::mem;
 use std::rc::Rc;
+
+/// As many slots as an array may have.
+const MOST_SLOTS: usize = 9_223_372_036_854_775_807;
 
 /// A builder of byte strings of one size (Arrow columnar format, "Fixed-size Primitive Layout"). A contract sees the data type, a mark for each
 /// string, and the bytes of the strings one after another, zeros under each null that is pushed.
@@ -157,6 +161,26 @@ impl MutableFixedSizeBinaryArray {
         push_bytes(&mut self.marks, &mut self.values, bytes)
     }
 
+    /// Pushes the strings of another builder behind the others, those under nulls too.
+    ///
+    /// # Errors
+    /// `InvalidArgumentError`: they have another size.
+    /// `Overflow`: the strings of both are more than a column may have.
+    /// `OutOfMemory`: the strings found no memory.
+    pub fn try_extend_from_self(&mut self, other: &Self) -> Result<()>
+        ensures { JoinsStrings self.old other.now self.new result }
+    {
+        if other.size != self.size {
+            return Err(Error::InvalidArgumentError("byte strings of another size"));
+        }
+        join_bytes(
+            &mut self.marks,
+            &mut self.values,
+            &other.marks,
+            &other.values,
+        )
+    }
+
     /// Takes the last slot off, and answers a copy of it: none where it is null, or where there is no slot.
     ///
     /// # Errors
@@ -217,6 +241,13 @@ impl MutableFixedSizeBinaryArray {
         ensures some { 0 < result }
     {
         self.size
+    }
+
+    /// How many strings its memory has room for, at least as many as there are.
+    pub fn capacity(&self) -> usize
+        ensures { length self.now.marks ≤ result }
+    {
+        self.marks.len().max(self.values.capacity() / self.size)
     }
 
     /// The bytes of the strings, one string after another, those under nulls too.
@@ -397,7 +428,7 @@ impl MutableArray for MutableFixedSizeBinaryArray {
 }
 
 /// Reads each byte, by which a proof knows that it is one.
-fn read_bytes(bytes: &[u8])
+pub fn read_bytes(bytes: &[u8])
     ensures { list_all is_byte bytes.now ≡ true }
 {
     for byte in bytes {
@@ -422,6 +453,46 @@ fn push_bytes(marks: &mut Marks, values: &mut Vec<u8>, bytes: &[u8]) -> Result<(
     let held = marks.len();
     marks.push(true)?;
     match values.extend_from_slice(bytes) {
+        Ok(()) => Ok(()),
+        Err(_) => {
+            marks.truncate(held);
+            Err(Error::OutOfMemory)
+        }
+    }
+}
+
+/// Adds marks behind the others, or changes nothing.
+fn join_marks(marks: &mut Marks, more: &Marks) -> Result<()>
+    ensures { JoinsMarks marks.old more.now marks.new result }
+{
+    let held = marks.len();
+    if more.len() > MOST_SLOTS - held {
+        return Err(Error::Overflow);
+    }
+    for i in 0..more.len() {
+        match marks.push(more.is_valid(i)) {
+            Ok(()) => {}
+            Err(_) => {
+                marks.truncate(held);
+                return Err(Error::OutOfMemory);
+            }
+        }
+    }
+    Ok(())
+}
+
+/// Adds bytes and their marks behind the others, or changes nothing.
+fn join_bytes(
+    marks: &mut Marks,
+    values: &mut Vec<u8>,
+    more_marks: &Marks,
+    more: &[u8],
+) -> Result<()>
+    ensures { JoinsBytes marks.old values.old.items more_marks.now more.now marks.new values.new.items result }
+{
+    let held = marks.len();
+    join_marks(marks, more_marks)?;
+    match values.extend_from_slice(more) {
         Ok(()) => Ok(()),
         Err(_) => {
             marks.truncate(held);

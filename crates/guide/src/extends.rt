@@ -1,0 +1,120 @@
+//! Builders that take the slots of another of their kind.
+use columnar_memory::Error;
+use flat_arrays::{
+    MutableBinaryArray, MutableBooleanArray, MutablePrimitiveArray, MutableUtf8Array,
+};
+use nested_arrays::{MutableFixedSizeBinaryArray, TryExtendFromSelf};
+use std::alloc::Global;
+use std::test::Fail;
+
+/// Pushes the slots of a builder behind those of another.
+fn extend<M: TryExtendFromSelf>(slots: &mut M, more: M) -> Result<(), Error> {
+    let outcome = slots.try_extend_from_self(&more);
+    drop(more);
+    outcome
+}
+
+#[test]
+fn numbers_stand_behind_others(rt: HostRuntime) -> Result<(), Fail> {
+    let mut numbers = MutablePrimitiveArray::<i32>::from_slice(rt.alloc(), &[1])?;
+    let more = MutablePrimitiveArray::<i32>::from(rt.alloc(), &[None, Some(2)])?;
+    let outcome = extend(&mut numbers, more);
+    let array = numbers.freeze()?;
+    let found = (array.get(0), array.get(1), array.get(2), array.len());
+    drop(array);
+    outcome?;
+    assert_eq!(rt; found, (Some(1), None, Some(2), 3));
+    Ok(())
+}
+
+#[test]
+fn booleans_stand_behind_others(rt: HostRuntime) -> Result<(), Fail> {
+    let mut booleans = MutableBooleanArray::from(rt.alloc(), &[None, Some(true)])?;
+    let more = MutableBooleanArray::from_slice(rt.alloc(), &[false])?;
+    let outcome = extend(&mut booleans, more);
+    let array = booleans.freeze()?;
+    let found = (array.get(0), array.get(1), array.get(2), array.len());
+    drop(array);
+    outcome?;
+    assert_eq!(rt; found, (None, Some(true), Some(false), 3));
+    Ok(())
+}
+
+/// Whether texts are joined, the null among them.
+fn joins_texts(
+    mut texts: MutableUtf8Array<i64>,
+    more: MutableUtf8Array<i64>,
+) -> Result<bool, Error> {
+    let outcome = extend(&mut texts, more);
+    let array = texts.freeze()?;
+    let same = array.get(0) == Some("ab") && array.get(2) == Some("c") && array.get(1).is_none();
+    drop(array);
+    outcome?;
+    Ok(same)
+}
+
+#[test]
+fn texts_stand_behind_others(rt: HostRuntime) -> Result<(), Fail> {
+    let texts = MutableUtf8Array::<i64>::from_slice(rt.alloc(), &["ab"])?;
+    let more = MutableUtf8Array::<i64>::from(rt.alloc(), &[None, Some("c")])?;
+    assert!(rt; joins_texts(texts, more)?);
+    Ok(())
+}
+
+/// Whether byte strings are joined.
+fn joins_strings(
+    mut strings: MutableBinaryArray<i32>,
+    more: MutableBinaryArray<i32>,
+) -> Result<bool, Error> {
+    let outcome = extend(&mut strings, more);
+    let array = strings.freeze()?;
+    let same = array.get(0).is_none() && array.get(1) == Some(b"ab".as_slice());
+    drop(array);
+    outcome?;
+    Ok(same)
+}
+
+#[test]
+fn byte_strings_stand_behind_others(rt: HostRuntime) -> Result<(), Fail> {
+    let strings = MutableBinaryArray::<i32>::from::<&[u8]>(rt.alloc(), &[None])?;
+    let more = MutableBinaryArray::<i32>::from_slice(rt.alloc(), &["ab".as_bytes()])?;
+    assert!(rt; joins_strings(strings, more)?);
+    Ok(())
+}
+
+/// A null and a byte string of its size.
+fn null_and(alloc: Global, bytes: &[u8]) -> Result<MutableFixedSizeBinaryArray, Error> {
+    if bytes.is_empty() {
+        return Err(Error::InvalidArgumentError("a string without bytes"));
+    }
+    let mut strings = MutableFixedSizeBinaryArray::new(alloc, bytes.len());
+    strings.push_null()?;
+    strings.try_push(Some(bytes))?;
+    Ok(strings)
+}
+
+#[test]
+fn strings_of_one_size_stand_behind_others(rt: HostRuntime) -> Result<(), Fail> {
+    let mut strings = null_and(rt.alloc(), b"ab")?;
+    let more = null_and(rt.alloc(), b"cd")?;
+    let outcome = extend(&mut strings, more);
+    let same = strings.values() == b"\0\0ab\0\0cd".as_slice() && strings.get(2).is_none();
+    let count = strings.len();
+    drop(strings);
+    outcome?;
+    assert!(rt; same);
+    assert_eq!(rt; count, 4);
+    Ok(())
+}
+
+#[test]
+fn strings_of_another_size_are_refused(rt: HostRuntime) -> Result<(), Fail> {
+    let mut strings = null_and(rt.alloc(), b"ab")?;
+    let more = null_and(rt.alloc(), b"cde")?;
+    let outcome = extend(&mut strings, more);
+    let count = strings.len();
+    drop(strings);
+    assert!(rt; matches!(outcome, Err(Error::InvalidArgumentError(_))));
+    assert_eq!(rt; count, 2);
+    Ok(())
+}
