@@ -3,7 +3,7 @@ use columnar_memory::Error;
 use flat_arrays::{
     MutableBinaryArray, MutableBooleanArray, MutablePrimitiveArray, MutableUtf8Array,
 };
-use nested_arrays::{MutableFixedSizeBinaryArray, TryExtendFromSelf};
+use nested_arrays::{MutValues, MutableFixedSizeBinaryArray, MutableListArray, TryExtendFromSelf};
 use std::alloc::Global;
 use std::test::Fail;
 
@@ -116,5 +116,44 @@ fn strings_of_another_size_are_refused(rt: HostRuntime) -> Result<(), Fail> {
     drop(strings);
     assert!(rt; matches!(outcome, Err(Error::InvalidArgumentError(_))));
     assert_eq!(rt; count, 2);
+    Ok(())
+}
+
+/// A builder of lists of numbers.
+type Lists = MutableListArray<i32, MutablePrimitiveArray<i32>>;
+
+/// A list of one number.
+fn list_of(alloc: Global, number: i32) -> Result<Lists, Error> {
+    let mut lists = Lists::new_with_capacity(alloc, MutablePrimitiveArray::new(alloc), 1)?;
+    lists.mut_values().push(Some(number))?;
+    lists.try_push_valid()?;
+    Ok(lists)
+}
+
+#[test]
+fn lists_stand_behind_others(rt: HostRuntime) -> Result<(), Fail> {
+    let mut lists = list_of(rt.alloc(), 1)?;
+    let more = list_of(rt.alloc(), 2)?;
+    let outcome = extend(&mut lists, more);
+    let found = (
+        lists.len(),
+        lists.values().values().as_slice() == [1, 2].as_slice(),
+    );
+    drop(lists);
+    outcome?;
+    assert_eq!(rt; found, (2, true));
+    Ok(())
+}
+
+#[test]
+fn items_of_no_list_are_refused(rt: HostRuntime) -> Result<(), Fail> {
+    let mut lists = list_of(rt.alloc(), 1)?;
+    lists.mut_values().push(Some(2))?;
+    let more = list_of(rt.alloc(), 3)?;
+    let outcome = extend(&mut lists, more);
+    let found = (lists.len(), lists.values().len());
+    drop(lists);
+    assert!(rt; matches!(outcome, Err(Error::InvalidArgumentError(_))));
+    assert_eq!(rt; found, (1, 2));
     Ok(())
 }

@@ -2,6 +2,7 @@ pub mod ByteColumns
 pub mod ByteItems
 pub mod FoundPlaces
 pub mod JoinedFlats
+pub mod JoinedLists
 pub mod JoinedMarks
 pub mod JoinedSized
 pub mod JoinedSlots

@@ -6,11 +6,12 @@ ghost use Rattle.nested_arrays_sized_builders.specs.nulls.columns.StoredColumns.
 ghost use Rattle.nested_arrays_sized_builders.specs.nulls.flat.FlatColumns.{boolean_column, byte_width, primitive_column};
 ghost use Rattle.nested_arrays_sized_builders.specs.nulls.flat_arrays.ByteStrings.{len_of};
 ghost use Rattle.nested_arrays_sized_builders.specs.pushes.cells.taken.builders.values.ByteBuilders.{from_zero, open_binary, open_text};
+ghost use Rattle.nested_arrays_sized_builders.specs.ListBuilders.{lists_column};
 ghost use Rattle.nested_arrays_sized_builders.specs.SizedStrings.{JoinsStrings, sized_column};
 ghost use Rattle.nested_arrays_dictionary_builders.specs.JoinedArrays.{JoinsBytes, JoinsFlat};
 ghost use Rattle.nested_arrays_dictionary_builders.specs.JoinedColumns.{AddsColumn};
+ghost use Rattle.nested_arrays_dictionary_builders.specs.JoinedLists.{AddsItems, JoinsItems};
 
-use nested_arrays_sized_builders::MutableFixedSizeBinaryArray;
 use nested_arrays_sized_builders::nulls::columnar_memory::{Error, NativeType, Offset, Result};
 use nested_arrays_sized_builders::nulls::flat::PrimitiveKind;
 use nested_arrays_sized_builders::nulls::flat_arrays::{
@@ -18,6 +19,7 @@ use nested_arrays_sized_builders::nulls::flat_arrays::{
 };
 use nested_arrays_sized_builders::pushes::cells::builders::values::{rebase_strings, rebase_texts};
 use nested_arrays_sized_builders::pushes::cells::taken::MutableArray;
+use nested_arrays_sized_builders::{MutValues, MutableFixedSizeBinaryArray, MutableListArray};
 
 /// As many slots as an array may have.
 const MOST_SLOTS: usize = 9_223_372_036_854_775_807;
@@ -96,6 +98,20 @@ impl TryExtendFromSelf for MutableFixedSizeBinaryArray {
         whole_strings(self);
         whole_strings(other);
         MutableFixedSizeBinaryArray::try_extend_from_self(self, other)
+    }
+}
+
+/// Lists are joined where both builders have no items but those of their lists.
+impl<M: TryExtendFromSelf> TryExtendFromSelf for MutableListArray<i32, M> {
+    fn try_extend_from_self(&mut self, other: &Self) -> Result<()> {
+        extend_lists(self, other)
+    }
+}
+
+/// Lists are joined where both builders have no items but those of their lists.
+impl<M: TryExtendFromSelf> TryExtendFromSelf for MutableListArray<i64, M> {
+    fn try_extend_from_self(&mut self, other: &Self) -> Result<()> {
+        extend_lists(self, other)
     }
 }
 
@@ -198,4 +214,54 @@ fn whole_strings(strings: &MutableFixedSizeBinaryArray)
     let _size = strings.size();
     let _count = strings.len();
     strings.whole();
+}
+
+/// Adds the lists of another builder behind the others.
+fn extend_lists<O: Offset, M: TryExtendFromSelf>(
+    lists: &mut MutableListArray<O, M>,
+    other: &MutableListArray<O, M>,
+) -> Result<()>
+    ensures { AddsColumn (lists_column M.column lists.old) (lists_column M.column other.now) (lists_column M.column lists.new) result }
+{
+    lists.whole();
+    other.whole();
+    if !lists.is_closed() {
+        return Err(Error::InvalidArgumentError("items that are of no list yet"));
+    }
+    if !other.is_closed() {
+        return Err(Error::InvalidArgumentError("items that are of no list yet"));
+    }
+    let held = lists.len();
+    match lists.try_extend_spans(other) {
+        Ok(()) => join_items(lists, other.values(), held),
+        Err(error) => Err(error),
+    }
+}
+
+/// Adds items behind those of lists, or keeps the first lists alone.
+fn join_items<O: Offset, M: TryExtendFromSelf>(
+    lists: &mut MutableListArray<O, M>,
+    items: &M,
+    held: usize,
+) -> Result<()>
+    requires { held ≤ column_len (lists_column M.column lists.old) }
+    ensures { JoinsItems M.column lists.old items.now held lists.new result }
+{
+    match extend_items(lists, items) {
+        Ok(()) => Ok(()),
+        Err(error) => {
+            lists.truncate(held);
+            Err(error)
+        }
+    }
+}
+
+/// Adds items behind those of lists, or leaves the items as they are.
+fn extend_items<O: Offset, M: TryExtendFromSelf>(
+    lists: &mut MutableListArray<O, M>,
+    items: &M,
+) -> Result<()>
+    ensures { AddsItems M.column lists.old items.now lists.new result }
+{
+    lists.mut_values().try_extend_from_self(items)
 }

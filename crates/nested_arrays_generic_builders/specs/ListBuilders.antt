@@ -1,6 +1,6 @@
 -- Builders of lists: marks and offsets that grow, over a builder of the items (Arrow columnar format, "Variable-size List Layout").
 use Rattle.std.specs.Prelude.{◌≡◌, ◌⊎◌, ◌+◌, ◌-◌, ◌<◌, ◌≤◌, ℕ, Bool, true, false, List, [], ◌∷◌, ◌++◌, drop, length, map, take, is_some}
-use Rattle.std.specs.Prelude.{Option, Some, None, get_or, Result, Ok, Err, MatchResult}
+use Rattle.std.specs.Prelude.{Option, Some, None, get_or, sum, Result, Ok, Err, MatchResult}
 use Rattle.std.proofs.Common.{refl}
 use Rattle.std.specs.Coded.{Coded, code_by, coded×, coded_list, coded_bool, coded_ℕ}
 use Rattle.columnar_memory_types.specs.contracts.data_type.DataType as data_type
@@ -160,3 +160,35 @@ FreezesParts data_type marks spans (Err e) r = r ≡ Err e
 FreezesParts data_type marks (Err e) (Ok child) r = r ≡ Err e
 FreezesParts data_type marks (Ok spans) (Ok child) r =
     IsFrozen (λ (array : Column). array) (lists data_type (mask_of_marks marks) (offsets_of spans) child) r
+
+-- Marks stand behind the others; or they are as they were: memory ran out, or both are more than a column may have slots.
+abbrev pub JoinsMarks : {U : Type 0} → List Bool → List Bool → List Bool → Result U Error → Type 0
+JoinsMarks marks more new_marks r =
+    MatchResult r (λ _. (new_marks ≡ marks ++ more) × (length marks + length more ≤ most_slots))
+    (λ e. (new_marks ≡ marks) × (IsOutOfMemory e ⊎ (IsOverflow e × (most_slots < length marks + length more))))
+
+-- why more spans found no room: the lists of both are more than a column may have, or the last one would end past the greatest offset
+abbrev pub HasNoRoomFor : ℕ → List Bool → Spans → List Bool → Spans → Type 0
+HasNoRoomFor greatest marks spans more_marks more =
+    (most_slots < length marks + length more_marks) ⊎ (greatest < last_of spans + sum more.lengths)
+
+-- Marks and spans stand behind the others; or nothing has changed.
+abbrev pub JoinsSpans : {U : Type 0} → ℕ → List Bool → Spans → List Bool → Spans → List Bool → Spans → Result U Error → Type 0
+JoinsSpans greatest marks spans more_marks more new_marks new_spans r =
+    MatchResult r
+    (λ _. (new_marks ≡ marks ++ more_marks) × (new_spans ≡ extended spans more.lengths) × (length marks + length more_marks ≤ most_slots)
+    × (last_of spans + sum more.lengths ≤ greatest))
+    (λ e. (new_marks ≡ marks) × (new_spans ≡ spans)
+    × (IsOutOfMemory e ⊎ (IsOverflow e × HasNoRoomFor greatest marks spans more_marks more)))
+
+-- the lists of another behind these, over the same items
+abbrev pub with_lists : {M : Type 0} → ListParts M → ListParts M → ListParts M
+with_lists p more = list_parts p.data_type (p.marks ++ more.marks) (extended p.spans more.spans.lengths) p.values
+
+-- The marks and spans of another stand behind the others, over the same items; or nothing has changed.
+abbrev pub JoinsLists : {M U : Type 0} → ℕ → ListParts M → ListParts M → ListParts M → Result U Error → Type 0
+JoinsLists greatest old more new r =
+    MatchResult r
+    (λ _. (new ≡ with_lists old more) × (length old.marks + length more.marks ≤ most_slots)
+    × (last_of old.spans + sum more.spans.lengths ≤ greatest))
+    (λ e. (new ≡ old) × (IsOutOfMemory e ⊎ (IsOverflow e × HasNoRoomFor greatest old.marks old.spans more.marks more.spans)))

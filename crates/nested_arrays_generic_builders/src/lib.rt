@@ -9,7 +9,7 @@ mod structs;
 
 pub use fields::MutableFields;
 pub use lending::MutValues;
-pub use lists::{MutableListArray, marks_of};
+pub use lists::{MutableListArray, join_marks, marks_of};
 pub use structs::MutableStructArray;
 
 /// What `nested_arrays_builder_pushes::nulls` has, as far as packages above use it.

@@ -1,5 +1,5 @@
 //! Builders of lists of any length.
-ghost use Rattle.std.specs.Prelude.{◌≡◌, ◌<◌, ◌≤◌, [], is_some, length, not, option_copied, true, ◌⊎◌, IfErr, MatchResult, slice_index_or, false};
+ghost use Rattle.std.specs.Prelude.{◌≡◌, ◌↔◌, ◌<◌, ◌≤◌, [], IsTrue, is_some, length, not, option_copied, true, ◌⊎◌, IfErr, MatchResult, slice_index_or, false};
 ghost use Rattle.nested_arrays_builder_pushes.specs.nulls.columnar_memory.Error.{IsOutOfMemory, IsOverflow};
 ghost use Rattle.nested_arrays_builder_pushes.specs.nulls.access.Nulls.{is_null_at};
 ghost use Rattle.nested_arrays_builder_pushes.specs.nulls.columnar_memory.Results.{OrOutOfMemory};
@@ -11,6 +11,7 @@ ghost use Rattle.nested_arrays_builder_pushes.specs.nulls.generic.ListTypes.{ite
 ghost use Rattle.nested_arrays_builder_pushes.specs.cells.parts.Marks.{marks, mask_of_marks};
 ghost use Rattle.nested_arrays_builder_pushes.specs.cells.taken.OpenColumns.{AddsNull, IsFrozen, KeepsFirst, TakesColumn};
 ghost use Rattle.nested_arrays_generic_builders.specs.ListBuilders.{list_parts, lists_column, lists_of, no_lists, with_values};
+ghost use Rattle.nested_arrays_generic_builders.specs.ListBuilders.{AreLists, JoinsLists, JoinsMarks, JoinsSpans};
 ghost use Rattle.nested_arrays_generic_builders.specs.ListBuilders.{AddsNullList, AddsSpan, ClosesColumn, ClosesList, FreezesParts, KeepsParts, LeavesNone};
 
 use crate::lending::MutValues;
@@ -25,6 +26,9 @@ use std::alloc::Global;
 use std::marker::Model;
 use std::mem;
 use std::rc::Rc;
+
+/// As many slots as an array may have.
+const MOST_SLOTS: usize = 9_223_372_036_854_775_807;
 
 /// A builder of lists of any length over a builder of their items (Arrow columnar format, "Variable-size List Layout"). A contract sees the data
 /// type, a mark for each list, the spans of the lists among the items, and the builder of these.
@@ -139,6 +143,36 @@ impl<O: Offset, M: MutableArray> MutableListArray<O, M> {
             return Err(Error::Overflow);
         };
         push_list(&mut self.marks, &mut self.offsets, true, count)
+    }
+
+    /// Adds the marks and the spans of the lists of another builder behind the others. They are over items that are yet to be pushed.
+    ///
+    /// # Errors
+    /// `Overflow`: the lists of both are more than a column may have, or their items more than an offset may number.
+    /// `OutOfMemory`: a mark or an offset found no memory.
+    pub fn try_extend_spans(&mut self, other: &Self) -> Result<()>
+        ensures { JoinsLists O.greatest self.old other.now self.new result }
+    {
+        join_spans(
+            &mut self.marks,
+            &mut self.offsets,
+            &other.marks,
+            &other.offsets,
+        )
+    }
+
+    /// Whether the items are those of the lists, and none stands behind them.
+    pub fn is_closed(&self) -> bool
+        ensures { IsTrue result ↔ (last_of self.now.spans ≡ column_len (M.column self.now.values)) }
+    {
+        self.offsets.last().to_usize() == self.values.len()
+    }
+
+    /// Hands to a proof what holds of every such builder.
+    pub fn whole(&self)
+        ensures { AreLists O.IS_LARGE self.now.data_type self.now.marks self.now.spans }
+    {
+        let _count = self.marks.len();
     }
 
     /// The builder of the items.
@@ -423,6 +457,46 @@ pub(crate) fn push_list<O: Offset>(
     let held = marks.len();
     marks.push(mark)?;
     match offsets.try_push(count) {
+        Ok(()) => Ok(()),
+        Err(error) => {
+            marks.truncate(held);
+            Err(error)
+        }
+    }
+}
+
+/// Adds marks behind the others, or changes nothing.
+pub fn join_marks(marks: &mut Marks, more: &Marks) -> Result<()>
+    ensures { JoinsMarks marks.old more.now marks.new result }
+{
+    let held = marks.len();
+    if more.len() > MOST_SLOTS - held {
+        return Err(Error::Overflow);
+    }
+    for i in 0..more.len() {
+        match marks.push(more.is_valid(i)) {
+            Ok(()) => {}
+            Err(_) => {
+                marks.truncate(held);
+                return Err(Error::OutOfMemory);
+            }
+        }
+    }
+    Ok(())
+}
+
+/// Adds marks and spans behind the others, or changes nothing.
+fn join_spans<O: Offset>(
+    marks: &mut Marks,
+    offsets: &mut Offsets<O>,
+    more_marks: &Marks,
+    more: &Offsets<O>,
+) -> Result<()>
+    ensures { JoinsSpans O.greatest marks.old offsets.old more_marks.now more.now marks.new offsets.new result }
+{
+    let held = marks.len();
+    join_marks(marks, more_marks)?;
+    match offsets.try_extend_from_self(more) {
         Ok(()) => Ok(()),
         Err(error) => {
             marks.truncate(held);

@@ -11,3 +11,4 @@ pub use Rattle.nested_arrays_generic_builders.proofs.nulls_lemmas
 pub use Rattle.nested_arrays_generic_builders.proofs.pushes_lemmas.growth_lemmas
 pub use Rattle.nested_arrays_generic_builders.proofs.pushes_lemmas.cells_lemmas.taken_lemmas.builders_lemmas.values_lemmas
 pub use Rattle.nested_arrays_generic_builders.proofs.pushes_lemmas.cells_lemmas.taken_lemmas
+pub use Rattle.nested_arrays_generic_builders.proofs as lists_lemmas

@@ -112,12 +112,6 @@ IsBuilt data_type content mask r =
     (λ e. IsOutOfMemory e ⊎ (IsOutOfSpec e × ¬ (is_sound (fixed_column data_type (byte_width data_type) content mask) ≡ true))
     ⊎ (IsOverflow e × (most_slots < length content / byte_width data_type)))
 
--- Marks stand behind the others; or they are as they were: memory ran out, or both are more than a column may have slots.
-abbrev pub JoinsMarks : {U : Type 0} → List Bool → List Bool → List Bool → Result U Error → Type 0
-JoinsMarks marks more new_marks r =
-    MatchResult r (λ _. (new_marks ≡ marks ++ more) × (length marks + length more ≤ most_slots))
-    (λ e. (new_marks ≡ marks) × (IsOutOfMemory e ⊎ (IsOverflow e × (most_slots < length marks + length more))))
-
 -- Marks and bytes stand behind the others; or nothing has changed.
 abbrev pub JoinsBytes : {U : Type 0} → List Bool → List ℕ → List Bool → List ℕ → List Bool → List ℕ → Result U Error → Type 0
 JoinsBytes marks content more_marks more new_marks new_content r =

@@ -12,11 +12,10 @@ ghost use Rattle.nested_arrays_generic_builders.specs.nulls.flat.FlatColumns.{by
 ghost use Rattle.nested_arrays_generic_builders.specs.pushes.cells.parts.Marks.{mask_of_marks};
 ghost use Rattle.nested_arrays_generic_builders.specs.pushes.cells.taken.OpenColumns.{AddsNull, KeepsFirst, TakesColumn};
 ghost use Rattle.nested_arrays_sized_builders.specs.MarkedSlots.{AddsSlot};
-ghost use Rattle.nested_arrays_sized_builders.specs.SizedStrings.{AddsBytes, AddsString, IsBuilt, JoinsBytes, JoinsMarks, JoinsStrings};
+ghost use Rattle.nested_arrays_sized_builders.specs.SizedStrings.{AddsBytes, AddsString, IsBuilt, JoinsBytes, JoinsStrings};
 ghost use Rattle.nested_arrays_sized_builders.specs.SizedStrings.{TakesLast, first_strings, is_sized, no_strings};
 ghost use Rattle.nested_arrays_sized_builders.specs.SizedStrings.{sized_column, sized_type, sized_string_at, string_slot, value_at};
 
-use nested_arrays_generic_builders::marks_of;
 use nested_arrays_generic_builders::nulls::arrays::AnyArray;
 use nested_arrays_generic_builders::nulls::columnar_memory::{
     Bitmap, Buffer, DataType, Error, MutableBitmap, Result,
@@ -25,13 +24,11 @@ use nested_arrays_generic_builders::nulls::flat::FixedSizeBinaryArray;
 use nested_arrays_generic_builders::nulls::generic::ToBoxed;
 use nested_arrays_generic_builders::pushes::cells::parts::Marks;
 use nested_arrays_generic_builders::pushes::cells::taken::MutableArray;
+use nested_arrays_generic_builders::{join_marks, marks_of};
 use std::alloc::Global;
 use std::marker::Model;
 use std::mem;
 use std::rc::Rc;
-
-/// As many slots as an array may have.
-const MOST_SLOTS: usize = 9_223_372_036_854_775_807;
 
 /// A builder of byte strings of one size (Arrow columnar format, "Fixed-size Primitive Layout"). A contract sees the data type, a mark for each
 /// string, and the bytes of the strings one after another, zeros under each null that is pushed.
@@ -459,26 +456,6 @@ fn push_bytes(marks: &mut Marks, values: &mut Vec<u8>, bytes: &[u8]) -> Result<(
             Err(Error::OutOfMemory)
         }
     }
-}
-
-/// Adds marks behind the others, or changes nothing.
-fn join_marks(marks: &mut Marks, more: &Marks) -> Result<()>
-    ensures { JoinsMarks marks.old more.now marks.new result }
-{
-    let held = marks.len();
-    if more.len() > MOST_SLOTS - held {
-        return Err(Error::Overflow);
-    }
-    for i in 0..more.len() {
-        match marks.push(more.is_valid(i)) {
-            Ok(()) => {}
-            Err(_) => {
-                marks.truncate(held);
-                return Err(Error::OutOfMemory);
-            }
-        }
-    }
-    Ok(())
 }
 
 /// Adds bytes and their marks behind the others, or changes nothing.

@@ -1,7 +1,7 @@
 use Rattle.std.proofs.Common.{◌∙◌, ◌<◌, ◌++◌, ◌∷◌, [], List, Bool, take, length, false, arith, ap, sym}
 use Rattle.std.proofs.lemmas.List.{append_assoc, take_more}
 use Rattle.std.proofs.lemmas.Option.{get_or_from_slice_get}
-use Rattle.nested_arrays_sized_builders.proofs.sized_strings.join_marks.Goals as goal
+use Rattle.nested_arrays_generic_builders.proofs.lists.join_marks.Goals as goal
 
 pub loop-i-preserved : goal.loop-i-preserved
 loop-i-preserved c =
