@@ -116,10 +116,6 @@ abbrev pub count_of : Option ℕ → ℕ
 count_of None = 0
 count_of (Some count) = count
 
--- lists of some lengths more, of the items behind those of the lists before them
-abbrev pub with_lists : {M : Type 0} → ListParts M → List (Option ℕ) → ListParts M
-with_lists p lengths = list_parts p.data_type (p.marks ++ map is_some lengths) (extended p.spans (map count_of lengths)) p.values
-
 -- why a list of a length was not closed: there are as many as a column may have, fewer items than it ends at, or its end is past the offsets
 abbrev pub LacksRoom : ℕ → ℕ → List Bool → Spans → ℕ → Type 0
 LacksRoom greatest held marks spans count =
