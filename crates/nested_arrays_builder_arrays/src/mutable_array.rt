@@ -86,7 +86,7 @@ pub trait MutableArray: Drop + Sized {
     /// The array of the slots.
     ///
     /// # Errors
-    /// `OutOfMemory`: the array found no memory.
+    /// `OutOfMemory`: the array, or what is left of the builder, found no memory.
     /// `OutOfSpec`: the column is not sound.
     fn into_box(self, alloc: Global) -> Result<AnyArray>
         ensures { IsFrozen (λ array. array) (column self) result }
@@ -98,7 +98,7 @@ pub trait MutableArray: Drop + Sized {
     /// The array of the slots behind a count of owners.
     ///
     /// # Errors
-    /// `OutOfMemory`: the array or the count found no memory.
+    /// `OutOfMemory`: the array, the count, or what is left of the builder, found no memory.
     /// `OutOfSpec`: the column is not sound.
     fn into_arc(self, alloc: Global) -> Result<Rc<AnyArray>>
         ensures { IsFrozen (λ counted. counted.value) (column self) result }

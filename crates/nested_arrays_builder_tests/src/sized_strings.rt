@@ -102,3 +102,13 @@ fn strings_of_one_size_are_read_in_order(rt: HostRuntime) -> Result<(), Fail> {
     drop(strings);
     Ok(())
 }
+
+#[test]
+fn a_builder_becomes_an_array_with_a_count(rt: HostRuntime) -> Result<(), Fail> {
+    let mut strings = MutableFixedSizeBinaryArray::new(rt.alloc(), 2);
+    strings.push_null()?;
+    let counted = strings.into_arc(rt.alloc())?;
+    assert_eq!(rt; counted.len(), 1);
+    drop(counted);
+    Ok(())
+}
