@@ -12,7 +12,7 @@ use ipc_format_column_writing::column_reading::columnar_memory::{
 };
 use ipc_format_column_writing::column_reading::messages::{BodyCompressionRef, FieldNode};
 use ipc_format_column_writing::column_reading::{Room, messages as ipc, read_bytes, read_marked};
-use ipc_format_column_writing::nested_arrays::FixedSizeBinaryArray;
+use ipc_format_column_writing::nested_arrays_core::FixedSizeBinaryArray;
 use std::alloc::Global;
 use std::collections::VecDeque;
 

@@ -11,7 +11,7 @@ mod null;
 pub use begun::{Beginning, Begun, begin, has_children, limit_below};
 pub use fixed_size_binary::read_fixed_size_binary;
 pub use ipc_format_column_writing::column_reading::{InMemory, Room};
-pub use ipc_format_column_writing::{Chunk, columnar_memory, nested_arrays};
+pub use ipc_format_column_writing::{Chunk, columnar_memory, nested_arrays_core};
 pub use made::array_of;
 pub use null::read_null;
 

@@ -20,7 +20,7 @@ use ipc_format_column_writing::column_reading::Marked;
 use ipc_format_column_writing::column_reading::columnar_memory::{
     Bitmap, Buffer, DataType, Error, Index, Offset, OffsetsBuffer, PhysicalType, Result,
 };
-use ipc_format_column_writing::nested_arrays::{
+use ipc_format_column_writing::nested_arrays_core::{
     AnyArray, FixedSizeListArray, ListArray, MapArray, StructArray, ToBoxed, UnionArray,
 };
 use std::alloc::Global;

@@ -8,7 +8,7 @@ use ipc_format_column_writing::column_reading::columnar_memory::{
 };
 use ipc_format_column_writing::column_reading::messages::FieldNode;
 use ipc_format_column_writing::column_reading::slots_taken;
-use ipc_format_column_writing::nested_arrays::NullArray;
+use ipc_format_column_writing::nested_arrays_core::NullArray;
 use std::collections::VecDeque;
 
 /// Reads a column of nulls: a node, and no buffer.

@@ -8,7 +8,7 @@ ghost use Rattle.ipc_format_reading.specs.messages.MessageViews.{version_view};
 ghost use Rattle.ipc_format_reading.specs.metadata.Views.{ids_view, ids_views};
 
 use ipc_format_reading::columnar_memory::{Field, Result, Steps};
-use ipc_format_reading::nested_arrays::AnyArray;
+use ipc_format_reading::nested_arrays_core::AnyArray;
 use ipc_format_reading::{
     Buffer, Dictionaries, FieldNode, IpcField, MetadataVersion, Room, read, read_children,
 };

@@ -16,7 +16,7 @@ ghost use Rattle.ipc_format_batch_reading.specs.DictionaryReads.{ReadsDictionary
 
 use crate::named_values::{ValuesById, copied_ids, known_values};
 use ipc_format_reading::columnar_memory::{DataType, Error, Field, Result, Text};
-use ipc_format_reading::nested_arrays::AnyArray;
+use ipc_format_reading::nested_arrays_core::AnyArray;
 use ipc_format_reading::{
     Buffer, Dictionaries, DictionaryBatchRef, FieldNode, IpcField, IpcSchema, MetadataVersion,
     RecordBatchRef, Room, batch_queues, dictionary_batch_in, read,

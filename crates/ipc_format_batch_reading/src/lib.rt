@@ -15,9 +15,9 @@ pub use ipc_format_reading::{
     BodyCompressionRef, Buffer, Chunk, Compression, Dictionaries, DictionaryBatchRef, EncodedData,
     FieldNode, InMemory, IpcField, IpcSchema, MessageHeaderRef, MetadataVersion, Placed,
     RecordBatchRef, Room, batch_queues, columnar_memory, dictionary_batch_in, dictionary_metadata,
-    dictionary_values, first_beside, message_in, nested_arrays, normalised, read, read_children,
-    read_fixed_size_list, read_large_list, read_list, read_map, read_struct, read_union,
-    record_metadata, write,
+    dictionary_values, first_beside, message_in, nested_arrays_core, normalised, read,
+    read_children, read_fixed_size_list, read_large_list, read_list, read_map, read_struct,
+    read_union, record_metadata, write,
 };
 pub use laws::{look_ups_are_enough, schemas_have_arrays};
 pub use named_values::{KnownValues, ValuesById, values_by_id};

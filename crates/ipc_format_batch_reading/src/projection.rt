@@ -8,7 +8,7 @@ ghost use Rattle.ipc_format_batch_reading.specs.Projections.{are_below, are_dist
 
 use ipc_format_reading::Chunk;
 use ipc_format_reading::columnar_memory::Field;
-use ipc_format_reading::nested_arrays::AnyArray;
+use ipc_format_reading::nested_arrays_core::AnyArray;
 use std::alloc::{AllocError, Global};
 use std::collections::BTreeMap;
 use std::marker::Model;

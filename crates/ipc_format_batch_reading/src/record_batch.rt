@@ -18,7 +18,7 @@ ghost use Rattle.ipc_format_batch_reading.specs.BufferCounts.{AreStated, CountsT
 use crate::counted::{read_children_counted, read_counted};
 use crate::passing::pass_fields;
 use ipc_format_reading::columnar_memory::{Error, Field, Result, Steps};
-use ipc_format_reading::nested_arrays::AnyArray;
+use ipc_format_reading::nested_arrays_core::AnyArray;
 use ipc_format_reading::{
     Buffer, Chunk, Dictionaries, FieldNode, IpcField, IpcSchema, MetadataVersion, RecordBatchRef,
     Room, batch_queues,

@@ -1,6 +1,6 @@
 //! What calls answer, in short.
 use ipc_format::columnar_memory::Error;
-use ipc_format::nested_arrays::AnyArray;
+use ipc_format::nested_arrays_core::AnyArray;
 use ipc_format::{Faults, StreamReader, StreamState, read_stream_metadata};
 use std::alloc::Global;
 use std::io::Read;

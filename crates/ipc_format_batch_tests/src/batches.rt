@@ -1,7 +1,7 @@
 //! Messages that the tests read: their metadata, with nodes and buffers by their numbers.
 use ipc_format::columnar_memory::{Boxed, DataType, Error, Field, IntegerType, Items, Steps, Text};
 use ipc_format::format::{Buffer, FieldNode, MessageHeaderRef, MetadataVersion, message_in};
-use ipc_format::nested_arrays::AnyArray;
+use ipc_format::nested_arrays_core::AnyArray;
 use ipc_format::{
     Chunk, Dictionaries, InMemory, IpcField, IpcSchema, dictionary_batch_to_bytes, is_projection,
     read_dictionary, read_record_batch, read_record_batch_counted, record_batch_to_bytes,

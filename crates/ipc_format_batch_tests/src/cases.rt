@@ -2,8 +2,8 @@
 use ipc_format::columnar_memory::{
     Bitmap, Boxed, DataType, Error, Field, IntegerType, Items, Schema, Text,
 };
-use ipc_format::nested_arrays::flat_arrays::{PrimitiveArray, Utf8Array};
-use ipc_format::nested_arrays::{AnyArray, AnyPrimitive, DictionaryArray, FlatArray, ToBoxed};
+use ipc_format::nested_arrays_core::flat_arrays::{PrimitiveArray, Utf8Array};
+use ipc_format::nested_arrays_core::{AnyArray, AnyPrimitive, DictionaryArray, FlatArray, ToBoxed};
 use ipc_format::{Chunk, IpcField};
 use std::alloc::Global;
 

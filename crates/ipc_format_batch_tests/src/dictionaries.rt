@@ -2,7 +2,7 @@
 use crate::answers::{Short, told};
 use crate::batches::{batch, dictionary, dictionary_of, ids, one_field, one_id};
 use ipc_format::columnar_memory::{DataType, Error, Field, Items};
-use ipc_format::nested_arrays::AnyArray;
+use ipc_format::nested_arrays_core::AnyArray;
 use ipc_format::{Chunk, Dictionaries, IpcSchema};
 use std::alloc::Global;
 use std::test::*;

@@ -3,7 +3,7 @@ use crate::answers::{Short, told};
 use crate::cases::{id, letters, numbers, of_one, of_two, other_numbers};
 use crate::samples::EXAMPLE;
 use ipc_format::columnar_memory::Error;
-use ipc_format::nested_arrays::AnyArray;
+use ipc_format::nested_arrays_core::AnyArray;
 use ipc_format::{
     Compression, DictionaryTracker, EncodedData, WriteOptions, encode_chunk,
     encode_chunk_amortized, write_continuation, write_message,

@@ -3,7 +3,7 @@ use crate::answers::{Short, told};
 use crate::batches::{field, ids, one_field, one_id, picked};
 use ipc_format::columnar_memory::{DataType, Error, Field, Items, UnionMode};
 use ipc_format::format::MetadataVersion;
-use ipc_format::nested_arrays::AnyArray;
+use ipc_format::nested_arrays_core::AnyArray;
 use ipc_format::{
     Chunk, IpcSchema, ProjectionIter, ProjectionResult, apply_projection, is_choice,
     prepare_projection, rises,

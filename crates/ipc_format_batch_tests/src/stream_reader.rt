@@ -5,7 +5,7 @@ use crate::devices::{Failing, Pausing, Silent};
 use crate::samples::STREAM;
 use crate::writers::started;
 use ipc_format::columnar_memory::Error;
-use ipc_format::nested_arrays::AnyArray;
+use ipc_format::nested_arrays_core::AnyArray;
 use ipc_format::{Counting, Faults, StreamReader, StreamState, is_choice, read_stream_metadata};
 use std::alloc::Global;
 use std::io::Read;

@@ -2,7 +2,7 @@
 use crate::answers::{Short, told};
 use crate::cases::{numbers, numbers_schema, of_one};
 use ipc_format::columnar_memory::{Error, Schema};
-use ipc_format::nested_arrays::AnyArray;
+use ipc_format::nested_arrays_core::AnyArray;
 use ipc_format::{Faults, IpcField, StreamWriter, WriteOptions};
 use std::alloc::Global;
 use std::io::Write;

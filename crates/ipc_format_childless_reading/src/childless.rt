@@ -16,7 +16,7 @@ use crate::keyed::read_dictionary;
 use ipc_format_array_reading::columnar_memory::{DataType, IntegerType, PhysicalType, Result};
 use ipc_format_array_reading::messages::{FieldNode, MetadataVersion};
 use ipc_format_array_reading::metadata::IpcField;
-use ipc_format_array_reading::nested_arrays::{AnyArray, DictionaryKey};
+use ipc_format_array_reading::nested_arrays_core::{AnyArray, DictionaryKey};
 use ipc_format_array_reading::{Room, messages as ipc};
 use std::alloc::Global;
 use std::collections::VecDeque;

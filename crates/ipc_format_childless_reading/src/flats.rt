@@ -10,7 +10,7 @@ use ipc_format_array_reading::column_writing::column_reading::{
 };
 use ipc_format_array_reading::columnar_memory::{DataType, Error, PhysicalType, Result};
 use ipc_format_array_reading::messages::FieldNode;
-use ipc_format_array_reading::nested_arrays::{AnyArray, ToBoxed};
+use ipc_format_array_reading::nested_arrays_core::{AnyArray, ToBoxed};
 use ipc_format_array_reading::{Room, messages as ipc, read_fixed_size_binary, read_null};
 use std::alloc::Global;
 use std::collections::VecDeque;

@@ -18,8 +18,10 @@ use crate::dictionaries::Dictionaries;
 use ipc_format_array_reading::column_writing::column_reading::{read_buffer, read_marked};
 use ipc_format_array_reading::columnar_memory::{DataType, Error, PhysicalType, Result};
 use ipc_format_array_reading::messages::{BodyCompressionRef, FieldNode};
-use ipc_format_array_reading::nested_arrays::flat_arrays::PrimitiveArray;
-use ipc_format_array_reading::nested_arrays::{AnyArray, Array, DictionaryArray, DictionaryKey};
+use ipc_format_array_reading::nested_arrays_core::flat_arrays::PrimitiveArray;
+use ipc_format_array_reading::nested_arrays_core::{
+    AnyArray, Array, DictionaryArray, DictionaryKey,
+};
 use ipc_format_array_reading::{Room, messages as ipc};
 use std::alloc::Global;
 use std::collections::VecDeque;

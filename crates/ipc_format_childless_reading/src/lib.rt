@@ -27,7 +27,7 @@ pub use ipc_format_array_reading::messages::{
 pub use ipc_format_array_reading::metadata::{IpcField, IpcSchema};
 pub use ipc_format_array_reading::{
     Chunk, InMemory, Room, array_of, begin, columnar_memory, has_children, limit_below,
-    nested_arrays,
+    nested_arrays_core,
 };
 pub use keyed::read_dictionary;
 

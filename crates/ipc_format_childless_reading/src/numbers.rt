@@ -10,7 +10,7 @@ use ipc_format_array_reading::columnar_memory::{
     DataType, Error, PrimitiveType, Result, days_ms, i256, months_days_ns,
 };
 use ipc_format_array_reading::messages::FieldNode;
-use ipc_format_array_reading::nested_arrays::{AnyArray, PrimitiveKind};
+use ipc_format_array_reading::nested_arrays_core::{AnyArray, PrimitiveKind};
 use ipc_format_array_reading::{Room, messages as ipc};
 use std::alloc::Global;
 use std::collections::VecDeque;

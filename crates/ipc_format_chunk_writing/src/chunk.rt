@@ -12,7 +12,7 @@ use crate::options::WriteOptions;
 use crate::telling::tell;
 use crate::tracker::DictionaryTracker;
 use columnar_memory_types::{Error, Result};
-use ipc_format_batch_reading::nested_arrays::AnyArray;
+use ipc_format_batch_reading::nested_arrays_core::AnyArray;
 use ipc_format_batch_reading::{Chunk, EncodedData, IpcField};
 use std::alloc::Global;
 

@@ -3,7 +3,7 @@ ghost use Rattle.std.specs.Prelude.{◌≡◌};
 ghost use Rattle.ipc_format_batch_reading.specs.metadata.Views.{ids_views};
 ghost use Rattle.ipc_format_chunk_writing.specs.Types.{ids_fit_columns};
 
-use ipc_format_batch_reading::nested_arrays::AnyArray;
+use ipc_format_batch_reading::nested_arrays_core::AnyArray;
 use ipc_format_batch_reading::streams::owned::writing::{none_fit, type_fits};
 use ipc_format_batch_reading::{IpcField, first_beside};
 

@@ -10,7 +10,7 @@ ghost use Rattle.ipc_format_batch_reading.specs.metadata.Views.{ids_views};
 ghost use Rattle.ipc_format_chunk_writing.specs.Found.{Finds, given_in};
 
 use columnar_memory_types::Result;
-use ipc_format_batch_reading::nested_arrays::{AnyArray, Node};
+use ipc_format_batch_reading::nested_arrays_core::{AnyArray, Node};
 use ipc_format_batch_reading::{IpcField, first_beside};
 use std::alloc::Global;
 

@@ -23,7 +23,7 @@ pub use ipc_format_batch_reading::{
     ProjectionIter, ProjectionResult, RecordBatchRef, Room, ValuesById, apply_projection,
     batch_queues, choices_are_put_back, columnar_memory, dictionary_batch_in, dictionary_metadata,
     dictionary_values, first_beside, is_choice, is_projection, look_ups_are_enough, message_in,
-    nested_arrays, normalised, prepare_projection, read, read_children, read_dictionary,
+    nested_arrays_core, normalised, prepare_projection, read, read_children, read_dictionary,
     read_dictionary_with, read_fixed_size_list, read_large_list, read_list, read_map,
     read_record_batch, read_record_batch_counted, read_struct, read_union, record_metadata, rises,
     schemas_have_arrays, values_by_id, write,

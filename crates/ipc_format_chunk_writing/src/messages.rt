@@ -13,7 +13,7 @@ ghost use Rattle.ipc_format_chunk_writing.specs.Tracking.{given_of};
 use crate::found::Found;
 use crate::signed::are_nodes;
 use columnar_memory_types::Result;
-use ipc_format_batch_reading::nested_arrays::AnyArray;
+use ipc_format_batch_reading::nested_arrays_core::AnyArray;
 use ipc_format_batch_reading::{EncodedData, Placed, dictionary_metadata, record_metadata, write};
 use std::alloc::Global;
 

@@ -4,7 +4,7 @@ ghost use Rattle.ipc_format_chunk_writing.specs.Helds.{columns_held, fields_held
 ghost use Rattle.ipc_format_chunk_writing.specs.Records.{given_batch, same_given_batch, same_given_batch-per, same_given_batch-equivalence};
 
 use crate::held::Held;
-use ipc_format_batch_reading::nested_arrays::AnyArray;
+use ipc_format_batch_reading::nested_arrays_core::AnyArray;
 use ipc_format_batch_reading::{Chunk, IpcField};
 use std::alloc::AllocError;
 use std::fmt::{self, Debug, Formatter};

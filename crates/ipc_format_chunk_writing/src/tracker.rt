@@ -8,7 +8,7 @@ ghost use Rattle.ipc_format_chunk_writing.specs.Tracking.{Compares, Inserts, Put
 
 use crate::types::have_one_form;
 use columnar_memory_types::{Error, Result};
-use ipc_format_batch_reading::nested_arrays::{AnyArray, same_slots};
+use ipc_format_batch_reading::nested_arrays_core::{AnyArray, same_slots};
 use std::alloc::Global;
 use std::collections::BTreeMap;
 

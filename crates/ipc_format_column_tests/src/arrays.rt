@@ -1,8 +1,8 @@
 //! Arrays that the tests write, and what is written of them.
 use crate::cases::{list, one_field};
 use ipc_format_reading::columnar_memory::{DataType, Error, OffsetsBuffer, UnionMode};
-use ipc_format_reading::nested_arrays::flat_arrays::PrimitiveArray;
-use ipc_format_reading::nested_arrays::{
+use ipc_format_reading::nested_arrays_core::flat_arrays::PrimitiveArray;
+use ipc_format_reading::nested_arrays_core::{
     AnyArray, AnyPrimitive, FlatArray, ListArray, StructArray, ToBoxed, UnionArray,
     columnar_memory as memory,
 };

@@ -2,7 +2,7 @@
 use ipc_format_reading::columnar_memory::{
     Boxed, DataType, Error, Field, IntegerType, Items, Text, UnionMode,
 };
-use ipc_format_reading::nested_arrays::AnyArray;
+use ipc_format_reading::nested_arrays_core::AnyArray;
 use ipc_format_reading::{
     Buffer, Dictionaries, FieldNode, InMemory, IpcField, MetadataVersion, read,
 };

@@ -1,7 +1,7 @@
 //! Columns with columns below them.
 use crate::cases::{column, field, list, no_ids, one_field};
 use ipc_format_reading::columnar_memory::{Boxed, DataType, Error, UnionMode};
-use ipc_format_reading::nested_arrays::{AnyArray, Array};
+use ipc_format_reading::nested_arrays_core::{AnyArray, Array};
 use ipc_format_reading::{Dictionaries, MetadataVersion};
 use std::alloc::Global;
 use std::test::*;

@@ -5,7 +5,7 @@ use ipc_format_reading::childless_reading::array_reading::column_writing::column
     read_binary, read_boolean, read_primitive, read_utf8,
 };
 use ipc_format_reading::columnar_memory::{DataType, Error, IntervalUnit, days_ms};
-use ipc_format_reading::nested_arrays::flat_arrays::{BinaryArray, Utf8Array};
+use ipc_format_reading::nested_arrays_core::flat_arrays::{BinaryArray, Utf8Array};
 use std::alloc::Global;
 use std::test::*;
 

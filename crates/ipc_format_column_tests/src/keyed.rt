@@ -1,7 +1,7 @@
 //! Columns of dictionaries' keys.
 use crate::cases::{column, id, keyed, no_id, one_field};
 use ipc_format_reading::columnar_memory::{DataType, Error, Items};
-use ipc_format_reading::nested_arrays::AnyArray;
+use ipc_format_reading::nested_arrays_core::AnyArray;
 use ipc_format_reading::{Dictionaries, IpcField, MetadataVersion};
 use std::alloc::Global;
 use std::test::*;

@@ -1,7 +1,7 @@
 //! Columns of one kind.
 use crate::cases::{buffers, field, no_id, no_ids, nodes, one_field};
 use ipc_format_reading::columnar_memory::{Boxed, DataType, Error, Items, UnionMode};
-use ipc_format_reading::nested_arrays::Array;
+use ipc_format_reading::nested_arrays_core::Array;
 use ipc_format_reading::{
     Buffer, Dictionaries, FieldNode, InMemory, IpcField, MetadataVersion, read_fixed_size_list,
     read_large_list, read_list, read_map, read_struct, read_union,

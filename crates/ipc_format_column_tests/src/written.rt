@@ -4,8 +4,8 @@ use ipc_format_reading::childless_reading::array_reading::column_writing::{
     write_struct, write_union,
 };
 use ipc_format_reading::columnar_memory::{Bitmap, Error};
-use ipc_format_reading::nested_arrays::AnyArray;
-use ipc_format_reading::nested_arrays::flat_arrays::PrimitiveArray;
+use ipc_format_reading::nested_arrays_core::AnyArray;
+use ipc_format_reading::nested_arrays_core::flat_arrays::PrimitiveArray;
 use ipc_format_reading::{Compression, write};
 use std::alloc::Global;
 use std::test::*;

@@ -3,7 +3,7 @@ use Rattle.std.proofs.Common.{◌≡◌, ◌∙◌, ℕ, ◌+◌, ◌-◌, ◌*�
 use Rattle.std.specs.Int.{Width}
 use Rattle.std.specs.Prelude.{IfOk, Option, Result, Ok, Err, slice_index}
 use Rattle.std.proofs.lemmas.List.{append_assoc, append-nil}
-use Rattle.nested_arrays.specs.Parts.{column_children}
+use Rattle.nested_arrays_core.specs.Parts.{column_children}
 use Rattle.ipc_format_column_reading.specs.column_bytes.Bodies.{Parts, Adds, both, of_buffers, of_slots, parts_of, with_column}
 use Rattle.ipc_format_column_reading.specs.column_bytes.columnar_memory.Spans.{Spans, last_of, offsets_of}
 use Rattle.ipc_format_column_reading.specs.column_bytes.columnar_memory.declared.DataType.{DataType}

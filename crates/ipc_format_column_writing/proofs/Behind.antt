@@ -1,8 +1,8 @@
 -- What structs and unions have behind their nodes.
 use Rattle.std.proofs.Common.{◌≡◌, ◌∙◌, ℕ, Bool, true, List, [], ◌∷◌, sym, ap, subst, arith}
 use Rattle.std.specs.Prelude.{Option}
-use Rattle.nested_arrays.specs.Parts.{column_children}
-use Rattle.nested_arrays.specs.Places.{HaveRange}
+use Rattle.nested_arrays_core.specs.Parts.{column_children}
+use Rattle.nested_arrays_core.specs.Places.{HaveRange}
 use Rattle.ipc_format_column_reading.specs.column_bytes.Bodies.{both, of_buffers}
 use Rattle.ipc_format_column_reading.specs.column_bytes.WholeColumns.{behind_node}
 use Rattle.ipc_format_column_reading.specs.column_bytes.columnar_memory.declared.DataType.{DataType}

@@ -3,7 +3,7 @@ use Rattle.std.proofs.Common.{◌≡◌, ◌∙◌, ℕ, Bool, true, false, List
 use Rattle.std.specs.Int.{w8, w32}
 use Rattle.std.specs.List.{flat_map}
 use Rattle.std.specs.Prelude.{ℤ, Option}
-use Rattle.nested_arrays.specs.Keys.{AreKeysOf, keyed, kind_of_keys}
+use Rattle.nested_arrays_core.specs.Keys.{AreKeysOf, keyed, kind_of_keys}
 use Rattle.ipc_format_column_reading.specs.column_bytes.Numbers.{value_bytes}
 use Rattle.ipc_format_column_reading.specs.column_bytes.columnar_memory.Layouts.{physical_type}
 use Rattle.ipc_format_column_reading.specs.column_bytes.columnar_memory.Numbers.{one}

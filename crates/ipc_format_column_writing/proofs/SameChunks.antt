@@ -3,7 +3,7 @@ use Rattle.std.proofs.Common.{Bool, List, [], ◌∷◌, refl}
 use Rattle.std.specs.Bool.{Decides}
 use Rattle.std.specs.Cmp.Lexicographic.{pointwise}
 use Rattle.std.proofs.lemmas.Bool.{and_parts, and_from}
-use Rattle.nested_arrays.specs.StoredColumns.{Column}
+use Rattle.nested_arrays_core.specs.StoredColumns.{Column}
 use Rattle.ipc_format_column_writing.specs.Chunks.{AreSameEach, TellsSame}
 
 -- where a test decides whether two arrays are the same, it decides so of lists, array by array

@@ -2,8 +2,8 @@
 use Rattle.std.proofs.Common.{◌≡◌, ◌∙◌, ℕ, ◌+◌, ◌≤◌, Bool, List, [], ◌∷◌, length, refl, sym, ap, subst, arith}
 use Rattle.std.specs.List.{flat_map}
 use Rattle.std.specs.Prelude.{ℤ, true, Option, Some, None, Err}
-use Rattle.nested_arrays.specs.Parts.{column_children}
-use Rattle.nested_arrays.specs.Places.{HaveRange}
+use Rattle.nested_arrays_core.specs.Parts.{column_children}
+use Rattle.nested_arrays_core.specs.Places.{HaveRange}
 use Rattle.ipc_format_column_reading.specs.column_bytes.Bodies.{Parts, Adds, both, of_buffers, of_node, parts_of, with_column}
 use Rattle.ipc_format_column_reading.specs.column_bytes.Numbers.{value_bytes}
 use Rattle.ipc_format_column_reading.specs.column_bytes.WholeColumns.{behind_node}

@@ -1,9 +1,9 @@
 -- How wide the offsets of lists are, by their types.
 use Rattle.std.proofs.Common.{◌≡◌, ◌∙◌, refl, sym}
 use Rattle.std.specs.Int.{w32}
-use Rattle.nested_arrays.specs.Widths.{layout_of}
-use Rattle.nested_arrays.specs.declared.ListOffsets.{ListOffsets}
-use Rattle.nested_arrays.specs.declared.ListOffsets.TheVariants as width
+use Rattle.nested_arrays_core.specs.Widths.{layout_of}
+use Rattle.nested_arrays_core.specs.declared.ListOffsets.{ListOffsets}
+use Rattle.nested_arrays_core.specs.declared.ListOffsets.TheVariants as width
 use Rattle.ipc_format_column_reading.specs.column_bytes.columnar_memory.Layouts.{physical_type}
 use Rattle.ipc_format_column_reading.specs.column_bytes.columnar_memory.declared.DataType.{DataType}
 use Rattle.ipc_format_column_reading.specs.column_bytes.columnar_memory.declared.PhysicalType.TheVariants as physical

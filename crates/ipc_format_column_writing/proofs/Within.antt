@@ -15,9 +15,9 @@ use Rattle.ipc_format_column_reading.specs.column_bytes.columns.SoundColumns.{is
 use Rattle.ipc_format_column_reading.specs.column_bytes.columns.StoredColumns.{Column, Columns, lists, fixed_lists, records, unions, no_column, column_then}
 use Rattle.ipc_format_column_reading.specs.column_bytes.columns.StoredColumns.{column_len, column_type, type_layer}
 use Rattle.ipc_format_column_reading.proofs.bytes_lemmas.columns_lemmas.Conditions.{parts_of_4, parts_of_5}
-use Rattle.nested_arrays.specs.Parts.{column_children}
-use Rattle.nested_arrays.specs.Places.{HaveRange}
-use Rattle.nested_arrays.proofs.parts_lemmas.OffsetLists.{offsets_end_within}
+use Rattle.nested_arrays_core.specs.Parts.{column_children}
+use Rattle.nested_arrays_core.specs.Places.{HaveRange}
+use Rattle.nested_arrays_core.proofs.parts_lemmas.OffsetLists.{offsets_end_within}
 use Rattle.ipc_format_column_writing.specs.Parts.{items_column}
 
 -- ---- masks

@@ -1,9 +1,9 @@
 -- Arrays of one length, as the columns of a batch of rows (Arrow IPC, "RecordBatch message").
 use Rattle.std.specs.Prelude.{◌≡◌, ℕ, Bool, List, [], ◌∷◌, slice_get, Some, Result, Ok, Err}
 use Rattle.std.specs.Bool.{Decides}
-use Rattle.nested_arrays.specs.columnar_memory.declared.Error.{Error}
-use Rattle.nested_arrays.specs.columnar_memory.Error.{IsInvalidArgument}
-use Rattle.nested_arrays.specs.StoredColumns.{Column, column_len, column_type, slots}
+use Rattle.nested_arrays_core.specs.columnar_memory.declared.Error.{Error}
+use Rattle.nested_arrays_core.specs.columnar_memory.Error.{IsInvalidArgument}
+use Rattle.nested_arrays_core.specs.StoredColumns.{Column, column_len, column_type, slots}
 
 -- how many rows some arrays have: as many as the first has slots, and without an array none
 abbrev pub rows_of : {A : Type 0} → (A → Column) → List A → ℕ

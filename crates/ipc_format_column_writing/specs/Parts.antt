@@ -1,7 +1,7 @@
 -- Which slots of a column's children are written with it (Arrow IPC, "RecordBatch message").
 use Rattle.std.specs.Prelude.{◌+◌, ◌≤◌, Bool, List}
-use Rattle.nested_arrays.specs.Places.{HaveRange}
-use Rattle.nested_arrays.specs.StoredColumns.{Column, Columns, lists, fixed_lists, column_len}
+use Rattle.nested_arrays_core.specs.Places.{HaveRange}
+use Rattle.nested_arrays_core.specs.StoredColumns.{Column, Columns, lists, fixed_lists, column_len}
 use Rattle.ipc_format_column_reading.specs.column_bytes.grammar.Encoding.{Encoded}
 use Rattle.ipc_format_column_reading.specs.column_bytes.grammar.StoredEncoding.{encode_range, encode_ranges, encode_stored, encode_wholes}
 use Rattle.ipc_format_column_writing.specs.declared.parts.Part.{Part}

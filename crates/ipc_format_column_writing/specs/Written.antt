@@ -1,8 +1,8 @@
 -- What calls that write columns answer.
 use Rattle.std.specs.Prelude.{◌≡◌, ◌+◌, ◌-◌, ◌≤◌, ℕ, Bool, [], ◌∷◌, Option, Some, None, Result, Ok, Err, slice_index}
 use Rattle.std.specs.Int.{Width, w32, w64}
-use Rattle.nested_arrays.specs.declared.ListOffsets.{ListOffsets}
-use Rattle.nested_arrays.specs.declared.ListOffsets.TheVariants as width
+use Rattle.nested_arrays_core.specs.declared.ListOffsets.{ListOffsets}
+use Rattle.nested_arrays_core.specs.declared.ListOffsets.TheVariants as width
 use Rattle.ipc_format_column_reading.specs.column_bytes.Bodies.{Parts, Adds, Settles, both, of_buffers, with_column}
 use Rattle.ipc_format_column_reading.specs.column_bytes.columnar_memory.Error.{IsNotYetImplemented}
 use Rattle.ipc_format_column_reading.specs.column_bytes.columnar_memory.Spans.{Spans, last_of, offsets_of}

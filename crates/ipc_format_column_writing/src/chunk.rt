@@ -2,8 +2,8 @@
 ghost use Rattle.std.specs.Prelude.{◌≡◌, ◌↔◌, IsTrue, slice_get, Some};
 ghost use Rattle.ipc_format_column_writing.specs.Chunks.{rows_of, AreAsLong, HaveLength, MakesChunk};
 
-use nested_arrays::Array;
-use nested_arrays::columnar_memory::{Error, Result};
+use nested_arrays_core::Array;
+use nested_arrays_core::columnar_memory::{Error, Result};
 use std::marker::Model;
 
 /// Arrays of one length: the columns of a batch of rows. A contract sees the arrays.

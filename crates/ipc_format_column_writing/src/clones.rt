@@ -2,9 +2,9 @@
 ghost use Rattle.std.specs.Prelude.{◌≡◌, IfOk};
 
 use crate::chunk::Chunk;
-use nested_arrays::columnar_memory::{NativeType, Offset};
-use nested_arrays::flat_arrays::{BinaryArray, BooleanArray, PrimitiveArray, Utf8Array};
-use nested_arrays::{
+use nested_arrays_core::columnar_memory::{NativeType, Offset};
+use nested_arrays_core::flat_arrays::{BinaryArray, BooleanArray, PrimitiveArray, Utf8Array};
+use nested_arrays_core::{
     AnyArray, AnyPrimitive, Array, DictionaryArray, DictionaryKey, FixedSizeBinaryArray,
     FixedSizeListArray, FlatArray, ListArray, MapArray, NullArray, StructArray, UnionArray,
 };

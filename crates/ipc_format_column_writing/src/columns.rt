@@ -1,7 +1,7 @@
 //! Columns of arrays of any type, as they are written.
 ghost use Rattle.std.specs.Prelude.{◌+◌, ◌≤◌};
-ghost use Rattle.nested_arrays.specs.AnyColumns.{column_of, IsWhole};
-ghost use Rattle.nested_arrays.specs.StoredColumns.{column_len, in_columns};
+ghost use Rattle.nested_arrays_core.specs.AnyColumns.{column_of, IsWhole};
+ghost use Rattle.nested_arrays_core.specs.StoredColumns.{column_len, in_columns};
 ghost use Rattle.ipc_format_column_reading.specs.column_bytes.Bodies.{Adds, parts_of};
 ghost use Rattle.ipc_format_column_reading.specs.column_bytes.grammar.Encoding.{joined_columns};
 ghost use Rattle.ipc_format_column_reading.specs.column_bytes.grammar.StoredEncoding.{encode_range};
@@ -12,7 +12,7 @@ use crate::own::{begin_fixed_lists, begin_lists, begin_maps, begin_structs, begi
 use crate::parts::Part;
 use ipc_format_column_reading::column_bytes::Body;
 use ipc_format_column_reading::column_bytes::columnar_memory::Result;
-use nested_arrays::{AnyArray, DictionaryNode, Node};
+use nested_arrays_core::{AnyArray, DictionaryNode, Node};
 
 /// Adds the `count` slots from slot `first` on of a dictionary: the keys alone, whose mask it has.
 fn write_keys(

@@ -4,7 +4,7 @@ ghost use Rattle.std.specs.Cmp.Lexicographic.{pointwise, lists_per, lists_equiv}
 ghost use Rattle.ipc_format_column_writing.specs.Chunks.{AreSameEach, TellsSame};
 
 use crate::chunk::Chunk;
-use nested_arrays::Array;
+use nested_arrays_core::Array;
 
 impl<A: Array + PartialEq> PartialEq for Chunk<A> {
     ghost eq = { pointwise A.eq };

@@ -1,12 +1,12 @@
 //! Columns of arrays without children, as they are written.
 ghost use Rattle.std.specs.Prelude.{◌+◌, ◌≤◌};
-ghost use Rattle.nested_arrays.specs.StoredColumns.{column_len};
+ghost use Rattle.nested_arrays_core.specs.StoredColumns.{column_len};
 ghost use Rattle.ipc_format_column_reading.specs.column_bytes.Bodies.{Adds, parts_of};
 ghost use Rattle.ipc_format_column_reading.specs.column_bytes.grammar.StoredEncoding.{encode_range};
 
 use ipc_format_column_reading::column_bytes::Body;
 use ipc_format_column_reading::column_bytes::columnar_memory::Result;
-use nested_arrays::{AnyPrimitive, FixedSizeBinaryArray, FlatArray, FlatNode, PrimitiveNode};
+use nested_arrays_core::{AnyPrimitive, FixedSizeBinaryArray, FlatArray, FlatNode, PrimitiveNode};
 
 /// Adds the `count` slots from slot `first` on of an array of numbers of any kind.
 #[tactic(auto, using(crate::proofs::Passed::primitive_len))]

@@ -15,7 +15,7 @@ mod walks;
 pub use chunk::Chunk;
 pub use clones::CloneArray;
 pub use ipc_format_column_reading::columnar_memory;
-pub use nested_arrays;
+pub use nested_arrays_core;
 pub use serialize::{Compression, write, write_struct, write_union};
 
 /// What `ipc_format_column_reading` has, as far as packages above use it.

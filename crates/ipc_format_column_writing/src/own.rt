@@ -1,11 +1,11 @@
 //! The own part of a column with children: its node and its buffers, which stand before its children.
 ghost use Rattle.std.specs.Prelude.{◌+◌, ◌≤◌, IfOk, length};
-ghost use Rattle.nested_arrays.specs.AnyColumns.{column_of, IsWhole};
-ghost use Rattle.nested_arrays.specs.Parts.{column_children};
-ghost use Rattle.nested_arrays.specs.Places.{HaveRange};
-ghost use Rattle.nested_arrays.specs.StoredColumns.{column_len};
-ghost use Rattle.nested_arrays.specs.Widths.{spans_in};
-ghost use Rattle.nested_arrays.specs.declared.Node.TheVariants as nodes;
+ghost use Rattle.nested_arrays_core.specs.AnyColumns.{column_of, IsWhole};
+ghost use Rattle.nested_arrays_core.specs.Parts.{column_children};
+ghost use Rattle.nested_arrays_core.specs.Places.{HaveRange};
+ghost use Rattle.nested_arrays_core.specs.StoredColumns.{column_len};
+ghost use Rattle.nested_arrays_core.specs.Widths.{spans_in};
+ghost use Rattle.nested_arrays_core.specs.declared.Node.TheVariants as nodes;
 ghost use Rattle.ipc_format_column_reading.specs.column_bytes.Bodies.{parts_of};
 ghost use Rattle.ipc_format_column_reading.specs.column_bytes.Numbers.{width_of};
 ghost use Rattle.ipc_format_column_reading.specs.column_bytes.WholeColumns.{behind_node};
@@ -17,7 +17,9 @@ ghost use Rattle.ipc_format_column_writing.specs.Written.{AddsSpans, Begins, lis
 use crate::parts::Part;
 use ipc_format_column_reading::column_bytes::columnar_memory::{Offset, OffsetsBuffer, Result};
 use ipc_format_column_reading::column_bytes::{Body, offset_at};
-use nested_arrays::{FixedSizeListArray, ListNode, ListOffsets, MapArray, StructArray, UnionArray};
+use nested_arrays_core::{
+    FixedSizeListArray, ListNode, ListOffsets, MapArray, StructArray, UnionArray,
+};
 
 /// Adds the offsets of the `count` spans from span `first` on, and answers where the first begins and how much they span.
 fn add_spans<O: Offset>(

@@ -11,7 +11,7 @@ use crate::parts::Part;
 use ipc_format_column_reading::column_bytes::columnar_memory::{Error, Result};
 use ipc_format_column_reading::column_bytes::messages::{Buffer, FieldNode};
 use ipc_format_column_reading::column_bytes::{Body, Lengths};
-use nested_arrays::{AnyArray, StructArray, UnionArray};
+use nested_arrays_core::{AnyArray, StructArray, UnionArray};
 
 /// How the buffers of a body are compressed (Arrow IPC, "Compression").
 #[derive(Clone, Copy, PartialEq, Eq, Hash, Debug)]

@@ -5,7 +5,7 @@ ghost use Rattle.std.specs.Iterator.Adapters.{IterYieldsInOrder};
 ghost use Rattle.std.specs.Vec.Iter.{into_iter_items, into_iter_len};
 
 use crate::chunk::Chunk;
-use nested_arrays::Array;
+use nested_arrays_core::Array;
 use std::convert::AsSlice;
 use std::ops::{Deref, Index};
 use std::slice::Iter;

@@ -10,7 +10,7 @@ use crate::ends::{footer_of, zeros_before};
 use crate::growing::{end_of_messages, progress_of_file};
 use crate::sending::{put_end, put_zeros};
 use crate::state::Progress;
-use ipc_format_stream_writer::reader::chunk_writing::nested_arrays::AnyArray;
+use ipc_format_stream_writer::reader::chunk_writing::nested_arrays_core::AnyArray;
 use ipc_format_stream_writer::reader::chunk_writing::{Chunk, InMemory, look_ups_are_enough};
 use ipc_format_stream_writer::reader::streams::EncodedData;
 use ipc_format_stream_writer::reader::streams::columnar_memory::{Error, Result};

@@ -7,7 +7,7 @@ ghost use Rattle.ipc_format_files.specs.Phases.{progress_of};
 use crate::state::Progress;
 use ipc_format_stream_writer::encode;
 use ipc_format_stream_writer::reader::chunk_writing::Chunk;
-use ipc_format_stream_writer::reader::chunk_writing::nested_arrays::AnyArray;
+use ipc_format_stream_writer::reader::chunk_writing::nested_arrays_core::AnyArray;
 use ipc_format_stream_writer::reader::streams::EncodedData;
 use ipc_format_stream_writer::reader::streams::columnar_memory::{Result, Schema};
 use ipc_format_stream_writer::reader::streams::metadata::IpcField;

@@ -8,7 +8,7 @@ ghost use Rattle.ipc_format_stream_writer.specs.reader.chunk_writing.columns.Sto
 ghost use Rattle.ipc_format_stream_writer.specs.reader.chunk_writing.metadata.Reading.{Reads};
 ghost use Rattle.ipc_format_files.specs.ReadFiles.{HasDictionaries, ReadsFile, ReadsMessages, batch_of};
 
-use ipc_format_stream_writer::reader::chunk_writing::nested_arrays::AnyArray;
+use ipc_format_stream_writer::reader::chunk_writing::nested_arrays_core::AnyArray;
 use ipc_format_stream_writer::reader::chunk_writing::{
     Chunk, Dictionaries, InMemory, look_ups_are_enough,
 };

@@ -16,7 +16,7 @@ use crate::opening::open;
 use crate::phases::is_fresh;
 use crate::sending::{send_end, send_start, stand_behind};
 use crate::state::State;
-use ipc_format_stream_writer::reader::chunk_writing::nested_arrays::AnyArray;
+use ipc_format_stream_writer::reader::chunk_writing::nested_arrays_core::AnyArray;
 use ipc_format_stream_writer::reader::chunk_writing::{Chunk, WriteOptions};
 use ipc_format_stream_writer::reader::streams::columnar_memory::{Error, Items, Result, Schema};
 use ipc_format_stream_writer::reader::streams::metadata::IpcField;

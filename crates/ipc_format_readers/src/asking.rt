@@ -4,7 +4,7 @@ ghost use Rattle.std.specs.Option.{option_copied};
 ghost use Rattle.ipc_format_readers.specs.Asking.{HasKept, IsAsked, IsAskedOf, as_asked, given_columns, rising_of};
 
 use ipc_format_chunk_writing::columnar_memory::{Items, Schema};
-use ipc_format_chunk_writing::nested_arrays::AnyArray;
+use ipc_format_chunk_writing::nested_arrays_core::AnyArray;
 use ipc_format_chunk_writing::{Chunk, apply_projection, prepare_projection};
 use std::alloc::{AllocError, Global};
 use std::collections::BTreeMap;

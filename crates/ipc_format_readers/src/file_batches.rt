@@ -14,7 +14,7 @@ ghost use Rattle.ipc_format_readers.specs.MessagesTaken.{TakesDictionaryAt};
 use crate::block_messages::{dictionary_in, read_message_metadata, record_batch_in};
 use crate::blocks::MessageBlock;
 use crate::file_metadata::FileMetadata;
-use ipc_format_chunk_writing::nested_arrays::AnyArray;
+use ipc_format_chunk_writing::nested_arrays_core::AnyArray;
 use ipc_format_chunk_writing::streams::columnar_memory::{Error, Result};
 use ipc_format_chunk_writing::{
     Chunk, Dictionaries, Room, ValuesById, look_ups_are_enough, read_dictionary_with,

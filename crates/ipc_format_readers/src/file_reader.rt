@@ -11,7 +11,7 @@ ghost use Rattle.ipc_format_readers.specs.ReaderSteps.{GivesAt, TakesDictionarie
 use crate::asking::{Asked, ask, put_asked, rising};
 use crate::file_batches::{read_batch, read_file_dictionaries};
 use crate::file_metadata::FileMetadata;
-use ipc_format_chunk_writing::nested_arrays::AnyArray;
+use ipc_format_chunk_writing::nested_arrays_core::AnyArray;
 use ipc_format_chunk_writing::streams::columnar_memory::{Result, Schema};
 use ipc_format_chunk_writing::{
     Chunk, Dictionaries, Room, choices_are_put_back, look_ups_are_enough,

@@ -10,7 +10,7 @@ ghost use Rattle.ipc_format_chunk_writing.specs.NamedValues.{AreValuesOf};
 ghost use Rattle.ipc_format_readers.specs.Hearing.{Hears, HearsColumns, HearsDictionary};
 
 use ipc_format_chunk_writing::columnar_memory::{Error, Field, Result};
-use ipc_format_chunk_writing::nested_arrays::AnyArray;
+use ipc_format_chunk_writing::nested_arrays_core::AnyArray;
 use ipc_format_chunk_writing::streams::messages::{
     DictionaryBatchRef, MessageHeaderRef, MetadataVersion, RecordBatchRef, message_in,
 };

@@ -2,7 +2,7 @@
 ghost use Rattle.ipc_format_readers.specs.States.{HasBatch, IsBatch};
 
 use ipc_format_chunk_writing::Chunk;
-use ipc_format_chunk_writing::nested_arrays::AnyArray;
+use ipc_format_chunk_writing::nested_arrays_core::AnyArray;
 
 /// What comes next of a stream.
 #[derive(Drop)]

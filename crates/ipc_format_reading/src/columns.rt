@@ -9,7 +9,7 @@ ghost use Rattle.ipc_format_childless_reading.specs.metadata.Views.{ids_view, id
 ghost use Rattle.ipc_format_reading.specs.Below.{arrays_below, buffers_below, no_own_ids, nodes_below, type_of};
 
 use ipc_format_childless_reading::columnar_memory::{DataType, Error, Field, Result};
-use ipc_format_childless_reading::nested_arrays::AnyArray;
+use ipc_format_childless_reading::nested_arrays_core::AnyArray;
 use ipc_format_childless_reading::{
     Buffer, Dictionaries, FieldNode, IpcField, MetadataVersion, Room, array_of, begin,
     has_children, limit_below, read_childless,

@@ -6,7 +6,7 @@ ghost use Rattle.ipc_format_childless_reading.specs.metadata.Views.{ids_view};
 
 use crate::columns::read_column;
 use ipc_format_childless_reading::columnar_memory::{DataType, Error, Field, Result};
-use ipc_format_childless_reading::nested_arrays::AnyArray;
+use ipc_format_childless_reading::nested_arrays_core::AnyArray;
 use ipc_format_childless_reading::{
     BodyCompressionRef, Buffer, Dictionaries, FieldNode, IpcField, MetadataVersion, Room,
 };

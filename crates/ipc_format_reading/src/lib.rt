@@ -12,7 +12,8 @@ pub use ipc_format_childless_reading::{
     BodyCompressionRef, Buffer, Chunk, Compression, Dictionaries, DictionaryBatchRef, EncodedData,
     FieldNode, InMemory, IpcField, IpcSchema, MessageHeaderRef, MetadataVersion, Placed,
     RecordBatchRef, Room, batch_queues, columnar_memory, dictionary_batch_in, dictionary_metadata,
-    dictionary_values, first_beside, message_in, nested_arrays, normalised, record_metadata, write,
+    dictionary_values, first_beside, message_in, nested_arrays_core, normalised, record_metadata,
+    write,
 };
 pub use typed::{
     read_fixed_size_list, read_large_list, read_list, read_map, read_struct, read_union,

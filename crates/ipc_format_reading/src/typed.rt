@@ -11,7 +11,7 @@ ghost use Rattle.ipc_format_childless_reading.specs.metadata.Views.{ids_view};
 
 use crate::deserialize::read_type;
 use ipc_format_childless_reading::columnar_memory::{DataType, Error, PhysicalType, Result};
-use ipc_format_childless_reading::nested_arrays::{
+use ipc_format_childless_reading::nested_arrays_core::{
     AnyArray, FixedSizeListArray, ListArray, MapArray, StructArray, UnionArray,
 };
 use ipc_format_childless_reading::{

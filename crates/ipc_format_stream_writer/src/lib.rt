@@ -27,7 +27,7 @@ pub mod reader {
             Chunk, Compression, Dictionaries, DictionaryTracker, Held, InMemory, ProjectionIter,
             ProjectionResult, Record, Room, ValuesById, WriteOptions, apply_projection,
             choices_are_put_back, encode_batch, encode_chunk, encode_chunk_amortized,
-            have_one_form, is_choice, is_projection, look_ups_are_enough, nested_arrays,
+            have_one_form, is_choice, is_projection, look_ups_are_enough, nested_arrays_core,
             prepare_projection, read, read_children, read_dictionary, read_dictionary_with,
             read_fixed_size_list, read_large_list, read_list, read_map, read_record_batch,
             read_record_batch_counted, read_struct, read_union, rises, schemas_have_arrays,

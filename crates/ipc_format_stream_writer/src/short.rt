@@ -3,7 +3,7 @@ ghost use Rattle.std.specs.Prelude.{◌≡◌};
 ghost use Rattle.ipc_format_readers.specs.chunk_writing.columns.StoredColumns.{in_columns};
 ghost use Rattle.ipc_format_stream_writer.specs.Room.{are_short, is_short};
 
-use ipc_format_readers::chunk_writing::nested_arrays::{AnyArray, Node};
+use ipc_format_readers::chunk_writing::nested_arrays_core::{AnyArray, Node};
 
 /// The most slots of an array.
 const MOST_SLOTS: usize = 9_223_372_036_854_775_807;

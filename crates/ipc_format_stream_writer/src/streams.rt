@@ -13,7 +13,7 @@ ghost use Rattle.ipc_format_stream_writer.specs.Streams.{Admits, EncodesBatch, h
 use crate::short::are_short;
 use crate::state::Stream;
 use ipc_format_readers::chunk_writing::columnar_memory::{Error, Field, Items, Result, Schema};
-use ipc_format_readers::chunk_writing::nested_arrays::AnyArray;
+use ipc_format_readers::chunk_writing::nested_arrays_core::AnyArray;
 use ipc_format_readers::chunk_writing::{
     Chunk, DictionaryTracker, encode_batch, have_one_form, ids_fit,
 };

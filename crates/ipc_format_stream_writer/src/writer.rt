@@ -11,7 +11,7 @@ use crate::sending::send;
 use crate::state::State;
 use crate::streams::{encode, open};
 use ipc_format_readers::chunk_writing::columnar_memory::{Error, Result, Schema};
-use ipc_format_readers::chunk_writing::nested_arrays::AnyArray;
+use ipc_format_readers::chunk_writing::nested_arrays_core::AnyArray;
 use ipc_format_readers::chunk_writing::{Chunk, WriteOptions};
 use ipc_format_readers::streams::metadata::IpcField;
 use ipc_format_readers::streams::{EncodedData, Faults, write_continuation};

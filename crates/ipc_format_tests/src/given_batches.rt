@@ -1,7 +1,7 @@
 //! Batches given to writers with the ids beside their columns, whether they are owned or borrowed.
 use ipc_format::columnar_memory::Error;
-use ipc_format::nested_arrays::flat_arrays::Utf8Array;
-use ipc_format::nested_arrays::{AnyArray, FlatArray};
+use ipc_format::nested_arrays_core::flat_arrays::Utf8Array;
+use ipc_format::nested_arrays_core::{AnyArray, FlatArray};
 use ipc_format::{Chunk, IpcField, Record};
 use std::alloc::Global;
 use std::test::*;

@@ -2,8 +2,8 @@
 use ipc_format::columnar_memory::{Boxed, DataType, Error, IntegerType};
 use ipc_format::columns::{Body, read_dictionary, write_binary, write_boolean, write_utf8};
 use ipc_format::format::{Buffer, FieldNode};
-use ipc_format::nested_arrays::flat_arrays::{BinaryArray, BooleanArray, Utf8Array};
-use ipc_format::nested_arrays::{AnyArray, DictionaryArray, FlatArray};
+use ipc_format::nested_arrays_core::flat_arrays::{BinaryArray, BooleanArray, Utf8Array};
+use ipc_format::nested_arrays_core::{AnyArray, DictionaryArray, FlatArray};
 use ipc_format::{Dictionaries, InMemory, have_one_form};
 use std::alloc::Global;
 use std::collections::VecDeque;

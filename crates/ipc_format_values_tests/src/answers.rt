@@ -1,7 +1,7 @@
 //! What calls answer, in short.
 use ipc_format::Chunk;
 use ipc_format::columnar_memory::Error;
-use ipc_format::nested_arrays::AnyArray;
+use ipc_format::nested_arrays_core::AnyArray;
 
 #[derive(Clone, Copy, Debug, PartialEq, Eq)]
 pub(crate) enum Short {

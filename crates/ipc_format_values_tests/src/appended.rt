@@ -4,8 +4,8 @@ use crate::cases::{column, field, letters, letters_schema, numbers, numbers_sche
 use crate::samples::{NOTED_END, NOTED_FOOTER, NOTED_MESSAGES};
 use ipc_format::columnar_memory::{DataType, Error, Items, Schema};
 use ipc_format::format::Block;
-use ipc_format::nested_arrays::flat_arrays::BooleanArray;
-use ipc_format::nested_arrays::{AnyArray, FlatArray};
+use ipc_format::nested_arrays_core::flat_arrays::BooleanArray;
+use ipc_format::nested_arrays_core::{AnyArray, FlatArray};
 use ipc_format::{
     Chunk, FileMetadata, FileReader, FileWriter, InMemory, MessageBlock, Room, WriteOptions,
     append_file, footer_to_bytes, read_file_metadata,

@@ -2,8 +2,8 @@
 use crate::answers::{Short, told, told_beside};
 use crate::cases::{column, field, numbers, numbers_schema, of_one, of_two};
 use ipc_format::columnar_memory::{DataType, Error, Items, Schema};
-use ipc_format::nested_arrays::flat_arrays::Utf8Array;
-use ipc_format::nested_arrays::{AnyArray, FlatArray};
+use ipc_format::nested_arrays_core::flat_arrays::Utf8Array;
+use ipc_format::nested_arrays_core::{AnyArray, FlatArray};
 use ipc_format::{
     Chunk, Counting, Dictionaries, FileReader, FileWriter, InMemory, Room, WriteOptions, is_choice,
     is_projection, read_batch, read_file_dictionaries, read_file_metadata,

@@ -5,7 +5,7 @@ use crate::devices::{Mending, Stopped};
 use crate::file_reader::{file_of, next_of, place_of, reader_of};
 use crate::file_writer::numbers_file;
 use ipc_format::columnar_memory::Error;
-use ipc_format::nested_arrays::AnyArray;
+use ipc_format::nested_arrays_core::AnyArray;
 use ipc_format::{Counting, Faults, FileWriter, InMemory, Room, WriteOptions};
 use std::alloc::Global;
 use std::io::{Cursor, Write};

@@ -3,7 +3,7 @@ use crate::answers::{Short, told};
 use crate::cases::{letters, letters_schema, numbers, numbers_schema, of_one};
 use crate::samples::{EXAMPLE, EXAMPLE_END};
 use ipc_format::columnar_memory::{Error, Items, Schema};
-use ipc_format::nested_arrays::AnyArray;
+use ipc_format::nested_arrays_core::AnyArray;
 use ipc_format::{
     Faults, FileWriter, StreamReader, StreamState, WriteOptions, read_stream_metadata,
 };

@@ -15,7 +15,7 @@ pub use program::{Failure, Outcome, run};
 pub use tables_rows::tables_chunks::{
     Chunk, Counting, Fault, Faults, Form, GrowingTable, SealBar, Table, choices_have_columns,
     columnar_memory, cuts_and_choices_commute, cuts_have_parts, distinct, fits_schema,
-    is_table_schema, joins_have_both, nested_arrays, rows_are_columns,
+    is_table_schema, joins_have_both, nested_arrays_core, rows_are_columns,
 };
 pub use tables_rows::{
     ReadChoice, Seal, TableBuilder, can_seal, choices_are_isolated, choices_are_of_the_whole,

@@ -7,7 +7,7 @@ ghost use Rattle.tables_chunks.specs.StoredTables.{IsTable, is_of_fields};
 ghost use Rattle.tables_chunks.specs.TableSchemas.{IsTableSchema};
 
 use columnar_memory_types::{Field, Result as Answer, Schema};
-use ipc_format::nested_arrays::AnyArray;
+use ipc_format::nested_arrays_core::AnyArray;
 use ipc_format::{Chunk, can_write, normalised};
 use std::alloc::{AllocError, Global};
 

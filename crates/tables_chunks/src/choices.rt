@@ -11,7 +11,7 @@ use crate::fault::Fault;
 use crate::table::Table;
 use columnar_memory_types::{Items, Schema};
 use ipc_format::Chunk;
-use ipc_format::nested_arrays::AnyArray;
+use ipc_format::nested_arrays_core::AnyArray;
 use std::alloc::{AllocError, Global};
 
 /// Whether no column is named twice. No memory is taken.

@@ -8,7 +8,7 @@ use crate::batches::{chunk_of, is_whole, len_of};
 use crate::fault::Fault;
 use crate::table::Table;
 use ipc_format::Chunk;
-use ipc_format::nested_arrays::AnyArray;
+use ipc_format::nested_arrays_core::AnyArray;
 use std::alloc::{AllocError, Global};
 
 impl Table {

@@ -7,7 +7,7 @@ use crate::fault::Fault;
 use crate::table::Table;
 use columnar_memory_types::Schema;
 use ipc_format::Chunk;
-use ipc_format::nested_arrays::AnyArray;
+use ipc_format::nested_arrays_core::AnyArray;
 use std::alloc::Global;
 use std::marker::Model;
 

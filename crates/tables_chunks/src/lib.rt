@@ -36,7 +36,7 @@ pub use ipc_format::reading_laws::{
 pub use ipc_format::streams::{NextMessage, next_at};
 pub use ipc_format::{
     Chunk, Counting, Dictionaries, Entry, Faults, InMemory, ValuesById, can_write, columnar_memory,
-    file_entries, look_ups_are_enough, metadata_of_file, nested_arrays, normalised, put,
+    file_entries, look_ups_are_enough, metadata_of_file, nested_arrays_core, normalised, put,
     read_dictionary_with, read_record_batch, schemas_have_arrays, stream_start, values_by_id,
 };
 pub use laws::{

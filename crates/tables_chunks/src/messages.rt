@@ -19,7 +19,7 @@ ghost use Rattle.tables_chunks.specs.Messages.{AreOfFields, ReadsNext, TakesDict
 use ipc_format::columnar_memory::{Error, Field, Result};
 use ipc_format::format::{DictionaryBatchRef, MessageHeaderRef, MetadataVersion, RecordBatchRef};
 use ipc_format::metadata::IpcSchema;
-use ipc_format::nested_arrays::AnyArray;
+use ipc_format::nested_arrays_core::AnyArray;
 use ipc_format::streams::{NextMessage, next_at};
 use ipc_format::{
     Chunk, Dictionaries, InMemory, ValuesById, read_dictionary_with, read_record_batch,

@@ -10,7 +10,7 @@ ghost use Rattle.tables_chunks.specs.WrittenTables.{table_ids};
 ghost use Rattle.tables_chunks.specs.StoredTables.{IsTable};
 
 use columnar_memory_types::{Result, Schema};
-use ipc_format::nested_arrays::AnyArray;
+use ipc_format::nested_arrays_core::AnyArray;
 use ipc_format::{
     Chunk, DictionaryTracker, EncodedData, IpcField, encode_batch, put_message, put_messages,
     schema_to_bytes,

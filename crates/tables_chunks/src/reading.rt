@@ -10,7 +10,7 @@ use crate::messages::{Next, read_next};
 use ipc_format::columnar_memory::Schema;
 use ipc_format::format::MetadataVersion;
 use ipc_format::metadata::IpcSchema;
-use ipc_format::nested_arrays::AnyArray;
+use ipc_format::nested_arrays_core::AnyArray;
 use ipc_format::{
     Chunk, look_ups_are_enough, normalised, schemas_have_arrays, stream_start, values_by_id,
 };

@@ -8,7 +8,7 @@ use crate::fault::Fault;
 use crate::table::{Table, has_schema_of};
 use ipc_format::Chunk;
 use ipc_format::columnar_memory::Steps;
-use ipc_format::nested_arrays::{AnyArray, same_slot_ranges};
+use ipc_format::nested_arrays_core::{AnyArray, same_slot_ranges};
 
 impl Table {
     /// Whether two tables have one schema and the same rows, however these are divided into batches: as `same_slots` compares slots, so a

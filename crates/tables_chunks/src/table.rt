@@ -10,7 +10,7 @@ use crate::batches::{are_batches, is_whole, len_of, rows_of};
 use crate::fault::Fault;
 use columnar_memory_types::Schema;
 use ipc_format::Chunk;
-use ipc_format::nested_arrays::AnyArray;
+use ipc_format::nested_arrays_core::AnyArray;
 use std::alloc::{AllocError, Global};
 use std::marker::Model;
 

@@ -21,7 +21,7 @@ use crate::fault::Fault;
 use crate::table::Table;
 use columnar_memory_types::{Error, Result as Answer, Schema};
 use ipc_format::format::Block;
-use ipc_format::nested_arrays::AnyArray;
+use ipc_format::nested_arrays_core::AnyArray;
 use ipc_format::{
     Chunk, DictionaryTracker, EncodedData, Faults, IpcField, default_ipc_fields, encode_batch,
     footer_to_bytes, outcome, put, put_message, put_messages, schema_to_bytes,

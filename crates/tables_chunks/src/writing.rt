@@ -9,7 +9,7 @@ ghost use Rattle.tables_chunks.specs.StoredTables.{IsTable};
 use crate::fault::Fault;
 use crate::putting::{put_batches, put_schema};
 use columnar_memory_types::{Result as Answer, Schema};
-use ipc_format::nested_arrays::AnyArray;
+use ipc_format::nested_arrays_core::AnyArray;
 use ipc_format::{Chunk, Faults, default_ipc_fields, outcome, put};
 use std::alloc::Global;
 use std::io::Write;

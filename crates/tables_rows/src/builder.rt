@@ -14,7 +14,7 @@ use crate::taking::take_batch;
 use columnar_memory_types::Schema;
 use std::alloc::Global;
 use std::marker::Model;
-use tables_chunks::nested_arrays::{AnyMutableArray, AnyScalar};
+use tables_chunks::nested_arrays_core::{AnyMutableArray, AnyScalar};
 use tables_chunks::{Fault, GrowingTable, Table};
 
 /// A table that grows by rows of cells, in batches. A contract sees its schema, the batches that were ended, as what their columns store, and the

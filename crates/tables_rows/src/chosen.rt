@@ -20,7 +20,7 @@ use crate::order::Order;
 use std::alloc::Global;
 use std::collections::BTreeMap;
 use tables_chunks::columnar_memory::{Error, Field, Result};
-use tables_chunks::nested_arrays::AnyArray;
+use tables_chunks::nested_arrays_core::AnyArray;
 use tables_chunks::{
     Chunk, Dictionaries, DictionaryBatchRef, Entry, InMemory, IpcSchema, MessageHeaderRef,
     RecordBatchRef, ValuesById, choose_of, look_ups_are_enough, read_dictionary_with,

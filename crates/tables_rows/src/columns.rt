@@ -5,7 +5,7 @@ ghost use Rattle.tables_chunks.specs.ipc_format.nested_arrays.builders.cells.par
 
 use columnar_memory_types::Error;
 use tables_chunks::Fault;
-use tables_chunks::nested_arrays::AnyMutableArray;
+use tables_chunks::nested_arrays_core::AnyMutableArray;
 
 /// What a column refused, as a fault.
 pub(crate) fn lower_fault(error: Error) -> Fault

@@ -15,7 +15,7 @@ ghost use Rattle.tables_rows.specs.GroupViews.{grouped};
 
 use columnar_memory_types::{DataType, Error, Field};
 use std::alloc::Global;
-use tables_chunks::nested_arrays::{AnyArray, AnyMutableArray, MutableArray, TryPushFrom};
+use tables_chunks::nested_arrays_core::{AnyArray, AnyMutableArray, MutableArray, TryPushFrom};
 use tables_chunks::{Chunk, Fault, Table};
 
 /// Rows in groups of one size: the batches of the groups that are full, the open columns of the last group, and how many rows these have.

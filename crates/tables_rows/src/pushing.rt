@@ -6,7 +6,7 @@ ghost use Rattle.tables_chunks.specs.ipc_format.nested_arrays.builders.cells.par
 
 use crate::columns::{keep_first, lower_fault};
 use tables_chunks::Fault;
-use tables_chunks::nested_arrays::{AnyMutableArray, AnyScalar};
+use tables_chunks::nested_arrays_core::{AnyMutableArray, AnyScalar};
 
 /// Pushes a cell to the column at a place, or else keeps the first `held` slots of the columns before it alone.
 fn push_at(

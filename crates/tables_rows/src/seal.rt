@@ -8,7 +8,7 @@ use crate::bars::seal_bar;
 use crate::groups::group_rows;
 use columnar_memory_types::Error;
 use std::alloc::Global;
-use tables_chunks::nested_arrays::a_beginning_of_what_fits_fits;
+use tables_chunks::nested_arrays_core::a_beginning_of_what_fits_fits;
 use tables_chunks::{Fault, Table, seals_read_back};
 
 /// The most rows that a batch of a seal may have.

@@ -1,7 +1,7 @@
 //! Tables that are joined, cut, chosen from, grown and compared.
 use crate::streams::{NESTED, REPLACED, ROWS, TWO_BATCHES};
 use std::alloc::Global;
-use tables::nested_arrays::{AnyArray, FlatNode, Node, PrimitiveKind};
+use tables::nested_arrays_core::{AnyArray, FlatNode, Node, PrimitiveKind};
 use tables::{Fault, Form, GrowingTable, Table, distinct, fits_schema, is_table_schema};
 
 fn read(alloc: Global, bytes: &[u8]) -> Result<Table, Fault> {

@@ -1,7 +1,7 @@
 //! Columns that were built.
 use crate::columns::column_checksum;
 use columnar_memory_types::{DataType, Result};
-use ipc_format::nested_arrays::{AnyArray, AnyMutableArray, MutableArray};
+use ipc_format::nested_arrays_core::{AnyArray, AnyMutableArray, MutableArray};
 use std::alloc::Global;
 
 /// Columns that were built.

@@ -4,8 +4,8 @@ use crate::builders::data::{ROWS, key_text, list_at, number_of, word_at};
 use crate::data::mixed;
 use crate::timing::Work;
 use columnar_memory_types::{Boxed, DataType, IntegerType, Result};
-use ipc_format::nested_arrays::flat_arrays::{MutablePrimitiveArray, MutableUtf8Array};
-use ipc_format::nested_arrays::{
+use ipc_format::nested_arrays_core::flat_arrays::{MutablePrimitiveArray, MutableUtf8Array};
+use ipc_format::nested_arrays_core::{
     MutValues, MutableArray, MutableDictionaryArray, MutableListArray, TryPush,
 };
 use std::alloc::Global;

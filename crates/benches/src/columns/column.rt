@@ -4,7 +4,7 @@ use crate::data::bytes_checksum;
 use crate::timing::Work;
 use columnar_memory_types::{Error, Field, Items, Result};
 use ipc_format::format::{Buffer, FieldNode, MetadataVersion};
-use ipc_format::nested_arrays::{AnyArray, Array};
+use ipc_format::nested_arrays_core::{AnyArray, Array};
 use ipc_format::{Chunk, Dictionaries, InMemory, IpcField, default_ipc_fields, read, write};
 use std::alloc::Global;
 use std::collections::VecDeque;

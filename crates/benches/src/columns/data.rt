@@ -4,8 +4,8 @@ use crate::nested::{any_numbers, text_column};
 use columnar_memory_types::{DataType, Field, Items, Result, Schema, Text};
 use ipc_format::Chunk;
 use ipc_format::columnar_memory::Buffer;
-use ipc_format::nested_arrays::flat_arrays::Int32Array;
-use ipc_format::nested_arrays::{AnyArray, DictionaryArray, FlatArray, StructArray, ToBoxed};
+use ipc_format::nested_arrays_core::flat_arrays::Int32Array;
+use ipc_format::nested_arrays_core::{AnyArray, DictionaryArray, FlatArray, StructArray, ToBoxed};
 use std::alloc::Global;
 
 /// How many numbers a struct has.

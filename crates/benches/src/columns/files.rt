@@ -3,7 +3,7 @@ use crate::columns::column::Batches;
 use crate::columns::data::Table;
 use crate::timing::Work;
 use columnar_memory_types::{Error, Result};
-use ipc_format::nested_arrays::AnyArray;
+use ipc_format::nested_arrays_core::AnyArray;
 use ipc_format::{
     Chunk, FileReader, FileWriter, InMemory, Room, WriteOptions, append_file, is_choice, read_file,
     read_file_metadata,

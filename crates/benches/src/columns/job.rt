@@ -5,7 +5,7 @@ use crate::columns::streams::{ReadStream, WriteStream};
 use crate::nested::{lists, slots, texts};
 use crate::timing::{Job, Named, Timed, time_rounds};
 use columnar_memory_types::Result;
-use ipc_format::nested_arrays::AnyArray;
+use ipc_format::nested_arrays_core::AnyArray;
 use std::alloc::Global;
 use std::rt::Clock;
 

@@ -3,7 +3,7 @@ use crate::columns::column::Batches;
 use crate::columns::data::Table;
 use crate::timing::Work;
 use columnar_memory_types::Result;
-use ipc_format::nested_arrays::AnyArray;
+use ipc_format::nested_arrays_core::AnyArray;
 use ipc_format::{
     Chunk, Faults, StreamReader, StreamState, StreamWriter, WriteOptions, read_stream_metadata,
 };

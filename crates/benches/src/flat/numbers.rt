@@ -4,7 +4,7 @@ use crate::flat::data::{numbers_checksum, slots};
 use crate::timing::Work;
 use columnar_memory_types::{Error, Result};
 use ipc_format::columnar_memory::MutableBitmap;
-use ipc_format::nested_arrays::flat_arrays::{Int32Array, MutablePrimitiveArray};
+use ipc_format::nested_arrays_core::flat_arrays::{Int32Array, MutablePrimitiveArray};
 use std::alloc::Global;
 
 /// How many slots a cut has.

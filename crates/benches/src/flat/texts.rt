@@ -4,7 +4,7 @@ use crate::flat::data::numbers_checksum;
 use crate::timing::Work;
 use columnar_memory_types::{DataType, Result};
 use ipc_format::columnar_memory::{Buffer, OffsetsBuffer};
-use ipc_format::nested_arrays::flat_arrays::{MutableUtf8Array, Utf8Array};
+use ipc_format::nested_arrays_core::flat_arrays::{MutableUtf8Array, Utf8Array};
 use std::alloc::Global;
 
 /// `push` of texts.

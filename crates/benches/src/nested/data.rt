@@ -2,8 +2,8 @@
 use crate::data::{WORDS, mixed, number_at, short_texts, slot_at};
 use columnar_memory_types::{Boxed, DataType, Field, Result, Text};
 use ipc_format::columnar_memory::{Buffer, MutableBitmap, Offsets};
-use ipc_format::nested_arrays::flat_arrays::{Int32Array, Utf8Array};
-use ipc_format::nested_arrays::{
+use ipc_format::nested_arrays_core::flat_arrays::{Int32Array, Utf8Array};
+use ipc_format::nested_arrays_core::{
     AnyArray, AnyPrimitive, DictionaryArray, FlatArray, ListArray, ToBoxed,
 };
 use std::alloc::Global;

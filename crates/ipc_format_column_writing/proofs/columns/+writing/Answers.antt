@@ -1,11 +1,11 @@
 use Rattle.std.proofs.Common.{rules, arith, ◌≡◌, ap, subst, sym}
 use Rattle.std.specs.Prelude.{Err}
 use Rattle.std.proofs.lemmas.List.{drop_all}
-use Rattle.nested_arrays.specs.AnyColumns.{column_of}
-use Rattle.nested_arrays.specs.Parts.{column_children}
-use Rattle.nested_arrays.specs.Places.{HaveRange}
-use Rattle.nested_arrays.specs.StoredColumns.{Column, Columns, column_size, in_columns}
-use Rattle.nested_arrays.specs.declared.Node.TheVariants as nodes
+use Rattle.nested_arrays_core.specs.AnyColumns.{column_of}
+use Rattle.nested_arrays_core.specs.Parts.{column_children}
+use Rattle.nested_arrays_core.specs.Places.{HaveRange}
+use Rattle.nested_arrays_core.specs.StoredColumns.{Column, Columns, column_size, in_columns}
+use Rattle.nested_arrays_core.specs.declared.Node.TheVariants as nodes
 use Rattle.ipc_format_column_reading.specs.column_bytes.Bodies.{parts_of}
 use Rattle.ipc_format_column_reading.specs.column_bytes.grammar.Encoding.{joined_columns}
 use Rattle.ipc_format_column_reading.specs.column_bytes.grammar.StoredEncoding.{encode_range, encode_ranges}

@@ -1,5 +1,5 @@
 use Rattle.std.proofs.Common.{◌+◌, ◌*◌}
-use Rattle.nested_arrays.specs.StoredColumns.{column_size, columns_size, in_columns}
+use Rattle.nested_arrays_core.specs.StoredColumns.{column_size, columns_size, in_columns}
 use Rattle.ipc_format_column_writing.proofs.Children.{LeftToWrite}
 use Rattle.ipc_format_column_writing.proofs.columns.+writing.Given as goal
 

@@ -1,8 +1,8 @@
 use Rattle.std.proofs.Common.{◌+◌, ◌*◌, ◌≤◌, [], ◌∷◌, length, option_copied, refl, arith}
 use Rattle.std.specs.Prelude.{slice_range}
-use Rattle.nested_arrays.specs.ColumnMasks.{column_mask}
-use Rattle.nested_arrays.specs.FlatColumns.{byte_width}
-use Rattle.nested_arrays.specs.StoredColumns.{column_type, cut_mask}
+use Rattle.nested_arrays_core.specs.ColumnMasks.{column_mask}
+use Rattle.nested_arrays_core.specs.FlatColumns.{byte_width}
+use Rattle.nested_arrays_core.specs.StoredColumns.{column_type, cut_mask}
 use Rattle.ipc_format_column_reading.specs.column_bytes.Bodies.{of_buffers, of_slots, parts_of}
 use Rattle.ipc_format_column_reading.specs.column_bytes.grammar.StoredEncoding.{encode_range}
 use Rattle.ipc_format_column_reading.proofs.bytes_lemmas.Bodies.{added_then}

@@ -1,7 +1,7 @@
 use Rattle.std.proofs.Common.{◌≡◌, ◌∙◌, ◌+◌, List, ap, sym}
 use Rattle.std.specs.Prelude.{ℤ, Option, Some, None, slice_range}
 use Rattle.std.proofs.lemmas.Result.{err_from_is_err_and}
-use Rattle.nested_arrays.specs.Parts.{column_ids, column_places}
+use Rattle.nested_arrays_core.specs.Parts.{column_ids, column_places}
 use Rattle.ipc_format_column_reading.specs.column_bytes.Bodies.{parts_of}
 use Rattle.ipc_format_column_reading.specs.column_bytes.columns.StoredColumns.{column_type, cut_list, in_columns, unions}
 use Rattle.ipc_format_column_writing.proofs.Unions.{dense_begun, ids_refused, places_refused, sparse_begun, union_range}

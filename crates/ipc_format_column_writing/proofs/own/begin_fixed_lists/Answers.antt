@@ -1,5 +1,5 @@
 use Rattle.std.proofs.Common.{◌≡◌, ◌∙◌, ℕ, ap, sym, option_copied}
-use Rattle.nested_arrays.specs.ColumnMasks.{column_mask}
+use Rattle.nested_arrays_core.specs.ColumnMasks.{column_mask}
 use Rattle.ipc_format_column_reading.specs.column_bytes.Bodies.{parts_of}
 use Rattle.ipc_format_column_reading.specs.column_bytes.columns.StoredColumns.{column_type, fixed_lists}
 use Rattle.ipc_format_column_writing.proofs.Begun.{fixed_begun}

@@ -1,7 +1,7 @@
 use Rattle.std.proofs.Common.{option_copied, arith}
-use Rattle.nested_arrays.specs.Widths.{spans_in}
+use Rattle.nested_arrays_core.specs.Widths.{spans_in}
 use Rattle.ipc_format_column_reading.specs.column_bytes.Bodies.{parts_of}
-use Rattle.nested_arrays.proofs.parts_lemmas.OffsetLists.{spans_count}
+use Rattle.nested_arrays_core.proofs.parts_lemmas.OffsetLists.{spans_count}
 use Rattle.ipc_format_column_writing.specs.Written.{list_width}
 use Rattle.ipc_format_column_writing.proofs.Begun.{lists_begun, spans_within}
 use Rattle.ipc_format_column_writing.proofs.Widths.{lists_width}

@@ -1,7 +1,7 @@
 use Rattle.std.proofs.Common.{◌≡◌, ◌∙◌, List, ℕ, ap, sym, option_copied, arith}
 use Rattle.std.specs.Int.{w32}
-use Rattle.nested_arrays.specs.ColumnMasks.{column_mask}
-use Rattle.nested_arrays.proofs.parts_lemmas.OffsetLists.{spans_count}
+use Rattle.nested_arrays_core.specs.ColumnMasks.{column_mask}
+use Rattle.nested_arrays_core.proofs.parts_lemmas.OffsetLists.{spans_count}
 use Rattle.ipc_format_column_reading.specs.column_bytes.Bodies.{parts_of}
 use Rattle.ipc_format_column_reading.specs.column_bytes.columnar_memory.Spans.{offsets_of}
 use Rattle.ipc_format_column_reading.specs.column_bytes.columns.StoredColumns.{column_len, column_type, lists}

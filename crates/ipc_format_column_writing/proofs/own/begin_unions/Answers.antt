@@ -1,4 +1,4 @@
-use Rattle.nested_arrays.specs.Parts.{column_children, column_ids, column_places}
+use Rattle.nested_arrays_core.specs.Parts.{column_children, column_ids, column_places}
 use Rattle.ipc_format_column_reading.specs.column_bytes.Bodies.{of_node, parts_of}
 use Rattle.ipc_format_column_reading.specs.column_bytes.WholeColumns.{behind_node}
 use Rattle.ipc_format_column_reading.specs.column_bytes.columns.StoredColumns.{column_type, in_columns}

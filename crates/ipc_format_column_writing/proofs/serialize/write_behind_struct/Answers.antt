@@ -1,6 +1,6 @@
 use Rattle.std.proofs.Common.{[], ◌∷◌, option_copied}
-use Rattle.nested_arrays.specs.ColumnMasks.{column_mask}
-use Rattle.nested_arrays.specs.StoredColumns.{column_len, column_type, cut_mask, in_columns}
+use Rattle.nested_arrays_core.specs.ColumnMasks.{column_mask}
+use Rattle.nested_arrays_core.specs.StoredColumns.{column_len, column_type, cut_mask, in_columns}
 use Rattle.ipc_format_column_reading.specs.column_bytes.Bodies.{of_buffers, parts_of}
 use Rattle.ipc_format_column_reading.specs.column_bytes.WholeColumns.{behind_node}
 use Rattle.ipc_format_column_reading.specs.column_bytes.grammar.Encoding.{joined_columns}

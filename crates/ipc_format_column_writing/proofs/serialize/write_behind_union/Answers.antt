@@ -1,6 +1,6 @@
 use Rattle.std.proofs.Common.{ap, subst, sym, ℕ}
-use Rattle.nested_arrays.specs.Parts.{column_children}
-use Rattle.nested_arrays.specs.StoredColumns.{Column}
+use Rattle.nested_arrays_core.specs.Parts.{column_children}
+use Rattle.nested_arrays_core.specs.StoredColumns.{Column}
 use Rattle.ipc_format_column_reading.specs.column_bytes.Bodies.{Adds, parts_of}
 use Rattle.ipc_format_column_reading.specs.column_bytes.WholeColumns.{behind_node}
 use Rattle.ipc_format_column_reading.specs.column_bytes.grammar.Encoding.{Encoded, joined_columns}
