@@ -1,5 +1,5 @@
-//! Nested arrays under one name: arrays of any type, which a contract sees as the column that they store, their cuts, and their equality by
-//! slots; and the definitions of slots, columns and tables, with their laws.
+//! What the layers above nested arrays stand on, under one name: arrays of any type and of each layout, their cuts, their equality by slots, and
+//! the builder of any type; and the definitions of slots, columns and tables, with their laws. `nested_arrays` has the builders of a type each too.
 #![tactic(auto)]
 
 pub use nested_arrays_builder_pushes::TryPushFrom;
