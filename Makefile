@@ -17,10 +17,9 @@
 RT ?= rt
 PYTHON ?= python3 -B
 PROGRAM = crates/tables_program
-BENCHES = crates/benches
 
 .PHONY: demo test bench bench-tables bench-memory bench-flat bench-nested bench-builders bench-metadata bench-columns definitions clean
-.PHONY: program benches
+.PHONY: program benches benches_format
 
 # The worked values of the definitions.
 WORKED = $(sort $(wildcard tools/definitions/worked*.py))
@@ -66,15 +65,19 @@ bench: program bench-memory bench-flat bench-nested bench-builders bench-metadat
 bench-tables: program
 	$(PYTHON) tools/benches/bench.py tables bin/tables bin
 
-bench-memory bench-flat bench-nested bench-builders bench-metadata bench-columns: bench-%: benches
+bench-memory bench-flat bench-nested bench-builders: bench-%: benches
 	$(PYTHON) tools/benches/bench.py $* bin/benches bin
 
-benches:
+bench-metadata bench-columns: bench-%: benches_format
+	$(PYTHON) tools/benches/bench.py $* bin/benches_format bin
+
+# The programs of jobs, of arrays and of the format.
+benches benches_format:
 	@mkdir -p bin
-	@rm -f bin/benches $(BENCHES)/out/benches
-	@echo "proving and building $(BENCHES); bin/benches.log says how far it is"
-	@cd $(BENCHES) && $(RT) run > ../../bin/benches.log 2>&1 || { tail -n 20 ../../bin/benches.log; exit 1; }
-	cp $(BENCHES)/out/benches bin/benches
+	@rm -f bin/$@ crates/$@/out/$@
+	@echo "proving and building crates/$@; bin/$@.log says how far it is"
+	@cd crates/$@ && $(RT) run > ../../bin/$@.log 2>&1 || { tail -n 20 ../../bin/$@.log; exit 1; }
+	cp crates/$@/out/$@ bin/$@
 
 clean:
 	rm -rf bin

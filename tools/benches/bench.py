@@ -8,9 +8,10 @@
     bench.py flat PROGRAM FOLDER       the jobs of `benches flat`, against plain_flat.rs, as a table
     bench.py nested PROGRAM FOLDER     the jobs of `benches nested`, against plain_nested.rs, as a table
     bench.py builders PROGRAM FOLDER   the jobs of `benches builders`, against plain_builders.rs, as a table
-    bench.py metadata PROGRAM FOLDER   the jobs of `benches metadata` at three sizes, against plain_metadata.rs and a copy of the metadata's bytes
-    bench.py columns PROGRAM FOLDER    the jobs of `benches columns`, against plain_columns.rs and copies of the same bytes, as a table
+    bench.py metadata PROGRAM FOLDER   the jobs of `benches_format metadata` at three sizes, against plain_metadata.rs and a copy of its bytes
+    bench.py columns PROGRAM FOLDER    the jobs of `benches_format columns`, against plain_columns.rs and copies of the same bytes, as a table
 
+PROGRAM is the one that is named: `tables`, `benches`, the jobs of arrays and of what is below them, or `benches_format`, those of the format.
 What is made stands in FOLDER; streams are taken away at the end. Times of the program are the best of five rounds, those of the jobs
 the best of 21. Outputs and checksums of both programs have to be the same.
 """

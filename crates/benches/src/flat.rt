@@ -1,4 +1,4 @@
-//! Jobs of flat arrays and their builders, beside `tools/plain_flat.rs`. Their size is the number of slots, of cuts where the job is `cut`.
+//! Jobs of flat arrays and their builders, beside `tools/benches/plain_flat.rs`. Their size is the number of slots, of cuts where the job is `cut`.
 mod data;
 mod job;
 mod numbers;

@@ -1,8 +1,7 @@
-//! Jobs of nested arrays, beside `tools/plain_nested.rs`. Their size is the number of slots, of cuts where the job is `cut`.
+//! Jobs of nested arrays, beside `tools/benches/plain_nested.rs`. Their size is the number of slots, of cuts where the job is `cut`.
 mod data;
 mod equality;
 mod job;
 mod tables;
 
-pub(crate) use data::{any_numbers, lists, slots, text_column, texts};
 pub(crate) use job::{JOBS, NestedJob};

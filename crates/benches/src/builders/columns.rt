@@ -1,7 +1,8 @@
 //! Columns that were built.
-use crate::columns::column_checksum;
+use crate::builders::bytes::put_column;
+use benches_timing::bytes_checksum;
 use columnar_memory_types::{DataType, Result};
-use ipc_format::nested_arrays_core::{AnyArray, AnyMutableArray, MutableArray};
+use nested_arrays::{AnyArray, AnyMutableArray, MutableArray};
 use std::alloc::Global;
 
 /// Columns that were built.
@@ -12,12 +13,21 @@ pub(crate) struct Columns {
 }
 
 impl Columns {
-    /// A checksum of what is written of each.
+    /// A checksum of the bytes of each.
     pub(crate) fn checksum(&self) -> u64 {
         self.arrays.iter().fold(0u64, |sum, array| {
             sum.wrapping_mul(31)
                 .wrapping_add(column_checksum(self.alloc, array))
         })
+    }
+}
+
+/// A checksum of the bytes of a column, or 0 where there is no memory for them.
+fn column_checksum(alloc: Global, array: &AnyArray) -> u64 {
+    let mut bytes = Vec::new(alloc);
+    match put_column(&mut bytes, array) {
+        Ok(()) => bytes_checksum(&bytes),
+        Err(_) => 0,
     }
 }
 

@@ -1,7 +1,7 @@
 //! The rows of the jobs.
-use crate::data::{WORDS, mixed, number_at};
+use benches_timing::{WORDS, mixed, number_at};
 use columnar_memory_types::{Boxed, DataType, Field, IntegerType, Items, Result, Text};
-use ipc_format::nested_arrays_core::AnyScalar;
+use nested_arrays::AnyScalar;
 use std::alloc::Global;
 
 /// How many rows there are; they are pushed over and over.

@@ -1,6 +1,6 @@
 use crate::builders::rows::{Cells, Copied};
 use crate::builders::typed::Typed;
-use crate::timing::{Job, Named, Timed, time_rounds};
+use benches_timing::{Job, Named, Timed, time_rounds};
 use columnar_memory_types::Result;
 use std::rt::Clock;
 

@@ -1,9 +1,9 @@
 //! Work on columns of any type.
 use crate::builders::columns::{Columns, builders_of, built};
 use crate::builders::data::{ROWS, column_types, rows_of_cells};
-use crate::timing::Work;
+use benches_timing::Work;
 use columnar_memory_types::{DataType, Result};
-use ipc_format::nested_arrays_core::{AnyArray, AnyMutableArray, AnyScalar, TryPushFrom};
+use nested_arrays::{AnyArray, AnyMutableArray, AnyScalar, TryPushFrom};
 use std::alloc::Global;
 
 /// So many rows of cells by `try_push_scalar`.

@@ -1,13 +1,10 @@
 //! Work on columns each of which has a builder of its own type.
 use crate::builders::columns::Columns;
 use crate::builders::data::{ROWS, key_text, list_at, number_of, word_at};
-use crate::data::mixed;
-use crate::timing::Work;
+use benches_timing::{Work, mixed};
 use columnar_memory_types::{Boxed, DataType, IntegerType, Result};
-use ipc_format::nested_arrays_core::flat_arrays::{MutablePrimitiveArray, MutableUtf8Array};
-use ipc_format::nested_arrays_core::{
-    MutValues, MutableArray, MutableDictionaryArray, MutableListArray, TryPush,
-};
+use nested_arrays::flat_arrays::{MutablePrimitiveArray, MutableUtf8Array};
+use nested_arrays::{MutValues, MutableArray, MutableDictionaryArray, MutableListArray, TryPush};
 use std::alloc::Global;
 
 /// A row: a number or a null, a short text, one of a thousand texts and a list of up to three numbers.

@@ -1,5 +1,5 @@
 //! The data of the jobs, which follow from their sizes, and checksums.
-use crate::data::slot_at;
+use benches_timing::slot_at;
 use columnar_memory_types::Result;
 use std::alloc::Global;
 

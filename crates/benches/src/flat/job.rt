@@ -1,5 +1,5 @@
 use crate::flat::{numbers, texts};
-use crate::timing::{Job, Named, Timed, time_rounds};
+use benches_timing::{Job, Named, Timed, time_rounds};
 use columnar_memory_types::Result;
 use std::rt::Clock;
 

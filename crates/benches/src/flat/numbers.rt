@@ -1,10 +1,9 @@
 //! Work on columns of numbers.
-use crate::data::bytes_checksum;
 use crate::flat::data::{numbers_checksum, slots};
-use crate::timing::Work;
+use benches_timing::{Work, bytes_checksum};
 use columnar_memory_types::{Error, Result};
-use ipc_format::columnar_memory::MutableBitmap;
-use ipc_format::nested_arrays_core::flat_arrays::{Int32Array, MutablePrimitiveArray};
+use nested_arrays::columnar_memory::MutableBitmap;
+use nested_arrays::flat_arrays::{Int32Array, MutablePrimitiveArray};
 use std::alloc::Global;
 
 /// How many slots a cut has.

@@ -1,10 +1,9 @@
 //! Work on columns of texts.
-use crate::data::{bytes_checksum, short_texts};
 use crate::flat::data::numbers_checksum;
-use crate::timing::Work;
+use benches_timing::{Work, bytes_checksum, short_texts};
 use columnar_memory_types::{DataType, Result};
-use ipc_format::columnar_memory::{Buffer, OffsetsBuffer};
-use ipc_format::nested_arrays_core::flat_arrays::{MutableUtf8Array, Utf8Array};
+use nested_arrays::columnar_memory::{Buffer, OffsetsBuffer};
+use nested_arrays::flat_arrays::{MutableUtf8Array, Utf8Array};
 use std::alloc::Global;
 
 /// `push` of texts.

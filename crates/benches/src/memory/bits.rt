@@ -1,11 +1,10 @@
 //! Work on bitmaps alone.
 ghost use Rattle.std.specs.Prelude.{◌+◌, ◌*◌, ◌^◌, ◌≤◌, ◌<◌, length, IfOk};
 
-use crate::data::bytes_checksum;
 use crate::memory::data::{bitmap_checksum, noise, noise_bitmap};
-use crate::timing::Work;
+use benches_timing::{Work, bytes_checksum};
 use columnar_memory_types::{Error, Result};
-use ipc_format::columnar_memory::{Bitmap, MutableBitmap, SlicesIterator, and, count_zeros};
+use nested_arrays::columnar_memory::{Bitmap, MutableBitmap, SlicesIterator, and, count_zeros};
 use std::alloc::Global;
 
 /// The offset of bits that begin amid a byte.

@@ -1,7 +1,7 @@
 //! The data of the jobs, which follow from their sizes, and checksums.
-use crate::data::{bytes_checksum, mixed};
+use benches_timing::{bytes_checksum, mixed};
 use columnar_memory_types::{Error, Result};
-use ipc_format::columnar_memory::{Bitmap, MutableBitmap};
+use nested_arrays::columnar_memory::{Bitmap, MutableBitmap};
 use std::alloc::Global;
 
 /// Bytes that look like chance, from a place of the sequence on: at least 64 bits more than are asked for.

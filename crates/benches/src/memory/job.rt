@@ -1,7 +1,7 @@
 use crate::memory::bits::{And, CountZeros, ExtendFromSlice, Slices};
 use crate::memory::data::{noise_bitmap, runs_bitmap};
 use crate::memory::values::{FromIter, OffsetsFromLengths, ZippedSum};
-use crate::timing::{Job, Named, Timed, time_rounds};
+use benches_timing::{Job, Named, Timed, time_rounds};
 use columnar_memory_types::Result;
 use std::rt::Clock;
 

@@ -1,8 +1,8 @@
 //! Work on bits beside values, and on offsets.
 use crate::memory::data::{bitmap_checksum, booleans, lengths, noise_bitmap, values};
-use crate::timing::Work;
+use benches_timing::Work;
 use columnar_memory_types::Result;
-use ipc_format::columnar_memory::{Bitmap, Offsets, ZipValidity};
+use nested_arrays::columnar_memory::{Bitmap, Offsets, ZipValidity};
 use std::alloc::Global;
 
 /// `Bitmap::from_iter` of booleans.

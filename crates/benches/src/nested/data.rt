@@ -1,11 +1,9 @@
 //! The data of the jobs, which follow from their sizes.
-use crate::data::{WORDS, mixed, number_at, short_texts, slot_at};
+use benches_timing::{Lists, WORDS, mixed, number_at, short_lists, short_texts, slot_at};
 use columnar_memory_types::{Boxed, DataType, Field, Result, Text};
-use ipc_format::columnar_memory::{Buffer, MutableBitmap, Offsets};
-use ipc_format::nested_arrays_core::flat_arrays::{Int32Array, Utf8Array};
-use ipc_format::nested_arrays_core::{
-    AnyArray, AnyPrimitive, DictionaryArray, FlatArray, ListArray, ToBoxed,
-};
+use nested_arrays::columnar_memory::{Bitmap, Buffer, Offsets};
+use nested_arrays::flat_arrays::{Int32Array, Utf8Array};
+use nested_arrays::{AnyArray, AnyPrimitive, DictionaryArray, FlatArray, ListArray, ToBoxed};
 use std::alloc::Global;
 
 /// The short texts in another order.
@@ -52,27 +50,16 @@ fn list_type(alloc: Global) -> Result<DataType> {
 
 /// So many lists of up to three numbers, about one in eight of them null; under each null stand so many numbers, which are not seen.
 pub(crate) fn lists(alloc: Global, count: usize, unseen: usize) -> Result<AnyArray> {
-    let mut items = Vec::new(alloc);
-    let mut offsets = Offsets::<i32>::new(alloc)?;
-    let mut marks = MutableBitmap::new(alloc);
-    for k in 0..count {
-        let number = mixed(k as u64);
-        let is_null = number % 8 == 0;
-        let length = if is_null {
-            unseen
-        } else {
-            (number / 8 % 4) as usize
-        };
-        for _ in 0..length {
-            items.push((number % 0x1_0000) as i32)?;
-        }
-        offsets.try_push(length)?;
-        marks.push(!is_null)?;
-    }
+    let Lists {
+        items,
+        lengths,
+        marks,
+    } = short_lists(alloc, count, unseen)?;
     let items = Int32Array::try_new(DataType::Int32, Buffer::from_vec(items)?, None)?;
     let items = Box::new(alloc, any_numbers(items))?;
-    let mask = Some(marks.freeze()?);
-    let array = ListArray::try_new(list_type(alloc)?, offsets.freeze()?, items, mask)?;
+    let offsets = Offsets::<i32>::try_from_iter(alloc, lengths.iter().copied())?;
+    let mask = Bitmap::from_iter(alloc, marks.iter().copied())?;
+    let array = ListArray::try_new(list_type(alloc)?, offsets.freeze()?, items, Some(mask))?;
     Ok(array.into_any())
 }
 

@@ -1,7 +1,7 @@
 //! Work that compares.
-use crate::timing::Work;
+use benches_timing::Work;
 use columnar_memory_types::Result;
-use ipc_format::nested_arrays_core::{AnyArray, equal};
+use nested_arrays::{AnyArray, equal};
 
 /// `equal` of two arrays.
 #[derive(Drop)]

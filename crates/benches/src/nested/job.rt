@@ -1,7 +1,7 @@
 use crate::nested::data::{dictionaries, lists, numbers, slots, texts};
 use crate::nested::equality::Equal;
 use crate::nested::tables::Cut;
-use crate::timing::{Job, Named, Timed, time_rounds};
+use benches_timing::{Job, Named, Timed, time_rounds};
 use columnar_memory_types::Result;
 use std::rt::Clock;
 

@@ -1,9 +1,9 @@
 //! Work on tables.
 use crate::nested::data::{any_numbers, number_column, text_column};
-use crate::timing::Work;
+use benches_timing::Work;
 use columnar_memory_types::{DataType, Field, Items, Result, Text};
-use ipc_format::nested_arrays_core::flat_arrays::{Int32Array, Utf8Array};
-use ipc_format::nested_arrays_core::{AnyArray, Array, FlatArray, StructArray};
+use nested_arrays::flat_arrays::{Int32Array, Utf8Array};
+use nested_arrays::{AnyArray, Array, FlatArray, StructArray};
 use std::alloc::Global;
 
 /// How many columns the table has.

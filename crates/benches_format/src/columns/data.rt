@@ -1,11 +1,12 @@
 //! The columns and the table of the jobs, which follow from their sizes.
-use crate::data::{mixed, number_at};
-use crate::nested::{any_numbers, text_column};
-use columnar_memory_types::{DataType, Field, Items, Result, Schema, Text};
+use benches_timing::{Lists, mixed, number_at, short_lists, short_texts, slot_at};
+use columnar_memory_types::{Boxed, DataType, Field, Items, Result, Schema, Text};
 use ipc_format::Chunk;
-use ipc_format::columnar_memory::Buffer;
-use ipc_format::nested_arrays_core::flat_arrays::Int32Array;
-use ipc_format::nested_arrays_core::{AnyArray, DictionaryArray, FlatArray, StructArray, ToBoxed};
+use ipc_format::columnar_memory::{Bitmap, Buffer, Offsets};
+use ipc_format::nested_arrays_core::flat_arrays::{Int32Array, Utf8Array};
+use ipc_format::nested_arrays_core::{
+    AnyArray, AnyPrimitive, DictionaryArray, FlatArray, ListArray, StructArray, ToBoxed,
+};
 use std::alloc::Global;
 
 /// How many numbers a struct has.
@@ -19,6 +20,40 @@ const COLUMNS: usize = 100;
 
 /// How many rows its batches have, but the last one.
 const ROWS: usize = 65_536;
+
+/// An array of numbers as one of any type.
+fn any_numbers(array: Int32Array) -> AnyArray {
+    AnyArray::from(FlatArray::from(AnyPrimitive::from_array(array)))
+}
+
+/// So many numbers, about one in eight of them null.
+pub(crate) fn slots(alloc: Global, count: usize) -> Result<AnyArray> {
+    let array = Int32Array::from_iter(alloc, (0..count).map(|k| slot_at(k as u64)))?;
+    Ok(any_numbers(array))
+}
+
+/// So many short texts.
+pub(crate) fn texts(alloc: Global, count: usize) -> Result<AnyArray> {
+    let array: Utf8Array<i32> = Utf8Array::from_slice(alloc, &short_texts(alloc, count)?)?;
+    Ok(AnyArray::from(FlatArray::from(array)))
+}
+
+/// So many lists of up to three numbers, about one in eight of them null.
+pub(crate) fn lists(alloc: Global, count: usize) -> Result<AnyArray> {
+    let Lists {
+        items,
+        lengths,
+        marks,
+    } = short_lists(alloc, count, 0)?;
+    let items = Int32Array::try_new(DataType::Int32, Buffer::from_vec(items)?, None)?;
+    let items = Box::new(alloc, any_numbers(items))?;
+    let item = Field::new(alloc, Text::from_str(alloc, "item")?, DataType::Int32, true);
+    let data_type = DataType::List(Boxed::new(alloc, item)?);
+    let offsets = Offsets::<i32>::try_from_iter(alloc, lengths.iter().copied())?;
+    let mask = Bitmap::from_iter(alloc, marks.iter().copied())?;
+    let array = ListArray::try_new(data_type, offsets.freeze()?, items, Some(mask))?;
+    Ok(array.into_any())
+}
 
 /// A field of a type.
 pub(crate) fn field(alloc: Global, data_type: DataType) -> Result<Field> {
@@ -57,7 +92,7 @@ pub(crate) fn structs(alloc: Global, count: usize) -> Result<AnyArray> {
 
 /// The texts that the keys mean.
 pub(crate) fn key_texts(alloc: Global) -> Result<AnyArray> {
-    Ok(AnyArray::from(FlatArray::from(text_column(alloc, TEXTS)?)))
+    texts(alloc, TEXTS)
 }
 
 /// So many keys of a thousand texts.

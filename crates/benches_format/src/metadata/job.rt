@@ -1,5 +1,5 @@
 use crate::metadata::data::Data;
-use crate::timing::{Job, Named, Timed, Work, time_rounds};
+use benches_timing::{Job, Named, Timed, Work, time_rounds};
 use columnar_memory_types::{Error, Result};
 use ipc_format::{deserialize_schema, schema_to_bytes};
 use std::alloc::Global;

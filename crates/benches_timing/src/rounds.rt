@@ -2,10 +2,16 @@ use columnar_memory_types::Result;
 use std::time::{Clock, Duration, Instant};
 
 /// What is done to be timed, with its data.
-pub(crate) trait Work {
+pub trait Work {
     /// What it makes.
     type Made: Drop;
 
+    /// Makes it.
+    ///
+    /// # Errors
+    /// `InvalidArgumentError`: the data do not fit.
+    /// `OutOfMemory`: what it makes found no memory.
+    /// `Overflow`: the offsets pass their type.
     fn make(&self) -> Result<Self::Made>;
 
     /// A checksum of what it made, which is not timed.
@@ -14,7 +20,7 @@ pub(crate) trait Work {
 
 /// What the rounds of some work took and made.
 #[derive(Drop)]
-pub(crate) struct Timed {
+pub struct Timed {
     /// Of the quickest round.
     pub nanoseconds: u64,
 
@@ -27,7 +33,7 @@ pub(crate) struct Timed {
 /// # Errors
 /// `Io`: the clock failed.
 /// Else what the work answers.
-pub(crate) fn time_rounds<W: Work>(clock: &impl Clock, rounds: u32, work: &W) -> Result<Timed> {
+pub fn time_rounds<W: Work>(clock: &impl Clock, rounds: u32, work: &W) -> Result<Timed> {
     let mut least = u64::MAX;
     let mut last = 0;
     for _ in 0..rounds {

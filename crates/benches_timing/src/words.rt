@@ -1,7 +1,8 @@
 use columnar_memory_types::{Error, Result};
 
 /// What has a name by which it is asked for.
-pub(crate) trait Named: Copy {
+pub trait Named: Copy {
+    /// Its name.
     fn name(&self) -> &'static str;
 }
 
@@ -9,7 +10,7 @@ pub(crate) trait Named: Copy {
 ///
 /// # Errors
 /// `InvalidArgumentError`: none has this name.
-pub(crate) fn choice_named<N: Named>(choices: &[N], name: &str) -> Result<N> {
+pub fn choice_named<N: Named>(choices: &[N], name: &str) -> Result<N> {
     for choice in choices {
         if choice.name() == name {
             return Ok(*choice);

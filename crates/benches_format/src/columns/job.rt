@@ -1,9 +1,8 @@
 use crate::columns::column::{ReadColumn, WriteColumn};
-use crate::columns::data::{key_texts, keys, structs};
+use crate::columns::data::{key_texts, keys, lists, slots, structs, texts};
 use crate::columns::files::{AppendFile, ReadChoice, WriteFile};
 use crate::columns::streams::{ReadStream, WriteStream};
-use crate::nested::{lists, slots, texts};
-use crate::timing::{Job, Named, Timed, time_rounds};
+use benches_timing::{Job, Named, Timed, time_rounds};
 use columnar_memory_types::Result;
 use ipc_format::nested_arrays_core::AnyArray;
 use std::alloc::Global;
@@ -98,7 +97,7 @@ fn column(alloc: Global, kind: Kind, size: usize) -> Result<AnyArray> {
     match kind {
         Kind::Numbers => slots(alloc, size),
         Kind::Texts => texts(alloc, size),
-        Kind::Lists => lists(alloc, size, 0),
+        Kind::Lists => lists(alloc, size),
         Kind::Keys => keys(alloc, size),
         Kind::Structs => structs(alloc, size),
     }

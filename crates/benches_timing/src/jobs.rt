@@ -1,9 +1,10 @@
-use crate::timing::{Named, Timed, choice_named};
+use crate::rounds::Timed;
+use crate::words::{Named, choice_named};
 use columnar_memory_types::Result;
 use std::rt::Clock;
 
 /// A job of a group that is timed.
-pub(crate) trait Job: Named {
+pub trait Job: Named {
     /// How often a job of the group is done to time it.
     const ROUNDS: u32;
 
@@ -21,7 +22,11 @@ pub(crate) trait Job: Named {
 }
 
 /// Shows the name of each job of a group, and the checksum of what it makes at the small size.
-pub(crate) fn show_checksums<J: Job, R: Clock + AllocGlobal + Print>(
+///
+/// # Errors
+/// `Io`: the names could not be written.
+/// Else what a job answers.
+pub fn show_checksums<J: Job, R: Clock + AllocGlobal + Print>(
     rt: &R,
     group: &str,
     jobs: &[J],
@@ -34,7 +39,12 @@ pub(crate) fn show_checksums<J: Job, R: Clock + AllocGlobal + Print>(
 }
 
 /// Times the job of a name at this size.
-pub(crate) fn show_time<J: Job, R: Clock + AllocGlobal + Print>(
+///
+/// # Errors
+/// `InvalidArgumentError`: no job has this name.
+/// `Io`: the times could not be written.
+/// Else what the job answers.
+pub fn show_time<J: Job, R: Clock + AllocGlobal + Print>(
     rt: &R,
     jobs: &[J],
     name: &str,

@@ -1,7 +1,6 @@
 //! Work on one column, alone in its batch.
 use crate::columns::data::field;
-use crate::data::bytes_checksum;
-use crate::timing::Work;
+use benches_timing::{Work, bytes_checksum};
 use columnar_memory_types::{Error, Field, Items, Result};
 use ipc_format::format::{Buffer, FieldNode, MetadataVersion};
 use ipc_format::nested_arrays_core::{AnyArray, Array};
@@ -38,7 +37,7 @@ fn written(alloc: Global, array: &AnyArray) -> Result<Body> {
 }
 
 /// A checksum of the bytes that are written of a column, or 0 where there is no memory for them.
-pub(crate) fn column_checksum(alloc: Global, array: &AnyArray) -> u64 {
+fn column_checksum(alloc: Global, array: &AnyArray) -> u64 {
     match written(alloc, array) {
         Ok(body) => bytes_checksum(&body.bytes),
         Err(_) => 0,

@@ -6,5 +6,4 @@ mod files;
 mod job;
 mod streams;
 
-pub(crate) use column::column_checksum;
 pub(crate) use job::{ColumnsJob, JOBS};

@@ -1,7 +1,7 @@
 //! Work on streams in memory.
 use crate::columns::column::Batches;
 use crate::columns::data::Table;
-use crate::timing::Work;
+use benches_timing::Work;
 use columnar_memory_types::Result;
 use ipc_format::nested_arrays_core::AnyArray;
 use ipc_format::{

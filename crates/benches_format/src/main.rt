@@ -1,0 +1,22 @@
+//! Times jobs of the format, and answers a checksum of what each made.
+//!
+//!     benches_format GROUP JOB SIZE     the job, the least nanoseconds of its rounds, and the checksum
+//!     benches_format GROUP              each job of the group at a small size: the group, the job and the checksum alone
+//!     benches_format                    the same of every group
+//!
+//! The groups are `metadata` and `columns`; what the size counts is said at each.
+#![tactic(auto)]
+
+mod columns;
+mod group;
+mod metadata;
+
+use benches_timing::show_asked;
+use columnar_memory_types::Result;
+use group::GROUPS;
+use std::env;
+
+fn main(rt: HostRuntime) -> Result<()> {
+    let words: Vec<String> = env::args(&rt)?.skip(1).collect(rt.alloc())?;
+    show_asked(&rt, &GROUPS, words.as_slice())
+}
