@@ -1,5 +1,5 @@
 -- Builders of texts and of byte strings as columns with one more, and which slot one is.
-use Rattle.std.proofs.Common.{◌≡◌, ◌∙◌, ◌<◌, ◌≤◌, ◌-◌, ℕ, List, [], ◌∷◌, length, drop, sum, get_or, Bool, true, false, refl, sym, ap, subst, arith}
+use Rattle.std.proofs.Common.{◌≡◌, ◌∙◌, ◌<◌, ◌-◌, ℕ, List, [], ◌∷◌, length, drop, sum, get_or, Bool, true, false, refl, sym, ap, subst, arith}
 use Rattle.std.specs.Prelude.{Option, Some, None, ◌↔◌, ◌⊎◌, ◌&&◌, IsTrue, if◌then◌else◌, slice_get, Result, Ok, Err}
 use Rattle.std.specs.List.{list_all}
 use Rattle.std.specs.Str.{IsUtf8, is_utf8}
@@ -11,25 +11,23 @@ use mathlib.Core.Logic.{inl, inr}
 use Rattle.nested_arrays_sized_builders.specs.nulls.columnar_memory.declared.DataType.{DataType}
 use Rattle.nested_arrays_sized_builders.specs.nulls.columnar_memory.declared.DataType.TheOpen as layer
 use Rattle.nested_arrays_sized_builders.specs.nulls.columnar_memory.declared.Error.{Error}
-use Rattle.nested_arrays_sized_builders.specs.nulls.columnar_memory.declared.Error.TheVariants as errors
 use Rattle.nested_arrays_sized_builders.specs.nulls.columnar_memory.declared.PhysicalType.{PhysicalType}
 use Rattle.nested_arrays_sized_builders.specs.nulls.columnar_memory.declared.PhysicalType.TheVariants as physical
 use Rattle.nested_arrays_sized_builders.specs.nulls.columnar_memory.Error.{IsInvalidArgument, IsOutOfMemory, IsOverflow}
-use Rattle.nested_arrays_sized_builders.specs.nulls.columnar_memory.Growth.{IsGrowthFault}
 use Rattle.nested_arrays_sized_builders.specs.nulls.columnar_memory.Layouts.{physical_type}
-use Rattle.nested_arrays_sized_builders.specs.nulls.columnar_memory.Spans.{last_of, offsets_of}
+use Rattle.nested_arrays_sized_builders.specs.nulls.columnar_memory.Spans.{offsets_of}
 use Rattle.nested_arrays_sized_builders.specs.nulls.columns.Cells.{fits_cell, is_bytes, is_null, is_text}
 use Rattle.nested_arrays_sized_builders.specs.nulls.columns.FreshColumns.{content_of}
-use Rattle.nested_arrays_sized_builders.specs.nulls.columns.Kinds.{most_offset, most_slots}
+use Rattle.nested_arrays_sized_builders.specs.nulls.columns.Kinds.{most_offset}
 use Rattle.nested_arrays_sized_builders.specs.nulls.columns.OpenBatch.{fits}
 use Rattle.nested_arrays_sized_builders.specs.nulls.columns.Slots.{Slot, null, bytes, text}
 use Rattle.nested_arrays_sized_builders.specs.nulls.columns.SoundColumns.{are_strings, has_size, holds_below, is_byte, is_sound}
 use Rattle.nested_arrays_sized_builders.specs.nulls.columns.SoundColumns.{is_stored_as, is_text_at, mask_fits}
 use Rattle.nested_arrays_sized_builders.specs.nulls.columns.StoredColumns.{Column, Stored, byte_strings as stored_bytes, column_len, flat}
 use Rattle.nested_arrays_sized_builders.specs.nulls.columns.StoredColumns.{is_valid_at, slot_at, string_at, texts, type_layer}
-use Rattle.nested_arrays_sized_builders.specs.nulls.flat_arrays.ByteStrings.{ByteStrings, byte_strings, cut_by, len_of, marks, marks_of, values_of}
+use Rattle.nested_arrays_sized_builders.specs.nulls.flat_arrays.ByteStrings.{ByteStrings, cut_by, len_of, marks, marks_of, values_of}
 use Rattle.nested_arrays_sized_builders.specs.nulls.flat_arrays.Fits.{IsMaskOf, binary_layout, text_layout}
-use Rattle.nested_arrays_sized_builders.specs.nulls.flat_arrays.Growing.{Grows, IsFilled, IsGrown, with_slot}
+use Rattle.nested_arrays_sized_builders.specs.nulls.flat_arrays.Growing.{IsFilled, IsGrown, with_slot}
 use Rattle.nested_arrays_sized_builders.specs.pushes.cells.taken.builders.values.ByteBuilders.{from_zero, open_binary, open_text}
 use Rattle.nested_arrays_sized_builders.specs.pushes.cells.taken.OpenColumns.{Becomes, IsFresh, slots_and}
 use Rattle.nested_arrays_sized_builders.specs.MarkedSlots.{AddsSlot}
@@ -46,54 +44,9 @@ use Rattle.nested_arrays_dictionary_builders.specs.ByteItems.{AddsBytes, HoldsAt
 use Rattle.nested_arrays_dictionary_builders.proofs.ByteColumns.{Each, StoresStrings, counted, last_more, none_sound, offsets, string_added}
 use Rattle.nested_arrays_dictionary_builders.proofs.ByteColumns.{string_is, string_unfit, too_many}
 
--- ---- pushes
-
 drop_none : {A : Type 0} (xs : List A) → drop 0 xs ≡ xs
 drop_none [] = refl
 drop_none (x ∷ xs) = refl
-
--- offsets from 0 on stay
-zero_twice : (a : ByteStrings) (item : List ℕ) → from_zero (with_slot (from_zero a) (Some item)) ≡ with_slot (from_zero a) (Some item)
-zero_twice a item =
-    let b = with_slot (from_zero a) (Some item) in
-    ap (λ (content : List ℕ). byte_strings b.data_type b.offsets content b.validity) (drop_none b.bytes)
-
-zero_stays : (a : ByteStrings) → from_zero (from_zero a) ≡ from_zero a
-zero_stays a =
-    let b = from_zero a in
-    ap (λ (content : List ℕ). byte_strings b.data_type b.offsets content b.validity) (drop_none b.bytes)
-
--- why a builder did not grow
-fault_why : (greatest last : ℕ) (e : Error) → IsGrowthFault greatest last e → IsOutOfMemory e ⊎ (IsOverflow e × (greatest < last))
-fault_why greatest last errors.Overflow h = inr (tt, h)
-fault_why greatest last errors.OutOfMemory h = inl tt
-fault_why greatest last (errors.NotYetImplemented what) h = absurd h
-fault_why greatest last (errors.InvalidArgumentError what) h = absurd h
-fault_why greatest last (errors.ExternalFormat what) h = absurd h
-fault_why greatest last (errors.OutOfSpec what) h = absurd h
-fault_why greatest last (errors.External from what) h = absurd h
-fault_why greatest last (errors.Io error) h = absurd h
-
--- what a builder does that was brought to offsets from 0 on
-pub bytes_added : {U : Type 0} (greatest : ℕ) (item : List ℕ) (old mid new : ByteStrings) (r : Result U Error) → len_of old < most_slots
-    → mid ≡ from_zero old → Grows greatest mid (with_slot mid (Some item)) new r → AddsBytes greatest item (from_zero old) (from_zero new) r
-bytes_added greatest item old mid new (Ok u) few based h = (
-  ap from_zero (h.0 ∙ ap (λ (a : ByteStrings). with_slot a (Some item)) based) ∙ zero_twice old item,
-  few,
-  subst (λ (a : ByteStrings). last_of (with_slot a (Some item)).offsets ≤ greatest) based h.1,
-)
-bytes_added greatest item old mid new (Err e) few based h = (
-  ap from_zero (h.0 ∙ based) ∙ zero_stays old,
-  why (fault_why greatest (last_of (with_slot (from_zero old) (Some item)).offsets) e fault),
-)
-  where
-    fault : IsGrowthFault greatest (last_of (with_slot (from_zero old) (Some item)).offsets) e
-    fault = subst (λ (a : ByteStrings). IsGrowthFault greatest (last_of (with_slot a (Some item)).offsets) e) based h.1
-
-    why : IsOutOfMemory e ⊎ (IsOverflow e × (greatest < last_of (with_slot (from_zero old) (Some item)).offsets))
-        → IsOutOfMemory e ⊎ (IsOverflow e × IsPast greatest (from_zero old) (with_slot (from_zero old) (Some item)))
-    why (inl memory) = inl memory
-    why (inr over) = inr (over.0, inr over.1)
 
 -- ---- what is stored of byte strings and of texts
 

@@ -4,7 +4,6 @@ ghost use Rattle.nested_arrays_sized_builders.specs.nulls.columns.Kinds.{most_sl
 ghost use Rattle.nested_arrays_sized_builders.specs.nulls.columns.SoundColumns.{is_sound};
 ghost use Rattle.nested_arrays_sized_builders.specs.nulls.columns.StoredColumns.{column_len};
 ghost use Rattle.nested_arrays_sized_builders.specs.nulls.flat.FlatColumns.{boolean_column, byte_width, primitive_column};
-ghost use Rattle.nested_arrays_sized_builders.specs.nulls.flat_arrays.ByteStrings.{len_of};
 ghost use Rattle.nested_arrays_sized_builders.specs.pushes.cells.taken.builders.values.ByteBuilders.{from_zero, open_binary, open_text};
 ghost use Rattle.nested_arrays_sized_builders.specs.ListBuilders.{lists_column};
 ghost use Rattle.nested_arrays_sized_builders.specs.SizedStrings.{JoinsStrings, sized_column};
@@ -12,17 +11,16 @@ ghost use Rattle.nested_arrays_dictionary_builders.specs.JoinedArrays.{JoinsByte
 ghost use Rattle.nested_arrays_dictionary_builders.specs.JoinedColumns.{AddsColumn};
 ghost use Rattle.nested_arrays_dictionary_builders.specs.JoinedLists.{AddsItems, JoinsItems};
 
+use crate::items::MOST_SLOTS;
+use crate::texts::count_of;
 use nested_arrays_sized_builders::nulls::columnar_memory::{Error, NativeType, Offset, Result};
 use nested_arrays_sized_builders::nulls::flat::PrimitiveKind;
 use nested_arrays_sized_builders::nulls::flat_arrays::{
-    ByteBuilder, MutableBinaryArray, MutableBooleanArray, MutablePrimitiveArray, MutableUtf8Array,
+    MutableBinaryArray, MutableBooleanArray, MutablePrimitiveArray, MutableUtf8Array,
 };
 use nested_arrays_sized_builders::pushes::cells::builders::values::{rebase_strings, rebase_texts};
 use nested_arrays_sized_builders::pushes::cells::taken::MutableArray;
 use nested_arrays_sized_builders::{MutValues, MutableFixedSizeBinaryArray, MutableListArray};
-
-/// As many slots as an array may have.
-const MOST_SLOTS: usize = 9_223_372_036_854_775_807;
 
 /// A builder to which the slots of another of its kind are pushed.
 pub trait TryExtendFromSelf: MutableArray {
@@ -143,13 +141,6 @@ fn join_booleans(booleans: &mut MutableBooleanArray, other: &MutableBooleanArray
         return Err(Error::Overflow);
     }
     booleans.try_extend_from_self(other)
-}
-
-/// How many slots there are.
-fn count_of<O: Offset>(builder: &ByteBuilder<O>) -> usize
-    ensures { result ≡ len_of builder.now }
-{
-    builder.len()
 }
 
 /// Adds the texts of another builder behind the others, or changes nothing but where offsets begin.

@@ -6,13 +6,10 @@ ghost use Rattle.nested_arrays_sized_builders.specs.nulls.columns.StoredColumns.
 ghost use Rattle.nested_arrays_sized_builders.specs.nulls.flat.FlatColumns.{primitive_column};
 ghost use Rattle.nested_arrays_dictionary_builders.specs.NumberItems.{AddsNumber};
 
-use crate::items::{SlotIs, TryExtend, TryPush};
+use crate::items::{MOST_SLOTS, SlotIs, TryExtend, TryPush};
 use nested_arrays_sized_builders::nulls::columnar_memory::{Error, NativeType, Result};
 use nested_arrays_sized_builders::nulls::flat_arrays::MutablePrimitiveArray;
 use nested_arrays_sized_builders::nulls::generic::DictionaryKey;
-
-/// As many slots as an array may have.
-const MOST_SLOTS: usize = 9_223_372_036_854_775_807;
 
 /// Integers are pushed as they are.
 impl<T: DictionaryKey> TryPush<T> for MutablePrimitiveArray<T> {

@@ -11,7 +11,7 @@ ghost use Rattle.nested_arrays_sized_builders.specs.nulls.flat_arrays.ByteString
 ghost use Rattle.nested_arrays_sized_builders.specs.pushes.cells.taken.builders.values.ByteBuilders.{from_zero, open_binary, open_text};
 ghost use Rattle.nested_arrays_dictionary_builders.specs.ByteItems.{AddsBytes, HoldsAt};
 
-use crate::items::{SlotIs, TryExtend, TryPush};
+use crate::items::{MOST_SLOTS, SlotIs, TryExtend, TryPush};
 use nested_arrays_sized_builders::nulls::columnar_memory::{Error, Offset, Result};
 use nested_arrays_sized_builders::nulls::flat_arrays::{
     ByteBuilder, MutableBinaryArray, MutableUtf8Array,
@@ -20,9 +20,6 @@ use nested_arrays_sized_builders::pushes::cells::builders::values::{
     hash_of_bytes, rebase_strings, rebase_texts,
 };
 use nested_arrays_sized_builders::read_bytes;
-
-/// As many slots as an array may have.
-const MOST_SLOTS: usize = 9_223_372_036_854_775_807;
 
 /// Texts of any length are pushed as they are.
 impl TryPush<String> for MutableUtf8Array<i32> {
@@ -133,7 +130,7 @@ impl SlotIs<Vec<u8>> for MutableBinaryArray<i64> {
 }
 
 /// How many slots there are.
-fn count_of<O: Offset>(builder: &ByteBuilder<O>) -> usize
+pub(crate) fn count_of<O: Offset>(builder: &ByteBuilder<O>) -> usize
     ensures { result ≡ len_of builder.now }
 {
     builder.len()
