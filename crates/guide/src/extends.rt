@@ -3,7 +3,10 @@ use columnar_memory::Error;
 use flat_arrays::{
     MutableBinaryArray, MutableBooleanArray, MutablePrimitiveArray, MutableUtf8Array,
 };
-use nested_arrays::{MutValues, MutableFixedSizeBinaryArray, MutableListArray, TryExtendFromSelf};
+use nested_arrays::{
+    MutValues, MutableFixedSizeBinaryArray, MutableFixedSizeListArray, MutableListArray,
+    TryExtendFromSelf,
+};
 use std::alloc::Global;
 use std::test::Fail;
 
@@ -155,5 +158,63 @@ fn items_of_no_list_are_refused(rt: HostRuntime) -> Result<(), Fail> {
     drop(lists);
     assert!(rt; matches!(outcome, Err(Error::InvalidArgumentError(_))));
     assert_eq!(rt; found, (1, 2));
+    Ok(())
+}
+
+/// A builder of lists of one size over numbers.
+type Sized = MutableFixedSizeListArray<MutablePrimitiveArray<i32>>;
+
+/// No lists of two numbers.
+fn no_pairs(alloc: Global) -> Result<Sized, Error> {
+    Sized::new(alloc, MutablePrimitiveArray::new(alloc), 2)
+}
+
+/// Two numbers, of which no list was closed yet.
+fn open_pair(alloc: Global, first: i32, second: i32) -> Result<Sized, Error> {
+    let mut pairs = no_pairs(alloc)?;
+    pairs.mut_values().push(Some(first))?;
+    pairs.mut_values().push(Some(second))?;
+    Ok(pairs)
+}
+
+#[test]
+fn lists_of_one_size_stand_behind_others(rt: HostRuntime) -> Result<(), Fail> {
+    let mut pairs = open_pair(rt.alloc(), 1, 2)?;
+    pairs.try_push_valid()?;
+    let more = open_pair(rt.alloc(), 3, 4)?;
+    let outcome = extend(&mut pairs, more);
+    let found = (
+        pairs.len(),
+        pairs.values().values().as_slice() == [1, 2, 3, 4].as_slice(),
+    );
+    drop(pairs);
+    outcome?;
+    assert_eq!(rt; found, (2, true));
+    Ok(())
+}
+
+#[test]
+fn a_null_stands_behind_a_list_that_was_not_closed(rt: HostRuntime) -> Result<(), Fail> {
+    let mut pairs = open_pair(rt.alloc(), 1, 2)?;
+    let mut more = no_pairs(rt.alloc())?;
+    more.push_null()?;
+    let outcome = extend(&mut pairs, more);
+    let count = pairs.len();
+    let same = count == 2 && pairs.is_valid(0) && !pairs.is_valid(1);
+    drop(pairs);
+    outcome?;
+    assert!(rt; same);
+    Ok(())
+}
+
+#[test]
+fn lists_of_another_size_are_refused(rt: HostRuntime) -> Result<(), Fail> {
+    let mut pairs = open_pair(rt.alloc(), 1, 2)?;
+    let more = Sized::new(rt.alloc(), MutablePrimitiveArray::new(rt.alloc()), 3)?;
+    let outcome = extend(&mut pairs, more);
+    let count = pairs.len();
+    drop(pairs);
+    assert!(rt; matches!(outcome, Err(Error::InvalidArgumentError(_))));
+    assert_eq!(rt; count, 1);
     Ok(())
 }

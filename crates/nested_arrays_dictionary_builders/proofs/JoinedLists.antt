@@ -54,7 +54,7 @@ use Rattle.nested_arrays_dictionary_builders.proofs.JoinedSlots.{window_joins}
 -- ---- slots
 
 -- what stands at a place behind the slots of a first column
-at_second : (a b c : Column) → slots c ≡ slots a ++ slots b → (i : ℕ) → i < column_len b → slot_at c (column_len a + i) ≡ slot_at b i
+pub at_second : (a b c : Column) → slots c ≡ slots a ++ slots b → (i : ℕ) → i < column_len b → slot_at c (column_len a + i) ≡ slot_at b i
 at_second a b c same i h =
     let long : column_len c ≡ column_len a + column_len b =
     omega (arith, slots_lengths a, slots_lengths b, slots_lengths c, ap length same, length-append (slots a) (slots b)) in

@@ -1,6 +1,7 @@
 pub mod ByteColumns
 pub mod ByteItems
 pub mod FoundPlaces
+pub mod JoinedFixedLists
 pub mod JoinedFlats
 pub mod JoinedLists
 pub mod JoinedMarks

@@ -2,6 +2,7 @@ pub mod ByteItems
 pub mod DictionaryBuilders
 pub mod JoinedArrays
 pub mod JoinedColumns
+pub mod JoinedFixedLists
 pub mod JoinedLists
 pub mod NumberItems
 pub mod SeveralSlots

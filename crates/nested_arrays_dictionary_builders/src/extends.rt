@@ -1,14 +1,17 @@
 //! Builders to which the slots of another of their kind are pushed.
 ghost use Rattle.std.specs.Prelude.{◌≡◌, ◌↔◌, ◌+◌, ◌<◌, ◌≤◌, IsTrue, length, true};
+ghost use Rattle.nested_arrays_sized_builders.specs.nulls.arrays.Lengths.{size_of};
 ghost use Rattle.nested_arrays_sized_builders.specs.nulls.columns.Kinds.{most_slots};
 ghost use Rattle.nested_arrays_sized_builders.specs.nulls.columns.SoundColumns.{is_sound};
-ghost use Rattle.nested_arrays_sized_builders.specs.nulls.columns.StoredColumns.{column_len};
+ghost use Rattle.nested_arrays_sized_builders.specs.nulls.columns.StoredColumns.{column_len, column_type};
 ghost use Rattle.nested_arrays_sized_builders.specs.nulls.flat.FlatColumns.{boolean_column, byte_width, primitive_column};
 ghost use Rattle.nested_arrays_sized_builders.specs.pushes.cells.taken.builders.values.ByteBuilders.{from_zero, open_binary, open_text};
+ghost use Rattle.nested_arrays_sized_builders.specs.FixedListBuilders.{fixed_lists_column};
 ghost use Rattle.nested_arrays_sized_builders.specs.ListBuilders.{lists_column};
 ghost use Rattle.nested_arrays_sized_builders.specs.SizedStrings.{JoinsStrings, sized_column};
 ghost use Rattle.nested_arrays_dictionary_builders.specs.JoinedArrays.{JoinsBytes, JoinsFlat};
 ghost use Rattle.nested_arrays_dictionary_builders.specs.JoinedColumns.{AddsColumn};
+ghost use Rattle.nested_arrays_dictionary_builders.specs.JoinedFixedLists.{AddsFixedItems, JoinsFixedItems};
 ghost use Rattle.nested_arrays_dictionary_builders.specs.JoinedLists.{AddsItems, JoinsItems};
 
 use crate::items::MOST_SLOTS;
@@ -20,7 +23,9 @@ use nested_arrays_sized_builders::nulls::flat_arrays::{
 };
 use nested_arrays_sized_builders::pushes::cells::builders::values::{rebase_strings, rebase_texts};
 use nested_arrays_sized_builders::pushes::cells::taken::MutableArray;
-use nested_arrays_sized_builders::{MutValues, MutableFixedSizeBinaryArray, MutableListArray};
+use nested_arrays_sized_builders::{
+    MutValues, MutableFixedSizeBinaryArray, MutableFixedSizeListArray, MutableListArray,
+};
 
 /// A builder to which the slots of another of its kind are pushed.
 pub trait TryExtendFromSelf: MutableArray {
@@ -110,6 +115,13 @@ impl<M: TryExtendFromSelf> TryExtendFromSelf for MutableListArray<i32, M> {
 impl<M: TryExtendFromSelf> TryExtendFromSelf for MutableListArray<i64, M> {
     fn try_extend_from_self(&mut self, other: &Self) -> Result<()> {
         extend_lists(self, other)
+    }
+}
+
+/// Lists of one size are joined where both have the same size and items of one type, and the first have no items but those of their lists.
+impl<M: TryExtendFromSelf> TryExtendFromSelf for MutableFixedSizeListArray<M> {
+    fn try_extend_from_self(&mut self, other: &Self) -> Result<()> {
+        extend_fixed_lists(self, other)
     }
 }
 
@@ -253,6 +265,79 @@ fn extend_items<O: Offset, M: TryExtendFromSelf>(
     items: &M,
 ) -> Result<()>
     ensures { AddsItems M.column lists.old items.now lists.new result }
+{
+    lists.mut_values().try_extend_from_self(items)
+}
+
+/// Adds the lists of one size of another builder behind the others.
+fn extend_fixed_lists<M: TryExtendFromSelf>(
+    lists: &mut MutableFixedSizeListArray<M>,
+    other: &MutableFixedSizeListArray<M>,
+) -> Result<()>
+    ensures { AddsColumn (fixed_lists_column M.column lists.old) (fixed_lists_column M.column other.now)
+        (fixed_lists_column M.column lists.new) result }
+{
+    if !has_size_of(lists, other) {
+        return Err(Error::InvalidArgumentError("lists of another size"));
+    }
+    if !has_items_of(lists, other) {
+        return Err(Error::InvalidArgumentError("items of another type"));
+    }
+    if !lists.has_whole_lists() {
+        return Err(Error::InvalidArgumentError("items that are of no list yet"));
+    }
+    let held = lists.len();
+    match lists.try_extend_marks(other) {
+        Ok(()) => join_fixed_items(lists, other.values(), held),
+        Err(error) => Err(error),
+    }
+}
+
+/// Whether the lists of another builder have the size of these.
+fn has_size_of<M: MutableArray>(
+    lists: &MutableFixedSizeListArray<M>,
+    other: &MutableFixedSizeListArray<M>,
+) -> bool
+    ensures same { IsTrue result ↔ (size_of other.now.data_type ≡ size_of lists.now.data_type) }
+    ensures some { 0 < size_of lists.now.data_type }
+{
+    other.size() == lists.size()
+}
+
+/// Whether the items of another builder are of the type of these.
+fn has_items_of<M: MutableArray>(
+    lists: &MutableFixedSizeListArray<M>,
+    other: &MutableFixedSizeListArray<M>,
+) -> bool
+    ensures { IsTrue result ↔ (column_type (M.column other.now.values) ≡ column_type (M.column lists.now.values)) }
+{
+    *other.values().data_type() == *lists.values().data_type()
+}
+
+/// Adds items behind those of lists of one size, or keeps the first lists alone.
+fn join_fixed_items<M: TryExtendFromSelf>(
+    lists: &mut MutableFixedSizeListArray<M>,
+    items: &M,
+    held: usize,
+) -> Result<()>
+    requires { held ≤ column_len (fixed_lists_column M.column lists.old) }
+    ensures { JoinsFixedItems M.column lists.old items.now held lists.new result }
+{
+    match extend_fixed_items(lists, items) {
+        Ok(()) => Ok(()),
+        Err(error) => {
+            lists.truncate(held);
+            Err(error)
+        }
+    }
+}
+
+/// Adds items behind those of lists of one size, or leaves the items as they are.
+fn extend_fixed_items<M: TryExtendFromSelf>(
+    lists: &mut MutableFixedSizeListArray<M>,
+    items: &M,
+) -> Result<()>
+    ensures { AddsFixedItems M.column lists.old items.now lists.new result }
 {
     lists.mut_values().try_extend_from_self(items)
 }

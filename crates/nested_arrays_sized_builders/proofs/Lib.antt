@@ -1,3 +1,4 @@
+pub mod FilledMarks
 pub mod FixedColumns
 pub mod FixedLists
 pub mod FixedPushes

@@ -35,7 +35,7 @@ unset_first (suc k) (suc n) = unset_first k n
 first_unset : (ms : List Bool) (k : ℕ) → unset_count ms ≡ 0 → unset_count (take k ms) ≡ 0
 first_unset ms k none = ap (λ (bits : List Bool). unset_count (take k bits)) (trues ms none) ∙ unset_first k (length ms)
 
-first_few : (k : ℕ) (ms : List Bool) → length (take k ms) ≤ k
+pub first_few : (k : ℕ) (ms : List Bool) → length (take k ms) ≤ k
 first_few k ms = omega (arith, length-take k ms)
 
 fill_trues : (ms : List Bool) (n : ℕ) → unset_count ms ≡ 0 → length ms ≤ n → filled n ms ≡ replicate n true

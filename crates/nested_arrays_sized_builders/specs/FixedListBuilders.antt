@@ -116,6 +116,35 @@ FillsMarks old n mark new r =
     MatchResult r (λ _. (new ≡ filled n old ++ mark ∷ []) × (n < most_slots))
     (λ e. (length old ≤ length new) × (take (length old) new ≡ old) × (IsOutOfMemory e ⊎ (IsOverflow e × (most_slots ≤ n))))
 
+-- Marks are filled up to so many, and the marks of so many lists of another builder stand behind them. Or they are as they were: memory ran out, or
+-- both are more than a column may have.
+abbrev pub JoinsFilled : {U : Type 0} → List Bool → ℕ → List Bool → ℕ → List Bool → Result U Error → Type 0
+JoinsFilled old n more m new r =
+    MatchResult r (λ _. (new ≡ filled n old ++ marks_for m more) × (n + m ≤ most_slots))
+    (λ e. (new ≡ old) × (IsOutOfMemory e ⊎ (IsOverflow e × (most_slots < n + m))))
+
+-- the marks that are missing, of values, and those of so many lists behind them
+abbrev pub missing_and : ℕ → List Bool → ℕ → List Bool
+missing_and missing more m = replicate missing true ++ marks_for m more
+
+-- how many lists the items make
+abbrev pub lists_made : {M : Type 0} → (M → Column) → FixedListParts M → ℕ
+lists_made column p = column_len (fixed_lists_column column p)
+
+-- a mark for each list, and for each of another behind them, over the same items
+abbrev pub with_fixed_lists : {M : Type 0} → (M → Column) → FixedListParts M → FixedListParts M → FixedListParts M
+with_fixed_lists column p more =
+    fixed_list_parts p.data_type (marks_for (lists_made column p) p.marks ++ marks_for (lists_made column more) more.marks) p.values
+
+-- The marks of the lists of another stand behind those of the lists, over the same items. Or only marks of lists that are no more are let go: memory
+-- ran out, or the lists of both are more than a column may have.
+abbrev pub JoinsFixedLists : {M U : Type 0} → (M → Column) → FixedListParts M → FixedListParts M → FixedListParts M → Result U Error → Type 0
+JoinsFixedLists column old more new r =
+    MatchResult r
+    (λ _. (new ≡ with_fixed_lists column old more) × (lists_made column old + lists_made column more ≤ most_slots))
+    (λ e. (new ≡ fixed_list_parts old.data_type (take (lists_made column old) old.marks) old.values)
+    × (IsOutOfMemory e ⊎ (IsOverflow e × (most_slots < lists_made column old + lists_made column more))))
+
 -- A null stands behind the lists that there are, over as many nulls below as a list has items. Or slots and items are as they were.
 abbrev pub AddsNullFixedList : {M U : Type 0} → (M → Column) → FixedListParts M → FixedListParts M → Result U Error → Type 0
 AddsNullFixedList column old new r =

@@ -11,7 +11,9 @@ ghost use Rattle.nested_arrays_generic_builders.specs.pushes.cells.taken.OpenCol
 ghost use Rattle.nested_arrays_sized_builders.specs.FixedListBuilders.{fixed_lists_column, fixed_lists_of, items_with_one, lists_over};
 ghost use Rattle.nested_arrays_sized_builders.specs.FixedListBuilders.{no_fixed_lists, with_items, AddsNullFixedList, AddsNulls, ClosesFixedColumn};
 ghost use Rattle.nested_arrays_sized_builders.specs.FixedListBuilders.{ClosesFixedList, FillsMarks, FreezesLists, KeepsMarks, LeavesNoLists, MarksBehind};
+ghost use Rattle.nested_arrays_sized_builders.specs.FixedListBuilders.{JoinsFixedLists};
 
+use crate::filled_marks::join_filled;
 use nested_arrays_generic_builders::MutValues;
 use nested_arrays_generic_builders::nulls::arrays::{AnyArray, FixedSizeListArray};
 use nested_arrays_generic_builders::nulls::columnar_memory::{
@@ -141,6 +143,33 @@ impl<M: MutableArray> MutableFixedSizeListArray<M> {
             Some(count) => items == count,
             None => false,
         }
+    }
+
+    /// Whether the items are those of lists, and none stands behind them.
+    pub fn has_whole_lists(&self) -> bool
+        ensures { IsTrue result ↔ (column_len (M.column self.now.values)
+            ≡ size_of self.now.data_type * column_len (fixed_lists_column M.column self.now)) }
+    {
+        self.values.len() % self.size == 0
+    }
+
+    /// Closes the lists that were not closed, and adds the marks of the lists of another builder behind theirs. They are over items that are yet to
+    /// be pushed.
+    ///
+    /// # Errors
+    /// `Overflow`: the lists of both are more than a column may have.
+    /// `OutOfMemory`: a mark found no memory.
+    ///
+    /// Slots and items are as they were then.
+    pub fn try_extend_marks(&mut self, other: &Self) -> Result<()>
+        ensures { JoinsFixedLists M.column self.old other.now self.new result }
+    {
+        let items = self.values.len();
+        let lists = items / self.size;
+        let more_items = other.values.len();
+        let more = more_items / other.size;
+        keep_marks(&mut self.marks, lists);
+        join_filled(&mut self.marks, lists, &other.marks, more)
     }
 
     /// The builder of the items.

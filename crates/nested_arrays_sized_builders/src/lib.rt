@@ -1,6 +1,7 @@
 //! Builders of nulls alone, and of lists and of byte strings of one size.
 #![tactic(auto)]
 
+mod filled_marks;
 mod fixed_lists;
 mod nulls_alone;
 mod sized_slots;

@@ -19,7 +19,7 @@ use std::marker::Model;
 use std::rc::Rc;
 
 /// As many slots as an array may have.
-const MOST_SLOTS: usize = 9_223_372_036_854_775_807;
+pub(crate) const MOST_SLOTS: usize = 9_223_372_036_854_775_807;
 
 /// A builder of nulls alone, which counts them (Arrow columnar format, "Null Layout"). A contract sees the column that it would be frozen to.
 #[derive(Drop)]
