@@ -1,6 +1,6 @@
 -- Stored numbers that are the same.
-use Rattle.std.proofs.Common.{◌≡◌, ◌∙◌, ◌<◌, ◌+◌, ℕ, ℤ, List, true, refl, sym, ap, arith, length, map, get_or}
-use Rattle.std.specs.Prelude.{◌==◌, ◌↔◌, pos, Some, option_map, slice_get}
+use Rattle.std.proofs.Common.{◌≡◌, ◌∙◌, ◌<◌, ◌≤◌, ◌+◌, ◌-◌, ℕ, zero, suc, ℤ, Bool, List, true, false, refl, sym, ap, arith, below_more, length, map, get_or}
+use Rattle.std.specs.Prelude.{◌==◌, ◌↔◌, ◌&&◌, pos, IsTrue, Some, option_map, slice_get}
 use Rattle.std.specs.List.{list_all}
 use Rattle.std.proofs.lemmas.Bool.{false≢true}
 use Rattle.std.proofs.lemmas.Option.{get_or_from_slice_get, slice_get-map, slice_get-get_or}
@@ -84,6 +84,42 @@ pub value_there : {T : Type 0} (kind : PrimitiveType) (number_of : T → Numbers
 value_there kind number_of values i value h is =
     let there : slice_get values i ≡ Some value = slice_get-get_or values i value h ∙ ap Some (sym is) in
     stored_there kind (map number_of values) i (number_of value) (slice_get-map number_of values i ∙ ap (option_map number_of) there)
+
+-- ---- runs of stored values
+
+-- whether one value more is the same
+pub one_more_stored : (l r : Stored) (i j n : ℕ) (before here : Bool) → IsTrue before ↔ SameStored l i r j n
+    → IsTrue here ↔ (stored_at l (i + n) ≡ stored_at r (j + n)) → IsTrue (before && here) ↔ SameStored l i r j (n + 1)
+one_more_stored l r i j n true here run next = (
+  λ h. below_more (λ k. stored_at l (i + k) ≡ stored_at r (j + k)) n (run.0 refl) (next.0 h),
+  λ same. next.1 (same n (omega arith)),
+)
+one_more_stored l r i j n false here run next = (
+  λ h. absurd (false≢true h),
+  λ same. absurd (false≢true (run.1 (λ k h. same k (omega (arith, h))))),
+)
+
+-- a run and the one behind it
+pub joined_stored : (l r : Stored) (i j n m : ℕ) → SameStored l i r j n → SameStored l (i + n) r (j + n) m → SameStored l i r j (n + m)
+joined_stored l r i j n zero before after k h = before k (omega arith)
+joined_stored l r i j n (suc m) before after k h =
+    below_more (λ k. stored_at l (i + k) ≡ stored_at r (j + k)) (n + m)
+    (joined_stored l r i j n m before (λ k h. after k (omega arith)))
+    (ap (stored_at l) (omega arith) ∙ after m (omega arith) ∙ ap (stored_at r) (omega arith)) k (omega (arith, h))
+
+-- a part of a run
+pub stored_behind : (l r : Stored) (i j n m whole : ℕ) → n + m ≤ whole → SameStored l i r j whole → SameStored l (i + n) r (j + n) m
+stored_behind l r i j n m whole within same k h =
+    ap (stored_at l) (omega arith) ∙ same (n + k) (omega (arith, h, within)) ∙ ap (stored_at r) (omega arith)
+
+-- a run whose beginning is the same is the same where the rest is
+pub rest_of_stored : (l r : Stored) (i j n whole : ℕ) → n ≤ whole
+    → (SameStored l i r j n → SameStored l (i + n) r (j + n) (whole - n) → SameStored l i r j whole)
+    × (SameStored l i r j whole → SameStored l (i + n) r (j + n) (whole - n))
+rest_of_stored l r i j n whole within = (
+  λ before after k h. joined_stored l r i j n (whole - n) before after k (omega (arith, h, within)),
+  λ same. stored_behind l r i j n (whole - n) whole (omega (arith, within)) same,
+)
 
 -- ---- numbers of another kind
 

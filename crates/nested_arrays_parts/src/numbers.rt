@@ -20,19 +20,39 @@ fn same_number<T: NativeType>(left: T, right: T) -> bool
     left == right
 }
 
-/// Whether so many numbers from a place on are those of others from a place on.
+/// How many numbers are compared before it is asked whether they are the same.
+const BLOCK: usize = 64;
+
+/// Whether so many numbers from a place on are those of others from a place on. No number ends the loop, so that the compiler can compare many at a
+/// time.
+fn same_block<T: NativeType>(left: &[T], i: usize, right: &[T], j: usize, count: usize) -> bool
+    requires left_within { i + count ≤ length left.now }
+    requires right_within { j + count ≤ length right.now }
+    ensures { IsTrue result ↔ SameStored (stored_numbers T.PRIMITIVE (map T.numbers left.now)) i
+        (stored_numbers T.PRIMITIVE (map T.numbers right.now)) j count }
+{
+    let mut are_same = true;
+    for k in 0..count {
+        are_same = are_same & same_number(left[i + k], right[j + k]);
+    }
+    are_same
+}
+
+/// The same, ended by the first block that is another.
 fn same_values<T: NativeType>(left: &[T], i: usize, right: &[T], j: usize, count: usize) -> bool
     requires left_within { i + count ≤ length left.now }
     requires right_within { j + count ≤ length right.now }
     ensures { IsTrue result ↔ SameStored (stored_numbers T.PRIMITIVE (map T.numbers left.now)) i
         (stored_numbers T.PRIMITIVE (map T.numbers right.now)) j count }
 {
-    for k in 0..count {
-        if !same_number(left[i + k], right[j + k]) {
+    let mut k = 0;
+    while count - k > BLOCK {
+        if !same_block(left, i + k, right, j + k, BLOCK) {
             return false;
         }
+        k += BLOCK;
     }
-    true
+    same_block(left, i + k, right, j + k, count - k)
 }
 
 /// The same, where the others may be of another kind.
