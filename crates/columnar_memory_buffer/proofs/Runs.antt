@@ -271,3 +271,16 @@ pub values_Decide : {T : Type 0} (value : T → ℤ) (eq : T → T → Bool) →
     → IsTrue (eq x y) ↔ (value x ≡ value y))
     → (x y : T) → Decides (eq x y) (x ≡ y)
 values_Decide value eq same test x y = ((λ yes. same x y ((test x y).0 yes)), (λ e. (test x y).1 (ap value e)))
+
+-- one more of the offsets that are to come, as the next one of other spans says where it stands
+pub appended : {T : Type 0} (value : T → ℤ) (xs : List T) (x : T) (s : Spans) (ls : List ℕ) (i m : ℕ) → i < length ls
+    → AreOffsets value xs (extended s (take i ls)) → value x ≡ pos m → m ≡ last_of s + sum (take (i + 1) ls)
+    → AreOffsets value (xs ++ x ∷ []) (extended s (take (i + 1) ls))
+appended value xs x s ls i m lt h read sums =
+    let more : sum (take (i + 1) ls) ≡ sum (take i ls) + get_or ls i 0 = omega (arith, sum_by_more (λ x. x) ls i 0 lt) in
+    let here : m ≡ last_of (extended s (take i ls)) + get_or ls i 0 = omega (arith, sums, more, last_of-extended s (take i ls)) in
+    subst (λ (t : Spans). AreOffsets value (xs ++ x ∷ []) t) (extended-more s ls i lt)
+    (AreOffsets-push value xs x (extended s (take i ls)) (get_or ls i 0) h (read ∙ ap pos here))
+
+pub sum-take-le : (ls : List ℕ) (i : ℕ) → sum (take i ls) ≤ sum ls
+sum-take-le ls i = omega (arith, sum_by-take-le (λ x. x) ls i)

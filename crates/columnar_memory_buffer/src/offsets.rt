@@ -5,7 +5,7 @@ ghost use Rattle.columnar_memory_buffer.specs.Growth.{CollectsAlong, Grows, Grow
 ghost use Rattle.columnar_memory_buffer.specs.SpansEqual.{spans_eq, spans_eq_equivalence, spans_eq_partial_equivalence};
 ghost use Rattle.columnar_memory_buffer.specs.Spans.{AreOffsets, IsStored, stored, extended, last_of, first_spans, no_spans, offset_at, shortened};
 
-use crate::places::{are_offsets, number_at, span_count};
+use crate::places::{append, are_offsets, fit_behind, number_at, one_offset, span_count};
 use columnar_memory_native::Offset;
 use columnar_memory_native::types::{Error, Result};
 use std::alloc::{AllocError, Global};
@@ -273,33 +273,21 @@ impl<O: Offset> Offsets<O> {
     }
 
     /// Adds spans of the same lengths as those of a slice of offsets, all or none.
-    pub(crate) fn extend_from_offsets<P: Offset>(&mut self, offsets: &[P]) -> Result<()>
-        requires { IsStored P.value offsets.now }
-        ensures { Grows O.greatest self.old (stored P.value offsets.now).lengths self.new result }
+    pub(crate) fn extend_from_offsets(&mut self, offsets: &[O]) -> Result<()>
+        requires { IsStored O.value offsets.now }
+        ensures { Grows O.greatest self.old (stored O.value offsets.now).lengths self.new result }
     {
-        let spans = span_count(offsets);
-        let kept = self.len_proxy();
-        let mut before = number_at(offsets, 0);
-        let total = number_at(offsets, spans) - before;
-        let mut last = self.number(kept);
-        let Some(end) = last.checked_add(total) else {
-            return Err(Error::Overflow);
-        };
-        if O::from_usize(end).is_none() {
+        let last = self.number(self.len_proxy());
+        if !fit_behind::<O, O>(last, offsets) {
             return Err(Error::Overflow);
         }
-        self.reserve(spans)?;
-        for index in 0..spans {
-            let next = number_at(offsets, index + 1);
-            match self.push_behind(last, next - before) {
-                Ok(end) => (before, last) = (next, end),
-                Err(_) => {
-                    self.truncate(kept);
-                    return Err(Error::OutOfMemory);
-                }
+        match self.values.reserve(span_count(offsets)) {
+            Ok(()) => {
+                append(&mut self.values, last, offsets);
+                Ok(())
             }
+            Err(_) => Err(Error::OutOfMemory),
         }
-        Ok(())
     }
 
     /// From where the first span begins to where the last one ends.
@@ -358,14 +346,17 @@ pub(crate) fn converted<P: Offset, O: Offset>(alloc: Global, offsets: &[P]) -> R
     requires { IsStored P.value offsets.now }
     ensures { Holds O.greatest (stored P.value offsets.now) result }
 {
-    let spans = span_count(offsets);
     let start = number_at(offsets, 0);
-    if O::from_usize(number_at(offsets, spans)).is_none() {
+    if !fit_behind::<O, P>(start, offsets) {
         return Err(Error::Overflow);
     }
-    let mut converted = Offsets::starting_at(alloc, start, spans)?;
-    converted.extend_from_offsets(offsets)?;
-    Ok(converted)
+    match one_offset(alloc, start, offsets.len()) {
+        Ok(mut values) => {
+            append(&mut values, start, offsets);
+            Ok(Offsets { values })
+        }
+        Err(_) => Err(Error::OutOfMemory),
+    }
 }
 
 impl TryFrom<Offsets<i64>> for Offsets<i32> {

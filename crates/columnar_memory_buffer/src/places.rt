@@ -1,8 +1,9 @@
 //! Slices of offsets.
-ghost use Rattle.std.specs.Prelude.{◌≡◌, ◌+◌, ◌≤◌, ◌↔◌, IsTrue, length};
-ghost use Rattle.columnar_memory_buffer.specs.Spans.{AreOffsets, IsStored, IsWhole, NeverFalls, offset_at, spans_between, stored};
+ghost use Rattle.std.specs.Prelude.{◌≡◌, ◌+◌, ◌<◌, ◌≤◌, ◌↔◌, [], IfOk, IsTrue, length, sum, vec_capacity, vec_len};
+ghost use Rattle.columnar_memory_buffer.specs.Spans.{AreOffsets, IsStored, IsWhole, NeverFalls, extended, last_of, offset_at, spans_between, stored};
 
 use columnar_memory_native::Offset;
+use std::alloc::{AllocError, Global};
 
 /// The offset at a place, as a number.
 pub fn number_at<O: Offset>(offsets: &[O], index: usize) -> usize
@@ -57,4 +58,50 @@ fn never_falls<O: Offset>(offsets: &[O]) -> bool
         rest = tail;
     }
     true
+}
+
+/// Whether spans as long as those of a slice of offsets, behind one that ends at `last`, end within the greatest offset of a type.
+pub fn fit_behind<O: Offset, P: Offset>(last: usize, offsets: &[P]) -> bool
+    requires { IsStored P.value offsets.now }
+    ensures { IsTrue result ↔ (last + sum (stored P.value offsets.now).lengths ≤ O.greatest) }
+{
+    let total = number_at(offsets, span_count(offsets)) - number_at(offsets, 0);
+    match last.checked_add(total) {
+        Some(end) => O::from_usize(end).is_some(),
+        None => false,
+    }
+}
+
+/// The one offset `start`, in memory for this many offsets.
+pub fn one_offset<O: Offset>(alloc: Global, start: usize, room: usize) -> Result<Vec<O>, AllocError>
+    requires start { start ≤ O.greatest }
+    requires room { 0 < room }
+    ensures one { IfOk result (λ v. AreOffsets O.value v.items (record { start = start; lengths = [] })) }
+    ensures len { IfOk result (λ v. vec_len v ≡ 1) }
+    ensures capacity { IfOk result (λ v. vec_capacity v ≡ room) }
+{
+    match Vec::with_capacity(alloc, room) {
+        Ok(mut values) => {
+            values.push_reserved(O::from_as_usize(start));
+            Ok(values)
+        }
+        Err(refused) => Err(refused),
+    }
+}
+
+/// Adds offsets of spans as long as those of a slice behind others, the last of which is `last`. There is memory for them.
+pub fn append<O: Offset, P: Offset>(values: &mut Vec<O>, last: usize, offsets: &[P])
+    requires stand { IsStored O.value values.old.items }
+    requires others_stand { IsStored P.value offsets.now }
+    requires last { last ≡ last_of (stored O.value values.old.items) }
+    requires fit { last + sum (stored P.value offsets.now).lengths ≤ O.greatest }
+    requires room { vec_len values.old + length (stored P.value offsets.now).lengths ≤ vec_capacity values.old }
+    ensures { AreOffsets O.value values.new.items (extended (stored O.value values.old.items) (stored P.value offsets.now).lengths) }
+{
+    let first = number_at(offsets, 0);
+    for index in 0..span_count(offsets) {
+        let next = number_at(offsets, index + 1);
+        let end = last + (next - first);
+        values.push_reserved(O::from_as_usize(end));
+    }
 }
