@@ -1,5 +1,5 @@
 -- Slots of dictionaries by the values that their keys name, and pairs of values that are known to be the same.
-use Rattle.std.proofs.Common.{◌≡◌, ◌∙◌, ◌<◌, ◌≤◌, ◌+◌, ℕ, zero, suc, Bool, List, true, false, length, replicate, set, refl, sym, ap, arith, inl, inr}
+use Rattle.std.proofs.Common.{◌≡◌, ◌∙◌, ◌<◌, ◌≤◌, ◌+◌, ℕ, ℤ, zero, suc, Bool, List, true, false, length, replicate, set, refl, sym, ap, arith, inl, inr}
 use Rattle.std.specs.Prelude.{◌↔◌, Option, pos, slice_index, slice_index_or, if◌then◌else◌}
 use Rattle.std.proofs.lemmas.Bool.Decides.{eqb_tells}
 use Rattle.std.proofs.lemmas.Grind.{get_or-set_at}
@@ -24,6 +24,16 @@ no_key t keys values i marked = sym (null_slot (keyed t keys values) i marked)
 pub key_slot : (t : DataType) (keys values : Column) (i place : ℕ) → is_valid_at (column_mask keys) i ≡ true
     → place ≡ place_of (slice_index_or (numbers_in keys) i (pos 0)) → slot_at values place ≡ slot_at (keyed t keys values) i
 key_slot t keys values i place valid is = ap (slot_at values) is ∙ sym (valid_slot (keyed t keys values) i valid)
+
+-- what a mask says of a slot of keys
+pub marked : (mask : Option (List Bool)) (keys : Column) (i : ℕ) (told b : Bool) → mask ≡ column_mask keys → told ≡ is_valid_at mask i → told ≡ b
+    → is_valid_at (column_mask keys) i ≡ b
+marked mask keys i told b is said here = ap (λ m. is_valid_at m i) (sym is) ∙ sym said ∙ here
+
+-- the place that a key names among the numbers of keys
+pub stored_place : (stored : List ℤ) (keys : Column) (i place : ℕ) → stored ≡ numbers_in keys → place ≡ place_of (slice_index_or stored i (pos 0))
+    → place ≡ place_of (slice_index_or (numbers_in keys) i (pos 0))
+stored_place stored keys i place is said = said ∙ ap (λ (numbers : List ℤ). place_of (slice_index_or numbers i (pos 0))) is
 
 -- the slots of keys are the same where those of their values are
 pub named_same : (l r values others own other : Column) (i j : ℕ) (p q : Option ℕ) → values ≡ own → others ≡ other → named_slot own p ≡ slot_at l i

@@ -24,7 +24,7 @@ fn place<K: Index>(key: K) -> usize
 }
 
 /// The place that the key at a place of an array names.
-fn key_in<K: Index>(keys: &PrimitiveArray<K>, i: usize) -> usize
+pub(crate) fn key_in<K: Index>(keys: &PrimitiveArray<K>, i: usize) -> usize
     requires { i < length keys.now.values }
     ensures { result ≡ place_of (slice_index_or (map first_number (map K.numbers keys.now.values)) i (pos 0)) }
 {

@@ -2,14 +2,17 @@
 //! pair of places that is remembered. A step is counted with each pair of slots, known or compared.
 ghost use Rattle.std.specs.Prelude.{◌≡◌, ◌+◌, ◌<◌, ◌≤◌, ◌↔◌, IfNone, IfSome, IsTrue};
 ghost use Rattle.nested_arrays_parts.specs.columns.StoredColumns.{column_len, slot_at};
-ghost use Rattle.nested_arrays_parts.specs.Ranges.{SameRanges};
+ghost use Rattle.nested_arrays_parts.specs.Ranges.{range_nodes, SameRanges};
 ghost use Rattle.nested_arrays_arrays.specs.AnyColumns.{column_of, IsWhole};
-ghost use Rattle.nested_arrays_arrays.specs.NamedRuns.{named_slot, AreSamePairs, TellsRun};
+ghost use Rattle.nested_arrays_arrays.specs.NamedRuns.{named_slot, AreSamePairs, StoresKeys, TellsRun};
+ghost use Rattle.nested_arrays_arrays.specs.NamedValues.{firsts};
 
 use crate::any::{AnyArray, DictionaryNode, Node};
-use crate::keys::key_at;
+use crate::keys::key_in;
 use crate::places::flat;
-use nested_arrays_parts::columnar_memory::Steps;
+use nested_arrays_parts::columnar_memory::{Index, Steps};
+use nested_arrays_parts::flat::{PrimitiveNode, mark_at};
+use nested_arrays_parts::flat_arrays::PrimitiveArray;
 use nested_arrays_parts::{FlatArray, holds_values, is_null, same_slots_counted};
 
 /// How many pairs of values are remembered in a short run.
@@ -29,17 +32,19 @@ struct KnownPairs<const KNOWN: usize> {
     rights: [usize; KNOWN],
 }
 
-/// The place of the value that the key of a slot names, none where the slot is null by its mask.
-fn named(node: &DictionaryNode, i: usize) -> Option<usize>
+/// The place of the value that the key of a slot names, none where the slot is null by its mask. The keys are those of the dictionary.
+fn named<K: Index>(node: &DictionaryNode, keys: &PrimitiveArray<K>, i: usize) -> Option<usize>
     requires whole { IsWhole (Node.Dictionary node.now) }
+    requires stored { StoresKeys keys.now.validity (firsts K.numbers keys.now.values) node.now.keys }
     requires within { i < column_len node.now.keys }
     ensures shown { named_slot node.now.values.value result ≡ slot_at (column_of (Node.Dictionary node.now)) i }
     ensures within { IfSome result (λ place. place < column_len node.now.values.value) }
 {
-    if !node.keys.is_valid(i) {
+    node.keys.whole();
+    if !mark_at(keys.validity(), i) {
         return None;
     }
-    Some(key_at(node, i))
+    Some(key_in(keys, i))
 }
 
 /// Whether a value is that of another array. Where this is known it is not compared again. Either is a step.
@@ -106,12 +111,14 @@ fn same_slot<const KNOWN: usize>(
     }
 }
 
-/// Whether so many slots of a dictionary from a place on are those of another from a place on.
-fn same_named<const KNOWN: usize>(
+/// Whether so many slots of a dictionary from a place on are those of another from a place on. The keys are those of the dictionaries.
+fn same_named<K: Index, const KNOWN: usize>(
     left: &DictionaryNode,
+    keys: &PrimitiveArray<K>,
     values: &FlatArray,
     i: usize,
     right: &DictionaryNode,
+    other_keys: &PrimitiveArray<K>,
     others: &FlatArray,
     j: usize,
     count: usize,
@@ -121,6 +128,8 @@ fn same_named<const KNOWN: usize>(
     requires small { KNOWN ≤ 65536 }
     requires left_whole { IsWhole (Node.Dictionary left.now) }
     requires right_whole { IsWhole (Node.Dictionary right.now) }
+    requires left_keys { StoresKeys keys.now.validity (firsts K.numbers keys.now.values) left.now.keys }
+    requires right_keys { StoresKeys other_keys.now.validity (firsts K.numbers other_keys.now.values) right.now.keys }
     requires left_values { values.now ≡ left.now.values.value }
     requires right_values { others.now ≡ right.now.values.value }
     requires left_within { i + count ≤ column_len (column_of (Node.Dictionary left.now)) }
@@ -137,13 +146,81 @@ fn same_named<const KNOWN: usize>(
         rights: [usize::MAX; KNOWN],
     };
     for k in 0..count {
-        let place = named(left, i + k);
-        let other = named(right, j + k);
+        let place = named(left, keys, i + k);
+        let other = named(right, other_keys, j + k);
         if !same_slot(&mut known, values, place, others, other, steps) {
             return false;
         }
     }
     true
+}
+
+/// The same of two dictionaries whose keys are of one kind: none, and no steps, where they are not.
+fn same_keyed<const KNOWN: usize>(
+    left: &DictionaryNode,
+    values: &FlatArray,
+    i: usize,
+    right: &DictionaryNode,
+    others: &FlatArray,
+    j: usize,
+    count: usize,
+    steps: &mut Steps,
+) -> Option<bool>
+    requires room { 0 < KNOWN }
+    requires small { KNOWN ≤ 65536 }
+    requires left_whole { IsWhole (Node.Dictionary left.now) }
+    requires right_whole { IsWhole (Node.Dictionary right.now) }
+    requires left_values { values.now ≡ left.now.values.value }
+    requires right_values { others.now ≡ right.now.values.value }
+    requires left_within { i + count ≤ column_len (column_of (Node.Dictionary left.now)) }
+    requires right_within { j + count ≤ column_len (column_of (Node.Dictionary right.now)) }
+    ensures told { IfSome result (λ same.
+        TellsRun (column_of (Node.Dictionary left.now)) i (column_of (Node.Dictionary right.now)) j count count steps.old.count steps.new.count same) }
+    ensures untold { IfNone result (steps.new.count ≡ steps.old.count) }
+{
+    match (&left.keys.node, &right.keys.node) {
+        (PrimitiveNode::Int8(keys), PrimitiveNode::Int8(other_keys)) => {
+            Some(same_named::<i8, KNOWN>(
+                left, keys, values, i, right, other_keys, others, j, count, steps,
+            ))
+        }
+        (PrimitiveNode::Int16(keys), PrimitiveNode::Int16(other_keys)) => {
+            Some(same_named::<i16, KNOWN>(
+                left, keys, values, i, right, other_keys, others, j, count, steps,
+            ))
+        }
+        (PrimitiveNode::Int32(keys), PrimitiveNode::Int32(other_keys)) => {
+            Some(same_named::<i32, KNOWN>(
+                left, keys, values, i, right, other_keys, others, j, count, steps,
+            ))
+        }
+        (PrimitiveNode::Int64(keys), PrimitiveNode::Int64(other_keys)) => {
+            Some(same_named::<i64, KNOWN>(
+                left, keys, values, i, right, other_keys, others, j, count, steps,
+            ))
+        }
+        (PrimitiveNode::UInt8(keys), PrimitiveNode::UInt8(other_keys)) => {
+            Some(same_named::<u8, KNOWN>(
+                left, keys, values, i, right, other_keys, others, j, count, steps,
+            ))
+        }
+        (PrimitiveNode::UInt16(keys), PrimitiveNode::UInt16(other_keys)) => {
+            Some(same_named::<u16, KNOWN>(
+                left, keys, values, i, right, other_keys, others, j, count, steps,
+            ))
+        }
+        (PrimitiveNode::UInt32(keys), PrimitiveNode::UInt32(other_keys)) => {
+            Some(same_named::<u32, KNOWN>(
+                left, keys, values, i, right, other_keys, others, j, count, steps,
+            ))
+        }
+        (PrimitiveNode::UInt64(keys), PrimitiveNode::UInt64(other_keys)) => {
+            Some(same_named::<u64, KNOWN>(
+                left, keys, values, i, right, other_keys, others, j, count, steps,
+            ))
+        }
+        _ => None,
+    }
 }
 
 /// The keys of an array and its values, if it is a dictionary.
@@ -162,7 +239,7 @@ fn dictionaries(array: &AnyArray) -> Option<&DictionaryNode>
     }
 }
 
-/// The same of two dictionaries of any values: none, and no steps, where the values of one have children.
+/// The same of two dictionaries of any values: none, and no steps, where the values of one have children or their keys are of two kinds.
 fn same_nodes(
     left: &DictionaryNode,
     i: usize,
@@ -175,25 +252,25 @@ fn same_nodes(
     requires right_whole { IsWhole (Node.Dictionary right.now) }
     requires left_within { i + count ≤ column_len (column_of (Node.Dictionary left.now)) }
     requires right_within { j + count ≤ column_len (column_of (Node.Dictionary right.now)) }
-    ensures told { IfSome result (λ same.
-        TellsRun (column_of (Node.Dictionary left.now)) i (column_of (Node.Dictionary right.now)) j count steps.old.count steps.new.count same) }
+    ensures told { IfSome result (λ same. TellsRun (column_of (Node.Dictionary left.now)) i (column_of (Node.Dictionary right.now)) j count
+        (range_nodes (column_of (Node.Dictionary left.now)) i count) steps.old.count steps.new.count same) }
     ensures untold { IfNone result (steps.new.count ≡ steps.old.count) }
 {
     match (flat(&left.values), flat(&right.values)) {
         (Some(values), Some(others)) => {
             holds_values(values);
             if count < LONG {
-                Some(same_named::<FEW>(left, values, i, right, others, j, count, steps))
+                same_keyed::<FEW>(left, values, i, right, others, j, count, steps)
             } else {
-                Some(same_named::<MANY>(left, values, i, right, others, j, count, steps))
+                same_keyed::<MANY>(left, values, i, right, others, j, count, steps)
             }
         }
         _ => None,
     }
 }
 
-/// Whether so many slots of an array from a place on are those of another from a place on, if both are dictionaries whose values have no
-/// children. A step is ticked as each pair of slots is compared; where one is no such dictionary, none.
+/// Whether so many slots of an array from a place on are those of another from a place on, if both are dictionaries whose keys are of one kind
+/// and whose values have no children. A step is ticked as each pair of slots is compared; where one is no such dictionary, none.
 pub(crate) fn same_named_run(
     left: &AnyArray,
     i: usize,
@@ -204,7 +281,8 @@ pub(crate) fn same_named_run(
 ) -> Option<bool>
     requires left_within { i + count ≤ column_len left.now }
     requires right_within { j + count ≤ column_len right.now }
-    ensures told { IfSome result (λ same. TellsRun left.now i right.now j count steps.old.count steps.new.count same) }
+    ensures told { IfSome result (λ same.
+        TellsRun left.now i right.now j count (range_nodes left.now i count) steps.old.count steps.new.count same) }
     ensures untold { IfNone result (steps.new.count ≡ steps.old.count) }
 {
     match (dictionaries(left), dictionaries(right)) {

@@ -1,22 +1,43 @@
-use Rattle.std.proofs.Common.{◌∙◌, arith, sym}
+use Rattle.std.proofs.Common.{◌∙◌, ap, arith, length, option_copied}
 use Rattle.nested_arrays_parts.specs.columnar_memory.Layouts.{physical_type}
+use Rattle.nested_arrays_parts.proofs.flat_lemmas.ColumnParts.{mark_of_slot}
+use Rattle.nested_arrays_arrays.proofs.KeyMasks.{firsts_count}
 use Rattle.nested_arrays_arrays.proofs.KeyPlaces.{key_within, keys_count}
-use Rattle.nested_arrays_arrays.proofs.NamedRuns.{key_slot, no_key}
+use Rattle.nested_arrays_arrays.proofs.NamedRuns.{key_slot, marked, no_key, stored_place}
 use Rattle.nested_arrays_arrays.proofs.named_runs.named.Goals as goal
 
-pub returns-then-not-is_valid-clause-shown : goal.returns-then-not-is_valid-clause-shown
-returns-then-not-is_valid-clause-shown c =
+pub mark_at-requires : goal.mark_at-requires
+mark_at-requires g c =
+    mark_of_slot c.args.node.now.keys (option_copied c.validity.result) c.args.i c.whole.ensures
+    (c.validity.ensures.value ∙ c.requires.stored.masked) c.requires.within
+
+pub key_in-requires : goal.key_in-requires
+key_in-requires g c =
+    let keys = c.args.keys.now.values in
+    let as_many = keys_count (physical_type c.args.node.now.data_type) c.args.node.now.keys c.requires.whole.fits in
+    omega (arith, c.requires.within, as_many, ap length c.requires.stored.stored, firsts_count g.K.NativeType.numbers keys)
+
+pub returns-then-not-mark_at-clause-shown : goal.returns-then-not-mark_at-clause-shown
+returns-then-not-mark_at-clause-shown g c =
     let node = c.args.node.now in
-    no_key node.data_type node.keys node.values.value c.args.i (sym c.is_valid.ensures ∙ c.if-not-is_valid.true)
+    no_key node.data_type node.keys node.values.value c.args.i
+    (marked (option_copied c.validity.result) node.keys c.args.i c.mark_at.result _ (c.validity.ensures.value ∙ c.requires.stored.masked)
+    c.mark_at.ensures c.if-not-mark_at.true)
 
 pub returns-clause-shown : goal.returns-clause-shown
-returns-clause-shown c =
+returns-clause-shown g c =
     let node = c.args.node.now in
-    key_slot node.data_type node.keys node.values.value c.args.i c.key_at.result (sym c.is_valid.ensures ∙ c.if-not-is_valid.false) c.key_at.ensures
+    key_slot node.data_type node.keys node.values.value c.args.i c.key_in.result
+    (marked (option_copied c.validity.result) node.keys c.args.i c.mark_at.result _ (c.validity.ensures.value ∙ c.requires.stored.masked)
+    c.mark_at.ensures c.if-not-mark_at.false)
+    (stored_place _ node.keys c.args.i c.key_in.result c.requires.stored.stored c.key_in.ensures)
 
 pub returns-clause-within : goal.returns-clause-within
-returns-clause-within c =
+returns-clause-within g c =
     let node = c.args.node.now in
     let as_many = keys_count (physical_type node.data_type) node.keys c.requires.whole.fits in
-    key_within node.data_type node.keys node.values.value c.args.i c.key_at.result c.requires.whole.sound
-    (omega (arith, c.requires.within, as_many)) (sym c.is_valid.ensures ∙ c.if-not-is_valid.false) c.key_at.ensures
+    key_within node.data_type node.keys node.values.value c.args.i c.key_in.result c.requires.whole.sound
+    (omega (arith, c.requires.within, as_many))
+    (marked (option_copied c.validity.result) node.keys c.args.i c.mark_at.result _ (c.validity.ensures.value ∙ c.requires.stored.masked)
+    c.mark_at.ensures c.if-not-mark_at.false)
+    (stored_place _ node.keys c.args.i c.key_in.result c.requires.stored.stored c.key_in.ensures)
