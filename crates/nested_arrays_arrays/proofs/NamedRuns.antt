@@ -1,9 +1,11 @@
 -- Slots of dictionaries by the values that their keys name, and pairs of values that are known to be the same.
-use Rattle.std.proofs.Common.{◌≡◌, ◌∙◌, ◌<◌, ◌≤◌, ◌+◌, ℕ, ℤ, zero, suc, Bool, List, true, false, length, replicate, set, refl, sym, ap, arith, inl, inr}
-use Rattle.std.specs.Prelude.{◌↔◌, Option, pos, slice_index, slice_index_or, if◌then◌else◌}
+use Rattle.std.proofs.Common.{◌≡◌, ◌∙◌, ◌<◌, ◌≤◌, ◌+◌, get_or, ℕ, ℤ, zero, suc, Bool, List, true, false, length, replicate, set, refl, sym, ap, arith, inl, inr}
+use Rattle.std.specs.Prelude.{◌↔◌, Option, Some, pos, slice_index, slice_index_or, if◌then◌else◌}
 use Rattle.std.proofs.lemmas.Bool.Decides.{eqb_tells}
 use Rattle.std.proofs.lemmas.Grind.{get_or-set_at}
+use Rattle.std.proofs.lemmas.Option.{slice_get-get_or}
 use Rattle.std.proofs.lemmas.List.{get_or-replicate, get_or-set_other, length-replicate, length-set}
+use Rattle.nested_arrays_parts.specs.columnar_memory.Numbers.{Numbers, one}
 use Rattle.nested_arrays_parts.specs.columnar_memory.declared.DataType.{DataType}
 use Rattle.nested_arrays_parts.specs.columns.SlotNodes.{nodes_of, slot_nodes}
 use Rattle.nested_arrays_parts.specs.columns.Slots.{Slot, null, in_slots, window}
@@ -14,7 +16,9 @@ use Rattle.nested_arrays_parts.proofs.SlotCounts.{flat_nodes}
 use Rattle.nested_arrays_parts.specs.Forms.{column_form}
 use Rattle.nested_arrays_parts.specs.Keys.{keyed, numbers_in}
 use Rattle.nested_arrays_parts.specs.Ranges.{range_nodes}
+use Rattle.nested_arrays_arrays.proofs.KeyMasks.{key_there}
 use Rattle.nested_arrays_arrays.specs.NamedRuns.{AreSamePairs, named_slot}
+use Rattle.nested_arrays_arrays.specs.NamedValues.{firsts}
 
 -- ---- keys
 
@@ -30,10 +34,13 @@ pub marked : (mask : Option (List Bool)) (keys : Column) (i : ℕ) (told b : Boo
     → is_valid_at (column_mask keys) i ≡ b
 marked mask keys i told b is said here = ap (λ m. is_valid_at m i) (sym is) ∙ sym said ∙ here
 
--- the place that a key names among the numbers of keys
-pub stored_place : (stored : List ℤ) (keys : Column) (i place : ℕ) → stored ≡ numbers_in keys → place ≡ place_of (slice_index_or stored i (pos 0))
-    → place ≡ place_of (slice_index_or (numbers_in keys) i (pos 0))
-stored_place stored keys i place is said = said ∙ ap (λ (numbers : List ℤ). place_of (slice_index_or numbers i (pos 0))) is
+-- the place that a stored key names
+pub stored_place : {K : Type 0} (number : K → Numbers) (value : K → ℤ) (stored : List K) (keys : Column) (i : ℕ) (key : K) (place : ℕ)
+    → ((x : K) → number x ≡ one (value x)) → i < length stored → key ≡ get_or stored i key → firsts number stored ≡ numbers_in keys
+    → place ≡ place_of (value key) → place ≡ place_of (slice_index_or (numbers_in keys) i (pos 0))
+stored_place number value stored keys i key place law within is same said =
+    let there = key_there number value stored i key law (slice_get-get_or stored i key within ∙ ap Some (sym is)) in
+    said ∙ ap place_of (sym there) ∙ ap (λ (numbers : List ℤ). place_of (slice_index_or numbers i (pos 0))) same
 
 -- the slots of keys are the same where those of their values are
 pub named_same : (l r values others own other : Column) (i j : ℕ) (p q : Option ℕ) → values ≡ own → others ≡ other → named_slot own p ≡ slot_at l i

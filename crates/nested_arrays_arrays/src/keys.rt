@@ -14,7 +14,7 @@ use nested_arrays_parts::flat_arrays::PrimitiveArray;
 use nested_arrays_parts::holds_values;
 
 /// The place that a key names, and the first one where it is negative.
-fn place<K: Index>(key: K) -> usize
+pub(crate) fn place<K: Index>(key: K) -> usize
     ensures { result ≡ place_of (K.value key) }
 {
     match key.try_to_usize() {
@@ -24,7 +24,7 @@ fn place<K: Index>(key: K) -> usize
 }
 
 /// The place that the key at a place of an array names.
-pub(crate) fn key_in<K: Index>(keys: &PrimitiveArray<K>, i: usize) -> usize
+fn key_in<K: Index>(keys: &PrimitiveArray<K>, i: usize) -> usize
     requires { i < length keys.now.values }
     ensures { result ≡ place_of (slice_index_or (map first_number (map K.numbers keys.now.values)) i (pos 0)) }
 {

@@ -1,6 +1,6 @@
 //! Runs of slots of dictionaries whose values are arrays without children: keys are read, and values that they name are compared once for each
 //! pair of places that is remembered. A step is counted with each pair of slots, known or compared.
-ghost use Rattle.std.specs.Prelude.{◌≡◌, ◌+◌, ◌<◌, ◌≤◌, ◌↔◌, IfNone, IfSome, IsTrue};
+ghost use Rattle.std.specs.Prelude.{◌≡◌, ◌+◌, ◌<◌, ◌≤◌, ◌↔◌, IfNone, IfSome, IsTrue, option_copied};
 ghost use Rattle.nested_arrays_parts.specs.columns.StoredColumns.{column_len, slot_at};
 ghost use Rattle.nested_arrays_parts.specs.Ranges.{range_nodes, SameRanges};
 ghost use Rattle.nested_arrays_arrays.specs.AnyColumns.{column_of, IsWhole};
@@ -8,9 +8,9 @@ ghost use Rattle.nested_arrays_arrays.specs.NamedRuns.{named_slot, AreSamePairs,
 ghost use Rattle.nested_arrays_arrays.specs.NamedValues.{firsts};
 
 use crate::any::{AnyArray, DictionaryNode, Node};
-use crate::keys::key_in;
+use crate::keys::place;
 use crate::places::flat;
-use nested_arrays_parts::columnar_memory::{Index, Steps};
+use nested_arrays_parts::columnar_memory::{Bitmap, Index, Steps};
 use nested_arrays_parts::flat::{PrimitiveNode, mark_at};
 use nested_arrays_parts::flat_arrays::PrimitiveArray;
 use nested_arrays_parts::{FlatArray, holds_values, is_null, same_slots_counted};
@@ -32,22 +32,30 @@ struct KnownPairs<const KNOWN: usize> {
     rights: [usize; KNOWN],
 }
 
-/// The place of the value that the key of a slot names, none where the slot is null by its mask. The keys are those of the dictionary.
-fn named<K: Index>(node: &DictionaryNode, keys: &PrimitiveArray<K>, i: usize) -> Option<usize>
+/// The place of the value that the key of a slot names, none where the slot is null by its mask. The mask and the keys are those of the
+/// dictionary.
+#[inline(always)]
+fn named<K: Index>(
+    node: &DictionaryNode,
+    validity: Option<&Bitmap>,
+    keys: &[K],
+    i: usize,
+) -> Option<usize>
     requires whole { IsWhole (Node.Dictionary node.now) }
-    requires stored { StoresKeys keys.now.validity (firsts K.numbers keys.now.values) node.now.keys }
+    requires stored { StoresKeys (option_copied validity) (firsts K.numbers keys.now) node.now.keys }
     requires within { i < column_len node.now.keys }
     ensures shown { named_slot node.now.values.value result ≡ slot_at (column_of (Node.Dictionary node.now)) i }
     ensures within { IfSome result (λ place. place < column_len node.now.values.value) }
 {
     node.keys.whole();
-    if !mark_at(keys.validity(), i) {
+    if !mark_at(validity, i) {
         return None;
     }
-    Some(key_in(keys, i))
+    Some(place(keys[i]))
 }
 
 /// Whether a value is that of another array. Where this is known it is not compared again. Either is a step.
+#[inline(always)]
 fn same_value<const KNOWN: usize>(
     known: &mut KnownPairs<KNOWN>,
     values: &FlatArray,
@@ -78,6 +86,7 @@ fn same_value<const KNOWN: usize>(
 }
 
 /// Whether the slot of a key is that of another, each by the place that it names, if any. It is a step.
+#[inline(always)]
 fn same_slot<const KNOWN: usize>(
     known: &mut KnownPairs<KNOWN>,
     values: &FlatArray,
@@ -145,9 +154,11 @@ fn same_named<K: Index, const KNOWN: usize>(
         lefts: [usize::MAX; KNOWN],
         rights: [usize::MAX; KNOWN],
     };
+    let (validity, keys) = (keys.validity(), keys.values().as_slice());
+    let (other_validity, other_keys) = (other_keys.validity(), other_keys.values().as_slice());
     for k in 0..count {
-        let place = named(left, keys, i + k);
-        let other = named(right, other_keys, j + k);
+        let place = named(left, validity, keys, i + k);
+        let other = named(right, other_validity, other_keys, j + k);
         if !same_slot(&mut known, values, place, others, other, steps) {
             return false;
         }
