@@ -167,6 +167,7 @@ fn same_named<K: Index, const KNOWN: usize>(
 }
 
 /// The same of two dictionaries whose keys are of one kind: none, and no steps, where they are not.
+// match table: an arm for each kind of keys.
 fn same_keyed<const KNOWN: usize>(
     left: &DictionaryNode,
     values: &FlatArray,
@@ -185,8 +186,8 @@ fn same_keyed<const KNOWN: usize>(
     requires right_values { others.now ≡ right.now.values.value }
     requires left_within { i + count ≤ column_len (column_of (Node.Dictionary left.now)) }
     requires right_within { j + count ≤ column_len (column_of (Node.Dictionary right.now)) }
-    ensures told { IfSome result (λ same.
-        TellsRun (column_of (Node.Dictionary left.now)) i (column_of (Node.Dictionary right.now)) j count count steps.old.count steps.new.count same) }
+    ensures told { IfSome result (λ same. TellsRun (column_of (Node.Dictionary left.now)) i (column_of (Node.Dictionary right.now)) j count count
+        steps.old.count steps.new.count same) }
     ensures untold { IfNone result (steps.new.count ≡ steps.old.count) }
 {
     match (&left.keys.node, &right.keys.node) {

@@ -8,6 +8,7 @@ pub mod Marks
 pub mod OffsetLists
 pub mod SameForms
 pub mod SameNumbers
+pub mod SameStrings
 pub mod SlotCounts
 pub mod StoredForms
 pub use Rattle.nested_arrays_flat.proofs as flat_lemmas

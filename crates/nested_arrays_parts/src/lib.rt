@@ -11,6 +11,7 @@ mod offsets;
 mod ranges;
 mod sound;
 mod stored;
+mod strings;
 mod try_from;
 mod validity;
 mod values;

@@ -8,6 +8,7 @@ ghost use Rattle.nested_arrays_flat.specs.FlatColumns.{binary_column, boolean_co
 use crate::flats::{FlatArray, FlatNode};
 use crate::numbers::same_numbers;
 use crate::stored::{booleans, bytes, holds_values, numbers, text};
+use crate::strings::same_spans;
 use nested_arrays_flat::columnar_memory::Offset;
 use nested_arrays_flat::flat_arrays::{BinaryArray, BooleanArray, Utf8Array};
 
@@ -44,18 +45,7 @@ fn same_string(left: &FlatArray, i: usize, right: &FlatArray, j: usize) -> bool
     }
 }
 
-/// Whether a stored text is that at a place of another array.
-#[tactic(auto, using(crate::proofs::StoredForms::text_stored))]
-fn same_text<O: Offset>(left: &Utf8Array<O>, i: usize, right: &Utf8Array<O>, j: usize) -> bool
-    requires left_within { i < column_len (text_column left.now) }
-    requires right_within { j < column_len (text_column right.now) }
-    ensures { IsTrue result ↔ (slot_at (bare (text_column left.now)) i ≡ slot_at (bare (text_column right.now)) j) }
-{
-    left.value(i) == right.value(j)
-}
-
 /// Whether so many stored texts from a place on are those of another array from a place on.
-#[tactic(auto, using(crate::proofs::StoredForms::text_stored))]
 fn same_texts<O: Offset>(
     left: &Utf8Array<O>,
     i: usize,
@@ -69,31 +59,19 @@ fn same_texts<O: Offset>(
 {
     let _left = left.len();
     let _right = right.len();
-    for k in 0..count {
-        if !same_text(left, i + k, right, j + k) {
-            return false;
-        }
-    }
-    true
-}
-
-/// Whether a stored byte string is that at a place of another array.
-#[tactic(auto, using(crate::proofs::StoredForms::bytes_stored))]
-fn same_byte_string<O: Offset>(
-    left: &BinaryArray<O>,
-    i: usize,
-    right: &BinaryArray<O>,
-    j: usize,
-) -> bool
-    requires left_within { i < column_len (binary_column left.now) }
-    requires right_within { j < column_len (binary_column right.now) }
-    ensures { IsTrue result ↔ (slot_at (bare (binary_column left.now)) i ≡ slot_at (bare (binary_column right.now)) j) }
-{
-    left.value(i) == right.value(j)
+    let (bytes, other_bytes) = (left.values().as_slice(), right.values().as_slice());
+    same_spans(
+        left.offsets(),
+        bytes,
+        i,
+        right.offsets(),
+        other_bytes,
+        j,
+        count,
+    )
 }
 
 /// The same of byte strings.
-#[tactic(auto, using(crate::proofs::StoredForms::bytes_stored))]
 fn same_byte_strings<O: Offset>(
     left: &BinaryArray<O>,
     i: usize,
@@ -107,12 +85,16 @@ fn same_byte_strings<O: Offset>(
 {
     let _left = left.len();
     let _right = right.len();
-    for k in 0..count {
-        if !same_byte_string(left, i + k, right, j + k) {
-            return false;
-        }
-    }
-    true
+    let (bytes, other_bytes) = (left.values().as_slice(), right.values().as_slice());
+    same_spans(
+        left.offsets(),
+        bytes,
+        i,
+        right.offsets(),
+        other_bytes,
+        j,
+        count,
+    )
 }
 
 /// Whether so many of them from a place on are those of another array from a place on.

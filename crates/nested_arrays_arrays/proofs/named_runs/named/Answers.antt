@@ -30,8 +30,8 @@ returns-clause-shown g c =
     omega (arith, c.requires.within, as_many, ap length c.requires.stored.stored, firsts_count g.K.NativeType.numbers keys) in
     key_slot node.data_type node.keys node.values.value c.args.i c.place.result
     (marked (option_copied c.args.validity) node.keys c.args.i c.mark_at.result _ c.requires.stored.masked c.mark_at.ensures c.if-not-mark_at.false)
-    (stored_place g.K.NativeType.numbers g.K.Number.value keys node.keys c.args.i c.index-keys-i.result c.place.result g.met.K.Index.numbers_law within
-    c.index-keys-i.is c.requires.stored.stored c.place.ensures)
+    (stored_place g.K.NativeType.numbers g.K.Number.value keys node.keys c.args.i c.index-keys-i.result c.place.result g.met.K.Index.numbers_law
+    within c.index-keys-i.is c.requires.stored.stored c.place.ensures)
 
 pub returns-clause-within : goal.returns-clause-within
 returns-clause-within g c =
@@ -43,5 +43,5 @@ returns-clause-within g c =
     key_within node.data_type node.keys node.values.value c.args.i c.place.result c.requires.whole.sound
     (omega (arith, c.requires.within, as_many))
     (marked (option_copied c.args.validity) node.keys c.args.i c.mark_at.result _ c.requires.stored.masked c.mark_at.ensures c.if-not-mark_at.false)
-    (stored_place g.K.NativeType.numbers g.K.Number.value keys node.keys c.args.i c.index-keys-i.result c.place.result g.met.K.Index.numbers_law within
-    c.index-keys-i.is c.requires.stored.stored c.place.ensures)
+    (stored_place g.K.NativeType.numbers g.K.Number.value keys node.keys c.args.i c.index-keys-i.result c.place.result g.met.K.Index.numbers_law
+    within c.index-keys-i.is c.requires.stored.stored c.place.ensures)
