@@ -1,7 +1,7 @@
 //! Arrays whose type is known when they are read.
 use crate::records::lists_of_numbers;
-use columnar_memory::{DataType, Error, PhysicalType, PrimitiveType};
-use flat_arrays::{PrimitiveArray, Utf8Array};
+use nested_arrays::columnar_memory::{DataType, Error, PhysicalType, PrimitiveType};
+use nested_arrays::flat_arrays::{PrimitiveArray, Utf8Array};
 use nested_arrays::{AnyArray, Array, Downcast, Node, equal, new_null_array};
 use std::alloc::Global;
 use std::test::Fail;

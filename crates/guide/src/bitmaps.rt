@@ -1,5 +1,7 @@
 //! Bitmaps and kernels.
-use columnar_memory::{Bitmap, Error, MutableBitmap, and, ternary, unary, unary_assign};
+use nested_arrays::columnar_memory::{
+    Bitmap, Error, MutableBitmap, and, ternary, unary, unary_assign,
+};
 use std::alloc::Global;
 use std::test::Fail;
 

@@ -3,14 +3,14 @@
 ghost use Rattle.std.specs.Prelude.{◌≡◌, ◌+◌, ◌≤◌, ◌↔◌, IsTrue, MatchResult, None, length, slice_get, unwrap_or};
 ghost use Rattle.std.specs.Option.{option_copied};
 ghost use Rattle.std.specs.String.{string_bytes};
-ghost use Rattle.columnar_memory.specs.Conversions.{type_of_primitive};
-ghost use Rattle.columnar_memory.specs.Error.{IsOutOfMemory};
-ghost use Rattle.columnar_memory.specs.declared.PrimitiveType.TheVariants as kinds;
-ghost use Rattle.flat_arrays.specs.ByteStrings as byte_strings;
-ghost use Rattle.flat_arrays.specs.ByteStrings.{len_of, slots_of};
-ghost use Rattle.flat_arrays.specs.Flat as numbers;
-ghost use Rattle.flat_arrays.specs.Flat.{flat};
-ghost use Rattle.flat_arrays.specs.Growing.{Grows, joined, with_slot};
+ghost use Rattle.nested_arrays.specs.columnar_memory.Conversions.{type_of_primitive};
+ghost use Rattle.nested_arrays.specs.columnar_memory.Error.{IsOutOfMemory};
+ghost use Rattle.nested_arrays.specs.columnar_memory.declared.PrimitiveType.TheVariants as kinds;
+ghost use Rattle.nested_arrays.specs.flat_arrays.ByteStrings as byte_strings;
+ghost use Rattle.nested_arrays.specs.flat_arrays.ByteStrings.{len_of, slots_of};
+ghost use Rattle.nested_arrays.specs.flat_arrays.Flat as numbers;
+ghost use Rattle.nested_arrays.specs.flat_arrays.Flat.{flat};
+ghost use Rattle.nested_arrays.specs.flat_arrays.Growing.{Grows, joined, with_slot};
 ghost use Rattle.nested_arrays.specs.ByteBuilders.{open_text};
 ghost use Rattle.nested_arrays.specs.DictionaryBuilders.{dictionary_column};
 ghost use Rattle.nested_arrays.specs.EqualArrays.{AreEqual};
@@ -20,8 +20,8 @@ ghost use Rattle.nested_arrays.specs.StoredColumns.{column_len, cut};
 ghost use Rattle.nested_arrays.specs.builders.cells.parts.Open.{IsPushed};
 ghost use Rattle.nested_arrays.specs.builders.cells.parts.Scalars.{scalar_slot};
 
-use columnar_memory::{Offset, Result};
-use flat_arrays::{
+use nested_arrays::columnar_memory::{Offset, Result};
+use nested_arrays::flat_arrays::{
     BinaryArray, Int32Array, Int32Vec, MutableBinaryArray, MutableUtf8Array, Utf8Array,
 };
 use nested_arrays::{

@@ -1,6 +1,6 @@
 //! Columns of builders that stand over one another: each call that takes memory finds it here.
-use columnar_memory::{DataType, Error, Offsets, Text};
-use flat_arrays::{
+use nested_arrays::columnar_memory::{DataType, Error, Offsets, Text};
+use nested_arrays::flat_arrays::{
     MutableBinaryArray, MutableBooleanArray, MutablePrimitiveArray, MutableUtf8Array, Utf8Array,
 };
 use nested_arrays::{

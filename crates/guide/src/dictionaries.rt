@@ -1,7 +1,7 @@
 //! Dictionaries of texts: each text is held once.
 use crate::callers::{Words, add_word};
-use columnar_memory::{Boxed, DataType, Error, IntegerType};
-use flat_arrays::{MutableUtf8Array, Utf8Array};
+use nested_arrays::columnar_memory::{Boxed, DataType, Error, IntegerType};
+use nested_arrays::flat_arrays::{MutableUtf8Array, Utf8Array};
 use nested_arrays::{AnyArray, DictionaryArray, Downcast, MutableArray, TryExtend};
 use std::alloc::Global;
 use std::test::Fail;

@@ -1,6 +1,6 @@
 //! Builders that take the slots of another of their kind.
-use columnar_memory::Error;
-use flat_arrays::{
+use nested_arrays::columnar_memory::Error;
+use nested_arrays::flat_arrays::{
     MutableBinaryArray, MutableBooleanArray, MutablePrimitiveArray, MutableUtf8Array,
 };
 use nested_arrays::{

@@ -1,6 +1,6 @@
 //! Arrays of numbers and of texts.
-use columnar_memory::{Bitmap, Buffer, DataType, Error};
-use flat_arrays::{Int32Array, Int32Vec, PrimitiveArray, Utf8Array};
+use nested_arrays::columnar_memory::{Bitmap, Buffer, DataType, Error};
+use nested_arrays::flat_arrays::{Int32Array, Int32Vec, PrimitiveArray, Utf8Array};
 use std::alloc::Global;
 use std::test::Fail;
 

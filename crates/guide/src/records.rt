@@ -1,6 +1,6 @@
 //! Columns that are built slot by slot.
-use columnar_memory::{DataType, Error, Field, Items, Text};
-use flat_arrays::MutablePrimitiveArray;
+use nested_arrays::columnar_memory::{DataType, Error, Field, Items, Text};
+use nested_arrays::flat_arrays::MutablePrimitiveArray;
 use nested_arrays::{
     AnyArray, AnyMutableArray, AnyScalar, Array, MutValues, MutableArray, MutableListArray,
 };

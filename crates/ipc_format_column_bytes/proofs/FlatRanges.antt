@@ -7,11 +7,11 @@ use Rattle.std.specs.Option.{ForSome}
 use Rattle.std.specs.Prelude.{ℤ, Option, Some, None, slice_index, slice_range, unwrap_or}
 use Rattle.std.proofs.lemmas.List.{append-nil, drop-map, length-drop, length-map, length-take-le, take-map}
 use Rattle.std.proofs.lemmas.List.Folds.{flat_map-map}
-use Rattle.flat_arrays.specs.ByteStrings.{ByteStrings}
-use Rattle.flat_arrays.specs.Fits.{binary_layout, text_layout}
-use Rattle.flat_arrays.specs.Fits as fits
-use Rattle.flat_arrays.specs.Flat as flats
-use Rattle.flat_arrays.specs.Flat.{Flat}
+use Rattle.flat_arrays_core.specs.ByteStrings.{ByteStrings}
+use Rattle.flat_arrays_core.specs.Fits.{binary_layout, text_layout}
+use Rattle.flat_arrays_core.specs.Fits as fits
+use Rattle.flat_arrays_core.specs.Flat as flats
+use Rattle.flat_arrays_core.specs.Flat.{Flat}
 use Rattle.ipc_format_streams.specs.columnar_memory.Layouts.{physical_type}
 use Rattle.ipc_format_streams.specs.columnar_memory.Numbers.{Numbers, first_number}
 use Rattle.ipc_format_streams.specs.columnar_memory.Spans.{Spans, ends_from, last_of, offset_at, offsets_of, spans_between}

@@ -11,7 +11,7 @@ pub mod Bodies
 pub mod Stated
 pub mod Joined
 pub mod MessageLimits
-pub use Rattle.flat_arrays.proofs as flat_lemmas
+pub use Rattle.flat_arrays_core.proofs as flat_lemmas
 pub use Rattle.ipc_format_streams.proofs as streams_lemmas
 pub use Rattle.ipc_format_streams.proofs.columnar_memory_lemmas
 pub use Rattle.ipc_format_streams.proofs.flatbuffers_lemmas

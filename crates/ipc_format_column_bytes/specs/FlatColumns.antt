@@ -1,7 +1,7 @@
 -- The columns that flat arrays store (Arrow columnar format, "Fixed-size Primitive Layout", "Variable-size Binary Layout").
 use Rattle.std.specs.Prelude.{ℤ, Bool, List, map}
-use Rattle.flat_arrays.specs.ByteStrings.{ByteStrings}
-use Rattle.flat_arrays.specs.Flat.{Flat}
+use Rattle.flat_arrays_core.specs.ByteStrings.{ByteStrings}
+use Rattle.flat_arrays_core.specs.Flat.{Flat}
 use Rattle.ipc_format_streams.specs.columnar_memory.Numbers.{Numbers, first_number, second_number, third_number}
 use Rattle.ipc_format_streams.specs.columnar_memory.Spans.{offsets_of}
 use Rattle.ipc_format_streams.specs.columnar_memory.declared.PrimitiveType.{PrimitiveType}

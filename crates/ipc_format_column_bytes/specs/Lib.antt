@@ -4,7 +4,7 @@ pub mod FlatColumns
 pub mod Numbers
 pub mod WholeColumns
 pub mod Placing
-pub use Rattle.flat_arrays.specs as flat_arrays
+pub use Rattle.flat_arrays_core.specs as flat_arrays
 pub use Rattle.ipc_format_streams.specs as streams
 pub use Rattle.ipc_format_streams.specs.messages
 pub use Rattle.ipc_format_streams.specs.columnar_memory

@@ -1,6 +1,6 @@
 //! The columns of flat arrays, as they are written (Arrow columnar format, "Fixed-size Primitive Layout", "Variable-size Binary Layout").
 ghost use Rattle.std.specs.Prelude.{◌+◌, ◌≤◌, [], ◌∷◌, length};
-ghost use Rattle.flat_arrays.specs.ByteStrings.{len_of};
+ghost use Rattle.flat_arrays_core.specs.ByteStrings.{len_of};
 ghost use Rattle.ipc_format_column_bytes.specs.Bodies.{Adds, of_buffers, parts_of};
 ghost use Rattle.ipc_format_column_bytes.specs.FlatColumns.{binary_column, boolean_column, primitive_column, text_column};
 ghost use Rattle.ipc_format_column_bytes.specs.Numbers.{width_of};
@@ -10,7 +10,7 @@ ghost use Rattle.ipc_format_streams.specs.grammar.StoredEncoding.{between_offset
 
 use crate::body::Body;
 use crate::offsets::offset_at;
-use flat_arrays::{BinaryArray, BooleanArray, PrimitiveArray, Utf8Array};
+use flat_arrays_core::{BinaryArray, BooleanArray, PrimitiveArray, Utf8Array};
 use ipc_format_streams::columnar_memory::{NativeType, Offset, OffsetsBuffer, Result};
 
 impl Body {

@@ -13,7 +13,7 @@ mod reserved;
 
 pub use bitmaps::append_bitmap;
 pub use body::{Body, Lengths};
-pub use flat_arrays;
+pub use flat_arrays_core as flat_arrays;
 pub use flats::{write_binary, write_boolean, write_primitive, write_utf8};
 pub use ipc_format_streams::columnar_memory;
 pub use numbers::append_numbers;

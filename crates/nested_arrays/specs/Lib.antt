@@ -54,6 +54,7 @@ pub use Rattle.nested_arrays_dictionary_builders.specs.nulls.NullAnswers
 pub use Rattle.nested_arrays_dictionary_builders.specs.nulls.NullColumns
 pub use Rattle.nested_arrays_dictionary_builders.specs.nulls.NullLaws as NullSlots
 pub use Rattle.nested_arrays_dictionary_builders.specs.nulls.columnar_memory
+pub use Rattle.nested_arrays_dictionary_builders.specs.flat_arrays
 pub use Rattle.nested_arrays_dictionary_builders.specs.pushes as builders
 pub use Rattle.nested_arrays_dictionary_builders.specs.ListBuilders
 pub use Rattle.nested_arrays_dictionary_builders.specs.NullBuilders

@@ -33,7 +33,7 @@ pub use nested_arrays_dictionary_builders::nulls::iterators::{
 };
 pub use nested_arrays_dictionary_builders::nulls::parts::{FlatArray, FlatNode, ListOffsets};
 pub use nested_arrays_dictionary_builders::nulls::{
-    Downcast, NullArrays, columnar_memory, flat_arrays, new_empty_array, new_null_array,
+    Downcast, NullArrays, columnar_memory, new_empty_array, new_null_array,
 };
 pub use nested_arrays_dictionary_builders::pushes::TryPushFrom;
 pub use nested_arrays_dictionary_builders::pushes::cells::builders::{AnyMutableArray, is_cell_of};
@@ -43,5 +43,5 @@ pub use nested_arrays_dictionary_builders::pushes::cells::taken::MutableArray;
 pub use nested_arrays_dictionary_builders::{
     MutValues, MutableDictionaryArray, MutableFields, MutableFixedSizeBinaryArray,
     MutableFixedSizeListArray, MutableListArray, MutableNullArray, MutableStructArray, SlotIs,
-    TryExtend, TryExtendFromSelf, TryPush,
+    TryExtend, TryExtendFromSelf, TryPush, flat_arrays,
 };

@@ -11,13 +11,13 @@ use Rattle.std.proofs.lemmas.Str.{is_utf8-from_IsUtf8}
 use Rattle.std.proofs.Math.Nat.{le-min}
 use mathlib.Core.Logic.{inl, inr}
 use Rattle.nested_arrays_builders.specs.arrays.flat.FlatColumns.{binary_column, text_column}
-use Rattle.nested_arrays_builders.specs.arrays.flat_arrays.ByteStrings as strings
-use Rattle.nested_arrays_builders.specs.arrays.flat_arrays.ByteStrings.{ByteStrings, len_of}
-use Rattle.nested_arrays_builders.specs.arrays.flat_arrays.Fits.{IsMaskOf, binary_layout, text_layout}
-use Rattle.nested_arrays_builders.specs.arrays.flat_arrays.Flat as arrays
-use Rattle.nested_arrays_builders.specs.arrays.flat_arrays.Flat.{needed_mask}
-use Rattle.nested_arrays_builders.specs.arrays.flat_arrays.Growing.{IsGrown, first_slots, tidied, with_slot}
-use Rattle.nested_arrays_builders.specs.arrays.flat_arrays.Growth.{with_marks}
+use Rattle.nested_arrays_builders.specs.flat_arrays.ByteStrings as strings
+use Rattle.nested_arrays_builders.specs.flat_arrays.ByteStrings.{ByteStrings, len_of}
+use Rattle.nested_arrays_builders.specs.flat_arrays.Fits.{IsMaskOf, binary_layout, text_layout}
+use Rattle.nested_arrays_builders.specs.flat_arrays.Flat as arrays
+use Rattle.nested_arrays_builders.specs.flat_arrays.Flat.{needed_mask}
+use Rattle.nested_arrays_builders.specs.flat_arrays.Growing.{IsGrown, first_slots, tidied, with_slot}
+use Rattle.nested_arrays_builders.specs.flat_arrays.Growth.{with_marks}
 use Rattle.nested_arrays_builders.specs.columnar_memory.declared.DataType.{DataType}
 use Rattle.nested_arrays_builders.specs.columnar_memory.declared.DataType.TheOpen as layer
 use Rattle.nested_arrays_builders.specs.columnar_memory.declared.Error.{Error}

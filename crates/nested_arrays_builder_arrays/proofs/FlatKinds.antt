@@ -9,9 +9,9 @@ use Rattle.std.proofs.lemmas.List.Folds.{list_all-append}
 use mathlib.Core.Logic.{inl, inr}
 use Rattle.nested_arrays_builders.specs.arrays.flat.FlatColumns.{boolean_column, primitive_column, stored_numbers}
 use Rattle.nested_arrays_builders.specs.arrays.flat.FlatColumns as flats
-use Rattle.nested_arrays_builders.specs.arrays.flat_arrays.Flat as arrays
-use Rattle.nested_arrays_builders.specs.arrays.flat_arrays.Flat.{Flat, needed_mask, tidied, IsFlat, IsMaskOf}
-use Rattle.nested_arrays_builders.specs.arrays.flat_arrays.Growth.{with_marks}
+use Rattle.nested_arrays_builders.specs.flat_arrays.Flat as arrays
+use Rattle.nested_arrays_builders.specs.flat_arrays.Flat.{Flat, needed_mask, tidied, IsFlat, IsMaskOf}
+use Rattle.nested_arrays_builders.specs.flat_arrays.Growth.{with_marks}
 use Rattle.nested_arrays_builders.specs.columnar_memory.Numbers.{Numbers, one, first_number, zeros}
 use Rattle.nested_arrays_builders.specs.columnar_memory.declared.DataType.{DataType}
 use Rattle.nested_arrays_builders.specs.columnar_memory.declared.DataType.TheOpen as layer

@@ -9,9 +9,9 @@ use Rattle.std.proofs.lemmas.List.{length-take-le, length_push, map-append, take
 use Rattle.std.proofs.lemmas.Option.{get_or_from_slice_get}
 use mathlib.Core.Logic.{inl, inr}
 use Rattle.nested_arrays_builders.specs.arrays.flat.ColumnMasks.{column_mask}
-use Rattle.nested_arrays_builders.specs.arrays.flat_arrays.Flat as arrays
-use Rattle.nested_arrays_builders.specs.arrays.flat_arrays.Flat.{Flat, needed_mask, tidied}
-use Rattle.nested_arrays_builders.specs.arrays.flat_arrays.Growth.{with_marks, with_slots}
+use Rattle.nested_arrays_builders.specs.flat_arrays.Flat as arrays
+use Rattle.nested_arrays_builders.specs.flat_arrays.Flat.{Flat, needed_mask, tidied}
+use Rattle.nested_arrays_builders.specs.flat_arrays.Growth.{with_marks, with_slots}
 use Rattle.nested_arrays_builders.specs.columnar_memory.declared.DataType.{DataType}
 use Rattle.nested_arrays_builders.specs.columnar_memory.declared.Error.{Error}
 use Rattle.nested_arrays_builders.specs.columnar_memory.Error.{IsOutOfMemory, IsOverflow}
@@ -25,7 +25,7 @@ use Rattle.nested_arrays_builders.specs.columns.SoundColumns.{has_size, is_sound
 use Rattle.nested_arrays_builders.specs.columns.StoredColumns.{Column, Stored, bits, column_type, flat, is_valid_at, slot_at, slots, stored_at}
 use Rattle.nested_arrays_builders.specs.columns.StoredColumns.{stored_len, type_layer}
 use Rattle.nested_arrays_builders.specs.growth.OpenParts.{marks_of}
-use Rattle.nested_arrays_builders.specs.nulls.access.Nulls.{is_null_at}
+use Rattle.nested_arrays_builders.specs.generic.access.Nulls.{is_null_at}
 use Rattle.nested_arrays_builders.proofs.columns_lemmas.ColumnSizes.{slots_lengths}
 use Rattle.nested_arrays_builders.proofs.columns_lemmas.Windows.{window_same}
 use Rattle.nested_arrays_builders.proofs.growth_lemmas.Limits.{first_ones_fit, fits_length}

@@ -7,4 +7,4 @@ pub mod OpenColumns
 pub use Rattle.nested_arrays_builders.proofs as builders_lemmas
 pub use Rattle.nested_arrays_builders.proofs.arrays_lemmas
 pub use Rattle.nested_arrays_builders.proofs.parts_lemmas
-pub use Rattle.nested_arrays_builders.proofs.nulls_lemmas
+pub use Rattle.nested_arrays_builders.proofs.generic_lemmas

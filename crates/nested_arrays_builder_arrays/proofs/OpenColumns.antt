@@ -15,7 +15,7 @@ use Rattle.nested_arrays_builders.specs.columns.OpenBatch.{fits, is_within}
 use Rattle.nested_arrays_builders.specs.columns.Slots.{Slot, null}
 use Rattle.nested_arrays_builders.specs.columns.SoundColumns.{is_sound}
 use Rattle.nested_arrays_builders.specs.columns.StoredColumns.{Column, column_len, column_type, slots, type_layer}
-use Rattle.nested_arrays_builders.specs.nulls.access.Nulls.{is_null_at}
+use Rattle.nested_arrays_builders.specs.generic.access.Nulls.{is_null_at}
 use Rattle.nested_arrays_builders.specs.parts.Open.{Open, opened, column_of, first_slots, with_slot, IsPushed, IsRefusal, IsWithin}
 use Rattle.nested_arrays_builders.proofs.columns_lemmas.FreshLengths.{Layer, fresh_layer, cell_layer, buildable_layer}
 use Rattle.nested_arrays_builders.proofs.columns_lemmas.Fitting.{null_fits}

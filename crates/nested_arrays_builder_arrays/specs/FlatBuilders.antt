@@ -1,7 +1,7 @@
 -- Builders of flat arrays with one null more.
 use Rattle.std.specs.Prelude.{◌≡◌, ◌⊎◌, ◌<◌, ◌≤◌, [], ◌∷◌, length, None, Result, MatchResult}
-use Rattle.nested_arrays_builders.specs.arrays.flat_arrays.Flat.{Flat}
-use Rattle.nested_arrays_builders.specs.arrays.flat_arrays.Growth.{with_slots}
+use Rattle.nested_arrays_builders.specs.flat_arrays.Flat.{Flat}
+use Rattle.nested_arrays_builders.specs.flat_arrays.Growth.{with_slots}
 use Rattle.nested_arrays_builders.specs.columnar_memory.declared.Error.{Error}
 use Rattle.nested_arrays_builders.specs.columnar_memory.Error.{IsOutOfMemory, IsOverflow}
 use Rattle.nested_arrays_builders.specs.columns.Kinds.{most_slots}

@@ -6,4 +6,5 @@ pub mod Taken
 pub use Rattle.nested_arrays_builders.specs as builders
 pub use Rattle.nested_arrays_builders.specs.arrays
 pub use Rattle.nested_arrays_builders.specs.parts
-pub use Rattle.nested_arrays_builders.specs.nulls
+pub use Rattle.nested_arrays_builders.specs.generic
+pub use Rattle.nested_arrays_builders.specs.flat_arrays

@@ -1,20 +1,20 @@
 //! Builders of byte strings and of texts, as builders of their columns.
 ghost use Rattle.std.specs.Prelude.{◌≡◌, ◌≤◌, ◌<◌, not};
 ghost use Rattle.nested_arrays_builders.specs.arrays.flat.FlatColumns.{binary_column, text_column};
-ghost use Rattle.nested_arrays_builders.specs.arrays.flat_arrays.Growing.{first_slots, tidied};
+ghost use Rattle.nested_arrays_builders.specs.flat_arrays.Growing.{first_slots, tidied};
 ghost use Rattle.nested_arrays_builders.specs.columnar_memory.Results.{OrOutOfMemory};
 ghost use Rattle.nested_arrays_builders.specs.columns.StoredColumns.{column_len};
-ghost use Rattle.nested_arrays_builders.specs.nulls.access.Nulls.{is_null_at};
+ghost use Rattle.nested_arrays_builders.specs.generic.access.Nulls.{is_null_at};
 ghost use Rattle.nested_arrays_builders.specs.values.ByteBuilders.{AddsByteNull, LeavesNoBytes, open_binary, open_text};
 ghost use Rattle.nested_arrays_builder_arrays.specs.OpenColumns.{AddsNull, IsEmptied, KeepsFirst, TakesColumn};
 
 use crate::mutable_array::MutableArray;
 use nested_arrays_builders::arrays::AnyArray;
-use nested_arrays_builders::arrays::flat_arrays::{
-    BinaryArray, ByteBuilder, MutableBinaryArray, MutableUtf8Array, Utf8Array,
-};
 use nested_arrays_builders::arrays::parts::FlatArray;
 use nested_arrays_builders::columnar_memory::{DataType, MutableBitmap, Offset, Result};
+use nested_arrays_builders::flat_arrays::{
+    BinaryArray, ByteBuilder, MutableBinaryArray, MutableUtf8Array, Utf8Array,
+};
 use nested_arrays_builders::values::{
     push_null_to_strings, push_null_to_texts, take_binary_array, take_text_array,
 };

@@ -1,8 +1,8 @@
 //! Builders of numbers and of booleans, as builders of their columns.
 ghost use Rattle.std.specs.Prelude.{◌≡◌, ◌≤◌, [], length, None, option_copied, true, false};
 ghost use Rattle.nested_arrays_builders.specs.arrays.flat.FlatColumns.{boolean_column, primitive_column};
-ghost use Rattle.nested_arrays_builders.specs.arrays.flat_arrays.Flat.{cut, flat, tidied, IsFlat};
-ghost use Rattle.nested_arrays_builders.specs.arrays.flat_arrays.Results.{ForZero};
+ghost use Rattle.nested_arrays_builders.specs.flat_arrays.Flat.{cut, flat, tidied, IsFlat};
+ghost use Rattle.nested_arrays_builders.specs.flat_arrays.Results.{ForZero};
 ghost use Rattle.nested_arrays_builders.specs.columnar_memory.declared.PhysicalType.TheVariants as layouts;
 ghost use Rattle.nested_arrays_builders.specs.columnar_memory.Results.{OrOutOfMemory};
 ghost use Rattle.nested_arrays_builders.specs.columns.SoundColumns.{is_sound};
@@ -13,12 +13,12 @@ ghost use Rattle.nested_arrays_builder_arrays.specs.OpenColumns.{AddsNull, Keeps
 use crate::mutable_array::MutableArray;
 use nested_arrays_builders::arrays::AnyArray;
 use nested_arrays_builders::arrays::flat::{AnyPrimitive, PrimitiveKind};
-use nested_arrays_builders::arrays::flat_arrays::{
-    BooleanArray, MutableBooleanArray, MutablePrimitiveArray, PrimitiveArray,
-};
 use nested_arrays_builders::arrays::parts::FlatArray;
 use nested_arrays_builders::columnar_memory::{
     Buffer, DataType, Error, MutableBitmap, NativeType, Result,
+};
+use nested_arrays_builders::flat_arrays::{
+    BooleanArray, MutableBooleanArray, MutablePrimitiveArray, PrimitiveArray,
 };
 use nested_arrays_builders::values::frozen_mask;
 use std::alloc::Global;

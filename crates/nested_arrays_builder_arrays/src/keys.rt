@@ -13,11 +13,11 @@ ghost use Rattle.nested_arrays_builders.specs.values.Uses.{greatest, key_of, key
 ghost use Rattle.nested_arrays_builder_arrays.specs.FrozenKeys.{AreFrozenKeys};
 
 use nested_arrays_builders::arrays::flat::{AnyPrimitive, PrimitiveKind};
-use nested_arrays_builders::arrays::flat_arrays::PrimitiveArray;
 use nested_arrays_builders::arrays::{AnyArray, DictionaryNode, Node};
 use nested_arrays_builders::columnar_memory::{
     Bitmap, Buffer, DataType, Index, IntegerType, Result,
 };
+use nested_arrays_builders::flat_arrays::PrimitiveArray;
 use nested_arrays_builders::values::SlotUses;
 use std::alloc::Global;
 

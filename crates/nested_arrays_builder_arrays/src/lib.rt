@@ -10,6 +10,7 @@ mod taken;
 
 pub use frozen::into_array;
 pub use mutable_array::MutableArray;
+pub use nested_arrays_builders::{columnar_memory, flat_arrays};
 
 /// What `nested_arrays_builders::arrays` has, as far as packages above use it.
 pub mod arrays {
@@ -43,15 +44,15 @@ pub mod builders {
     }
 }
 
-/// What `nested_arrays_builders::nulls` has, as far as packages above use it.
-pub mod nulls {
-    pub use nested_arrays_builders::nulls::{
-        Downcast, NullArrays, columnar_memory, flat_arrays, new_empty_array, new_null_array,
+/// What `nested_arrays_builders::generic` has, as far as packages above use it.
+pub mod generic {
+    pub use nested_arrays_builders::generic::{
+        DictionaryArray, DictionaryKey, DictionaryKeys, DictionaryKeysIter, ListArray, ToBoxed,
     };
 
     /// Of `access`.
     pub mod access {
-        pub use nested_arrays_builders::nulls::access::{
+        pub use nested_arrays_builders::generic::access::{
             Array, a_null_slot_has_no_value, a_slot_without_a_value_is_null, nulls_are_counted,
             same_slot_ranges, same_slots,
         };
@@ -59,7 +60,7 @@ pub mod nulls {
 
     /// Of `arrays`.
     pub mod arrays {
-        pub use nested_arrays_builders::nulls::arrays::{
+        pub use nested_arrays_builders::generic::arrays::{
             AnyArray, DictionaryNode, FixedSizeListArray, ListNode, MapArray, Node, StructArray,
             UnionArray, equal, equal_counted,
         };
@@ -67,7 +68,7 @@ pub mod nulls {
 
     /// Of `columns`.
     pub mod columns {
-        pub use nested_arrays_builders::nulls::columns::{
+        pub use nested_arrays_builders::generic::columns::{
             a_beginning_of_what_fits_fits, a_choice_of_a_part_is_the_part_of_the_choice,
             a_column_has_a_size, a_column_has_its_length, a_cut_has_a_range_of_the_slots,
             a_cut_has_its_length, a_cut_is_sound, a_cut_keeps_its_size, a_cut_of_a_cut_is_one_cut,
@@ -80,32 +81,14 @@ pub mod nulls {
 
     /// Of `flat`.
     pub mod flat {
-        pub use nested_arrays_builders::nulls::flat::{
+        pub use nested_arrays_builders::generic::flat::{
             AnyPrimitive, FixedSizeBinaryArray, NullArray, PrimitiveKind, PrimitiveNode,
-        };
-    }
-
-    /// Of `generic`.
-    pub mod generic {
-        pub use nested_arrays_builders::nulls::generic::{
-            DictionaryArray, DictionaryKey, DictionaryKeys, DictionaryKeysIter, ListArray, ToBoxed,
-        };
-    }
-
-    /// Of `iterators`.
-    pub mod iterators {
-        pub use nested_arrays_builders::nulls::iterators::{
-            ArrayPart, ArraySlot, ArrayValues, DictValue, DictionaryValues, DictionaryValuesIter,
-            DictionaryValuesIterTyped, FixedSizeBinaryValues, FixedSizeListValuesIter,
-            GenericBinaryArray, KeyPlaces, KeyedSlots, KeyedValues, ListValuesIter, MapValuesIter,
-            Slots, StructSlot, StructValueIter, TypedDictionaryValues, TypedSlots, TypedValues,
-            UnionIter, Values, a_walk_over_places_gives_each_value_once, keys_name_values,
         };
     }
 
     /// Of `parts`.
     pub mod parts {
-        pub use nested_arrays_builders::nulls::parts::{FlatArray, FlatNode, ListOffsets};
+        pub use nested_arrays_builders::generic::parts::{FlatArray, FlatNode, ListOffsets};
     }
 }
 

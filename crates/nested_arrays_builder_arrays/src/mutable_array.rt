@@ -3,7 +3,7 @@ ghost use Rattle.std.specs.Prelude.{◌≡◌, ◌<◌, ◌≤◌, ◌↔◌, no
 ghost use Rattle.nested_arrays_builders.specs.arrays.flat.ColumnMasks.{column_mask};
 ghost use Rattle.nested_arrays_builders.specs.columnar_memory.Error.{IsOutOfMemory};
 ghost use Rattle.nested_arrays_builders.specs.columns.StoredColumns.{Column, column_len, column_type};
-ghost use Rattle.nested_arrays_builders.specs.nulls.access.Nulls.{is_null_at};
+ghost use Rattle.nested_arrays_builders.specs.generic.access.Nulls.{is_null_at};
 ghost use Rattle.nested_arrays_builders.specs.parts.Open.{column_of};
 ghost use Rattle.nested_arrays_builder_arrays.specs.OpenColumns.{AddsNull, IsFrozen, KeepsFirst, TakesColumn};
 ghost use Rattle.nested_arrays_builder_arrays.specs.Taken.{IsTaken};

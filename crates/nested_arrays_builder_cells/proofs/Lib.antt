@@ -7,4 +7,4 @@ pub mod ReadSlots
 pub mod StoredNumbers
 pub mod StoredValues
 pub use Rattle.nested_arrays_builder_arrays.proofs as taken_lemmas
-pub use Rattle.nested_arrays_builder_arrays.proofs.nulls_lemmas
+pub use Rattle.nested_arrays_builder_arrays.proofs.generic_lemmas

@@ -8,6 +8,6 @@ pub mod MarkLists
 pub mod NewNodes
 pub mod StringLists
 pub mod StringSlots
-pub use Rattle.nested_arrays_nulls.proofs.arrays_lemmas
+pub use Rattle.nested_arrays_generic.proofs.arrays_lemmas
 pub use Rattle.nested_arrays_growth.proofs as growth_lemmas
-pub use Rattle.nested_arrays_nulls.proofs as nulls_lemmas
+pub use Rattle.nested_arrays_generic.proofs as generic_lemmas

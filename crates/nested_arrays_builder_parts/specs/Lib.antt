@@ -9,6 +9,6 @@ pub mod NewValues
 pub mod Open
 pub mod Scalars
 pub mod Strings
-pub use Rattle.nested_arrays_nulls.specs.arrays
+pub use Rattle.nested_arrays_generic.specs.arrays
 pub use Rattle.nested_arrays_growth.specs as growth
-pub use Rattle.nested_arrays_nulls.specs as nulls
+pub use Rattle.nested_arrays_generic.specs as generic

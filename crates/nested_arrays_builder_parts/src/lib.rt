@@ -14,44 +14,44 @@ mod values;
 pub use cells::is_null;
 pub use flat::FlatBuilder;
 pub use marks::Marks;
-pub use nested_arrays_nulls::arrays::columnar_memory;
+pub use nested_arrays_generic::arrays::columnar_memory;
 pub use nested_arrays_scalars::AnyScalar;
 pub use numbers::{AnyNumber, NumberKind};
 pub use parts::{CellPart, part_of};
 pub use strings::Strings;
 pub use values::{Values, ValuesNode};
 
-/// What `nested_arrays_nulls::arrays` has, as far as packages above use it.
+/// What `nested_arrays_generic::arrays` has, as far as packages above use it.
 pub mod arrays {
-    pub use nested_arrays_nulls::arrays::{
+    pub use nested_arrays_generic::arrays::{
         AnyArray, DictionaryNode, FixedSizeListArray, ListNode, MapArray, Node, StructArray,
         UnionArray, columnar_memory, flat_arrays,
     };
 
     /// Of `flat`.
     pub mod flat {
-        pub use nested_arrays_nulls::arrays::flat::{
+        pub use nested_arrays_generic::arrays::flat::{
             AnyPrimitive, PrimitiveKind, PrimitiveNode, mark_at, read_bytes,
         };
     }
 
     /// Of `parts`.
     pub mod parts {
-        pub use nested_arrays_nulls::arrays::parts::{
+        pub use nested_arrays_generic::arrays::parts::{
             FlatArray, FlatNode, ListOffsets, holds_values, is_valid,
         };
     }
 }
 
-/// What `nested_arrays_nulls` has, as far as packages above use it.
-pub mod nulls {
-    pub use nested_arrays_nulls::{
-        Downcast, NullArrays, columnar_memory, flat_arrays, new_empty_array, new_null_array,
+/// What `nested_arrays_generic` has, as far as packages above use it.
+pub mod generic {
+    pub use nested_arrays_generic::{
+        DictionaryArray, DictionaryKey, DictionaryKeys, DictionaryKeysIter, ListArray, ToBoxed,
     };
 
     /// Of `access`.
     pub mod access {
-        pub use nested_arrays_nulls::access::{
+        pub use nested_arrays_generic::access::{
             Array, a_null_slot_has_no_value, a_slot_without_a_value_is_null, nulls_are_counted,
             same_slot_ranges, same_slots,
         };
@@ -59,7 +59,7 @@ pub mod nulls {
 
     /// Of `arrays`.
     pub mod arrays {
-        pub use nested_arrays_nulls::arrays::{
+        pub use nested_arrays_generic::arrays::{
             AnyArray, DictionaryNode, FixedSizeListArray, ListNode, MapArray, Node, StructArray,
             UnionArray, equal, equal_counted,
         };
@@ -67,7 +67,7 @@ pub mod nulls {
 
     /// Of `columns`.
     pub mod columns {
-        pub use nested_arrays_nulls::columns::{
+        pub use nested_arrays_generic::columns::{
             a_beginning_of_what_fits_fits, a_choice_of_a_part_is_the_part_of_the_choice,
             a_column_has_a_size, a_column_has_its_length, a_cut_has_a_range_of_the_slots,
             a_cut_has_its_length, a_cut_is_sound, a_cut_keeps_its_size, a_cut_of_a_cut_is_one_cut,
@@ -80,31 +80,13 @@ pub mod nulls {
 
     /// Of `flat`.
     pub mod flat {
-        pub use nested_arrays_nulls::flat::{
+        pub use nested_arrays_generic::flat::{
             AnyPrimitive, FixedSizeBinaryArray, NullArray, PrimitiveKind, PrimitiveNode,
-        };
-    }
-
-    /// Of `generic`.
-    pub mod generic {
-        pub use nested_arrays_nulls::generic::{
-            DictionaryArray, DictionaryKey, DictionaryKeys, DictionaryKeysIter, ListArray, ToBoxed,
-        };
-    }
-
-    /// Of `iterators`.
-    pub mod iterators {
-        pub use nested_arrays_nulls::iterators::{
-            ArrayPart, ArraySlot, ArrayValues, DictValue, DictionaryValues, DictionaryValuesIter,
-            DictionaryValuesIterTyped, FixedSizeBinaryValues, FixedSizeListValuesIter,
-            GenericBinaryArray, KeyPlaces, KeyedSlots, KeyedValues, ListValuesIter, MapValuesIter,
-            Slots, StructSlot, StructValueIter, TypedDictionaryValues, TypedSlots, TypedValues,
-            UnionIter, Values, a_walk_over_places_gives_each_value_once, keys_name_values,
         };
     }
 
     /// Of `parts`.
     pub mod parts {
-        pub use nested_arrays_nulls::parts::{FlatArray, FlatNode, ListOffsets};
+        pub use nested_arrays_generic::parts::{FlatArray, FlatNode, ListOffsets};
     }
 }

@@ -1,6 +1,6 @@
 use columnar_memory_types::{Boxed, DataType, Error, Field, IntegerType, Items, Text};
+use nested_arrays_dictionary_builders::flat_arrays::Utf8Array;
 use nested_arrays_dictionary_builders::nulls::arrays::{AnyArray, DictionaryNode, Node};
-use nested_arrays_dictionary_builders::nulls::flat_arrays::Utf8Array;
 use nested_arrays_dictionary_builders::nulls::parts::FlatNode;
 use nested_arrays_dictionary_builders::pushes::TryPushFrom;
 use nested_arrays_dictionary_builders::pushes::cells::builders::AnyMutableArray;

@@ -2,9 +2,9 @@
 use Rattle.std.proofs.Common.{◌≡◌, ◌∙◌, ◌≤◌, ℕ, List, [], ◌∷◌, drop, refl, sym, ap, arith}
 use Rattle.std.specs.Prelude.{Bool, Option, None}
 use Rattle.std.proofs.lemmas.List.{drop-take}
-use Rattle.nested_arrays_builder_parts.specs.arrays.flat_arrays.ByteStrings.{ByteStrings, byte_strings, len_of, with_mask}
-use Rattle.nested_arrays_builder_parts.specs.arrays.flat_arrays.Fits.{Fits}
-use Rattle.nested_arrays_builder_parts.specs.arrays.flat_arrays.Growing.{IsGrown, first_slots, joined, tidied}
+use Rattle.flat_arrays.specs.ByteStrings.{ByteStrings, byte_strings, len_of, with_mask}
+use Rattle.flat_arrays.specs.Fits.{Fits}
+use Rattle.flat_arrays.specs.Growing.{IsGrown, first_slots, joined, tidied}
 use Rattle.nested_arrays_builder_parts.specs.arrays.columnar_memory.declared.Error.{Error}
 use Rattle.nested_arrays_builder_parts.specs.arrays.columnar_memory.declared.PhysicalType.{PhysicalType}
 use Rattle.nested_arrays_builder_parts.specs.arrays.columnar_memory.Error.{IsOutOfMemory}

@@ -6,4 +6,4 @@ pub mod Needs
 pub mod Raises
 pub mod UsedValues
 pub use Rattle.nested_arrays_builder_parts.proofs as parts_lemmas
-pub use Rattle.nested_arrays_builder_parts.proofs.nulls_lemmas
+pub use Rattle.nested_arrays_builder_parts.proofs.generic_lemmas

@@ -1,8 +1,8 @@
 -- Builders of byte strings and of texts as columns, and with one null more.
 use Rattle.std.specs.Prelude.{◌≡◌, ◌⊎◌, ◌<◌, ◌≤◌, [], None, drop, Result, MatchResult}
 use Rattle.nested_arrays_builder_parts.specs.arrays.flat.FlatColumns.{binary_column, text_column}
-use Rattle.nested_arrays_builder_parts.specs.arrays.flat_arrays.ByteStrings.{ByteStrings, byte_strings, len_of}
-use Rattle.nested_arrays_builder_parts.specs.arrays.flat_arrays.Growing.{with_slot}
+use Rattle.flat_arrays.specs.ByteStrings.{ByteStrings, byte_strings, len_of}
+use Rattle.flat_arrays.specs.Growing.{with_slot}
 use Rattle.nested_arrays_builder_parts.specs.arrays.columnar_memory.declared.Error.{Error}
 use Rattle.nested_arrays_builder_parts.specs.arrays.columnar_memory.Error.{IsOutOfMemory, IsOverflow}
 use Rattle.nested_arrays_builder_parts.specs.arrays.columnar_memory.Spans.{no_spans}

@@ -1,13 +1,11 @@
 //! Builders of byte strings and of texts as far as every builder has them: a null more, offsets from 0 on, and the array that leaves a builder empty.
 ghost use Rattle.std.specs.Prelude.{◌≡◌, ◌≤◌, [], None};
-ghost use Rattle.nested_arrays_builder_parts.specs.arrays.flat_arrays.ByteStrings.{byte_strings, len_of, with_mask};
+ghost use Rattle.flat_arrays.specs.ByteStrings.{byte_strings, len_of, with_mask};
 ghost use Rattle.nested_arrays_builder_parts.specs.arrays.columnar_memory.Results.{OrOutOfMemory};
 ghost use Rattle.nested_arrays_builder_parts.specs.arrays.columnar_memory.Spans.{last_of, no_spans};
 ghost use Rattle.nested_arrays_builder_values.specs.ByteBuilders.{AddsByteNull, LeavesNoBytes, Rebases, from_zero};
 
-use nested_arrays_builder_parts::arrays::flat_arrays::{
-    BinaryArray, ByteBuilder, MutableBinaryArray, MutableUtf8Array, Utf8Array,
-};
+use flat_arrays::{BinaryArray, ByteBuilder, MutableBinaryArray, MutableUtf8Array, Utf8Array};
 use nested_arrays_builder_parts::columnar_memory::{
     Bitmap, Buffer, DataType, Error, MutableBitmap, Offset, Offsets, Result,
 };

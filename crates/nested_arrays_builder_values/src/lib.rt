@@ -16,6 +16,7 @@ pub use byte_builders::{
     take_binary_array, take_text_array,
 };
 pub use cells::{copy_of_cell, same_cell};
+pub use flat_arrays;
 pub use hashes::{hash_of, hash_of_bytes};
 pub use keys::{MutableKeys, add_use, learn, most_values_of, needed};
 pub use nested_arrays_builder_parts::columnar_memory;
@@ -45,15 +46,15 @@ pub mod arrays {
     }
 }
 
-/// What `nested_arrays_builder_parts::nulls` has, as far as packages above use it.
-pub mod nulls {
-    pub use nested_arrays_builder_parts::nulls::{
-        Downcast, NullArrays, columnar_memory, flat_arrays, new_empty_array, new_null_array,
+/// What `nested_arrays_builder_parts::generic` has, as far as packages above use it.
+pub mod generic {
+    pub use nested_arrays_builder_parts::generic::{
+        DictionaryArray, DictionaryKey, DictionaryKeys, DictionaryKeysIter, ListArray, ToBoxed,
     };
 
     /// Of `access`.
     pub mod access {
-        pub use nested_arrays_builder_parts::nulls::access::{
+        pub use nested_arrays_builder_parts::generic::access::{
             Array, a_null_slot_has_no_value, a_slot_without_a_value_is_null, nulls_are_counted,
             same_slot_ranges, same_slots,
         };
@@ -61,7 +62,7 @@ pub mod nulls {
 
     /// Of `arrays`.
     pub mod arrays {
-        pub use nested_arrays_builder_parts::nulls::arrays::{
+        pub use nested_arrays_builder_parts::generic::arrays::{
             AnyArray, DictionaryNode, FixedSizeListArray, ListNode, MapArray, Node, StructArray,
             UnionArray, equal, equal_counted,
         };
@@ -69,7 +70,7 @@ pub mod nulls {
 
     /// Of `columns`.
     pub mod columns {
-        pub use nested_arrays_builder_parts::nulls::columns::{
+        pub use nested_arrays_builder_parts::generic::columns::{
             a_beginning_of_what_fits_fits, a_choice_of_a_part_is_the_part_of_the_choice,
             a_column_has_a_size, a_column_has_its_length, a_cut_has_a_range_of_the_slots,
             a_cut_has_its_length, a_cut_is_sound, a_cut_keeps_its_size, a_cut_of_a_cut_is_one_cut,
@@ -82,32 +83,14 @@ pub mod nulls {
 
     /// Of `flat`.
     pub mod flat {
-        pub use nested_arrays_builder_parts::nulls::flat::{
+        pub use nested_arrays_builder_parts::generic::flat::{
             AnyPrimitive, FixedSizeBinaryArray, NullArray, PrimitiveKind, PrimitiveNode,
-        };
-    }
-
-    /// Of `generic`.
-    pub mod generic {
-        pub use nested_arrays_builder_parts::nulls::generic::{
-            DictionaryArray, DictionaryKey, DictionaryKeys, DictionaryKeysIter, ListArray, ToBoxed,
-        };
-    }
-
-    /// Of `iterators`.
-    pub mod iterators {
-        pub use nested_arrays_builder_parts::nulls::iterators::{
-            ArrayPart, ArraySlot, ArrayValues, DictValue, DictionaryValues, DictionaryValuesIter,
-            DictionaryValuesIterTyped, FixedSizeBinaryValues, FixedSizeListValuesIter,
-            GenericBinaryArray, KeyPlaces, KeyedSlots, KeyedValues, ListValuesIter, MapValuesIter,
-            Slots, StructSlot, StructValueIter, TypedDictionaryValues, TypedSlots, TypedValues,
-            UnionIter, Values, a_walk_over_places_gives_each_value_once, keys_name_values,
         };
     }
 
     /// Of `parts`.
     pub mod parts {
-        pub use nested_arrays_builder_parts::nulls::parts::{FlatArray, FlatNode, ListOffsets};
+        pub use nested_arrays_builder_parts::generic::parts::{FlatArray, FlatNode, ListOffsets};
     }
 }
 

@@ -20,4 +20,4 @@ pub use Rattle.nested_arrays_builder_values.proofs.parts_lemmas
 pub use Rattle.nested_arrays_builder_values.proofs.parts_lemmas.growth_lemmas
 pub use Rattle.nested_arrays_builder_values.proofs.parts_lemmas.arrays_lemmas.columns_lemmas
 pub use Rattle.nested_arrays_builder_values.proofs.parts_lemmas.arrays_lemmas
-pub use Rattle.nested_arrays_builder_values.proofs.nulls_lemmas
+pub use Rattle.nested_arrays_builder_values.proofs.generic_lemmas

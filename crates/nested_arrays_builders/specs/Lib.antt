@@ -13,4 +13,5 @@ pub use Rattle.nested_arrays_builder_values.specs.parts.growth
 pub use Rattle.nested_arrays_builder_values.specs.parts.arrays.columns
 pub use Rattle.nested_arrays_builder_values.specs.parts.arrays.columnar_memory
 pub use Rattle.nested_arrays_builder_values.specs.parts.arrays
-pub use Rattle.nested_arrays_builder_values.specs.nulls
+pub use Rattle.nested_arrays_builder_values.specs.generic
+pub use Rattle.nested_arrays_builder_values.specs.flat_arrays

@@ -14,7 +14,7 @@ mod room;
 
 pub use any::{AnyMutableArray, Head, MutableChildren, MutableNode};
 pub use fitting::is_cell_of;
-pub use nested_arrays_builder_values::columnar_memory;
+pub use nested_arrays_builder_values::{columnar_memory, flat_arrays};
 pub use offsets::MutableListOffsets;
 
 /// What `nested_arrays_builder_values::arrays` has, as far as packages above use it.
@@ -39,15 +39,15 @@ pub mod arrays {
     }
 }
 
-/// What `nested_arrays_builder_values::nulls` has, as far as packages above use it.
-pub mod nulls {
-    pub use nested_arrays_builder_values::nulls::{
-        Downcast, NullArrays, columnar_memory, flat_arrays, new_empty_array, new_null_array,
+/// What `nested_arrays_builder_values::generic` has, as far as packages above use it.
+pub mod generic {
+    pub use nested_arrays_builder_values::generic::{
+        DictionaryArray, DictionaryKey, DictionaryKeys, DictionaryKeysIter, ListArray, ToBoxed,
     };
 
     /// Of `access`.
     pub mod access {
-        pub use nested_arrays_builder_values::nulls::access::{
+        pub use nested_arrays_builder_values::generic::access::{
             Array, a_null_slot_has_no_value, a_slot_without_a_value_is_null, nulls_are_counted,
             same_slot_ranges, same_slots,
         };
@@ -55,7 +55,7 @@ pub mod nulls {
 
     /// Of `arrays`.
     pub mod arrays {
-        pub use nested_arrays_builder_values::nulls::arrays::{
+        pub use nested_arrays_builder_values::generic::arrays::{
             AnyArray, DictionaryNode, FixedSizeListArray, ListNode, MapArray, Node, StructArray,
             UnionArray, equal, equal_counted,
         };
@@ -63,7 +63,7 @@ pub mod nulls {
 
     /// Of `columns`.
     pub mod columns {
-        pub use nested_arrays_builder_values::nulls::columns::{
+        pub use nested_arrays_builder_values::generic::columns::{
             a_beginning_of_what_fits_fits, a_choice_of_a_part_is_the_part_of_the_choice,
             a_column_has_a_size, a_column_has_its_length, a_cut_has_a_range_of_the_slots,
             a_cut_has_its_length, a_cut_is_sound, a_cut_keeps_its_size, a_cut_of_a_cut_is_one_cut,
@@ -76,32 +76,14 @@ pub mod nulls {
 
     /// Of `flat`.
     pub mod flat {
-        pub use nested_arrays_builder_values::nulls::flat::{
+        pub use nested_arrays_builder_values::generic::flat::{
             AnyPrimitive, FixedSizeBinaryArray, NullArray, PrimitiveKind, PrimitiveNode,
-        };
-    }
-
-    /// Of `generic`.
-    pub mod generic {
-        pub use nested_arrays_builder_values::nulls::generic::{
-            DictionaryArray, DictionaryKey, DictionaryKeys, DictionaryKeysIter, ListArray, ToBoxed,
-        };
-    }
-
-    /// Of `iterators`.
-    pub mod iterators {
-        pub use nested_arrays_builder_values::nulls::iterators::{
-            ArrayPart, ArraySlot, ArrayValues, DictValue, DictionaryValues, DictionaryValuesIter,
-            DictionaryValuesIterTyped, FixedSizeBinaryValues, FixedSizeListValuesIter,
-            GenericBinaryArray, KeyPlaces, KeyedSlots, KeyedValues, ListValuesIter, MapValuesIter,
-            Slots, StructSlot, StructValueIter, TypedDictionaryValues, TypedSlots, TypedValues,
-            UnionIter, Values, a_walk_over_places_gives_each_value_once, keys_name_values,
         };
     }
 
     /// Of `parts`.
     pub mod parts {
-        pub use nested_arrays_builder_values::nulls::parts::{FlatArray, FlatNode, ListOffsets};
+        pub use nested_arrays_builder_values::generic::parts::{FlatArray, FlatNode, ListOffsets};
     }
 }
 

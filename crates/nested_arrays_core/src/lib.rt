@@ -2,20 +2,19 @@
 //! the builder of any type; and the definitions of slots, columns and tables, with their laws. `nested_arrays` has the builders of a type each too.
 #![tactic(auto)]
 
-pub use nested_arrays_builder_pushes::TryPushFrom;
 pub use nested_arrays_builder_pushes::cells::builders::{AnyMutableArray, is_cell_of};
 pub use nested_arrays_builder_pushes::cells::cell_at;
 pub use nested_arrays_builder_pushes::cells::parts::{AnyScalar, Marks};
 pub use nested_arrays_builder_pushes::cells::taken::MutableArray;
-pub use nested_arrays_builder_pushes::nulls::access::{
+pub use nested_arrays_builder_pushes::generic::access::{
     Array, a_null_slot_has_no_value, a_slot_without_a_value_is_null, nulls_are_counted,
     same_slot_ranges, same_slots,
 };
-pub use nested_arrays_builder_pushes::nulls::arrays::{
+pub use nested_arrays_builder_pushes::generic::arrays::{
     AnyArray, DictionaryNode, FixedSizeListArray, ListNode, MapArray, Node, StructArray,
     UnionArray, equal, equal_counted,
 };
-pub use nested_arrays_builder_pushes::nulls::columns::{
+pub use nested_arrays_builder_pushes::generic::columns::{
     a_beginning_of_what_fits_fits, a_choice_of_a_part_is_the_part_of_the_choice,
     a_column_has_a_size, a_column_has_its_length, a_cut_has_a_range_of_the_slots,
     a_cut_has_its_length, a_cut_is_sound, a_cut_keeps_its_size, a_cut_of_a_cut_is_one_cut,
@@ -23,20 +22,11 @@ pub use nested_arrays_builder_pushes::nulls::columns::{
     distinct_slots_are_distinct, joins_are_associative, null_fits_every_type,
     sameness_decides_equality, two_parts_make_the_whole,
 };
-pub use nested_arrays_builder_pushes::nulls::flat::{
+pub use nested_arrays_builder_pushes::generic::flat::{
     AnyPrimitive, FixedSizeBinaryArray, NullArray, PrimitiveKind, PrimitiveNode,
 };
-pub use nested_arrays_builder_pushes::nulls::generic::{
+pub use nested_arrays_builder_pushes::generic::parts::{FlatArray, FlatNode, ListOffsets};
+pub use nested_arrays_builder_pushes::generic::{
     DictionaryArray, DictionaryKey, DictionaryKeys, DictionaryKeysIter, ListArray, ToBoxed,
 };
-pub use nested_arrays_builder_pushes::nulls::iterators::{
-    ArrayPart, ArraySlot, ArrayValues, DictValue, DictionaryValues, DictionaryValuesIter,
-    DictionaryValuesIterTyped, FixedSizeBinaryValues, FixedSizeListValuesIter, GenericBinaryArray,
-    KeyPlaces, KeyedSlots, KeyedValues, ListValuesIter, MapValuesIter, Slots, StructSlot,
-    StructValueIter, TypedDictionaryValues, TypedSlots, TypedValues, UnionIter, Values,
-    a_walk_over_places_gives_each_value_once, keys_name_values,
-};
-pub use nested_arrays_builder_pushes::nulls::parts::{FlatArray, FlatNode, ListOffsets};
-pub use nested_arrays_builder_pushes::nulls::{
-    Downcast, NullArrays, columnar_memory, flat_arrays, new_empty_array, new_null_array,
-};
+pub use nested_arrays_builder_pushes::{TryPushFrom, columnar_memory, flat_arrays};

@@ -23,7 +23,7 @@ use Rattle.nested_arrays_sized_builders.specs.nulls.columns.SoundColumns.{mask_f
 use Rattle.nested_arrays_sized_builders.specs.nulls.columns.StoredColumns.{Column, Stored, bits, flat, slot_at, slots, stored_at, stored_len}
 use Rattle.nested_arrays_sized_builders.specs.nulls.columns.StoredColumns.{string_at, type_layer}
 use Rattle.nested_arrays_sized_builders.specs.nulls.flat.ColumnMasks.{column_mask}
-use Rattle.nested_arrays_sized_builders.specs.nulls.flat_arrays.Growth.{with_marks}
+use Rattle.nested_arrays_sized_builders.specs.flat_arrays.Growth.{with_marks}
 use Rattle.nested_arrays_sized_builders.specs.pushes.cells.taken.OpenColumns.{Becomes, IsFresh, slots_and}
 use Rattle.nested_arrays_sized_builders.proofs.growth_lemmas.Limits.{bytes_counted, fits_length}
 use Rattle.nested_arrays_sized_builders.proofs.growth_lemmas.Pieces.{content_spans_are, joined_length_one_more, joined_one_more, lengths_one_more}

@@ -25,9 +25,9 @@ use Rattle.nested_arrays_sized_builders.specs.nulls.columns.SoundColumns.{are_st
 use Rattle.nested_arrays_sized_builders.specs.nulls.columns.SoundColumns.{is_stored_as, is_text_at, mask_fits}
 use Rattle.nested_arrays_sized_builders.specs.nulls.columns.StoredColumns.{Column, Stored, byte_strings as stored_bytes, column_len, flat}
 use Rattle.nested_arrays_sized_builders.specs.nulls.columns.StoredColumns.{is_valid_at, slot_at, string_at, texts, type_layer}
-use Rattle.nested_arrays_sized_builders.specs.nulls.flat_arrays.ByteStrings.{ByteStrings, cut_by, len_of, marks, marks_of, values_of}
-use Rattle.nested_arrays_sized_builders.specs.nulls.flat_arrays.Fits.{IsMaskOf, binary_layout, text_layout}
-use Rattle.nested_arrays_sized_builders.specs.nulls.flat_arrays.Growing.{IsFilled, IsGrown, with_slot}
+use Rattle.nested_arrays_sized_builders.specs.flat_arrays.ByteStrings.{ByteStrings, cut_by, len_of, marks, marks_of, values_of}
+use Rattle.nested_arrays_sized_builders.specs.flat_arrays.Fits.{IsMaskOf, binary_layout, text_layout}
+use Rattle.nested_arrays_sized_builders.specs.flat_arrays.Growing.{IsFilled, IsGrown, with_slot}
 use Rattle.nested_arrays_sized_builders.specs.pushes.cells.taken.builders.values.ByteBuilders.{from_zero, open_binary, open_text}
 use Rattle.nested_arrays_sized_builders.specs.pushes.cells.taken.OpenColumns.{Becomes, IsFresh, slots_and}
 use Rattle.nested_arrays_sized_builders.specs.MarkedSlots.{AddsSlot}

@@ -27,8 +27,8 @@ use Rattle.nested_arrays_sized_builders.specs.nulls.columns.StoredColumns.{Colum
 use Rattle.nested_arrays_sized_builders.specs.nulls.columns.StoredColumns.{stored_at, stored_len, triple_slot, triples, type_layer}
 use Rattle.nested_arrays_sized_builders.specs.nulls.flat.FlatColumns.{boolean_column, primitive_column, stored_numbers}
 use Rattle.nested_arrays_sized_builders.specs.nulls.flat.FlatColumns as flats
-use Rattle.nested_arrays_sized_builders.specs.nulls.flat_arrays.Flat.{Flat, IsFlat, marks, marks_of}
-use Rattle.nested_arrays_sized_builders.specs.nulls.flat_arrays.Growth.{grown, with_marks}
+use Rattle.nested_arrays_sized_builders.specs.flat_arrays.Flat.{Flat, IsFlat, marks, marks_of}
+use Rattle.nested_arrays_sized_builders.specs.flat_arrays.Growth.{grown, with_marks}
 use Rattle.nested_arrays_sized_builders.specs.pushes.cells.taken.builders.growth.OpenParts.{is_of_kind}
 use Rattle.nested_arrays_sized_builders.proofs.growth_lemmas.Fits.{fits_booleans, fits_primitive}
 use Rattle.nested_arrays_sized_builders.proofs.growth_lemmas.LayerParts.{fresh_booleans, fresh_primitive}

@@ -23,8 +23,8 @@ use Rattle.nested_arrays_sized_builders.specs.nulls.columns.SoundColumns.{are_pi
 use Rattle.nested_arrays_sized_builders.specs.nulls.columns.StoredColumns.{Column, Stored, column_len, fixed_bytes, flat, slots}
 use Rattle.nested_arrays_sized_builders.specs.nulls.columns.StoredColumns.{type_layer}
 use Rattle.nested_arrays_sized_builders.specs.nulls.flat.FlatColumns.{byte_width}
-use Rattle.nested_arrays_sized_builders.specs.nulls.flat_arrays.Flat.{marks}
-use Rattle.nested_arrays_sized_builders.specs.nulls.flat_arrays.Growth.{with_marks}
+use Rattle.nested_arrays_sized_builders.specs.flat_arrays.Flat.{marks}
+use Rattle.nested_arrays_sized_builders.specs.flat_arrays.Growth.{with_marks}
 use Rattle.nested_arrays_sized_builders.specs.pushes.cells.parts.Marks.{mask_of_marks}
 use Rattle.nested_arrays_sized_builders.specs.pushes.cells.taken.OpenColumns.{Becomes}
 use Rattle.nested_arrays_sized_builders.specs.SizedStrings.{JoinsStrings, SizedParts, sized_column, with_strings}

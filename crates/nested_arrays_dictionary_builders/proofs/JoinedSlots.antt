@@ -17,8 +17,8 @@ use Rattle.nested_arrays_sized_builders.specs.nulls.columns.SoundColumns.{has_si
 use Rattle.nested_arrays_sized_builders.specs.nulls.columns.StoredColumns.{Column, Stored, bits, column_type, flat, slot_at, slots, stored_at}
 use Rattle.nested_arrays_sized_builders.specs.nulls.columns.StoredColumns.{stored_len, type_layer}
 use Rattle.nested_arrays_sized_builders.specs.nulls.flat.ColumnMasks.{column_mask}
-use Rattle.nested_arrays_sized_builders.specs.nulls.flat_arrays.Flat.{marks}
-use Rattle.nested_arrays_sized_builders.specs.nulls.flat_arrays.Growth.{with_marks}
+use Rattle.nested_arrays_sized_builders.specs.flat_arrays.Flat.{marks}
+use Rattle.nested_arrays_sized_builders.specs.flat_arrays.Growth.{with_marks}
 use Rattle.nested_arrays_sized_builders.specs.pushes.cells.taken.OpenColumns.{Becomes, IsFresh}
 use Rattle.nested_arrays_sized_builders.proofs.growth_lemmas.Limits.{fits_length}
 use Rattle.nested_arrays_sized_builders.proofs.nulls_lemmas.arrays_lemmas.columns_lemmas.ColumnSizes.{slots_lengths}

@@ -25,9 +25,9 @@ use Rattle.nested_arrays_sized_builders.specs.nulls.columns.Slots.{Slot, bytes, 
 use Rattle.nested_arrays_sized_builders.specs.nulls.columns.SoundColumns.{are_offsets, are_strings, is_byte, mask_fits}
 use Rattle.nested_arrays_sized_builders.specs.nulls.columns.StoredColumns.{Column, Stored, byte_strings as stored_bytes, column_type, flat, slots}
 use Rattle.nested_arrays_sized_builders.specs.nulls.columns.StoredColumns.{string_at, texts}
-use Rattle.nested_arrays_sized_builders.specs.nulls.flat_arrays.ByteStrings.{ByteStrings, len_of}
-use Rattle.nested_arrays_sized_builders.specs.nulls.flat_arrays.Fits.{binary_layout, text_layout}
-use Rattle.nested_arrays_sized_builders.specs.nulls.flat_arrays.Growing.{IsFilled, IsGrown, joined}
+use Rattle.nested_arrays_sized_builders.specs.flat_arrays.ByteStrings.{ByteStrings, len_of}
+use Rattle.nested_arrays_sized_builders.specs.flat_arrays.Fits.{binary_layout, text_layout}
+use Rattle.nested_arrays_sized_builders.specs.flat_arrays.Growing.{IsFilled, IsGrown, joined}
 use Rattle.nested_arrays_sized_builders.specs.pushes.cells.taken.builders.values.ByteBuilders.{from_zero, open_binary, open_text}
 use Rattle.nested_arrays_sized_builders.specs.pushes.cells.taken.OpenColumns.{IsFresh}
 use Rattle.nested_arrays_sized_builders.proofs.growth_lemmas.Limits.{bytes_counted}

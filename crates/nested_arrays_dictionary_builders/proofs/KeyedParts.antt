@@ -29,7 +29,7 @@ use Rattle.nested_arrays_sized_builders.specs.nulls.columns.Slots.{Slot, null, w
 use Rattle.nested_arrays_sized_builders.specs.nulls.columns.SoundColumns.{is_sound}
 use Rattle.nested_arrays_sized_builders.specs.nulls.columns.StoredColumns.{Column, column_len, column_type, dictionary, is_valid_at, slot_at, slots}
 use Rattle.nested_arrays_sized_builders.specs.nulls.columns.StoredColumns.{type_layer}
-use Rattle.nested_arrays_sized_builders.specs.nulls.flat_arrays.Flat.{Flat}
+use Rattle.nested_arrays_sized_builders.specs.flat_arrays.Flat.{Flat}
 use Rattle.nested_arrays_sized_builders.specs.nulls.generic.Dictionaries.{is_value_type, keyed_by}
 use Rattle.nested_arrays_sized_builders.specs.pushes.cells.parts.Marks.{mask_of_marks}
 use Rattle.nested_arrays_sized_builders.specs.pushes.cells.taken.OpenColumns.{Becomes, IsEmptied, IsFresh, IsFrozen, KeepsFirst, TakesColumn, slots_and}

@@ -33,9 +33,9 @@ use Rattle.nested_arrays_sized_builders.specs.nulls.columns.StoredColumns.{Colum
 use Rattle.nested_arrays_sized_builders.specs.nulls.columns.StoredColumns.{type_layer}
 use Rattle.nested_arrays_sized_builders.specs.nulls.flat.ColumnMasks.{column_mask}
 use Rattle.nested_arrays_sized_builders.specs.nulls.flat.FlatColumns.{primitive_column, stored_numbers}
-use Rattle.nested_arrays_sized_builders.specs.nulls.flat_arrays.Flat as arrays
-use Rattle.nested_arrays_sized_builders.specs.nulls.flat_arrays.Flat.{Flat, IsFlat, IsMaskOf}
-use Rattle.nested_arrays_sized_builders.specs.nulls.flat_arrays.Growth.{with_marks, with_values}
+use Rattle.nested_arrays_sized_builders.specs.flat_arrays.Flat as arrays
+use Rattle.nested_arrays_sized_builders.specs.flat_arrays.Flat.{Flat, IsFlat, IsMaskOf}
+use Rattle.nested_arrays_sized_builders.specs.flat_arrays.Growth.{with_marks, with_values}
 use Rattle.nested_arrays_sized_builders.specs.nulls.parts.Keys.{kind_of_keys}
 use Rattle.nested_arrays_sized_builders.specs.pushes.cells.taken.OpenColumns.{Becomes, IsFresh, slots_and}
 use Rattle.nested_arrays_sized_builders.specs.pushes.cells.taken.builders.growth.OpenParts.{is_of_kind}

@@ -4,8 +4,8 @@ use Rattle.nested_arrays_sized_builders.specs.nulls.columnar_memory.declared.Err
 use Rattle.nested_arrays_sized_builders.specs.nulls.columnar_memory.Error.{IsOutOfMemory, IsOverflow}
 use Rattle.nested_arrays_sized_builders.specs.nulls.columnar_memory.Spans.{last_of}
 use Rattle.nested_arrays_sized_builders.specs.nulls.columns.Kinds.{most_slots}
-use Rattle.nested_arrays_sized_builders.specs.nulls.flat_arrays.ByteStrings.{ByteStrings, len_of, marks_of, values_of}
-use Rattle.nested_arrays_sized_builders.specs.nulls.flat_arrays.Growing.{with_slot}
+use Rattle.nested_arrays_sized_builders.specs.flat_arrays.ByteStrings.{ByteStrings, len_of, marks_of, values_of}
+use Rattle.nested_arrays_sized_builders.specs.flat_arrays.Growing.{with_slot}
 
 -- the slots with one more are too many, or the last one ends past the greatest offset
 abbrev pub IsPast : ℕ → ByteStrings → ByteStrings → Type 0

@@ -4,10 +4,10 @@ use Rattle.nested_arrays_sized_builders.specs.nulls.columnar_memory.declared.Err
 use Rattle.nested_arrays_sized_builders.specs.nulls.columnar_memory.Error.{IsOutOfMemory, IsOverflow}
 use Rattle.nested_arrays_sized_builders.specs.nulls.columnar_memory.Spans.{last_of}
 use Rattle.nested_arrays_sized_builders.specs.nulls.columns.Kinds.{most_slots}
-use Rattle.nested_arrays_sized_builders.specs.nulls.flat_arrays.ByteStrings.{ByteStrings, len_of}
-use Rattle.nested_arrays_sized_builders.specs.nulls.flat_arrays.Flat.{Flat, marks_of}
-use Rattle.nested_arrays_sized_builders.specs.nulls.flat_arrays.Growth.{grown}
-use Rattle.nested_arrays_sized_builders.specs.nulls.flat_arrays.Growing.{joined}
+use Rattle.nested_arrays_sized_builders.specs.flat_arrays.ByteStrings.{ByteStrings, len_of}
+use Rattle.nested_arrays_sized_builders.specs.flat_arrays.Flat.{Flat, marks_of}
+use Rattle.nested_arrays_sized_builders.specs.flat_arrays.Growth.{grown}
+use Rattle.nested_arrays_sized_builders.specs.flat_arrays.Growing.{joined}
 
 -- The values of another stand behind the others with their marks; or nothing has changed: memory ran out, or they are more than a column may have.
 abbrev pub JoinsFlat : {V U : Type 0} → Flat V → Flat V → Flat V → Result U Error → Type 0

@@ -15,3 +15,4 @@ pub use Rattle.nested_arrays_sized_builders.specs.FixedListBuilders
 pub use Rattle.nested_arrays_sized_builders.specs.SizedStrings
 pub use Rattle.nested_arrays_sized_builders.specs.NullBuilders
 pub use Rattle.nested_arrays_sized_builders.specs.StructBuilders
+pub use Rattle.nested_arrays_sized_builders.specs.flat_arrays

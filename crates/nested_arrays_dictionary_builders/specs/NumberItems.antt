@@ -3,8 +3,8 @@ use Rattle.std.specs.Prelude.{◌≡◌, ◌⊎◌, ◌<◌, ◌≤◌, [], ◌�
 use Rattle.nested_arrays_sized_builders.specs.nulls.columnar_memory.declared.Error.{Error}
 use Rattle.nested_arrays_sized_builders.specs.nulls.columnar_memory.Error.{IsOutOfMemory, IsOverflow}
 use Rattle.nested_arrays_sized_builders.specs.nulls.columns.Kinds.{most_slots}
-use Rattle.nested_arrays_sized_builders.specs.nulls.flat_arrays.Flat.{Flat}
-use Rattle.nested_arrays_sized_builders.specs.nulls.flat_arrays.Growth.{with_values}
+use Rattle.nested_arrays_sized_builders.specs.flat_arrays.Flat.{Flat}
+use Rattle.nested_arrays_sized_builders.specs.flat_arrays.Growth.{with_values}
 
 -- A number stands behind the others; or nothing has changed: memory ran out, or there are as many as a column may have.
 abbrev pub AddsNumber : {V U : Type 0} → V → Flat V → Flat V → Result U Error → Type 0

@@ -17,11 +17,11 @@ ghost use Rattle.nested_arrays_dictionary_builders.specs.SlotHashes.{hashes_as};
 use crate::items::{SlotIs, TryExtend, TryPush};
 use crate::keys::{copy_of_keys, freeze_parts};
 use crate::places::{add_item, place_of, whole_values};
+use nested_arrays_sized_builders::flat_arrays::PrimitiveArray;
 use nested_arrays_sized_builders::nulls::arrays::AnyArray;
 use nested_arrays_sized_builders::nulls::columnar_memory::{
     Boxed, DataType, Error, MutableBitmap, PhysicalType, Result, Steps,
 };
-use nested_arrays_sized_builders::nulls::flat_arrays::PrimitiveArray;
 use nested_arrays_sized_builders::nulls::generic::{DictionaryArray, DictionaryKey, ToBoxed};
 use nested_arrays_sized_builders::pushes::cells::builders::values::{
     Places, SlotUses, add_use, most_values_of,

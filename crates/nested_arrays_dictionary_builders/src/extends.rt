@@ -16,11 +16,11 @@ ghost use Rattle.nested_arrays_dictionary_builders.specs.JoinedLists.{AddsItems,
 
 use crate::items::MOST_SLOTS;
 use crate::texts::count_of;
-use nested_arrays_sized_builders::nulls::columnar_memory::{Error, NativeType, Offset, Result};
-use nested_arrays_sized_builders::nulls::flat::PrimitiveKind;
-use nested_arrays_sized_builders::nulls::flat_arrays::{
+use nested_arrays_sized_builders::flat_arrays::{
     MutableBinaryArray, MutableBooleanArray, MutablePrimitiveArray, MutableUtf8Array,
 };
+use nested_arrays_sized_builders::nulls::columnar_memory::{Error, NativeType, Offset, Result};
+use nested_arrays_sized_builders::nulls::flat::PrimitiveKind;
 use nested_arrays_sized_builders::pushes::cells::builders::values::{rebase_strings, rebase_texts};
 use nested_arrays_sized_builders::pushes::cells::taken::MutableArray;
 use nested_arrays_sized_builders::{

@@ -10,11 +10,11 @@ ghost use Rattle.nested_arrays_sized_builders.specs.pushes.cells.parts.Marks.{ma
 ghost use Rattle.nested_arrays_dictionary_builders.specs.DictionaryBuilders.{FreezesKeys};
 ghost use Rattle.nested_arrays_sized_builders.specs.pushes.cells.taken.OpenColumns.{IsFrozen};
 
+use nested_arrays_sized_builders::flat_arrays::PrimitiveArray;
 use nested_arrays_sized_builders::nulls::arrays::AnyArray;
 use nested_arrays_sized_builders::nulls::columnar_memory::{
     Bitmap, Buffer, DataType, Index, MutableBitmap, Result,
 };
-use nested_arrays_sized_builders::nulls::flat_arrays::PrimitiveArray;
 use nested_arrays_sized_builders::nulls::generic::{DictionaryArray, DictionaryKey};
 use nested_arrays_sized_builders::pushes::cells::builders::values::SlotUses;
 use nested_arrays_sized_builders::pushes::cells::parts::Marks;

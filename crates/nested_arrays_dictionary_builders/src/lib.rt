@@ -15,13 +15,13 @@ pub use extends::TryExtendFromSelf;
 pub use items::{SlotIs, TryExtend, TryPush};
 pub use nested_arrays_sized_builders::{
     MutValues, MutableFields, MutableFixedSizeBinaryArray, MutableFixedSizeListArray,
-    MutableListArray, MutableNullArray, MutableStructArray,
+    MutableListArray, MutableNullArray, MutableStructArray, flat_arrays,
 };
 
 /// What `nested_arrays_sized_builders::nulls` has, as far as packages above use it.
 pub mod nulls {
     pub use nested_arrays_sized_builders::nulls::{
-        Downcast, NullArrays, columnar_memory, flat_arrays, new_empty_array, new_null_array,
+        Downcast, NullArrays, columnar_memory, new_empty_array, new_null_array,
     };
 
     /// Of `access`.

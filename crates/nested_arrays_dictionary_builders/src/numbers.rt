@@ -7,8 +7,8 @@ ghost use Rattle.nested_arrays_sized_builders.specs.nulls.flat.FlatColumns.{prim
 ghost use Rattle.nested_arrays_dictionary_builders.specs.NumberItems.{AddsNumber};
 
 use crate::items::{MOST_SLOTS, SlotIs, TryExtend, TryPush};
+use nested_arrays_sized_builders::flat_arrays::MutablePrimitiveArray;
 use nested_arrays_sized_builders::nulls::columnar_memory::{Error, NativeType, Result};
-use nested_arrays_sized_builders::nulls::flat_arrays::MutablePrimitiveArray;
 use nested_arrays_sized_builders::nulls::generic::DictionaryKey;
 
 /// Integers are pushed as they are.

@@ -18,7 +18,7 @@ use Rattle.columnar_memory.specs.declared.DataType.TheOpen as layer
 use Rattle.columnar_memory.specs.declared.DataType.TheVariants as types
 use Rattle.columnar_memory.specs.declared.DataType.TheViews.{roll-DataType}
 use Rattle.columnar_memory.specs.declared.Error.{Error}
-use Rattle.flat_arrays.specs.Flat.{mask_of}
+use Rattle.flat_arrays_core.specs.Flat.{mask_of}
 use Rattle.nested_arrays_columns.specs.SoundColumns.{mask_fits}
 use Rattle.nested_arrays_columns.specs.StoredColumns.{Column}
 use Rattle.nested_arrays_flat.proofs.Layers.{layer_itself}

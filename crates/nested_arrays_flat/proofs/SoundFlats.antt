@@ -12,8 +12,8 @@ use Rattle.columnar_memory.specs.declared.PhysicalType.TheVariants as physical
 use Rattle.columnar_memory.specs.declared.PrimitiveType.{PrimitiveType}
 use Rattle.columnar_memory.specs.declared.PrimitiveType.TheVariants as kinds
 use Rattle.columnar_memory.specs.Numbers.{Numbers, one, two, three, first_number}
-use Rattle.flat_arrays.specs.Flat as arrays
-use Rattle.flat_arrays.specs.Flat.{Flat, IsFlat, IsMaskOf}
+use Rattle.flat_arrays_core.specs.Flat as arrays
+use Rattle.flat_arrays_core.specs.Flat.{Flat, IsFlat, IsMaskOf}
 use Rattle.nested_arrays_columns.specs.Kinds.{in_kind, is_signed, same_kind, numbers_of_kind}
 use Rattle.nested_arrays_columns.specs.SoundColumns.{mask_fits, is_stored_as, has_size, is_sound}
 use Rattle.nested_arrays_columns.proofs.Conditions.{parts_of_3, parts_of_4}

@@ -12,10 +12,10 @@ use Rattle.columnar_memory.specs.declared.DataType.TheOpen as layer
 use Rattle.columnar_memory.specs.declared.PhysicalType.{PhysicalType}
 use Rattle.columnar_memory.specs.declared.PhysicalType.TheVariants as physical
 use Rattle.columnar_memory.proofs.buffer_lemmas.Runs.{sum-cons, offset_at-more, nonnegative}
-use Rattle.flat_arrays.proofs.bytes_lemmas.Places.{value_between, text_among}
-use Rattle.flat_arrays.specs.ByteStrings as arrays
-use Rattle.flat_arrays.specs.ByteStrings.{ByteStrings, len_of, values_of}
-use Rattle.flat_arrays.specs.Fits.{IsBinary, IsMaskOf, IsText, binary_layout, text_layout}
+use Rattle.flat_arrays_core.proofs.bytes_lemmas.Places.{value_between, text_among}
+use Rattle.flat_arrays_core.specs.ByteStrings as arrays
+use Rattle.flat_arrays_core.specs.ByteStrings.{ByteStrings, len_of, values_of}
+use Rattle.flat_arrays_core.specs.Fits.{IsBinary, IsMaskOf, IsText, binary_layout, text_layout}
 use Rattle.nested_arrays_columns.proofs.Conditions.{holds_from}
 use Rattle.nested_arrays_columns.specs.Kinds.{most_offset}
 use Rattle.nested_arrays_columns.specs.SoundColumns.{are_offsets, are_strings, has_size, holds_below, is_byte, is_sound, is_stored_as, is_text_at}

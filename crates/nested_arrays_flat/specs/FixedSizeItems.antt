@@ -7,7 +7,7 @@ use Rattle.std.specs.List.{concat}
 use Rattle.columnar_memory.specs.Error.{IsInvalidArgument, IsOutOfMemory, IsOutOfSpec}
 use Rattle.columnar_memory.specs.declared.DataType.TheVariants as types
 use Rattle.columnar_memory.specs.declared.Error.{Error}
-use Rattle.flat_arrays.specs.Flat.{mask_of}
+use Rattle.flat_arrays_core.specs.Flat.{mask_of}
 use Rattle.nested_arrays_columns.specs.StoredColumns.{Column}
 use Rattle.nested_arrays_flat.specs.FlatColumns.{fixed_column}
 

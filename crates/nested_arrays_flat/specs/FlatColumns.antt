@@ -7,8 +7,8 @@ use Rattle.columnar_memory.specs.declared.PrimitiveType.{PrimitiveType}
 use Rattle.columnar_memory.specs.declared.PrimitiveType.TheVariants as kinds
 use Rattle.columnar_memory.specs.Numbers.{Numbers, one, two, three, first_number, second_number, third_number}
 use Rattle.columnar_memory.specs.Spans.{offsets_of}
-use Rattle.flat_arrays.specs.Flat.{Flat}
-use Rattle.flat_arrays.specs.ByteStrings.{ByteStrings}
+use Rattle.flat_arrays_core.specs.Flat.{Flat}
+use Rattle.flat_arrays_core.specs.ByteStrings.{ByteStrings}
 use Rattle.nested_arrays_columns.specs.Kinds.{in_kind, is_signed, same_kind}
 use Rattle.nested_arrays_columns.specs.StoredColumns.{Column, Stored, flat, bits, numbers, pairs, triples, texts, byte_strings}
 use Rattle.nested_arrays_columns.specs.StoredColumns.{fixed_bytes, type_layer}

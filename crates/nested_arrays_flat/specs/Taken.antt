@@ -5,7 +5,7 @@ use Rattle.columnar_memory.specs.declared.PhysicalType.TheVariants as physical
 use Rattle.columnar_memory.specs.declared.PrimitiveType.{PrimitiveType}
 use Rattle.columnar_memory.specs.Layouts.{physical_type}
 use Rattle.columnar_memory.specs.Numbers.{Numbers}
-use Rattle.flat_arrays.specs.Flat.{Flat, flat, IsFlat}
+use Rattle.flat_arrays_core.specs.Flat.{Flat, flat, IsFlat}
 use Rattle.nested_arrays_columns.specs.StoredColumns.{Column, column_type}
 use Rattle.nested_arrays_flat.specs.ColumnMasks.{column_mask}
 use Rattle.nested_arrays_flat.specs.FlatColumns.{primitive_column}

@@ -8,10 +8,10 @@ use Rattle.std.proofs.lemmas.List.{append-nil, drop_all, get_or-take, length-tak
 use Rattle.std.proofs.lemmas.List.Edits.{map_over_more}
 use Rattle.std.proofs.lemmas.List.Folds.{list_all_at, list_all-append}
 use mathlib.Core.Logic.{inl, inr}
-use Rattle.nested_arrays_builder_pushes.specs.nulls.columnar_memory.declared.Error.{Error}
-use Rattle.nested_arrays_builder_pushes.specs.nulls.columnar_memory.Error.{IsOutOfMemory, IsOverflow}
-use Rattle.nested_arrays_builder_pushes.specs.nulls.columns.Slots.{null}
-use Rattle.nested_arrays_builder_pushes.specs.nulls.columns.StoredColumns.{Column}
+use Rattle.nested_arrays_nulls.specs.columnar_memory.declared.Error.{Error}
+use Rattle.nested_arrays_nulls.specs.columnar_memory.Error.{IsOutOfMemory, IsOverflow}
+use Rattle.nested_arrays_nulls.specs.columns.Slots.{null}
+use Rattle.nested_arrays_nulls.specs.columns.StoredColumns.{Column}
 use Rattle.nested_arrays_builder_pushes.specs.cells.parts.Open.{Open, column_of, first_slots, opened, IsPushed, IsRefusal}
 use Rattle.nested_arrays_builder_pushes.proofs.columns_lemmas.Fitting.{null_fits}
 use Rattle.nested_arrays_builder_pushes.proofs.cells_lemmas.taken_lemmas.builders_lemmas.CutParts.{length_over}

@@ -2,16 +2,16 @@
 use Rattle.std.proofs.Common.{◌≡◌, ◌∙◌, Bool, true, false, refl, ap}
 use Rattle.std.specs.Prelude.{Result, Ok, Err, is_some}
 use mathlib.Core.Logic.{inr}
-use Rattle.nested_arrays_builder_pushes.specs.nulls.columnar_memory.declared.DataType.{DataType}
-use Rattle.nested_arrays_builder_pushes.specs.nulls.columnar_memory.declared.Error.{Error}
-use Rattle.nested_arrays_builder_pushes.specs.nulls.columnar_memory.declared.Field.{Field}
-use Rattle.nested_arrays_builder_pushes.specs.nulls.columnar_memory.Layouts.{physical_type}
-use Rattle.nested_arrays_builder_pushes.specs.nulls.columns.SoundColumns.{is_sound}
-use Rattle.nested_arrays_builder_pushes.specs.nulls.columns.StoredColumns.{Column, column_type, type_layer}
-use Rattle.nested_arrays_builder_pushes.specs.nulls.arrays.Answers.{IsCheckedAs}
-use Rattle.nested_arrays_builder_pushes.specs.nulls.generic.ListTypes.{items_field, list_layout}
+use Rattle.nested_arrays_nulls.specs.columnar_memory.declared.DataType.{DataType}
+use Rattle.nested_arrays_nulls.specs.columnar_memory.declared.Error.{Error}
+use Rattle.nested_arrays_nulls.specs.columnar_memory.declared.Field.{Field}
+use Rattle.nested_arrays_nulls.specs.columnar_memory.Layouts.{physical_type}
+use Rattle.nested_arrays_nulls.specs.columns.SoundColumns.{is_sound}
+use Rattle.nested_arrays_nulls.specs.columns.StoredColumns.{Column, column_type, type_layer}
+use Rattle.nested_arrays_nulls.specs.arrays.Answers.{IsCheckedAs}
+use Rattle.nested_arrays_nulls.specs.generic.ListTypes.{items_field, list_layout}
 use Rattle.nested_arrays_builder_pushes.specs.cells.taken.OpenColumns.{IsFrozen}
-use Rattle.nested_arrays_builder_pushes.proofs.nulls_lemmas.flat_lemmas.Layers.{layer_layout, type_lies}
+use Rattle.nested_arrays_nulls.proofs.flat_lemmas.Layers.{layer_layout, type_lies}
 use Rattle.nested_arrays_generic_builders.proofs.ListsStored.{layered, list_layer, there}
 
 layout_of : (large : Bool) (item : Field) → layer_layout (list_layer large item) ≡ list_layout large

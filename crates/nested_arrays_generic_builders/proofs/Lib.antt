@@ -10,5 +10,5 @@ pub mod OpenStructs
 pub mod StructMakes
 pub mod StructRows
 pub mod StructsStored
-pub use Rattle.nested_arrays_builder_pushes.proofs.nulls_lemmas
+pub use Rattle.nested_arrays_nulls.proofs as nulls_lemmas
 pub use Rattle.nested_arrays_builder_pushes.proofs as pushes_lemmas

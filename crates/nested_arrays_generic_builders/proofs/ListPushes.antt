@@ -2,10 +2,10 @@
 use Rattle.std.proofs.Common.{◌≡◌, ◌∙◌, ◌<◌, ◌≤◌, ◌+◌, ◌-◌, ℕ, List, [], ◌∷◌, length, Bool, true, false, not, refl, sym, ap, arith, get_or}
 use Rattle.std.specs.Prelude.{Option, Some, Result, Ok, Err, ◌⊎◌, slice_get}
 use mathlib.Core.Logic.{inl, inr}
-use Rattle.nested_arrays_builder_pushes.specs.nulls.columnar_memory.declared.Error.{Error}
-use Rattle.nested_arrays_builder_pushes.specs.nulls.columnar_memory.Error.{IsOutOfMemory, IsOverflow}
-use Rattle.nested_arrays_builder_pushes.specs.nulls.columnar_memory.Spans.{Spans, extended, last_of}
-use Rattle.nested_arrays_builder_pushes.specs.nulls.columns.Kinds.{most_slots}
+use Rattle.nested_arrays_nulls.specs.columnar_memory.declared.Error.{Error}
+use Rattle.nested_arrays_nulls.specs.columnar_memory.Error.{IsOutOfMemory, IsOverflow}
+use Rattle.nested_arrays_nulls.specs.columnar_memory.Spans.{Spans, extended, last_of}
+use Rattle.nested_arrays_nulls.specs.columns.Kinds.{most_slots}
 use Rattle.nested_arrays_generic_builders.specs.ListBuilders.{AddsNullList, AddsSpan, ClosesList, HasNoRoom, ListParts, list_parts}
 
 module _ {M U : Type 0} (greatest : ℕ) (old : ListParts M) (ms : List Bool) (s : Spans) where

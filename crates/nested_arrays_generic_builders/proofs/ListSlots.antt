@@ -6,16 +6,16 @@ use Rattle.std.proofs.lemmas.List.{get_or_append_left, get_or_at, get_or-replica
 use Rattle.std.proofs.lemmas.Bool.{eqb-true}
 use Rattle.std.proofs.lemmas.List.{length-replicate, length-take-le}
 use Rattle.std.proofs.lemmas.Option.{get_or_from_slice_get}
-use Rattle.nested_arrays_builder_pushes.specs.nulls.columnar_memory.declared.DataType.{DataType}
-use Rattle.nested_arrays_builder_pushes.specs.nulls.columnar_memory.Spans.{Spans, extended, first_spans, last_of, offset_at, offsets_of}
-use Rattle.nested_arrays_builder_pushes.specs.nulls.columns.Slots.{Slot, null, items, in_slots, window}
-use Rattle.nested_arrays_builder_pushes.specs.nulls.columns.SoundColumns.{mask_fits}
-use Rattle.nested_arrays_builder_pushes.specs.nulls.columns.StoredColumns.{Column, is_valid_at, lists, slot_at, slots}
+use Rattle.nested_arrays_nulls.specs.columnar_memory.declared.DataType.{DataType}
+use Rattle.nested_arrays_nulls.specs.columnar_memory.Spans.{Spans, extended, first_spans, last_of, offset_at, offsets_of}
+use Rattle.nested_arrays_nulls.specs.columns.Slots.{Slot, null, items, in_slots, window}
+use Rattle.nested_arrays_nulls.specs.columns.SoundColumns.{mask_fits}
+use Rattle.nested_arrays_nulls.specs.columns.StoredColumns.{Column, is_valid_at, lists, slot_at, slots}
 use Rattle.nested_arrays_builder_pushes.specs.cells.parts.Marks.{marks, mask_of_marks}
 use Rattle.nested_arrays_builder_pushes.proofs.columns_lemmas.Windows.{window_same}
-use Rattle.nested_arrays_builder_pushes.proofs.nulls_lemmas.arrays_lemmas.flat_lemmas.Offsets.{get_or-offsets_of, spans_count}
-use Rattle.nested_arrays_builder_pushes.proofs.nulls_lemmas.arrays_lemmas.columnar_memory_lemmas.buffer_lemmas.Runs.{offset_at-le-last_of}
-use Rattle.nested_arrays_builder_pushes.proofs.nulls_lemmas.arrays_lemmas.columnar_memory_lemmas.buffer_lemmas.Runs.{offset_at-more}
+use Rattle.nested_arrays_nulls.proofs.arrays_lemmas.flat_lemmas.Offsets.{get_or-offsets_of, spans_count}
+use Rattle.nested_arrays_nulls.proofs.arrays_lemmas.columnar_memory_lemmas.buffer_lemmas.Runs.{offset_at-le-last_of}
+use Rattle.nested_arrays_nulls.proofs.arrays_lemmas.columnar_memory_lemmas.buffer_lemmas.Runs.{offset_at-more}
 use Rattle.nested_arrays_builder_pushes.proofs.parts_lemmas.MarkLists.{marks_back}
 
 -- ---- marks

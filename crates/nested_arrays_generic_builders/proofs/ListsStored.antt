@@ -6,25 +6,25 @@ use mathlib.Core.Logic.{inl, inr}
 use denote.Hole.Carrier
 use Rattle.std.proofs.lemmas.Bool.{and_from, eq-eqb, false≢true, le-leb, leb-true, cases_Bool}
 use Rattle.std.proofs.lemmas.List.{append-nil, length-append, length-map}
-use Rattle.nested_arrays_builder_pushes.specs.nulls.columnar_memory.declared.DataType.{DataType}
-use Rattle.nested_arrays_builder_pushes.specs.nulls.columnar_memory.declared.DataType.TheOpen as layer
-use Rattle.nested_arrays_builder_pushes.specs.nulls.columnar_memory.declared.DataType.TheViews.{roll-DataType}
-use Rattle.nested_arrays_builder_pushes.specs.nulls.columnar_memory.declared.Field.{Field}
-use Rattle.nested_arrays_builder_pushes.specs.nulls.columnar_memory.Bits.{unset_count}
-use Rattle.nested_arrays_builder_pushes.specs.nulls.columnar_memory.Equality.{same_type}
-use Rattle.nested_arrays_builder_pushes.specs.nulls.columnar_memory.Layouts.{physical_type}
-use Rattle.nested_arrays_builder_pushes.specs.nulls.columnar_memory.Spans.{Spans, last_of, offsets_of, spans_of}
-use Rattle.nested_arrays_builder_pushes.specs.nulls.columns.Children.{joined_items}
-use Rattle.nested_arrays_builder_pushes.specs.nulls.columns.FreshColumns.{fresh, is_valid, mask_of}
-use Rattle.nested_arrays_builder_pushes.specs.nulls.columns.FreshLaws.{is_buildable}
-use Rattle.nested_arrays_builder_pushes.specs.nulls.columns.Kinds.{most_offset, most_slots}
-use Rattle.nested_arrays_builder_pushes.specs.nulls.columns.OpenBatch.{fits, is_length, most_long, most_short}
-use Rattle.nested_arrays_builder_pushes.specs.nulls.columns.Slots.{Slot, null}
-use Rattle.nested_arrays_builder_pushes.specs.nulls.columns.SoundColumns.{are_offsets, has_item_type, is_sound, mask_fits}
-use Rattle.nested_arrays_builder_pushes.specs.nulls.columns.StoredColumns.{Column, column_len, column_type, lists, type_layer}
-use Rattle.nested_arrays_builder_pushes.specs.nulls.flat.ColumnMasks.{column_mask}
-use Rattle.nested_arrays_builder_pushes.specs.nulls.generic.ListTypes.{has_list_item_type, items_field, items_in, list_type}
-use Rattle.nested_arrays_builder_pushes.specs.nulls.arrays.ItemTypes.{item_field}
+use Rattle.nested_arrays_nulls.specs.columnar_memory.declared.DataType.{DataType}
+use Rattle.nested_arrays_nulls.specs.columnar_memory.declared.DataType.TheOpen as layer
+use Rattle.nested_arrays_nulls.specs.columnar_memory.declared.DataType.TheViews.{roll-DataType}
+use Rattle.nested_arrays_nulls.specs.columnar_memory.declared.Field.{Field}
+use Rattle.nested_arrays_nulls.specs.columnar_memory.Bits.{unset_count}
+use Rattle.nested_arrays_nulls.specs.columnar_memory.Equality.{same_type}
+use Rattle.nested_arrays_nulls.specs.columnar_memory.Layouts.{physical_type}
+use Rattle.nested_arrays_nulls.specs.columnar_memory.Spans.{Spans, last_of, offsets_of, spans_of}
+use Rattle.nested_arrays_nulls.specs.columns.Children.{joined_items}
+use Rattle.nested_arrays_nulls.specs.columns.FreshColumns.{fresh, is_valid, mask_of}
+use Rattle.nested_arrays_nulls.specs.columns.FreshLaws.{is_buildable}
+use Rattle.nested_arrays_nulls.specs.columns.Kinds.{most_offset, most_slots}
+use Rattle.nested_arrays_nulls.specs.columns.OpenBatch.{fits, is_length, most_long, most_short}
+use Rattle.nested_arrays_nulls.specs.columns.Slots.{Slot, null}
+use Rattle.nested_arrays_nulls.specs.columns.SoundColumns.{are_offsets, has_item_type, is_sound, mask_fits}
+use Rattle.nested_arrays_nulls.specs.columns.StoredColumns.{Column, column_len, column_type, lists, type_layer}
+use Rattle.nested_arrays_nulls.specs.flat.ColumnMasks.{column_mask}
+use Rattle.nested_arrays_nulls.specs.generic.ListTypes.{has_list_item_type, items_field, items_in, list_type}
+use Rattle.nested_arrays_nulls.specs.arrays.ItemTypes.{item_field}
 use Rattle.nested_arrays_builder_pushes.specs.cells.parts.Marks.{marks, mask_of_marks}
 use Rattle.nested_arrays_builder_pushes.specs.cells.taken.builders.growth.OpenParts.{is_list, item_of, item_spans, marks_of, most_items}
 use Rattle.nested_arrays_builder_pushes.proofs.columns_lemmas.Conditions.{parts_of_4}
@@ -35,10 +35,10 @@ use Rattle.nested_arrays_builder_pushes.proofs.growth_lemmas.LayerParts.{fresh_i
 use Rattle.nested_arrays_builder_pushes.proofs.growth_lemmas.Laws.{large_lists_fit_by_items, lists_fit_by_items, one_more_list, one_more_large_list}
 use Rattle.nested_arrays_builder_pushes.proofs.growth_lemmas.Masks.{mask_by_count, mask_is}
 use Rattle.nested_arrays_builder_pushes.proofs.growth_lemmas.Pieces.{item_spans_are}
-use Rattle.nested_arrays_builder_pushes.proofs.nulls_lemmas.arrays_lemmas.ListParts.{lists_parts, lists_whole}
-use Rattle.nested_arrays_builder_pushes.proofs.nulls_lemmas.arrays_lemmas.parts_lemmas.OffsetLists.{offsets_end_within}
-use Rattle.nested_arrays_builder_pushes.proofs.nulls_lemmas.arrays_lemmas.columns_lemmas.SoundParts.{sound_items}
-use Rattle.nested_arrays_builder_pushes.proofs.nulls_lemmas.arrays_lemmas.columnar_memory_lemmas.buffer_lemmas.Runs.{spans_of-offsets_of}
+use Rattle.nested_arrays_nulls.proofs.arrays_lemmas.ListParts.{lists_parts, lists_whole}
+use Rattle.nested_arrays_nulls.proofs.arrays_lemmas.parts_lemmas.OffsetLists.{offsets_end_within}
+use Rattle.nested_arrays_nulls.proofs.arrays_lemmas.columns_lemmas.SoundParts.{sound_items}
+use Rattle.nested_arrays_nulls.proofs.arrays_lemmas.columnar_memory_lemmas.buffer_lemmas.Runs.{spans_of-offsets_of}
 use Rattle.nested_arrays_builder_pushes.proofs.parts_lemmas.MarkLists.{marks_back}
 use Rattle.nested_arrays_generic_builders.specs.ListBuilders.{lists_of}
 

@@ -7,22 +7,22 @@ use Rattle.std.proofs.lemmas.Bool.{cases_Bool, false≢true}
 use Rattle.std.proofs.lemmas.List.{append-nil, length-append, length-take-le, get_or-take, take_all}
 use Rattle.std.proofs.lemmas.List.Sums.{sum_by_push}
 use mathlib.Core.Logic.{inl, inr}
-use Rattle.nested_arrays_builder_pushes.specs.nulls.columnar_memory.declared.DataType.{DataType}
-use Rattle.nested_arrays_builder_pushes.specs.nulls.columnar_memory.declared.Error.{Error}
-use Rattle.nested_arrays_builder_pushes.specs.nulls.columnar_memory.declared.Field.{Field}
-use Rattle.nested_arrays_builder_pushes.specs.nulls.columnar_memory.Equality.{same_type-Decides}
-use Rattle.nested_arrays_builder_pushes.specs.nulls.columnar_memory.Error.{IsOutOfMemory, IsOutOfSpec, IsOverflow}
-use Rattle.nested_arrays_builder_pushes.specs.nulls.columnar_memory.Results.{OrOutOfMemory}
-use Rattle.nested_arrays_builder_pushes.specs.nulls.columnar_memory.Spans.{Spans, extended, first_spans, last_of, no_spans, offset_at, offsets_of}
-use Rattle.nested_arrays_builder_pushes.specs.nulls.columns.Children.{items_of, joined_items}
-use Rattle.nested_arrays_builder_pushes.specs.nulls.columns.FreshColumns.{fresh}
-use Rattle.nested_arrays_builder_pushes.specs.nulls.columns.FreshLaws.{is_buildable}
-use Rattle.nested_arrays_builder_pushes.specs.nulls.columns.Kinds.{most_slots}
-use Rattle.nested_arrays_builder_pushes.specs.nulls.columns.OpenBatch.{fits}
-use Rattle.nested_arrays_builder_pushes.specs.nulls.columns.Slots.{Slot, null, window}
-use Rattle.nested_arrays_builder_pushes.specs.nulls.columns.SoundColumns.{has_item_type, is_sound}
-use Rattle.nested_arrays_builder_pushes.specs.nulls.columns.StoredColumns.{Column, column_len, column_type, lists, slot_at, slots, type_layer}
-use Rattle.nested_arrays_builder_pushes.specs.nulls.generic.ListTypes.{items_field}
+use Rattle.nested_arrays_nulls.specs.columnar_memory.declared.DataType.{DataType}
+use Rattle.nested_arrays_nulls.specs.columnar_memory.declared.Error.{Error}
+use Rattle.nested_arrays_nulls.specs.columnar_memory.declared.Field.{Field}
+use Rattle.nested_arrays_nulls.specs.columnar_memory.Equality.{same_type-Decides}
+use Rattle.nested_arrays_nulls.specs.columnar_memory.Error.{IsOutOfMemory, IsOutOfSpec, IsOverflow}
+use Rattle.nested_arrays_nulls.specs.columnar_memory.Results.{OrOutOfMemory}
+use Rattle.nested_arrays_nulls.specs.columnar_memory.Spans.{Spans, extended, first_spans, last_of, no_spans, offset_at, offsets_of}
+use Rattle.nested_arrays_nulls.specs.columns.Children.{items_of, joined_items}
+use Rattle.nested_arrays_nulls.specs.columns.FreshColumns.{fresh}
+use Rattle.nested_arrays_nulls.specs.columns.FreshLaws.{is_buildable}
+use Rattle.nested_arrays_nulls.specs.columns.Kinds.{most_slots}
+use Rattle.nested_arrays_nulls.specs.columns.OpenBatch.{fits}
+use Rattle.nested_arrays_nulls.specs.columns.Slots.{Slot, null, window}
+use Rattle.nested_arrays_nulls.specs.columns.SoundColumns.{has_item_type, is_sound}
+use Rattle.nested_arrays_nulls.specs.columns.StoredColumns.{Column, column_len, column_type, lists, slot_at, slots, type_layer}
+use Rattle.nested_arrays_nulls.specs.generic.ListTypes.{items_field}
 use Rattle.nested_arrays_builder_pushes.specs.cells.parts.Marks.{mask_of_marks}
 use Rattle.nested_arrays_builder_pushes.specs.cells.parts.Open.{opened}
 use Rattle.nested_arrays_builder_pushes.specs.cells.taken.OpenColumns.{AddsNull, Becomes, IsEmptied, IsFresh, IsFrozen, KeepsFirst, TakesColumn, slots_and}
@@ -35,9 +35,9 @@ use Rattle.nested_arrays_builder_pushes.proofs.growth_lemmas.FirstOnes.{items_cu
 use Rattle.nested_arrays_builder_pushes.proofs.growth_lemmas.Limits.{first_ones_fit}
 use Rattle.nested_arrays_builder_pushes.proofs.growth_lemmas.Masks.{marks_cut, marks_one_more}
 use Rattle.nested_arrays_builder_pushes.proofs.growth_lemmas.Pieces.{item_spans_cut, item_spans_one_more, joined_one_more}
-use Rattle.nested_arrays_builder_pushes.proofs.nulls_lemmas.generic_lemmas.ListParts.{list_whole}
-use Rattle.nested_arrays_builder_pushes.proofs.nulls_lemmas.arrays_lemmas.flat_lemmas.Offsets.{spans_count}
-use Rattle.nested_arrays_builder_pushes.proofs.nulls_lemmas.arrays_lemmas.columnar_memory_lemmas.buffer_lemmas.Runs.{offset_at-le-last_of}
+use Rattle.nested_arrays_nulls.proofs.generic_lemmas.ListParts.{list_whole}
+use Rattle.nested_arrays_nulls.proofs.arrays_lemmas.flat_lemmas.Offsets.{spans_count}
+use Rattle.nested_arrays_nulls.proofs.arrays_lemmas.columnar_memory_lemmas.buffer_lemmas.Runs.{offset_at-le-last_of}
 use Rattle.nested_arrays_generic_builders.specs.ListBuilders.{AddsList, AddsNullList, AreLists, ClosesColumn, ClosesList, FreezesParts}
 use Rattle.nested_arrays_generic_builders.specs.ListBuilders.{ListParts, list_parts, list_slot, lists_column, no_lists}
 use Rattle.nested_arrays_generic_builders.proofs.ListSlots.{first_lists, list_at, list_slots, one_list_more, window_rest}

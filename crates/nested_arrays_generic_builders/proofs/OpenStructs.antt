@@ -5,17 +5,17 @@ use Rattle.std.specs.List.{list_all}
 use Rattle.std.proofs.lemmas.Bool.{and_from, and_parts}
 use Rattle.std.proofs.lemmas.List.{get_or_append_left, get_or-take, length-append, length-take-le}
 use mathlib.Core.Logic.{inl, inr}
-use Rattle.nested_arrays_builder_pushes.specs.nulls.columnar_memory.declared.DataType.{DataType}
-use Rattle.nested_arrays_builder_pushes.specs.nulls.columnar_memory.declared.Error.{Error}
-use Rattle.nested_arrays_builder_pushes.specs.nulls.columnar_memory.Error.{IsOutOfMemory, IsOutOfSpec, IsOverflow}
-use Rattle.nested_arrays_builder_pushes.specs.nulls.columnar_memory.Results.{OrOutOfMemory}
-use Rattle.nested_arrays_builder_pushes.specs.nulls.columns.FreshColumns.{fresh}
-use Rattle.nested_arrays_builder_pushes.specs.nulls.columns.FreshLaws.{is_buildable}
-use Rattle.nested_arrays_builder_pushes.specs.nulls.columns.Kinds.{most_slots}
-use Rattle.nested_arrays_builder_pushes.specs.nulls.columns.OpenBatch.{fits}
-use Rattle.nested_arrays_builder_pushes.specs.nulls.columns.Slots.{Slot, null, window}
-use Rattle.nested_arrays_builder_pushes.specs.nulls.columns.SoundColumns.{are_sound, has_field_types, have_len, is_sound, mask_fits}
-use Rattle.nested_arrays_builder_pushes.specs.nulls.columns.StoredColumns.{Column, Columns, column_type, slots, slots_at, type_layer}
+use Rattle.nested_arrays_nulls.specs.columnar_memory.declared.DataType.{DataType}
+use Rattle.nested_arrays_nulls.specs.columnar_memory.declared.Error.{Error}
+use Rattle.nested_arrays_nulls.specs.columnar_memory.Error.{IsOutOfMemory, IsOutOfSpec, IsOverflow}
+use Rattle.nested_arrays_nulls.specs.columnar_memory.Results.{OrOutOfMemory}
+use Rattle.nested_arrays_nulls.specs.columns.FreshColumns.{fresh}
+use Rattle.nested_arrays_nulls.specs.columns.FreshLaws.{is_buildable}
+use Rattle.nested_arrays_nulls.specs.columns.Kinds.{most_slots}
+use Rattle.nested_arrays_nulls.specs.columns.OpenBatch.{fits}
+use Rattle.nested_arrays_nulls.specs.columns.Slots.{Slot, null, window}
+use Rattle.nested_arrays_nulls.specs.columns.SoundColumns.{are_sound, has_field_types, have_len, is_sound, mask_fits}
+use Rattle.nested_arrays_nulls.specs.columns.StoredColumns.{Column, Columns, column_type, slots, slots_at, type_layer}
 use Rattle.nested_arrays_builder_pushes.specs.cells.parts.Marks.{mask_of_marks}
 use Rattle.nested_arrays_builder_pushes.specs.cells.parts.Open.{Open, first_slots}
 use Rattle.nested_arrays_builder_pushes.specs.cells.taken.OpenColumns.{AddsNull, Becomes, IsEmptied, IsFresh, KeepsFirst, TakesColumn, slots_and}

@@ -4,15 +4,15 @@ use Rattle.std.specs.Prelude.{Option, Result, Ok, Err, ◌&&◌, ◌==◌}
 use Rattle.std.specs.List.{list_all}
 use Rattle.std.proofs.lemmas.Bool.{and_from, and_parts, eqb-true, false≢true}
 use Rattle.std.proofs.lemmas.List.{take_at}
-use Rattle.nested_arrays_builder_pushes.specs.nulls.arrays.Lengths.{struct_len}
-use Rattle.nested_arrays_builder_pushes.specs.nulls.columnar_memory.declared.DataType.{DataType}
-use Rattle.nested_arrays_builder_pushes.specs.nulls.columnar_memory.declared.DataType.TheOpen as layer
-use Rattle.nested_arrays_builder_pushes.specs.nulls.columnar_memory.declared.Error.{Error}
-use Rattle.nested_arrays_builder_pushes.specs.nulls.columnar_memory.Results.{OrOutOfMemory}
-use Rattle.nested_arrays_builder_pushes.specs.nulls.columns.FreshLaws.{is_buildable}
-use Rattle.nested_arrays_builder_pushes.specs.nulls.columns.Kinds.{most_slots}
-use Rattle.nested_arrays_builder_pushes.specs.nulls.columns.SoundColumns.{are_sound, has_field_types, have_len, is_sound, mask_fits}
-use Rattle.nested_arrays_builder_pushes.specs.nulls.columns.StoredColumns.{Column, Columns, column_len, in_columns, records, type_layer}
+use Rattle.nested_arrays_nulls.specs.arrays.Lengths.{struct_len}
+use Rattle.nested_arrays_nulls.specs.columnar_memory.declared.DataType.{DataType}
+use Rattle.nested_arrays_nulls.specs.columnar_memory.declared.DataType.TheOpen as layer
+use Rattle.nested_arrays_nulls.specs.columnar_memory.declared.Error.{Error}
+use Rattle.nested_arrays_nulls.specs.columnar_memory.Results.{OrOutOfMemory}
+use Rattle.nested_arrays_nulls.specs.columns.FreshLaws.{is_buildable}
+use Rattle.nested_arrays_nulls.specs.columns.Kinds.{most_slots}
+use Rattle.nested_arrays_nulls.specs.columns.SoundColumns.{are_sound, has_field_types, have_len, is_sound, mask_fits}
+use Rattle.nested_arrays_nulls.specs.columns.StoredColumns.{Column, Columns, column_len, in_columns, records, type_layer}
 use Rattle.nested_arrays_builder_pushes.specs.cells.parts.Marks.{TakesMark}
 use Rattle.nested_arrays_builder_pushes.specs.cells.parts.Open.{IsWithin, Open, column_of}
 use Rattle.nested_arrays_builder_pushes.proofs.cells_lemmas.taken_lemmas.OpenColumns.{open_long}

@@ -7,21 +7,21 @@ use Rattle.std.specs.List.{list_all}
 use Rattle.std.proofs.lemmas.Bool.{and_from, and_parts, cases_Bool, false≢true, le-leb, leb-true}
 use Rattle.std.proofs.lemmas.List.{length-map}
 use mathlib.Core.Logic.{inl, inr}
-use Rattle.nested_arrays_builder_pushes.specs.nulls.columnar_memory.declared.DataType.{DataType}
-use Rattle.nested_arrays_builder_pushes.specs.nulls.columnar_memory.declared.DataType.TheOpen as layer
-use Rattle.nested_arrays_builder_pushes.specs.nulls.columnar_memory.declared.Field.{Field}
-use Rattle.nested_arrays_builder_pushes.specs.nulls.columnar_memory.Equality.{same_type, same_type-Decides}
-use Rattle.nested_arrays_builder_pushes.specs.nulls.columns.Children.{field_of, field_slots}
-use Rattle.nested_arrays_builder_pushes.specs.nulls.columns.FreshColumns.{fresh, is_valid, mask_of}
-use Rattle.nested_arrays_builder_pushes.specs.nulls.columns.FreshLaws.{are_buildable, is_buildable}
-use Rattle.nested_arrays_builder_pushes.specs.nulls.columns.Kinds.{most_slots}
-use Rattle.nested_arrays_builder_pushes.specs.nulls.columns.OpenBatch.{fits}
-use Rattle.nested_arrays_builder_pushes.specs.nulls.columns.Rows.{columns_fit, fresh_columns}
-use Rattle.nested_arrays_builder_pushes.specs.nulls.columns.Slots.{Slot, null, window}
-use Rattle.nested_arrays_builder_pushes.specs.nulls.columns.SoundColumns.{has_field_types, have_types, is_sound}
-use Rattle.nested_arrays_builder_pushes.specs.nulls.columns.StoredColumns.{Column, Columns, column_then, column_type, in_columns, no_column}
-use Rattle.nested_arrays_builder_pushes.specs.nulls.columns.StoredColumns.{records, slots, type_layer}
-use Rattle.nested_arrays_builder_pushes.specs.nulls.flat.ColumnMasks.{column_mask}
+use Rattle.nested_arrays_nulls.specs.columnar_memory.declared.DataType.{DataType}
+use Rattle.nested_arrays_nulls.specs.columnar_memory.declared.DataType.TheOpen as layer
+use Rattle.nested_arrays_nulls.specs.columnar_memory.declared.Field.{Field}
+use Rattle.nested_arrays_nulls.specs.columnar_memory.Equality.{same_type, same_type-Decides}
+use Rattle.nested_arrays_nulls.specs.columns.Children.{field_of, field_slots}
+use Rattle.nested_arrays_nulls.specs.columns.FreshColumns.{fresh, is_valid, mask_of}
+use Rattle.nested_arrays_nulls.specs.columns.FreshLaws.{are_buildable, is_buildable}
+use Rattle.nested_arrays_nulls.specs.columns.Kinds.{most_slots}
+use Rattle.nested_arrays_nulls.specs.columns.OpenBatch.{fits}
+use Rattle.nested_arrays_nulls.specs.columns.Rows.{columns_fit, fresh_columns}
+use Rattle.nested_arrays_nulls.specs.columns.Slots.{Slot, null, window}
+use Rattle.nested_arrays_nulls.specs.columns.SoundColumns.{has_field_types, have_types, is_sound}
+use Rattle.nested_arrays_nulls.specs.columns.StoredColumns.{Column, Columns, column_then, column_type, in_columns, no_column}
+use Rattle.nested_arrays_nulls.specs.columns.StoredColumns.{records, slots, type_layer}
+use Rattle.nested_arrays_nulls.specs.flat.ColumnMasks.{column_mask}
 use Rattle.nested_arrays_builder_pushes.specs.cells.builders.KeptColumns.{column_kept}
 use Rattle.nested_arrays_builder_pushes.specs.cells.builders.Parts.{HoldsParts, IsKept, has_room, is_fitting, of_fields, opened_each}
 use Rattle.nested_arrays_builder_pushes.specs.cells.builders.Parts.{with_each}

@@ -4,4 +4,5 @@ pub mod StructBuilders
 pub mod StructLoans
 pub mod TakenBack
 pub use Rattle.nested_arrays_builder_pushes.specs as pushes
-pub use Rattle.nested_arrays_builder_pushes.specs.nulls
+pub use Rattle.nested_arrays_nulls.specs as nulls
+pub use Rattle.nested_arrays_builder_pushes.specs.flat_arrays

@@ -4,17 +4,17 @@ use Rattle.std.specs.Prelude.{Option, Some, None, get_or, sum, Result, Ok, Err, 
 use Rattle.std.proofs.Common.{refl}
 use Rattle.std.specs.Coded.{Coded, code_by, coded×, coded_list, coded_bool, coded_ℕ}
 use Rattle.columnar_memory_types.specs.contracts.data_type.DataType as data_type
-use Rattle.nested_arrays_builder_pushes.specs.nulls.columnar_memory.declared.DataType.{DataType}
-use Rattle.nested_arrays_builder_pushes.specs.nulls.columnar_memory.declared.DataType.TheVariants as types
-use Rattle.nested_arrays_builder_pushes.specs.nulls.columnar_memory.declared.Error.{Error}
-use Rattle.nested_arrays_builder_pushes.specs.nulls.columnar_memory.declared.Field.{Field}
-use Rattle.nested_arrays_builder_pushes.specs.nulls.columnar_memory.Error.{IsOutOfMemory, IsOverflow}
-use Rattle.nested_arrays_builder_pushes.specs.nulls.columnar_memory.Spans.{Spans, extended, first_spans, last_of, no_spans, offsets_of}
-use Rattle.nested_arrays_builder_pushes.specs.nulls.columns.Kinds.{most_slots}
-use Rattle.nested_arrays_builder_pushes.specs.nulls.columns.Slots.{Slot, in_slots, items}
-use Rattle.nested_arrays_builder_pushes.specs.nulls.columns.SoundColumns.{is_sound}
-use Rattle.nested_arrays_builder_pushes.specs.nulls.columns.StoredColumns.{Column, column_len, column_type, lists, slots, type_layer}
-use Rattle.nested_arrays_builder_pushes.specs.nulls.generic.ListTypes.{items_field}
+use Rattle.nested_arrays_nulls.specs.columnar_memory.declared.DataType.{DataType}
+use Rattle.nested_arrays_nulls.specs.columnar_memory.declared.DataType.TheVariants as types
+use Rattle.nested_arrays_nulls.specs.columnar_memory.declared.Error.{Error}
+use Rattle.nested_arrays_nulls.specs.columnar_memory.declared.Field.{Field}
+use Rattle.nested_arrays_nulls.specs.columnar_memory.Error.{IsOutOfMemory, IsOverflow}
+use Rattle.nested_arrays_nulls.specs.columnar_memory.Spans.{Spans, extended, first_spans, last_of, no_spans, offsets_of}
+use Rattle.nested_arrays_nulls.specs.columns.Kinds.{most_slots}
+use Rattle.nested_arrays_nulls.specs.columns.Slots.{Slot, in_slots, items}
+use Rattle.nested_arrays_nulls.specs.columns.SoundColumns.{is_sound}
+use Rattle.nested_arrays_nulls.specs.columns.StoredColumns.{Column, column_len, column_type, lists, slots, type_layer}
+use Rattle.nested_arrays_nulls.specs.generic.ListTypes.{items_field}
 use Rattle.nested_arrays_builder_pushes.specs.cells.parts.Marks.{mask_of_marks}
 use Rattle.nested_arrays_builder_pushes.specs.cells.taken.OpenColumns.{IsEmptied, IsFrozen, slots_and}
 

@@ -6,20 +6,20 @@ use Rattle.std.specs.List.{list_all}
 use Rattle.std.proofs.Common.{refl}
 use Rattle.std.specs.Coded.{Coded, code_by, coded×, coded_list, coded_bool}
 use Rattle.columnar_memory_types.specs.contracts.data_type.DataType as data_type
-use Rattle.nested_arrays_builder_pushes.specs.nulls.columnar_memory.declared.DataType.{DataType}
-use Rattle.nested_arrays_builder_pushes.specs.nulls.columnar_memory.declared.DataType.TheOpen as layer
-use Rattle.nested_arrays_builder_pushes.specs.nulls.columnar_memory.declared.Error.{Error}
-use Rattle.nested_arrays_builder_pushes.specs.nulls.columnar_memory.declared.Field.{Field}
-use Rattle.nested_arrays_builder_pushes.specs.nulls.columnar_memory.Error.{IsOutOfMemory, IsOutOfSpec, IsOverflow}
-use Rattle.nested_arrays_builder_pushes.specs.nulls.arrays.Lengths.{struct_len}
-use Rattle.nested_arrays_builder_pushes.specs.nulls.columns.FreshLaws.{is_buildable}
-use Rattle.nested_arrays_builder_pushes.specs.nulls.columns.Kinds.{most_slots}
-use Rattle.nested_arrays_builder_pushes.specs.nulls.columns.OpenBatch.{fits}
-use Rattle.nested_arrays_builder_pushes.specs.nulls.columns.Slots.{Slot, null, fields}
-use Rattle.nested_arrays_builder_pushes.specs.nulls.columns.SoundColumns.{is_sound}
-use Rattle.nested_arrays_builder_pushes.specs.nulls.columns.StoredColumns.{Column, Columns, column_len, column_type, in_columns, records, slots}
-use Rattle.nested_arrays_builder_pushes.specs.nulls.columns.StoredColumns.{slots_at}
-use Rattle.nested_arrays_builder_pushes.specs.nulls.columns.StoredColumns.{type_layer}
+use Rattle.nested_arrays_nulls.specs.columnar_memory.declared.DataType.{DataType}
+use Rattle.nested_arrays_nulls.specs.columnar_memory.declared.DataType.TheOpen as layer
+use Rattle.nested_arrays_nulls.specs.columnar_memory.declared.Error.{Error}
+use Rattle.nested_arrays_nulls.specs.columnar_memory.declared.Field.{Field}
+use Rattle.nested_arrays_nulls.specs.columnar_memory.Error.{IsOutOfMemory, IsOutOfSpec, IsOverflow}
+use Rattle.nested_arrays_nulls.specs.arrays.Lengths.{struct_len}
+use Rattle.nested_arrays_nulls.specs.columns.FreshLaws.{is_buildable}
+use Rattle.nested_arrays_nulls.specs.columns.Kinds.{most_slots}
+use Rattle.nested_arrays_nulls.specs.columns.OpenBatch.{fits}
+use Rattle.nested_arrays_nulls.specs.columns.Slots.{Slot, null, fields}
+use Rattle.nested_arrays_nulls.specs.columns.SoundColumns.{is_sound}
+use Rattle.nested_arrays_nulls.specs.columns.StoredColumns.{Column, Columns, column_len, column_type, in_columns, records, slots}
+use Rattle.nested_arrays_nulls.specs.columns.StoredColumns.{slots_at}
+use Rattle.nested_arrays_nulls.specs.columns.StoredColumns.{type_layer}
 use Rattle.nested_arrays_builder_pushes.specs.cells.parts.Marks.{marks, mask_of_marks}
 use Rattle.nested_arrays_builder_pushes.specs.cells.parts.Open.{Open, column_of, first_slots, opened, open_code, with_slot}
 use Rattle.nested_arrays_builder_pushes.specs.cells.taken.OpenColumns.{slots_and}

@@ -2,12 +2,12 @@
 ghost use Rattle.std.specs.Prelude.{◌≡◌, ◌<◌, ◌≤◌, ◌++◌, drop, length, map, slice_get, take, Some, true, IfErr, OnOk};
 ghost use Rattle.std.specs.Borrow.{sem};
 ghost use Rattle.std.specs.List.{list_all};
-ghost use Rattle.nested_arrays_builder_pushes.specs.nulls.arrays.Lengths.{struct_len};
-ghost use Rattle.nested_arrays_builder_pushes.specs.nulls.columnar_memory.Error.{IsOutOfMemory};
-ghost use Rattle.nested_arrays_builder_pushes.specs.nulls.columnar_memory.Results.{OrOutOfMemory};
-ghost use Rattle.nested_arrays_builder_pushes.specs.nulls.columns.Kinds.{most_slots};
-ghost use Rattle.nested_arrays_builder_pushes.specs.nulls.columns.SoundColumns.{has_field_types, have_len, have_types};
-ghost use Rattle.nested_arrays_builder_pushes.specs.nulls.columns.StoredColumns.{type_layer};
+ghost use Rattle.nested_arrays_nulls.specs.arrays.Lengths.{struct_len};
+ghost use Rattle.nested_arrays_nulls.specs.columnar_memory.Error.{IsOutOfMemory};
+ghost use Rattle.nested_arrays_nulls.specs.columnar_memory.Results.{OrOutOfMemory};
+ghost use Rattle.nested_arrays_nulls.specs.columns.Kinds.{most_slots};
+ghost use Rattle.nested_arrays_nulls.specs.columns.SoundColumns.{has_field_types, have_len, have_types};
+ghost use Rattle.nested_arrays_nulls.specs.columns.StoredColumns.{type_layer};
 ghost use Rattle.nested_arrays_builder_pushes.specs.cells.parts.Open.{column_of, first_slots};
 ghost use Rattle.nested_arrays_generic_builders.specs.FieldLoans.{LendsField};
 ghost use Rattle.nested_arrays_generic_builders.specs.StructBuilders.{emptied, field_columns, is_stored, TakeNulls, TakesNull};
@@ -15,8 +15,8 @@ ghost use Rattle.nested_arrays_generic_builders.specs.TakenBack.{without_last, H
 
 use nested_arrays_builder_pushes::cells::builders::AnyMutableArray;
 use nested_arrays_builder_pushes::cells::taken::MutableArray;
-use nested_arrays_builder_pushes::nulls::arrays::AnyArray;
-use nested_arrays_builder_pushes::nulls::columnar_memory::{DataType, Field, Result};
+use nested_arrays_nulls::arrays::AnyArray;
+use nested_arrays_nulls::columnar_memory::{DataType, Field, Result};
 use std::alloc::Global;
 use std::marker::Model;
 

@@ -1,11 +1,11 @@
 //! Lists of given lengths, closed one after another.
-ghost use Rattle.nested_arrays_builder_pushes.specs.nulls.columns.StoredColumns.{column_len};
+ghost use Rattle.nested_arrays_nulls.specs.columns.StoredColumns.{column_len};
 ghost use Rattle.nested_arrays_generic_builders.specs.ListBuilders.{AddsLength, AddsLengths, ClosesLists};
 
 use crate::lists::{MutableListArray, push_list};
 use nested_arrays_builder_pushes::cells::parts::Marks;
 use nested_arrays_builder_pushes::cells::taken::MutableArray;
-use nested_arrays_builder_pushes::nulls::columnar_memory::{Error, Offset, Offsets, Result};
+use nested_arrays_nulls::columnar_memory::{Error, Offset, Offsets, Result};
 
 impl<O: Offset, M: MutableArray> MutableListArray<O, M> {
     /// Closes lists of these lengths, one after another, over the items that stand behind those of the lists before; a null takes none. The lists

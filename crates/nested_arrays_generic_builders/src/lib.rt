@@ -10,17 +10,18 @@ mod structs;
 pub use fields::MutableFields;
 pub use lending::MutValues;
 pub use lists::{MutableListArray, join_marks, marks_of};
+pub use nested_arrays_builder_pushes::flat_arrays;
 pub use structs::MutableStructArray;
 
-/// What `nested_arrays_builder_pushes::nulls` has, as far as packages above use it.
+/// What `nested_arrays_nulls` has, as far as packages above use it.
 pub mod nulls {
-    pub use nested_arrays_builder_pushes::nulls::{
+    pub use nested_arrays_nulls::{
         Downcast, NullArrays, columnar_memory, flat_arrays, new_empty_array, new_null_array,
     };
 
     /// Of `access`.
     pub mod access {
-        pub use nested_arrays_builder_pushes::nulls::access::{
+        pub use nested_arrays_nulls::access::{
             Array, a_null_slot_has_no_value, a_slot_without_a_value_is_null, nulls_are_counted,
             same_slot_ranges, same_slots,
         };
@@ -28,7 +29,7 @@ pub mod nulls {
 
     /// Of `arrays`.
     pub mod arrays {
-        pub use nested_arrays_builder_pushes::nulls::arrays::{
+        pub use nested_arrays_nulls::arrays::{
             AnyArray, DictionaryNode, FixedSizeListArray, ListNode, MapArray, Node, StructArray,
             UnionArray, equal, equal_counted,
         };
@@ -36,7 +37,7 @@ pub mod nulls {
 
     /// Of `columns`.
     pub mod columns {
-        pub use nested_arrays_builder_pushes::nulls::columns::{
+        pub use nested_arrays_nulls::columns::{
             a_beginning_of_what_fits_fits, a_choice_of_a_part_is_the_part_of_the_choice,
             a_column_has_a_size, a_column_has_its_length, a_cut_has_a_range_of_the_slots,
             a_cut_has_its_length, a_cut_is_sound, a_cut_keeps_its_size, a_cut_of_a_cut_is_one_cut,
@@ -49,21 +50,21 @@ pub mod nulls {
 
     /// Of `flat`.
     pub mod flat {
-        pub use nested_arrays_builder_pushes::nulls::flat::{
+        pub use nested_arrays_nulls::flat::{
             AnyPrimitive, FixedSizeBinaryArray, NullArray, PrimitiveKind, PrimitiveNode,
         };
     }
 
     /// Of `generic`.
     pub mod generic {
-        pub use nested_arrays_builder_pushes::nulls::generic::{
+        pub use nested_arrays_nulls::generic::{
             DictionaryArray, DictionaryKey, DictionaryKeys, DictionaryKeysIter, ListArray, ToBoxed,
         };
     }
 
     /// Of `iterators`.
     pub mod iterators {
-        pub use nested_arrays_builder_pushes::nulls::iterators::{
+        pub use nested_arrays_nulls::iterators::{
             ArrayPart, ArraySlot, ArrayValues, DictValue, DictionaryValues, DictionaryValuesIter,
             DictionaryValuesIterTyped, FixedSizeBinaryValues, FixedSizeListValuesIter,
             GenericBinaryArray, KeyPlaces, KeyedSlots, KeyedValues, ListValuesIter, MapValuesIter,
@@ -74,7 +75,7 @@ pub mod nulls {
 
     /// Of `parts`.
     pub mod parts {
-        pub use nested_arrays_builder_pushes::nulls::parts::{FlatArray, FlatNode, ListOffsets};
+        pub use nested_arrays_nulls::parts::{FlatArray, FlatNode, ListOffsets};
     }
 }
 

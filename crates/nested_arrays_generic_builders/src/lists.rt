@@ -1,13 +1,13 @@
 //! Builders of lists of any length.
 ghost use Rattle.std.specs.Prelude.{◌≡◌, ◌↔◌, ◌<◌, ◌≤◌, [], IsTrue, is_some, length, not, option_copied, true, ◌⊎◌, IfErr, MatchResult, slice_index_or, false};
-ghost use Rattle.nested_arrays_builder_pushes.specs.nulls.columnar_memory.Error.{IsOutOfMemory, IsOverflow};
-ghost use Rattle.nested_arrays_builder_pushes.specs.nulls.access.Nulls.{is_null_at};
-ghost use Rattle.nested_arrays_builder_pushes.specs.nulls.columnar_memory.Results.{OrOutOfMemory};
-ghost use Rattle.nested_arrays_builder_pushes.specs.nulls.columnar_memory.Spans.{first_spans, last_of, no_spans, offsets_of, shortened};
-ghost use Rattle.nested_arrays_builder_pushes.specs.nulls.columns.Kinds.{most_slots};
-ghost use Rattle.nested_arrays_builder_pushes.specs.nulls.columns.SoundColumns.{mask_fits};
-ghost use Rattle.nested_arrays_builder_pushes.specs.nulls.columns.StoredColumns.{column_len, column_type, lists, type_layer};
-ghost use Rattle.nested_arrays_builder_pushes.specs.nulls.generic.ListTypes.{items_field, list_type};
+ghost use Rattle.nested_arrays_nulls.specs.columnar_memory.Error.{IsOutOfMemory, IsOverflow};
+ghost use Rattle.nested_arrays_nulls.specs.access.Nulls.{is_null_at};
+ghost use Rattle.nested_arrays_nulls.specs.columnar_memory.Results.{OrOutOfMemory};
+ghost use Rattle.nested_arrays_nulls.specs.columnar_memory.Spans.{first_spans, last_of, no_spans, offsets_of, shortened};
+ghost use Rattle.nested_arrays_nulls.specs.columns.Kinds.{most_slots};
+ghost use Rattle.nested_arrays_nulls.specs.columns.SoundColumns.{mask_fits};
+ghost use Rattle.nested_arrays_nulls.specs.columns.StoredColumns.{column_len, column_type, lists, type_layer};
+ghost use Rattle.nested_arrays_nulls.specs.generic.ListTypes.{items_field, list_type};
 ghost use Rattle.nested_arrays_builder_pushes.specs.cells.parts.Marks.{marks, mask_of_marks};
 ghost use Rattle.nested_arrays_builder_pushes.specs.cells.taken.OpenColumns.{AddsNull, IsFrozen, KeepsFirst, TakesColumn};
 ghost use Rattle.nested_arrays_generic_builders.specs.ListBuilders.{list_parts, lists_column, lists_of, no_lists, with_values};
@@ -17,11 +17,11 @@ ghost use Rattle.nested_arrays_generic_builders.specs.ListBuilders.{AddsNullList
 use crate::lending::MutValues;
 use nested_arrays_builder_pushes::cells::parts::Marks;
 use nested_arrays_builder_pushes::cells::taken::MutableArray;
-use nested_arrays_builder_pushes::nulls::arrays::AnyArray;
-use nested_arrays_builder_pushes::nulls::columnar_memory::{
+use nested_arrays_nulls::arrays::AnyArray;
+use nested_arrays_nulls::columnar_memory::{
     Boxed, DataType, Error, Field, MutableBitmap, Offset, Offsets, Result, Text,
 };
-use nested_arrays_builder_pushes::nulls::generic::{ListArray, ToBoxed};
+use nested_arrays_nulls::generic::{ListArray, ToBoxed};
 use std::alloc::Global;
 use std::marker::Model;
 use std::mem;

@@ -1,12 +1,12 @@
 //! Builders of structs.
 ghost use Rattle.std.specs.Prelude.{◌≡◌, ◌<◌, ◌≤◌, length, map, not, slice_get, None, Some, option_copied, true, IfErr};
 ghost use Rattle.std.specs.Borrow.{sem};
-ghost use Rattle.nested_arrays_builder_pushes.specs.nulls.access.Nulls.{is_null_at};
-ghost use Rattle.nested_arrays_builder_pushes.specs.nulls.arrays.Lengths.{struct_len};
-ghost use Rattle.nested_arrays_builder_pushes.specs.nulls.columnar_memory.Error.{IsOutOfMemory};
-ghost use Rattle.nested_arrays_builder_pushes.specs.nulls.columnar_memory.Results.{OrOutOfMemory};
-ghost use Rattle.nested_arrays_builder_pushes.specs.nulls.columns.SoundColumns.{is_sound, mask_fits};
-ghost use Rattle.nested_arrays_builder_pushes.specs.nulls.columns.StoredColumns.{column_len, in_columns, records};
+ghost use Rattle.nested_arrays_nulls.specs.access.Nulls.{is_null_at};
+ghost use Rattle.nested_arrays_nulls.specs.arrays.Lengths.{struct_len};
+ghost use Rattle.nested_arrays_nulls.specs.columnar_memory.Error.{IsOutOfMemory};
+ghost use Rattle.nested_arrays_nulls.specs.columnar_memory.Results.{OrOutOfMemory};
+ghost use Rattle.nested_arrays_nulls.specs.columns.SoundColumns.{is_sound, mask_fits};
+ghost use Rattle.nested_arrays_nulls.specs.columns.StoredColumns.{column_len, in_columns, records};
 ghost use Rattle.nested_arrays_builder_pushes.specs.cells.parts.Marks.{marks, mask_of_marks};
 ghost use Rattle.nested_arrays_builder_pushes.specs.cells.parts.Open.{column_of};
 ghost use Rattle.nested_arrays_builder_pushes.specs.cells.taken.OpenColumns.{AddsNull, IsFrozen, KeepsFirst, TakesColumn};
@@ -21,10 +21,8 @@ use crate::lists::marks_of;
 use nested_arrays_builder_pushes::cells::builders::AnyMutableArray;
 use nested_arrays_builder_pushes::cells::parts::Marks;
 use nested_arrays_builder_pushes::cells::taken::MutableArray;
-use nested_arrays_builder_pushes::nulls::arrays::{AnyArray, StructArray};
-use nested_arrays_builder_pushes::nulls::columnar_memory::{
-    DataType, Error, MutableBitmap, Result,
-};
+use nested_arrays_nulls::arrays::{AnyArray, StructArray};
+use nested_arrays_nulls::columnar_memory::{DataType, Error, MutableBitmap, Result};
 use std::alloc::Global;
 use std::marker::Model;
 use std::mem;
@@ -45,7 +43,7 @@ pub struct MutableStructArray {
 
 impl Model for MutableStructArray {
     ghost use Rattle.std.specs.Prelude.{◌≡◌, true};
-    ghost use Rattle.nested_arrays_builder_pushes.specs.nulls.columns.StoredColumns.{type_layer};
+    ghost use Rattle.nested_arrays_nulls.specs.columns.StoredColumns.{type_layer};
     ghost use Rattle.nested_arrays_generic_builders.specs.StructBuilders.{has_fields, struct_parts, struct_parts_code, StructParts};
 
     ghost Value = { StructParts };

@@ -40,23 +40,8 @@ pub mod access {
 pub mod arrays {
     pub use nested_arrays_generic::arrays::{
         AnyArray, DictionaryNode, FixedSizeListArray, ListNode, MapArray, Node, StructArray,
-        UnionArray, columnar_memory, equal, equal_counted, flat_arrays,
+        UnionArray, equal, equal_counted,
     };
-
-    /// Of `flat`.
-    pub mod flat {
-        pub use nested_arrays_generic::arrays::flat::{
-            AnyPrimitive, FixedSizeBinaryArray, NullArray, PrimitiveKind, PrimitiveNode, mark_at,
-            read_bytes,
-        };
-    }
-
-    /// Of `parts`.
-    pub mod parts {
-        pub use nested_arrays_generic::arrays::parts::{
-            FlatArray, FlatNode, ListOffsets, holds_values, is_valid,
-        };
-    }
 }
 
 /// What `nested_arrays_generic::columns` has, as far as packages above use it.

@@ -7,3 +7,4 @@ pub use Rattle.nested_arrays_generic_builders.specs.pushes
 pub use Rattle.nested_arrays_generic_builders.specs.ListBuilders
 pub use Rattle.nested_arrays_generic_builders.specs.StructBuilders
 pub use Rattle.nested_arrays_generic_builders.specs.pushes.cells.builders.values
+pub use Rattle.nested_arrays_generic_builders.specs.flat_arrays

@@ -9,7 +9,7 @@ mod sized_strings;
 
 pub use fixed_lists::MutableFixedSizeListArray;
 pub use nested_arrays_generic_builders::{
-    MutValues, MutableFields, MutableListArray, MutableStructArray,
+    MutValues, MutableFields, MutableListArray, MutableStructArray, flat_arrays,
 };
 pub use nulls_alone::MutableNullArray;
 pub use sized_strings::{MutableFixedSizeBinaryArray, read_bytes};
@@ -17,7 +17,7 @@ pub use sized_strings::{MutableFixedSizeBinaryArray, read_bytes};
 /// What `nested_arrays_generic_builders::nulls` has, as far as packages above use it.
 pub mod nulls {
     pub use nested_arrays_generic_builders::nulls::{
-        Downcast, NullArrays, columnar_memory, flat_arrays, new_empty_array, new_null_array,
+        Downcast, NullArrays, columnar_memory, new_empty_array, new_null_array,
     };
 
     /// Of `access`.

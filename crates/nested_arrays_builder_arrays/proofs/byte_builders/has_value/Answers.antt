@@ -1,9 +1,9 @@
 use Rattle.std.proofs.Common.{◌≡◌, ◌<◌, ℕ, List, Bool, subst}
 use Rattle.std.specs.Prelude.{Some, not, slice_get}
-use Rattle.nested_arrays_builders.specs.arrays.flat_arrays.ByteStrings.{ByteStrings, len_of}
+use Rattle.nested_arrays_builders.specs.flat_arrays.ByteStrings.{ByteStrings, len_of}
 use Rattle.nested_arrays_builders.specs.columnar_memory.Spans.{offsets_of}
 use Rattle.nested_arrays_builders.specs.columns.StoredColumns.{Stored, byte_strings, flat, texts}
-use Rattle.nested_arrays_builders.specs.nulls.access.Nulls.{is_null_at}
+use Rattle.nested_arrays_builders.specs.generic.access.Nulls.{is_null_at}
 use Rattle.nested_arrays_builders.specs.values.ByteBuilders.{from_zero}
 use Rattle.nested_arrays_builder_arrays.proofs.ByteSlots.{binary_count, same_marks}
 use Rattle.nested_arrays_builder_arrays.proofs.FlatSlots.{null_by_mark}

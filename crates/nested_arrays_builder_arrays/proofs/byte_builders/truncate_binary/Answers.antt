@@ -1,5 +1,5 @@
 use Rattle.std.proofs.Common.{◌≤◌, ℕ, subst}
-use Rattle.nested_arrays_builders.specs.arrays.flat_arrays.ByteStrings.{len_of}
+use Rattle.nested_arrays_builders.specs.flat_arrays.ByteStrings.{len_of}
 use Rattle.nested_arrays_builder_arrays.proofs.ByteSlots.{binary_count, binary_laws, law_of_cut}
 use Rattle.nested_arrays_builder_arrays.proofs.byte_builders.truncate_binary.Goals as goal
 

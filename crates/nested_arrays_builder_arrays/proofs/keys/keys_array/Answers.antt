@@ -4,7 +4,7 @@ use Rattle.nested_arrays_builders.specs.arrays.columnar_memory.Layouts.{physical
 use Rattle.nested_arrays_builders.specs.arrays.columns.SoundColumns.{mask_fits}
 use Rattle.nested_arrays_builders.specs.arrays.columns.StoredColumns.{flat}
 use Rattle.nested_arrays_builders.specs.arrays.flat.FlatColumns.{primitive_column, stored_numbers}
-use Rattle.nested_arrays_builders.specs.arrays.flat_arrays.Flat.{Flat}
+use Rattle.nested_arrays_builders.specs.flat_arrays.Flat.{Flat}
 use Rattle.nested_arrays_builders.proofs.arrays_lemmas.flat_lemmas.SoundFlats.{masked_from}
 use Rattle.nested_arrays_builders.proofs.arrays_lemmas.flat_arrays_lemmas.values_lemmas.Layouts.{plainest_layout}
 use Rattle.nested_arrays_builders.specs.values.Uses.{keys_from}

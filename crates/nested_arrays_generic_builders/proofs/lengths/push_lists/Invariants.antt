@@ -1,6 +1,6 @@
 use Rattle.std.proofs.Common.{◌≡◌, ◌<◌, ◌≤◌, ◌++◌, map, take}
 use Rattle.std.specs.Prelude.{is_some}
-use Rattle.nested_arrays_builder_pushes.specs.nulls.columnar_memory.Spans.{extended, last_of}
+use Rattle.nested_arrays_nulls.specs.columnar_memory.Spans.{extended, last_of}
 use Rattle.nested_arrays_generic_builders.specs.ListBuilders.{count_of}
 use Rattle.nested_arrays_generic_builders.proofs.lengths.push_lists.Given as goal
 

@@ -1,5 +1,5 @@
 use Rattle.std.proofs.Common.{◌≡◌, ◌≤◌, length}
-use Rattle.nested_arrays_builder_pushes.specs.nulls.columnar_memory.Spans.{first_spans}
+use Rattle.nested_arrays_nulls.specs.columnar_memory.Spans.{first_spans}
 use Rattle.nested_arrays_generic_builders.proofs.lists.keep_spans.Given as goal
 
 abbrev pub invariant-keep : goal.invariant-keep

@@ -1,7 +1,7 @@
 use Rattle.std.proofs.Common.{◌≡◌, ◌∙◌, ap, map, sym, true}
-use Rattle.nested_arrays_builder_pushes.specs.nulls.arrays.Lengths.{struct_len}
-use Rattle.nested_arrays_builder_pushes.specs.nulls.columns.SoundColumns.{has_field_types, have_len, mask_fits}
-use Rattle.nested_arrays_builder_pushes.specs.nulls.columns.StoredColumns.{type_layer}
+use Rattle.nested_arrays_nulls.specs.arrays.Lengths.{struct_len}
+use Rattle.nested_arrays_nulls.specs.columns.SoundColumns.{has_field_types, have_len, mask_fits}
+use Rattle.nested_arrays_nulls.specs.columns.StoredColumns.{type_layer}
 use Rattle.nested_arrays_builder_pushes.specs.cells.parts.Open.{column_of}
 use Rattle.nested_arrays_generic_builders.specs.StructBuilders.{field_columns}
 use Rattle.nested_arrays_generic_builders.proofs.StructMakes.{conditions_meet}

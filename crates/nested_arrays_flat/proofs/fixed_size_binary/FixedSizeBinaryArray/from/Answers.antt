@@ -1,7 +1,7 @@
 use Rattle.std.proofs.Common.{◌≡◌, ◌∙◌, ◌+◌, [], ◌∷◌, ◌++◌, ap, length, map, sym, take}
 use Rattle.std.specs.Prelude.{is_some}
 use Rattle.std.proofs.lemmas.List.{length-map, take_more}
-use Rattle.flat_arrays.proofs.bytes_lemmas.Gathered.{marks_more}
+use Rattle.flat_arrays_core.proofs.bytes_lemmas.Gathered.{marks_more}
 use Rattle.nested_arrays_flat.proofs.FixedItems.{masked_strings, stored_bytes, stored_more, whole_bytes}
 use Rattle.nested_arrays_flat.proofs.fixed_size_binary.FixedSizeBinaryArray.from.Goals as goal
 

@@ -2,7 +2,7 @@ use Rattle.std.proofs.Common.{◌<◌, ◌∙◌, [], ◌∷◌, ap, arith, leng
 use Rattle.std.specs.Prelude.{is_some}
 use Rattle.std.proofs.lemmas.List.{length-map, map-append}
 use Rattle.std.proofs.lemmas.Result.{err_from_is_err_and}
-use Rattle.flat_arrays.proofs.bytes_lemmas.Gathered.{marks_more}
+use Rattle.flat_arrays_core.proofs.bytes_lemmas.Gathered.{marks_more}
 use Rattle.nested_arrays_flat.proofs.FixedItems.{gathered, masked_strings, refused, stored_bytes, stored_more, whole_bytes}
 use Rattle.nested_arrays_flat.proofs.fixed_size_binary.FixedSizeBinaryArray.try_from_iter.Goals as goal
 

@@ -1,7 +1,7 @@
 use Rattle.std.proofs.Common.{◌≡◌, ◌∙◌, ap, sym}
 use Rattle.std.proofs.lemmas.Bool.{eq-eqb, eqb-true}
-use Rattle.nested_arrays_builder_pushes.specs.nulls.columnar_memory.Spans.{last_of, number_of}
-use Rattle.nested_arrays_builder_pushes.specs.nulls.columns.StoredColumns.{column_len}
+use Rattle.nested_arrays_nulls.specs.columnar_memory.Spans.{last_of, number_of}
+use Rattle.nested_arrays_nulls.specs.columns.StoredColumns.{column_len}
 use Rattle.nested_arrays_generic_builders.proofs.lists.MutableListArray.is_closed.Goals as goal
 
 pub returns : goal.returns

@@ -1,6 +1,6 @@
 use Rattle.std.proofs.Common.{◌≡◌, ◌≤◌, ◌∙◌, ℕ, ap, arith, length, subst}
-use Rattle.nested_arrays_builder_pushes.specs.nulls.columnar_memory.Spans.{first_spans, last_of}
-use Rattle.nested_arrays_builder_pushes.proofs.nulls_lemmas.arrays_lemmas.flat_lemmas.Offsets.{spans_count}
+use Rattle.nested_arrays_nulls.specs.columnar_memory.Spans.{first_spans, last_of}
+use Rattle.nested_arrays_nulls.proofs.arrays_lemmas.flat_lemmas.Offsets.{spans_count}
 use Rattle.nested_arrays_builder_pushes.specs.cells.taken.OpenColumns.{KeepsFirst}
 use Rattle.nested_arrays_generic_builders.specs.ListBuilders.{list_parts}
 use Rattle.nested_arrays_generic_builders.proofs.OpenLists.{all_kept, kept_lists}

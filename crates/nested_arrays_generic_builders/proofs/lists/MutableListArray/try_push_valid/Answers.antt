@@ -1,6 +1,6 @@
 use Rattle.std.proofs.Common.{◌≡◌, ◌≤◌, ◌-◌, ◌∙◌, ap, arith, sym}
-use Rattle.nested_arrays_builder_pushes.specs.nulls.columnar_memory.Spans.{last_of, number_of}
-use Rattle.nested_arrays_builder_pushes.specs.nulls.columns.StoredColumns.{column_len}
+use Rattle.nested_arrays_nulls.specs.columnar_memory.Spans.{last_of, number_of}
+use Rattle.nested_arrays_nulls.specs.columns.StoredColumns.{column_len}
 use Rattle.nested_arrays_generic_builders.specs.ListBuilders.{list_parts}
 use Rattle.nested_arrays_generic_builders.proofs.ListPushes.{list_closed}
 use Rattle.nested_arrays_generic_builders.proofs.OpenLists.{closed_lists}

@@ -1,8 +1,8 @@
 use Rattle.std.proofs.Common.{◌≡◌, ◌∙◌, List, Bool, ap, length, sym, true}
 use Rattle.std.specs.Prelude.{◌&&◌}
 use Rattle.std.specs.List.{list_all}
-use Rattle.nested_arrays_builder_pushes.specs.nulls.columns.SoundColumns.{has_field_types, have_len}
-use Rattle.nested_arrays_builder_pushes.specs.nulls.columns.StoredColumns.{type_layer}
+use Rattle.nested_arrays_nulls.specs.columns.SoundColumns.{has_field_types, have_len}
+use Rattle.nested_arrays_nulls.specs.columns.StoredColumns.{type_layer}
 use Rattle.nested_arrays_builder_pushes.specs.cells.parts.Open.{Open}
 use Rattle.nested_arrays_generic_builders.specs.StructBuilders.{field_columns, is_stored}
 use Rattle.nested_arrays_generic_builders.proofs.StructMakes.{whole_is}

@@ -1,6 +1,6 @@
 use Rattle.std.proofs.Common.{◌≡◌, ◌∙◌, ap, subst, sym, true}
-use Rattle.nested_arrays_builder_pushes.specs.nulls.columns.SoundColumns.{is_sound}
-use Rattle.nested_arrays_builder_pushes.specs.nulls.columns.StoredColumns.{Column}
+use Rattle.nested_arrays_nulls.specs.columns.SoundColumns.{is_sound}
+use Rattle.nested_arrays_nulls.specs.columns.StoredColumns.{Column}
 use Rattle.nested_arrays_builder_pushes.specs.cells.taken.OpenColumns.{TakesColumn}
 use Rattle.nested_arrays_generic_builders.specs.StructBuilders.{StructParts, struct_parts, structs_column}
 use Rattle.nested_arrays_generic_builders.proofs.OpenStructs.{taken_parts}

@@ -1,0 +1,17 @@
+pub use Rattle.flat_arrays_bytes.specs.values.Places
+pub use Rattle.flat_arrays_bytes.specs.values.Walks
+pub use Rattle.flat_arrays_bytes.specs.values.Flat
+pub use Rattle.flat_arrays_bytes.specs.values.FlatEqual
+pub use Rattle.flat_arrays_bytes.specs.values.FlatLaws
+pub use Rattle.flat_arrays_bytes.specs.values.Iteration
+pub use Rattle.flat_arrays_bytes.specs.values.Results
+pub use Rattle.flat_arrays_bytes.specs.values.SlotWalks
+pub use Rattle.flat_arrays_bytes.specs.values.Changes
+pub use Rattle.flat_arrays_bytes.specs.values.Growth
+pub use Rattle.flat_arrays_bytes.specs.values.GrowthLaws
+pub use Rattle.flat_arrays_bytes.specs.ByteStrings
+pub use Rattle.flat_arrays_bytes.specs.Equal
+pub use Rattle.flat_arrays_bytes.specs.Fits
+pub use Rattle.flat_arrays_bytes.specs.Laws
+pub use Rattle.flat_arrays_bytes.specs.Texts
+pub use Rattle.flat_arrays_bytes.specs.ByteWalks
