@@ -17,8 +17,8 @@ ghost use Rattle.nested_arrays.specs.EqualArrays.{AreEqual};
 ghost use Rattle.nested_arrays.specs.MarkedSlots.{AddsSlot};
 ghost use Rattle.nested_arrays.specs.Slots.{text};
 ghost use Rattle.nested_arrays.specs.StoredColumns.{column_len, cut};
-ghost use Rattle.nested_arrays.specs.builders.cells.parts.Open.{IsPushed};
-ghost use Rattle.nested_arrays.specs.builders.cells.parts.Scalars.{scalar_slot};
+ghost use Rattle.nested_arrays.specs.builders.parts.Open.{IsPushed};
+ghost use Rattle.nested_arrays.specs.builders.parts.Scalars.{scalar_slot};
 
 use nested_arrays::columnar_memory::{Offset, Result};
 use nested_arrays::flat_arrays::{

@@ -55,18 +55,18 @@ pub use Rattle.nested_arrays_dictionary_builders.specs.nulls.NullColumns
 pub use Rattle.nested_arrays_dictionary_builders.specs.nulls.NullLaws as NullSlots
 pub use Rattle.nested_arrays_dictionary_builders.specs.nulls.columnar_memory
 pub use Rattle.nested_arrays_dictionary_builders.specs.flat_arrays
-pub use Rattle.nested_arrays_dictionary_builders.specs.pushes as builders
+pub use Rattle.nested_arrays_dictionary_builders.specs.cells as builders
 pub use Rattle.nested_arrays_dictionary_builders.specs.ListBuilders
 pub use Rattle.nested_arrays_dictionary_builders.specs.NullBuilders
 pub use Rattle.nested_arrays_dictionary_builders.specs.StructBuilders
 pub use Rattle.nested_arrays_dictionary_builders.specs.MarkedSlots
 pub use Rattle.nested_arrays_dictionary_builders.specs.SizedStrings
 pub use Rattle.nested_arrays_dictionary_builders.specs.FixedListBuilders
-pub use Rattle.nested_arrays_dictionary_builders.specs.pushes.cells.taken.OpenColumns
+pub use Rattle.nested_arrays_dictionary_builders.specs.cells.taken.OpenColumns
 pub use Rattle.nested_arrays_dictionary_builders.specs.DictionaryBuilders
 pub use Rattle.nested_arrays_dictionary_builders.specs.JoinedArrays
 pub use Rattle.nested_arrays_dictionary_builders.specs.JoinedColumns
 pub use Rattle.nested_arrays_dictionary_builders.specs.NumberItems
 pub use Rattle.nested_arrays_dictionary_builders.specs.SeveralSlots
 pub use Rattle.nested_arrays_dictionary_builders.specs.SlotHashes
-pub use Rattle.nested_arrays_dictionary_builders.specs.pushes.cells.taken.builders.values.ByteBuilders
+pub use Rattle.nested_arrays_dictionary_builders.specs.cells.taken.builders.values.ByteBuilders

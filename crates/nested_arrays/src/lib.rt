@@ -2,6 +2,10 @@
 //! slots; and the definitions of slots, columns and tables, with their laws.
 #![tactic(auto)]
 
+pub use nested_arrays_dictionary_builders::cells::builders::{AnyMutableArray, is_cell_of};
+pub use nested_arrays_dictionary_builders::cells::parts::{AnyScalar, Marks};
+pub use nested_arrays_dictionary_builders::cells::taken::MutableArray;
+pub use nested_arrays_dictionary_builders::cells::{TryPushFrom, cell_at};
 pub use nested_arrays_dictionary_builders::nulls::access::{
     Array, a_null_slot_has_no_value, a_slot_without_a_value_is_null, nulls_are_counted,
     same_slot_ranges, same_slots,
@@ -35,11 +39,6 @@ pub use nested_arrays_dictionary_builders::nulls::parts::{FlatArray, FlatNode, L
 pub use nested_arrays_dictionary_builders::nulls::{
     Downcast, NullArrays, columnar_memory, new_empty_array, new_null_array,
 };
-pub use nested_arrays_dictionary_builders::pushes::TryPushFrom;
-pub use nested_arrays_dictionary_builders::pushes::cells::builders::{AnyMutableArray, is_cell_of};
-pub use nested_arrays_dictionary_builders::pushes::cells::cell_at;
-pub use nested_arrays_dictionary_builders::pushes::cells::parts::{AnyScalar, Marks};
-pub use nested_arrays_dictionary_builders::pushes::cells::taken::MutableArray;
 pub use nested_arrays_dictionary_builders::{
     MutValues, MutableDictionaryArray, MutableFields, MutableFixedSizeBinaryArray,
     MutableFixedSizeListArray, MutableListArray, MutableNullArray, MutableStructArray, SlotIs,

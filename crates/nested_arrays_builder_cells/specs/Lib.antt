@@ -1,6 +1,7 @@
 pub mod ArrayCells
 pub mod Inside
 pub mod Keys
+pub mod Pushes
 pub use Rattle.nested_arrays_builder_arrays.specs as taken
 pub use Rattle.nested_arrays_builder_arrays.specs.builders
 pub use Rattle.nested_arrays_builder_arrays.specs.arrays

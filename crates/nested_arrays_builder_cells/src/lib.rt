@@ -1,18 +1,15 @@
-//! Cells of the slots of arrays of any type.
+//! Cells of the slots of arrays of any type, and builders that take them.
 #![tactic(auto)]
 
 mod cells;
 mod flats;
 mod inside;
 mod numbers;
+mod pushes;
 
 pub use cells::cell_at;
 pub use nested_arrays_builder_arrays::{columnar_memory, flat_arrays};
-
-/// What `nested_arrays_builder_arrays::arrays` has, as far as packages above use it.
-pub mod arrays {
-    pub use nested_arrays_builder_arrays::arrays::{AnyArray, columnar_memory};
-}
+pub use pushes::TryPushFrom;
 
 /// What `nested_arrays_builder_arrays::builders` has, as far as packages above use it.
 pub mod builders {

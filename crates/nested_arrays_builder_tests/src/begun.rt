@@ -1,6 +1,6 @@
 use columnar_memory_types::{Boxed, DataType, Error, Field, IntegerType, Items, Text};
-use nested_arrays_dictionary_builders::pushes::cells::builders::AnyMutableArray;
-use nested_arrays_dictionary_builders::pushes::cells::taken::MutableArray;
+use nested_arrays_dictionary_builders::cells::builders::AnyMutableArray;
+use nested_arrays_dictionary_builders::cells::taken::MutableArray;
 use std::alloc::Global;
 use std::test::Fail;
 

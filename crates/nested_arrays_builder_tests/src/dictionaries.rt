@@ -1,10 +1,10 @@
 use columnar_memory_types::{Boxed, DataType, Error, Field, IntegerType, Items, Text};
+use nested_arrays_dictionary_builders::cells::TryPushFrom;
+use nested_arrays_dictionary_builders::cells::builders::AnyMutableArray;
+use nested_arrays_dictionary_builders::cells::taken::MutableArray;
 use nested_arrays_dictionary_builders::flat_arrays::Utf8Array;
 use nested_arrays_dictionary_builders::nulls::arrays::{AnyArray, DictionaryNode, Node};
 use nested_arrays_dictionary_builders::nulls::parts::FlatNode;
-use nested_arrays_dictionary_builders::pushes::TryPushFrom;
-use nested_arrays_dictionary_builders::pushes::cells::builders::AnyMutableArray;
-use nested_arrays_dictionary_builders::pushes::cells::taken::MutableArray;
 use nested_arrays_scalars::AnyScalar;
 use std::alloc::Global;
 use std::test::Fail;

@@ -1,11 +1,11 @@
 //! Builders of dictionaries over a builder of their values.
 use crate::generic_lists::keep;
 use columnar_memory_types::{Boxed, DataType, Error, IntegerType};
+use nested_arrays_dictionary_builders::cells::taken::MutableArray;
 use nested_arrays_dictionary_builders::flat_arrays::{MutablePrimitiveArray, PrimitiveArray};
 use nested_arrays_dictionary_builders::nulls::Downcast;
 use nested_arrays_dictionary_builders::nulls::arrays::AnyArray;
 use nested_arrays_dictionary_builders::nulls::generic::{DictionaryArray, ListArray};
-use nested_arrays_dictionary_builders::pushes::cells::taken::MutableArray;
 use nested_arrays_dictionary_builders::{
     MutValues, MutableDictionaryArray, MutableFixedSizeBinaryArray, MutableListArray, TryExtend,
     TryPush,

@@ -1,9 +1,9 @@
 use columnar_memory_types::{DataType, Error};
+use nested_arrays_dictionary_builders::cells::builders::AnyMutableArray;
+use nested_arrays_dictionary_builders::cells::parts::AnyScalar;
+use nested_arrays_dictionary_builders::cells::taken::MutableArray;
 use nested_arrays_dictionary_builders::nulls::arrays::{AnyArray, ListNode, Node};
 use nested_arrays_dictionary_builders::nulls::parts::ListOffsets;
-use nested_arrays_dictionary_builders::pushes::cells::builders::AnyMutableArray;
-use nested_arrays_dictionary_builders::pushes::cells::parts::AnyScalar;
-use nested_arrays_dictionary_builders::pushes::cells::taken::MutableArray;
 use nested_arrays_dictionary_builders::{MutValues, MutableListArray};
 use std::alloc::Global;
 use std::test::Fail;

@@ -1,8 +1,8 @@
 use columnar_memory_types::{Boxed, DataType, Error, Field, Items, Text};
+use nested_arrays_dictionary_builders::cells::builders::AnyMutableArray;
+use nested_arrays_dictionary_builders::cells::taken::MutableArray;
 use nested_arrays_dictionary_builders::nulls::arrays::{AnyArray, Node};
 use nested_arrays_dictionary_builders::nulls::parts::FlatNode;
-use nested_arrays_dictionary_builders::pushes::cells::builders::AnyMutableArray;
-use nested_arrays_dictionary_builders::pushes::cells::taken::MutableArray;
 use nested_arrays_scalars::AnyScalar;
 use std::alloc::Global;
 use std::test::Fail;

@@ -1,5 +1,5 @@
 use columnar_memory_types::Error;
-use nested_arrays_dictionary_builders::pushes::cells::parts::Marks;
+use nested_arrays_dictionary_builders::cells::parts::Marks;
 use std::alloc::Global;
 use std::test::Fail;
 

@@ -1,9 +1,9 @@
 //! Builders of nulls alone.
 use columnar_memory_types::{DataType, Error};
+use nested_arrays_dictionary_builders::cells::taken::MutableArray;
 use nested_arrays_dictionary_builders::nulls::Downcast;
 use nested_arrays_dictionary_builders::nulls::arrays::AnyArray;
 use nested_arrays_dictionary_builders::nulls::flat::NullArray;
-use nested_arrays_dictionary_builders::pushes::cells::taken::MutableArray;
 use nested_arrays_dictionary_builders::{MutValues, MutableListArray, MutableNullArray};
 use std::alloc::Global;
 use std::test::Fail;

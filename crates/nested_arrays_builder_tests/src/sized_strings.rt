@@ -1,8 +1,8 @@
 use crate::generic_lists::keep;
 use columnar_memory_types::{DataType, Error};
 use nested_arrays_dictionary_builders::MutableFixedSizeBinaryArray;
+use nested_arrays_dictionary_builders::cells::taken::MutableArray;
 use nested_arrays_dictionary_builders::nulls::columnar_memory::MutableBitmap;
-use nested_arrays_dictionary_builders::pushes::cells::taken::MutableArray;
 use std::test::Fail;
 
 /// Pushes a string, where it has the size.

@@ -1,4 +1,4 @@
-use nested_arrays_dictionary_builders::pushes::cells::parts::Strings;
+use nested_arrays_dictionary_builders::cells::parts::Strings;
 use std::test::Fail;
 
 #[test]

@@ -1,9 +1,9 @@
 use crate::generic_lists::keep;
 use columnar_memory_types::{DataType, Error, Field, Items, Text};
+use nested_arrays_dictionary_builders::cells::builders::AnyMutableArray;
+use nested_arrays_dictionary_builders::cells::taken::MutableArray;
 use nested_arrays_dictionary_builders::nulls::arrays::{AnyArray, Node, StructArray};
 use nested_arrays_dictionary_builders::nulls::columnar_memory::MutableBitmap;
-use nested_arrays_dictionary_builders::pushes::cells::builders::AnyMutableArray;
-use nested_arrays_dictionary_builders::pushes::cells::taken::MutableArray;
 use nested_arrays_dictionary_builders::{MutValues, MutableStructArray};
 use nested_arrays_scalars::AnyScalar;
 use std::alloc::Global;

@@ -28,8 +28,8 @@ use Rattle.nested_arrays_sized_builders.specs.nulls.columns.StoredColumns.{is_va
 use Rattle.nested_arrays_sized_builders.specs.flat_arrays.ByteStrings.{ByteStrings, cut_by, len_of, marks, marks_of, values_of}
 use Rattle.nested_arrays_sized_builders.specs.flat_arrays.Fits.{IsMaskOf, binary_layout, text_layout}
 use Rattle.nested_arrays_sized_builders.specs.flat_arrays.Growing.{IsFilled, IsGrown, with_slot}
-use Rattle.nested_arrays_sized_builders.specs.pushes.cells.taken.builders.values.ByteBuilders.{from_zero, open_binary, open_text}
-use Rattle.nested_arrays_sized_builders.specs.pushes.cells.taken.OpenColumns.{Becomes, IsFresh, slots_and}
+use Rattle.nested_arrays_sized_builders.specs.cells.taken.builders.values.ByteBuilders.{from_zero, open_binary, open_text}
+use Rattle.nested_arrays_sized_builders.specs.cells.taken.OpenColumns.{Becomes, IsFresh, slots_and}
 use Rattle.nested_arrays_sized_builders.specs.MarkedSlots.{AddsSlot}
 use Rattle.nested_arrays_sized_builders.proofs.growth_lemmas.Fits.{fits_binary, fits_large_binary, fits_large_texts, fits_texts}
 use Rattle.nested_arrays_sized_builders.proofs.growth_lemmas.LayerParts.{fresh_binary, fresh_large_binary, fresh_large_texts, fresh_texts}

@@ -19,9 +19,9 @@ use Rattle.nested_arrays_sized_builders.specs.nulls.columns.OpenBatch.{fits, is_
 use Rattle.nested_arrays_sized_builders.specs.nulls.columns.Slots.{Slot, null, items, in_slots, window}
 use Rattle.nested_arrays_sized_builders.specs.nulls.columns.SoundColumns.{has_fixed_item_type, is_sound}
 use Rattle.nested_arrays_sized_builders.specs.nulls.columns.StoredColumns.{Column, column_len, column_type, fixed_lists, slot_at, slots, type_layer}
-use Rattle.nested_arrays_sized_builders.specs.pushes.cells.parts.Marks.{mask_of_marks}
-use Rattle.nested_arrays_sized_builders.specs.pushes.cells.taken.OpenColumns.{Becomes, IsFresh, KeepsFirst}
-use Rattle.nested_arrays_sized_builders.specs.pushes.cells.taken.builders.growth.OpenParts.{is_list_sized, marks_of}
+use Rattle.nested_arrays_sized_builders.specs.cells.parts.Marks.{mask_of_marks}
+use Rattle.nested_arrays_sized_builders.specs.cells.taken.OpenColumns.{Becomes, IsFresh, KeepsFirst}
+use Rattle.nested_arrays_sized_builders.specs.cells.taken.builders.growth.OpenParts.{is_list_sized, marks_of}
 use Rattle.nested_arrays_sized_builders.specs.FixedListBuilders.{FixedListParts, KeepsMarks, fixed_list_parts, fixed_lists_column, lists_made}
 use Rattle.nested_arrays_sized_builders.specs.FixedListBuilders.{lists_over, marks_for, with_fixed_lists, with_items}
 use Rattle.nested_arrays_sized_builders.proofs.growth_lemmas.Below.{fixed_items_fit_below}

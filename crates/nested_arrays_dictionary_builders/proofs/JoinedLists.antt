@@ -24,10 +24,10 @@ use Rattle.nested_arrays_sized_builders.specs.nulls.columns.Slots.{Slot, null, i
 use Rattle.nested_arrays_sized_builders.specs.nulls.columns.SoundColumns.{is_sound}
 use Rattle.nested_arrays_sized_builders.specs.nulls.columns.StoredColumns.{Column, column_len, column_type, lists, slot_at, slots, type_layer}
 use Rattle.nested_arrays_sized_builders.specs.nulls.generic.ListTypes.{items_field}
-use Rattle.nested_arrays_sized_builders.specs.pushes.cells.parts.Marks.{mask_of_marks}
-use Rattle.nested_arrays_sized_builders.specs.pushes.cells.parts.Open.{opened}
-use Rattle.nested_arrays_sized_builders.specs.pushes.cells.taken.OpenColumns.{Becomes, IsFresh, KeepsFirst}
-use Rattle.nested_arrays_sized_builders.specs.pushes.cells.taken.builders.growth.OpenParts.{is_list, item_spans, marks_of}
+use Rattle.nested_arrays_sized_builders.specs.cells.parts.Marks.{mask_of_marks}
+use Rattle.nested_arrays_sized_builders.specs.cells.parts.Open.{opened}
+use Rattle.nested_arrays_sized_builders.specs.cells.taken.OpenColumns.{Becomes, IsFresh, KeepsFirst}
+use Rattle.nested_arrays_sized_builders.specs.cells.taken.builders.growth.OpenParts.{is_list, item_spans, marks_of}
 use Rattle.nested_arrays_sized_builders.specs.ListBuilders.{AreLists, HasNoRoomFor, ListParts, lists_column, with_lists}
 use Rattle.nested_arrays_sized_builders.proofs.growth_lemmas.Below.{items_fit_below}
 use Rattle.nested_arrays_sized_builders.proofs.growth_lemmas.Laws.{large_lists_fit_by_items, lists_fit_by_items}

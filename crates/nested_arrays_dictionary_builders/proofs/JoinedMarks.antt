@@ -13,8 +13,8 @@ use Rattle.nested_arrays_sized_builders.specs.nulls.columns.SoundColumns.{mask_f
 use Rattle.nested_arrays_sized_builders.specs.nulls.columns.StoredColumns.{is_valid_at}
 use Rattle.nested_arrays_sized_builders.specs.flat_arrays.Flat.{marks}
 use Rattle.nested_arrays_sized_builders.specs.flat_arrays.Growth.{with_marks}
-use Rattle.nested_arrays_sized_builders.specs.pushes.cells.parts.Marks.{mask_of_marks}
-use Rattle.nested_arrays_sized_builders.specs.pushes.cells.taken.builders.growth.OpenParts.{marks_of, mask_from}
+use Rattle.nested_arrays_sized_builders.specs.cells.parts.Marks.{mask_of_marks}
+use Rattle.nested_arrays_sized_builders.specs.cells.taken.builders.growth.OpenParts.{marks_of, mask_from}
 use Rattle.nested_arrays_sized_builders.proofs.growth_lemmas.Masks.{all_valid, marks_away, marks_there, mask_away, mask_by_count, mask_is}
 use Rattle.nested_arrays_sized_builders.proofs.growth_lemmas.Masks.{mask_there}
 

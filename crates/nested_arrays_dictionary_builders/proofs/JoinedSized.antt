@@ -25,8 +25,8 @@ use Rattle.nested_arrays_sized_builders.specs.nulls.columns.StoredColumns.{type_
 use Rattle.nested_arrays_sized_builders.specs.nulls.flat.FlatColumns.{byte_width}
 use Rattle.nested_arrays_sized_builders.specs.flat_arrays.Flat.{marks}
 use Rattle.nested_arrays_sized_builders.specs.flat_arrays.Growth.{with_marks}
-use Rattle.nested_arrays_sized_builders.specs.pushes.cells.parts.Marks.{mask_of_marks}
-use Rattle.nested_arrays_sized_builders.specs.pushes.cells.taken.OpenColumns.{Becomes}
+use Rattle.nested_arrays_sized_builders.specs.cells.parts.Marks.{mask_of_marks}
+use Rattle.nested_arrays_sized_builders.specs.cells.taken.OpenColumns.{Becomes}
 use Rattle.nested_arrays_sized_builders.specs.SizedStrings.{JoinsStrings, SizedParts, sized_column, with_strings}
 use Rattle.nested_arrays_sized_builders.proofs.growth_lemmas.Fits.{fits_fixed_binary}
 use Rattle.nested_arrays_sized_builders.proofs.growth_lemmas.LayerParts.{fresh_fixed_binary}

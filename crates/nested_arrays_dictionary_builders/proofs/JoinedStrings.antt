@@ -28,8 +28,8 @@ use Rattle.nested_arrays_sized_builders.specs.nulls.columns.StoredColumns.{strin
 use Rattle.nested_arrays_sized_builders.specs.flat_arrays.ByteStrings.{ByteStrings, len_of}
 use Rattle.nested_arrays_sized_builders.specs.flat_arrays.Fits.{binary_layout, text_layout}
 use Rattle.nested_arrays_sized_builders.specs.flat_arrays.Growing.{IsFilled, IsGrown, joined}
-use Rattle.nested_arrays_sized_builders.specs.pushes.cells.taken.builders.values.ByteBuilders.{from_zero, open_binary, open_text}
-use Rattle.nested_arrays_sized_builders.specs.pushes.cells.taken.OpenColumns.{IsFresh}
+use Rattle.nested_arrays_sized_builders.specs.cells.taken.builders.values.ByteBuilders.{from_zero, open_binary, open_text}
+use Rattle.nested_arrays_sized_builders.specs.cells.taken.OpenColumns.{IsFresh}
 use Rattle.nested_arrays_sized_builders.proofs.growth_lemmas.Limits.{bytes_counted}
 use Rattle.nested_arrays_sized_builders.proofs.growth_lemmas.Pieces.{last_span}
 use Rattle.nested_arrays_sized_builders.proofs.nulls_lemmas.flat_lemmas.Offsets.{spans_count}

@@ -31,8 +31,8 @@ use Rattle.nested_arrays_sized_builders.specs.nulls.columns.StoredColumns.{Colum
 use Rattle.nested_arrays_sized_builders.specs.nulls.columns.StoredColumns.{type_layer}
 use Rattle.nested_arrays_sized_builders.specs.flat_arrays.Flat.{Flat}
 use Rattle.nested_arrays_sized_builders.specs.nulls.generic.Dictionaries.{is_value_type, keyed_by}
-use Rattle.nested_arrays_sized_builders.specs.pushes.cells.parts.Marks.{mask_of_marks}
-use Rattle.nested_arrays_sized_builders.specs.pushes.cells.taken.OpenColumns.{Becomes, IsEmptied, IsFresh, IsFrozen, KeepsFirst, TakesColumn, slots_and}
+use Rattle.nested_arrays_sized_builders.specs.cells.parts.Marks.{mask_of_marks}
+use Rattle.nested_arrays_sized_builders.specs.cells.taken.OpenColumns.{Becomes, IsEmptied, IsFresh, IsFrozen, KeepsFirst, TakesColumn, slots_and}
 use Rattle.nested_arrays_sized_builders.specs.MarkedSlots.{AddsSlot}
 use Rattle.nested_arrays_dictionary_builders.proofs.OpenParts.{mark_says}
 use Rattle.nested_arrays_sized_builders.proofs.nulls_lemmas.arrays_lemmas.columns_lemmas.ColumnSizes.{slots_lengths}

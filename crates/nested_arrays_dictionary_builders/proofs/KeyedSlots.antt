@@ -18,7 +18,7 @@ use Rattle.nested_arrays_sized_builders.specs.nulls.columns.Slots.{Slot, null}
 use Rattle.nested_arrays_sized_builders.specs.nulls.columns.SoundColumns.{has_value_at, has_value_type, holds_below, is_sound, mask_fits}
 use Rattle.nested_arrays_sized_builders.specs.nulls.columns.StoredColumns.{Column, column_len, column_type, is_valid_at, place_of, slot_at, slots}
 use Rattle.nested_arrays_sized_builders.specs.nulls.columns.StoredColumns.{type_layer}
-use Rattle.nested_arrays_sized_builders.specs.pushes.cells.parts.Marks.{mask_of_marks}
+use Rattle.nested_arrays_sized_builders.specs.cells.parts.Marks.{mask_of_marks}
 use Rattle.nested_arrays_sized_builders.proofs.MarkedSlots.{valid_mark}
 use Rattle.nested_arrays_dictionary_builders.proofs.OpenParts.{marks_fit}
 use Rattle.nested_arrays_sized_builders.proofs.nulls_lemmas.arrays_lemmas.columns_lemmas.ColumnSizes.{slots_lengths}

@@ -12,8 +12,8 @@ use Rattle.nested_arrays_sized_builders.specs.nulls.columns.Slots.{Slot, null}
 use Rattle.nested_arrays_sized_builders.specs.nulls.columns.StoredColumns.{Column, dictionary, place_of, type_layer}
 use Rattle.nested_arrays_sized_builders.specs.nulls.flat.ColumnMasks.{column_mask}
 use Rattle.nested_arrays_sized_builders.specs.nulls.generic.Dictionaries.{keys_of, values_of}
-use Rattle.nested_arrays_sized_builders.specs.pushes.cells.parts.Marks.{marks, mask_of_marks}
-use Rattle.nested_arrays_sized_builders.specs.pushes.cells.taken.builders.growth.OpenParts.{keys_among, marks_of, used_by}
+use Rattle.nested_arrays_sized_builders.specs.cells.parts.Marks.{marks, mask_of_marks}
+use Rattle.nested_arrays_sized_builders.specs.cells.taken.builders.growth.OpenParts.{keys_among, marks_of, used_by}
 use Rattle.nested_arrays_sized_builders.proofs.growth_lemmas.Laws.{dictionaries_stored}
 use Rattle.nested_arrays_sized_builders.proofs.growth_lemmas.Masks.{mask_by_count, mask_is}
 use Rattle.nested_arrays_sized_builders.proofs.values_lemmas.parts_lemmas.MarkLists.{marks_back}

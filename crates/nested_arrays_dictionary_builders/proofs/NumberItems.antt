@@ -37,8 +37,8 @@ use Rattle.nested_arrays_sized_builders.specs.flat_arrays.Flat as arrays
 use Rattle.nested_arrays_sized_builders.specs.flat_arrays.Flat.{Flat, IsFlat, IsMaskOf}
 use Rattle.nested_arrays_sized_builders.specs.flat_arrays.Growth.{with_marks, with_values}
 use Rattle.nested_arrays_sized_builders.specs.nulls.parts.Keys.{kind_of_keys}
-use Rattle.nested_arrays_sized_builders.specs.pushes.cells.taken.OpenColumns.{Becomes, IsFresh, slots_and}
-use Rattle.nested_arrays_sized_builders.specs.pushes.cells.taken.builders.growth.OpenParts.{is_of_kind}
+use Rattle.nested_arrays_sized_builders.specs.cells.taken.OpenColumns.{Becomes, IsFresh, slots_and}
+use Rattle.nested_arrays_sized_builders.specs.cells.taken.builders.growth.OpenParts.{is_of_kind}
 use Rattle.nested_arrays_sized_builders.specs.MarkedSlots.{AddsSlot}
 use Rattle.nested_arrays_sized_builders.proofs.taken_lemmas.FlatSlots.{window_more}
 use Rattle.nested_arrays_dictionary_builders.proofs.OpenParts.{mask_with_value, marks_before, marks_more, value_marked}

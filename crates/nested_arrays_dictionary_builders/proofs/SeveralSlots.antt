@@ -9,7 +9,7 @@ use Rattle.nested_arrays_sized_builders.specs.nulls.columns.Cells.{fits_cell}
 use Rattle.nested_arrays_sized_builders.specs.nulls.columns.OpenBatch.{fits}
 use Rattle.nested_arrays_sized_builders.specs.nulls.columns.Slots.{Slot, null}
 use Rattle.nested_arrays_sized_builders.specs.nulls.columns.StoredColumns.{Column, column_type, slots}
-use Rattle.nested_arrays_sized_builders.specs.pushes.cells.taken.OpenColumns.{Becomes, IsFresh, slots_and}
+use Rattle.nested_arrays_sized_builders.specs.cells.taken.OpenColumns.{Becomes, IsFresh, slots_and}
 use Rattle.nested_arrays_sized_builders.proofs.GrownColumns.{becomes_by, fresh_sound}
 use Rattle.nested_arrays_sized_builders.proofs.nulls_lemmas.arrays_lemmas.columns_lemmas.ColumnSizes.{slots_lengths}
 use Rattle.nested_arrays_dictionary_builders.specs.SeveralSlots.{IsRefusedAt}

@@ -20,8 +20,8 @@ use Rattle.nested_arrays_sized_builders.specs.nulls.columns.Slots.{Slot}
 use Rattle.nested_arrays_sized_builders.specs.nulls.columns.SoundColumns.{is_sound}
 use Rattle.nested_arrays_sized_builders.specs.nulls.columns.StoredColumns.{Column, column_len, column_type, dictionary, slot_at, slots, type_layer}
 use Rattle.nested_arrays_sized_builders.specs.nulls.generic.Dictionaries.{is_value_type}
-use Rattle.nested_arrays_sized_builders.specs.pushes.cells.parts.Marks.{mask_of_marks}
-use Rattle.nested_arrays_sized_builders.specs.pushes.cells.taken.OpenColumns.{Becomes, IsEmptied, IsFresh, IsFrozen, slots_and}
+use Rattle.nested_arrays_sized_builders.specs.cells.parts.Marks.{mask_of_marks}
+use Rattle.nested_arrays_sized_builders.specs.cells.taken.OpenColumns.{Becomes, IsEmptied, IsFresh, IsFrozen, slots_and}
 use Rattle.nested_arrays_dictionary_builders.specs.SlotHashes.{slot_hash}
 
 -- The data type, how many of the values each slot needs, which is one more than its key and none under a null, and the builder of the values.

@@ -5,7 +5,7 @@ use Rattle.nested_arrays_sized_builders.specs.nulls.columnar_memory.Error.{IsInv
 use Rattle.nested_arrays_sized_builders.specs.nulls.columns.OpenBatch.{fits}
 use Rattle.nested_arrays_sized_builders.specs.nulls.columns.SoundColumns.{is_sound}
 use Rattle.nested_arrays_sized_builders.specs.nulls.columns.StoredColumns.{Column, column_len, column_type, slots}
-use Rattle.nested_arrays_sized_builders.specs.pushes.cells.taken.OpenColumns.{Becomes, IsFresh}
+use Rattle.nested_arrays_sized_builders.specs.cells.taken.OpenColumns.{Becomes, IsFresh}
 
 -- both fresh, and of one type
 abbrev pub AreAlike : Column → Column → Type 0

@@ -4,7 +4,7 @@ use Rattle.nested_arrays_sized_builders.specs.ListBuilders.{KeepsParts, ListPart
 use Rattle.nested_arrays_sized_builders.specs.nulls.columnar_memory.declared.Error.{Error}
 use Rattle.nested_arrays_sized_builders.specs.nulls.columnar_memory.Spans.{first_spans, last_of}
 use Rattle.nested_arrays_sized_builders.specs.nulls.columns.StoredColumns.{Column, slots}
-use Rattle.nested_arrays_sized_builders.specs.pushes.cells.taken.OpenColumns.{Becomes, KeepsFirst}
+use Rattle.nested_arrays_sized_builders.specs.cells.taken.OpenColumns.{Becomes, KeepsFirst}
 use Rattle.nested_arrays_dictionary_builders.specs.JoinedColumns.{AddsColumn, AreApart, Joins}
 
 -- The items of another stand behind those of the lists, which are as they were; or the items are too.

@@ -8,7 +8,7 @@ pub mod NumberItems
 pub mod SeveralSlots
 pub mod SlotHashes
 pub use Rattle.nested_arrays_sized_builders.specs.nulls
-pub use Rattle.nested_arrays_sized_builders.specs.pushes
+pub use Rattle.nested_arrays_sized_builders.specs.cells
 pub use Rattle.nested_arrays_sized_builders.specs.ListBuilders
 pub use Rattle.nested_arrays_sized_builders.specs.MarkedSlots
 pub use Rattle.nested_arrays_sized_builders.specs.FixedListBuilders

@@ -6,7 +6,7 @@ use Rattle.nested_arrays_sized_builders.specs.nulls.columns.Cells.{fits_cell}
 use Rattle.nested_arrays_sized_builders.specs.nulls.columns.OpenBatch.{fits}
 use Rattle.nested_arrays_sized_builders.specs.nulls.columns.Slots.{Slot, null}
 use Rattle.nested_arrays_sized_builders.specs.nulls.columns.StoredColumns.{Column, column_type, slots}
-use Rattle.nested_arrays_sized_builders.specs.pushes.cells.taken.OpenColumns.{Becomes, IsFresh}
+use Rattle.nested_arrays_sized_builders.specs.cells.taken.OpenColumns.{Becomes, IsFresh}
 
 -- why slot n of some is refused: memory ran out, it does not fit the type, or a fresh column has no room for it and those before it
 abbrev pub IsRefusedAt : Column → List Slot → ℕ → Error → Type 0

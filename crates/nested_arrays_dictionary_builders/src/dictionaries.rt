@@ -8,7 +8,7 @@ ghost use Rattle.nested_arrays_sized_builders.specs.nulls.columnar_memory.declar
 ghost use Rattle.nested_arrays_sized_builders.specs.nulls.columns.Slots.{null};
 ghost use Rattle.nested_arrays_sized_builders.specs.nulls.columns.StoredColumns.{column_len, column_type, slots, type_layer};
 ghost use Rattle.nested_arrays_sized_builders.specs.nulls.generic.Dictionaries.{dictionary_type, is_value_type, keyed_by};
-ghost use Rattle.nested_arrays_sized_builders.specs.pushes.cells.taken.OpenColumns.{IsFrozen, KeepsFirst, TakesColumn};
+ghost use Rattle.nested_arrays_sized_builders.specs.cells.taken.OpenColumns.{IsFrozen, KeepsFirst, TakesColumn};
 ghost use Rattle.nested_arrays_sized_builders.specs.MarkedSlots.{AddsSlot};
 ghost use Rattle.nested_arrays_dictionary_builders.specs.DictionaryBuilders.{dictionary_column, no_keys};
 ghost use Rattle.nested_arrays_dictionary_builders.specs.DictionaryBuilders.{Begins, IsKeyOf, KeepsUses, LeavesNoKeys};
@@ -17,17 +17,17 @@ ghost use Rattle.nested_arrays_dictionary_builders.specs.SlotHashes.{hashes_as};
 use crate::items::{SlotIs, TryExtend, TryPush};
 use crate::keys::{copy_of_keys, freeze_parts};
 use crate::places::{add_item, place_of, whole_values};
+use nested_arrays_sized_builders::cells::builders::values::{
+    Places, SlotUses, add_use, most_values_of,
+};
+use nested_arrays_sized_builders::cells::parts::Marks;
+use nested_arrays_sized_builders::cells::taken::MutableArray;
 use nested_arrays_sized_builders::flat_arrays::PrimitiveArray;
 use nested_arrays_sized_builders::nulls::arrays::AnyArray;
 use nested_arrays_sized_builders::nulls::columnar_memory::{
     Boxed, DataType, Error, MutableBitmap, PhysicalType, Result, Steps,
 };
 use nested_arrays_sized_builders::nulls::generic::{DictionaryArray, DictionaryKey, ToBoxed};
-use nested_arrays_sized_builders::pushes::cells::builders::values::{
-    Places, SlotUses, add_use, most_values_of,
-};
-use nested_arrays_sized_builders::pushes::cells::parts::Marks;
-use nested_arrays_sized_builders::pushes::cells::taken::MutableArray;
 use std::alloc::Global;
 use std::marker::{Model, PhantomData};
 use std::mem;

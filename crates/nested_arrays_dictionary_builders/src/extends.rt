@@ -5,7 +5,7 @@ ghost use Rattle.nested_arrays_sized_builders.specs.nulls.columns.Kinds.{most_sl
 ghost use Rattle.nested_arrays_sized_builders.specs.nulls.columns.SoundColumns.{is_sound};
 ghost use Rattle.nested_arrays_sized_builders.specs.nulls.columns.StoredColumns.{column_len, column_type};
 ghost use Rattle.nested_arrays_sized_builders.specs.nulls.flat.FlatColumns.{boolean_column, byte_width, primitive_column};
-ghost use Rattle.nested_arrays_sized_builders.specs.pushes.cells.taken.builders.values.ByteBuilders.{from_zero, open_binary, open_text};
+ghost use Rattle.nested_arrays_sized_builders.specs.cells.taken.builders.values.ByteBuilders.{from_zero, open_binary, open_text};
 ghost use Rattle.nested_arrays_sized_builders.specs.FixedListBuilders.{fixed_lists_column};
 ghost use Rattle.nested_arrays_sized_builders.specs.ListBuilders.{lists_column};
 ghost use Rattle.nested_arrays_sized_builders.specs.SizedStrings.{JoinsStrings, sized_column};
@@ -16,13 +16,13 @@ ghost use Rattle.nested_arrays_dictionary_builders.specs.JoinedLists.{AddsItems,
 
 use crate::items::MOST_SLOTS;
 use crate::texts::count_of;
+use nested_arrays_sized_builders::cells::builders::values::{rebase_strings, rebase_texts};
+use nested_arrays_sized_builders::cells::taken::MutableArray;
 use nested_arrays_sized_builders::flat_arrays::{
     MutableBinaryArray, MutableBooleanArray, MutablePrimitiveArray, MutableUtf8Array,
 };
 use nested_arrays_sized_builders::nulls::columnar_memory::{Error, NativeType, Offset, Result};
 use nested_arrays_sized_builders::nulls::flat::PrimitiveKind;
-use nested_arrays_sized_builders::pushes::cells::builders::values::{rebase_strings, rebase_texts};
-use nested_arrays_sized_builders::pushes::cells::taken::MutableArray;
 use nested_arrays_sized_builders::{
     MutValues, MutableFixedSizeBinaryArray, MutableFixedSizeListArray, MutableListArray,
 };

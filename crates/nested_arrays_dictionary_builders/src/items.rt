@@ -8,8 +8,8 @@ ghost use Rattle.nested_arrays_sized_builders.specs.nulls.columns.StoredColumns.
 ghost use Rattle.nested_arrays_dictionary_builders.specs.SeveralSlots.{AddsSlots};
 ghost use Rattle.nested_arrays_dictionary_builders.specs.SlotHashes.{slot_hash};
 
+use nested_arrays_sized_builders::cells::taken::MutableArray;
 use nested_arrays_sized_builders::nulls::columnar_memory::Result;
-use nested_arrays_sized_builders::pushes::cells::taken::MutableArray;
 
 /// As many slots as an array may have.
 pub(crate) const MOST_SLOTS: usize = 9_223_372_036_854_775_807;

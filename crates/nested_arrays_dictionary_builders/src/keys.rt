@@ -6,18 +6,18 @@ ghost use Rattle.nested_arrays_sized_builders.specs.nulls.columnar_memory.Result
 ghost use Rattle.nested_arrays_sized_builders.specs.nulls.columnar_memory.declared.PhysicalType.TheVariants as physical;
 ghost use Rattle.nested_arrays_sized_builders.specs.nulls.columns.SoundColumns.{mask_fits};
 ghost use Rattle.nested_arrays_sized_builders.specs.nulls.columns.StoredColumns.{dictionary};
-ghost use Rattle.nested_arrays_sized_builders.specs.pushes.cells.parts.Marks.{mask_of_marks};
+ghost use Rattle.nested_arrays_sized_builders.specs.cells.parts.Marks.{mask_of_marks};
 ghost use Rattle.nested_arrays_dictionary_builders.specs.DictionaryBuilders.{FreezesKeys};
-ghost use Rattle.nested_arrays_sized_builders.specs.pushes.cells.taken.OpenColumns.{IsFrozen};
+ghost use Rattle.nested_arrays_sized_builders.specs.cells.taken.OpenColumns.{IsFrozen};
 
+use nested_arrays_sized_builders::cells::builders::values::SlotUses;
+use nested_arrays_sized_builders::cells::parts::Marks;
 use nested_arrays_sized_builders::flat_arrays::PrimitiveArray;
 use nested_arrays_sized_builders::nulls::arrays::AnyArray;
 use nested_arrays_sized_builders::nulls::columnar_memory::{
     Bitmap, Buffer, DataType, Index, MutableBitmap, Result,
 };
 use nested_arrays_sized_builders::nulls::generic::{DictionaryArray, DictionaryKey};
-use nested_arrays_sized_builders::pushes::cells::builders::values::SlotUses;
-use nested_arrays_sized_builders::pushes::cells::parts::Marks;
 use std::alloc::Global;
 
 /// The key of a slot that needs so many of the values; 0 where it needs none.

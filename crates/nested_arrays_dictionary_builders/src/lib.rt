@@ -18,6 +18,26 @@ pub use nested_arrays_sized_builders::{
     MutableListArray, MutableNullArray, MutableStructArray, flat_arrays,
 };
 
+/// What `nested_arrays_sized_builders::cells` has, as far as packages above use it.
+pub mod cells {
+    pub use nested_arrays_sized_builders::cells::{TryPushFrom, cell_at};
+
+    /// Of `builders`.
+    pub mod builders {
+        pub use nested_arrays_sized_builders::cells::builders::{AnyMutableArray, is_cell_of};
+    }
+
+    /// Of `parts`.
+    pub mod parts {
+        pub use nested_arrays_sized_builders::cells::parts::{AnyScalar, Marks, Strings};
+    }
+
+    /// Of `taken`.
+    pub mod taken {
+        pub use nested_arrays_sized_builders::cells::taken::MutableArray;
+    }
+}
+
 /// What `nested_arrays_sized_builders::nulls` has, as far as packages above use it.
 pub mod nulls {
     pub use nested_arrays_sized_builders::nulls::{
@@ -81,34 +101,5 @@ pub mod nulls {
     /// Of `parts`.
     pub mod parts {
         pub use nested_arrays_sized_builders::nulls::parts::{FlatArray, FlatNode, ListOffsets};
-    }
-}
-
-/// What `nested_arrays_sized_builders::pushes` has, as far as packages above use it.
-pub mod pushes {
-    pub use nested_arrays_sized_builders::pushes::TryPushFrom;
-
-    /// Of `cells`.
-    pub mod cells {
-        pub use nested_arrays_sized_builders::pushes::cells::cell_at;
-
-        /// Of `builders`.
-        pub mod builders {
-            pub use nested_arrays_sized_builders::pushes::cells::builders::{
-                AnyMutableArray, is_cell_of,
-            };
-        }
-
-        /// Of `parts`.
-        pub mod parts {
-            pub use nested_arrays_sized_builders::pushes::cells::parts::{
-                AnyScalar, Marks, Strings,
-            };
-        }
-
-        /// Of `taken`.
-        pub mod taken {
-            pub use nested_arrays_sized_builders::pushes::cells::taken::MutableArray;
-        }
     }
 }

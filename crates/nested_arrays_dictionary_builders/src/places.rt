@@ -7,9 +7,9 @@ ghost use Rattle.nested_arrays_dictionary_builders.specs.DictionaryBuilders.{Add
 ghost use Rattle.nested_arrays_dictionary_builders.specs.SlotHashes.{hashes_as, slot_hash};
 
 use crate::items::SlotIs;
+use nested_arrays_sized_builders::cells::builders::values::{Places, SlotUses, add_use};
+use nested_arrays_sized_builders::cells::parts::Marks;
 use nested_arrays_sized_builders::nulls::columnar_memory::{Error, Result, Steps};
-use nested_arrays_sized_builders::pushes::cells::builders::values::{Places, SlotUses, add_use};
-use nested_arrays_sized_builders::pushes::cells::parts::Marks;
 use std::alloc::Global;
 
 /// The place of the value that an item is, among values whose hashes have these places, with a step for each value that it is compared with.

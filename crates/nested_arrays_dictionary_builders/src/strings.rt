@@ -6,8 +6,8 @@ ghost use Rattle.nested_arrays_sized_builders.specs.SizedStrings.{sized_column};
 
 use crate::items::{SlotIs, TryExtend, TryPush};
 use nested_arrays_sized_builders::MutableFixedSizeBinaryArray;
+use nested_arrays_sized_builders::cells::builders::values::hash_of_bytes;
 use nested_arrays_sized_builders::nulls::columnar_memory::Result;
-use nested_arrays_sized_builders::pushes::cells::builders::values::hash_of_bytes;
 
 /// Byte strings are pushed where they have the size.
 impl TryPush<Vec<u8>> for MutableFixedSizeBinaryArray {

@@ -8,17 +8,17 @@ ghost use Rattle.nested_arrays_sized_builders.specs.nulls.columns.Slots.{bytes, 
 ghost use Rattle.nested_arrays_sized_builders.specs.nulls.columns.SoundColumns.{is_byte, is_sound};
 ghost use Rattle.nested_arrays_sized_builders.specs.nulls.columns.StoredColumns.{column_len, slot_at};
 ghost use Rattle.nested_arrays_sized_builders.specs.flat_arrays.ByteStrings.{len_of};
-ghost use Rattle.nested_arrays_sized_builders.specs.pushes.cells.taken.builders.values.ByteBuilders.{from_zero, open_binary, open_text};
+ghost use Rattle.nested_arrays_sized_builders.specs.cells.taken.builders.values.ByteBuilders.{from_zero, open_binary, open_text};
 ghost use Rattle.nested_arrays_dictionary_builders.specs.ByteItems.{AddsBytes, HoldsAt};
 
 use crate::items::{MOST_SLOTS, SlotIs, TryExtend, TryPush};
+use nested_arrays_sized_builders::cells::builders::values::{
+    hash_of_bytes, rebase_strings, rebase_texts,
+};
 use nested_arrays_sized_builders::flat_arrays::{
     ByteBuilder, MutableBinaryArray, MutableUtf8Array,
 };
 use nested_arrays_sized_builders::nulls::columnar_memory::{Error, Offset, Result};
-use nested_arrays_sized_builders::pushes::cells::builders::values::{
-    hash_of_bytes, rebase_strings, rebase_texts,
-};
 use nested_arrays_sized_builders::read_bytes;
 
 /// Texts of any length are pushed as they are.

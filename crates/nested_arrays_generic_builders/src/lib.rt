@@ -10,8 +10,36 @@ mod structs;
 pub use fields::MutableFields;
 pub use lending::MutValues;
 pub use lists::{MutableListArray, join_marks, marks_of};
-pub use nested_arrays_builder_pushes::flat_arrays;
+pub use nested_arrays_builder_cells::flat_arrays;
 pub use structs::MutableStructArray;
+
+/// What `nested_arrays_builder_cells` has, as far as packages above use it.
+pub mod cells {
+    pub use nested_arrays_builder_cells::{TryPushFrom, cell_at};
+
+    /// Of `builders`.
+    pub mod builders {
+        pub use nested_arrays_builder_cells::builders::{AnyMutableArray, is_cell_of};
+
+        /// Of `values`.
+        pub mod values {
+            pub use nested_arrays_builder_cells::builders::values::{
+                Places, SlotUses, add_use, hash_of_bytes, most_values_of, rebase_strings,
+                rebase_texts,
+            };
+        }
+    }
+
+    /// Of `parts`.
+    pub mod parts {
+        pub use nested_arrays_builder_cells::parts::{AnyScalar, Marks, Strings};
+    }
+
+    /// Of `taken`.
+    pub mod taken {
+        pub use nested_arrays_builder_cells::taken::MutableArray;
+    }
+}
 
 /// What `nested_arrays_nulls` has, as far as packages above use it.
 pub mod nulls {
@@ -76,38 +104,5 @@ pub mod nulls {
     /// Of `parts`.
     pub mod parts {
         pub use nested_arrays_nulls::parts::{FlatArray, FlatNode, ListOffsets};
-    }
-}
-
-/// What `nested_arrays_builder_pushes` has, as far as packages above use it.
-pub mod pushes {
-    pub use nested_arrays_builder_pushes::TryPushFrom;
-
-    /// Of `cells`.
-    pub mod cells {
-        pub use nested_arrays_builder_pushes::cells::cell_at;
-
-        /// Of `builders`.
-        pub mod builders {
-            pub use nested_arrays_builder_pushes::cells::builders::{AnyMutableArray, is_cell_of};
-
-            /// Of `values`.
-            pub mod values {
-                pub use nested_arrays_builder_pushes::cells::builders::values::{
-                    Places, SlotUses, add_use, hash_of_bytes, most_values_of, rebase_strings,
-                    rebase_texts,
-                };
-            }
-        }
-
-        /// Of `parts`.
-        pub mod parts {
-            pub use nested_arrays_builder_pushes::cells::parts::{AnyScalar, Marks, Strings};
-        }
-
-        /// Of `taken`.
-        pub mod taken {
-            pub use nested_arrays_builder_pushes::cells::taken::MutableArray;
-        }
     }
 }

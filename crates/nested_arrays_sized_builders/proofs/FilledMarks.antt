@@ -12,7 +12,7 @@ use Rattle.nested_arrays_generic_builders.specs.nulls.columnar_memory.Error.{IsO
 use Rattle.nested_arrays_generic_builders.specs.nulls.columns.Kinds.{most_slots}
 use Rattle.nested_arrays_generic_builders.specs.nulls.columns.SoundColumns.{mask_fits}
 use Rattle.nested_arrays_generic_builders.specs.nulls.columns.StoredColumns.{Column}
-use Rattle.nested_arrays_generic_builders.specs.pushes.cells.parts.Marks.{mask_of_marks}
+use Rattle.nested_arrays_generic_builders.specs.cells.parts.Marks.{mask_of_marks}
 use Rattle.nested_arrays_sized_builders.specs.FixedListBuilders.{FixedListParts, JoinsFilled, JoinsFixedLists, filled, fixed_list_parts}
 use Rattle.nested_arrays_sized_builders.specs.FixedListBuilders.{lists_made, marks_for, missing_and}
 use Rattle.nested_arrays_sized_builders.proofs.SettledMarks.{first_few, settled, settled_first, settled_for, settled_many, settled_mask}

@@ -15,10 +15,10 @@ use Rattle.nested_arrays_generic_builders.specs.nulls.columns.OpenBatch.{fits}
 use Rattle.nested_arrays_generic_builders.specs.nulls.columns.Slots.{Slot, null}
 use Rattle.nested_arrays_generic_builders.specs.nulls.columns.SoundColumns.{is_sound}
 use Rattle.nested_arrays_generic_builders.specs.nulls.columns.StoredColumns.{Column, column_len, column_type, slots}
-use Rattle.nested_arrays_generic_builders.specs.pushes.cells.parts.Marks.{TakesMark}
-use Rattle.nested_arrays_generic_builders.specs.pushes.cells.taken.OpenColumns.{Becomes, IsEmptied, IsFresh, IsFrozen, KeepsFirst, TakesColumn, slots_and}
+use Rattle.nested_arrays_generic_builders.specs.cells.parts.Marks.{TakesMark}
+use Rattle.nested_arrays_generic_builders.specs.cells.taken.OpenColumns.{Becomes, IsEmptied, IsFresh, IsFrozen, KeepsFirst, TakesColumn, slots_and}
 use Rattle.nested_arrays_generic_builders.proofs.OpenLists.{same_becomes}
-use Rattle.nested_arrays_generic_builders.proofs.pushes_lemmas.columns_lemmas.ColumnSizes.{slots_lengths}
+use Rattle.nested_arrays_generic_builders.proofs.cells_lemmas.columns_lemmas.ColumnSizes.{slots_lengths}
 use Rattle.nested_arrays_sized_builders.specs.FixedListBuilders.{AddsFixedList, AreFixedLists, ClosesFixedColumn, ClosesFixedList}
 use Rattle.nested_arrays_sized_builders.specs.FixedListBuilders.{FixedListParts, FreezesLists, filled, fixed_list_parts, fixed_lists_column}
 use Rattle.nested_arrays_sized_builders.specs.FixedListBuilders.{items_with_one, lists_over, marks_for}

@@ -10,13 +10,13 @@ use Rattle.nested_arrays_generic_builders.specs.nulls.columns.OpenBatch.{fits}
 use Rattle.nested_arrays_generic_builders.specs.nulls.columns.Slots.{Slot, null}
 use Rattle.nested_arrays_generic_builders.specs.nulls.columns.SoundColumns.{is_sound}
 use Rattle.nested_arrays_generic_builders.specs.nulls.columns.StoredColumns.{Column, column_len, column_type, slot_at, slots}
-use Rattle.nested_arrays_generic_builders.specs.pushes.cells.parts.Open.{opened}
-use Rattle.nested_arrays_generic_builders.specs.pushes.cells.taken.OpenColumns.{Becomes, IsFresh, KeepsFirst, slots_and}
+use Rattle.nested_arrays_generic_builders.specs.cells.parts.Open.{opened}
+use Rattle.nested_arrays_generic_builders.specs.cells.taken.OpenColumns.{Becomes, IsFresh, KeepsFirst, slots_and}
 use Rattle.nested_arrays_generic_builders.proofs.OpenLists.{same_becomes}
-use Rattle.nested_arrays_generic_builders.proofs.pushes_lemmas.cells_lemmas.taken_lemmas.OpenColumns.{open_sound}
-use Rattle.nested_arrays_generic_builders.proofs.pushes_lemmas.columns_lemmas.ColumnSizes.{slots_lengths}
-use Rattle.nested_arrays_generic_builders.proofs.pushes_lemmas.columns_lemmas.FreshPlaces.{at_window}
-use Rattle.nested_arrays_generic_builders.proofs.pushes_lemmas.growth_lemmas.Limits.{fits_not_with_more}
+use Rattle.nested_arrays_generic_builders.proofs.cells_lemmas.taken_lemmas.OpenColumns.{open_sound}
+use Rattle.nested_arrays_generic_builders.proofs.cells_lemmas.columns_lemmas.ColumnSizes.{slots_lengths}
+use Rattle.nested_arrays_generic_builders.proofs.cells_lemmas.columns_lemmas.FreshPlaces.{at_window}
+use Rattle.nested_arrays_generic_builders.proofs.cells_lemmas.growth_lemmas.Limits.{fits_not_with_more}
 
 -- fresh columns are sound
 pub fresh_sound : (c : Column) → IsFresh c → is_sound c ≡ true

@@ -19,13 +19,13 @@ use Rattle.nested_arrays_generic_builders.specs.nulls.columns.OpenBatch.{fits, i
 use Rattle.nested_arrays_generic_builders.specs.nulls.columns.Slots.{Slot, null, window}
 use Rattle.nested_arrays_generic_builders.specs.nulls.columns.SoundColumns.{is_null_type, is_sound}
 use Rattle.nested_arrays_generic_builders.specs.nulls.columns.StoredColumns.{Column, nulls, slot_at, slots, type_layer}
-use Rattle.nested_arrays_generic_builders.specs.pushes.cells.taken.OpenColumns.{Becomes, IsEmptied, IsFresh, KeepsFirst, TakesColumn, slots_and}
-use Rattle.nested_arrays_generic_builders.proofs.pushes_lemmas.columns_lemmas.ColumnSizes.{slots_lengths}
-use Rattle.nested_arrays_generic_builders.proofs.pushes_lemmas.columns_lemmas.FreshLengths.{Layer}
-use Rattle.nested_arrays_generic_builders.proofs.pushes_lemmas.columns_lemmas.Windows.{window_same}
-use Rattle.nested_arrays_generic_builders.proofs.pushes_lemmas.growth_lemmas.Fits.{fits_nulls}
-use Rattle.nested_arrays_generic_builders.proofs.pushes_lemmas.growth_lemmas.LayerParts.{fresh_nulls}
-use Rattle.nested_arrays_generic_builders.proofs.pushes_lemmas.growth_lemmas.TypeSteps.{buildable_by_layer}
+use Rattle.nested_arrays_generic_builders.specs.cells.taken.OpenColumns.{Becomes, IsEmptied, IsFresh, KeepsFirst, TakesColumn, slots_and}
+use Rattle.nested_arrays_generic_builders.proofs.cells_lemmas.columns_lemmas.ColumnSizes.{slots_lengths}
+use Rattle.nested_arrays_generic_builders.proofs.cells_lemmas.columns_lemmas.FreshLengths.{Layer}
+use Rattle.nested_arrays_generic_builders.proofs.cells_lemmas.columns_lemmas.Windows.{window_same}
+use Rattle.nested_arrays_generic_builders.proofs.cells_lemmas.growth_lemmas.Fits.{fits_nulls}
+use Rattle.nested_arrays_generic_builders.proofs.cells_lemmas.growth_lemmas.LayerParts.{fresh_nulls}
+use Rattle.nested_arrays_generic_builders.proofs.cells_lemmas.growth_lemmas.TypeSteps.{buildable_by_layer}
 use Rattle.nested_arrays_generic_builders.proofs.nulls_lemmas.flat_lemmas.NullTypes.{null_types}
 use Rattle.nested_arrays_generic_builders.proofs.ListSlots.{window_first, window_more}
 

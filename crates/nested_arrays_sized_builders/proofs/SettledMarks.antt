@@ -9,9 +9,9 @@ use Rattle.nested_arrays_generic_builders.specs.nulls.columnar_memory.declared.E
 use Rattle.nested_arrays_generic_builders.specs.nulls.columnar_memory.Error.{IsOutOfMemory, IsOverflow}
 use Rattle.nested_arrays_generic_builders.specs.nulls.columns.Kinds.{most_slots}
 use Rattle.nested_arrays_generic_builders.specs.nulls.columns.SoundColumns.{mask_fits}
-use Rattle.nested_arrays_generic_builders.specs.pushes.cells.parts.Marks.{marks, mask_of_marks, TakesMark}
+use Rattle.nested_arrays_generic_builders.specs.cells.parts.Marks.{marks, mask_of_marks, TakesMark}
 use Rattle.nested_arrays_generic_builders.proofs.ListSlots.{marks_many}
-use Rattle.nested_arrays_generic_builders.proofs.pushes_lemmas.parts_lemmas.MarkLists.{mask_none, mask_some, marks_back, none_unset, take_trues}
+use Rattle.nested_arrays_generic_builders.proofs.cells_lemmas.parts_lemmas.MarkLists.{mask_none, mask_some, marks_back, none_unset, take_trues}
 use Rattle.nested_arrays_sized_builders.specs.FixedListBuilders.{FillsMarks, filled, marks_for}
 
 none_or_some : (n : ℕ) → (n ≡ 0) ⊎ (0 < n)

@@ -18,12 +18,12 @@ use Rattle.nested_arrays_generic_builders.specs.nulls.columns.Slots.{Slot, bytes
 use Rattle.nested_arrays_generic_builders.specs.nulls.columns.SoundColumns.{is_byte, is_sound}
 use Rattle.nested_arrays_generic_builders.specs.nulls.columns.StoredColumns.{Column, column_type, slots}
 use Rattle.nested_arrays_generic_builders.specs.nulls.flat.FlatColumns.{byte_width}
-use Rattle.nested_arrays_generic_builders.specs.pushes.cells.taken.OpenColumns.{AddsNull, Becomes, IsFresh, KeepsFirst, TakesColumn, slots_and}
-use Rattle.nested_arrays_generic_builders.proofs.pushes_lemmas.columns_lemmas.ColumnSizes.{slots_lengths}
-use Rattle.nested_arrays_generic_builders.proofs.pushes_lemmas.columns_lemmas.Conditions.{list_all-take}
-use Rattle.nested_arrays_generic_builders.proofs.pushes_lemmas.columns_lemmas.Fitting.{null_fits}
-use Rattle.nested_arrays_generic_builders.proofs.pushes_lemmas.columns_lemmas.FreshLengths.{cell_layer}
-use Rattle.nested_arrays_generic_builders.proofs.pushes_lemmas.growth_lemmas.TypeSteps.{cell_is}
+use Rattle.nested_arrays_generic_builders.specs.cells.taken.OpenColumns.{AddsNull, Becomes, IsFresh, KeepsFirst, TakesColumn, slots_and}
+use Rattle.nested_arrays_generic_builders.proofs.cells_lemmas.columns_lemmas.ColumnSizes.{slots_lengths}
+use Rattle.nested_arrays_generic_builders.proofs.cells_lemmas.columns_lemmas.Conditions.{list_all-take}
+use Rattle.nested_arrays_generic_builders.proofs.cells_lemmas.columns_lemmas.Fitting.{null_fits}
+use Rattle.nested_arrays_generic_builders.proofs.cells_lemmas.columns_lemmas.FreshLengths.{cell_layer}
+use Rattle.nested_arrays_generic_builders.proofs.cells_lemmas.growth_lemmas.TypeSteps.{cell_is}
 use Rattle.nested_arrays_sized_builders.specs.MarkedSlots.{AddsSlot}
 use Rattle.nested_arrays_sized_builders.specs.SizedStrings.{AddsBytes, AddsString, AreSized, JoinsBytes, SizedParts, is_sized}
 use Rattle.nested_arrays_sized_builders.specs.SizedStrings.{sized_column, sized_parts, sized_type, stored_for, string_slot}

@@ -15,8 +15,8 @@ use Rattle.nested_arrays_generic_builders.specs.nulls.columns.OpenBatch.{fits}
 use Rattle.nested_arrays_generic_builders.specs.nulls.columns.Slots.{Slot, null}
 use Rattle.nested_arrays_generic_builders.specs.nulls.columns.SoundColumns.{is_sound}
 use Rattle.nested_arrays_generic_builders.specs.nulls.columns.StoredColumns.{Column, column_len, column_type, fixed_lists, slots}
-use Rattle.nested_arrays_generic_builders.specs.pushes.cells.parts.Marks.{mask_of_marks}
-use Rattle.nested_arrays_generic_builders.specs.pushes.cells.taken.OpenColumns.{Becomes, IsEmptied, IsFresh, IsFrozen}
+use Rattle.nested_arrays_generic_builders.specs.cells.parts.Marks.{mask_of_marks}
+use Rattle.nested_arrays_generic_builders.specs.cells.taken.OpenColumns.{Becomes, IsEmptied, IsFresh, IsFrozen}
 use Rattle.nested_arrays_generic_builders.specs.ListBuilders.{list_slot}
 
 -- The data type, a mark for each list that was closed, and the builder of the items.

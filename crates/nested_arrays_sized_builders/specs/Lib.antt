@@ -3,8 +3,8 @@ pub mod MarkedSlots
 pub mod NullBuilders
 pub mod SizedStrings
 pub use Rattle.nested_arrays_generic_builders.specs.nulls
-pub use Rattle.nested_arrays_generic_builders.specs.pushes
+pub use Rattle.nested_arrays_generic_builders.specs.cells
 pub use Rattle.nested_arrays_generic_builders.specs.ListBuilders
 pub use Rattle.nested_arrays_generic_builders.specs.StructBuilders
-pub use Rattle.nested_arrays_generic_builders.specs.pushes.cells.builders.values
+pub use Rattle.nested_arrays_generic_builders.specs.cells.builders.values
 pub use Rattle.nested_arrays_generic_builders.specs.flat_arrays

@@ -6,7 +6,7 @@ use Rattle.nested_arrays_generic_builders.specs.nulls.columns.Cells.{fits_cell}
 use Rattle.nested_arrays_generic_builders.specs.nulls.columns.OpenBatch.{fits}
 use Rattle.nested_arrays_generic_builders.specs.nulls.columns.Slots.{Slot}
 use Rattle.nested_arrays_generic_builders.specs.nulls.columns.StoredColumns.{Column, column_type}
-use Rattle.nested_arrays_generic_builders.specs.pushes.cells.taken.OpenColumns.{Becomes, IsFresh, slots_and}
+use Rattle.nested_arrays_generic_builders.specs.cells.taken.OpenColumns.{Becomes, IsFresh, slots_and}
 
 -- A slot stands behind those of a column. Or nothing has changed: memory ran out, the slot does not fit the type, or a fresh column has no room
 -- for it.

@@ -15,7 +15,7 @@ use Rattle.nested_arrays_generic_builders.specs.nulls.columns.Slots.{Slot, null,
 use Rattle.nested_arrays_generic_builders.specs.nulls.columns.SoundColumns.{is_byte, is_sound}
 use Rattle.nested_arrays_generic_builders.specs.nulls.columns.StoredColumns.{Column}
 use Rattle.nested_arrays_generic_builders.specs.nulls.flat.FlatColumns.{byte_width, fixed_column}
-use Rattle.nested_arrays_generic_builders.specs.pushes.cells.parts.Marks.{marks, mask_of_marks}
+use Rattle.nested_arrays_generic_builders.specs.cells.parts.Marks.{marks, mask_of_marks}
 
 -- The data type, a mark for each byte string, and the bytes of the strings, one after another.
 pub record SizedParts : Type 0 where

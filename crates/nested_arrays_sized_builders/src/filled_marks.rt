@@ -5,8 +5,8 @@ ghost use Rattle.nested_arrays_generic_builders.specs.nulls.columns.Kinds.{most_
 ghost use Rattle.nested_arrays_sized_builders.specs.FixedListBuilders.{missing_and, JoinsFilled};
 
 use crate::nulls_alone::MOST_SLOTS;
+use nested_arrays_generic_builders::cells::parts::Marks;
 use nested_arrays_generic_builders::nulls::columnar_memory::{Error, Result};
-use nested_arrays_generic_builders::pushes::cells::parts::Marks;
 
 /// Fills marks of values up to those of so many lists, and adds those of so many lists of another builder behind them; or changes nothing.
 pub(crate) fn join_filled(marks: &mut Marks, lists: usize, more: &Marks, count: usize) -> Result<()>

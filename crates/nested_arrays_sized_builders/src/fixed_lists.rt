@@ -6,8 +6,8 @@ ghost use Rattle.nested_arrays_generic_builders.specs.nulls.arrays.Lengths.{size
 ghost use Rattle.nested_arrays_generic_builders.specs.nulls.columnar_memory.Error.{IsOutOfMemory};
 ghost use Rattle.nested_arrays_generic_builders.specs.nulls.columnar_memory.Results.{OrOutOfMemory};
 ghost use Rattle.nested_arrays_generic_builders.specs.nulls.columns.StoredColumns.{column_len, column_type};
-ghost use Rattle.nested_arrays_generic_builders.specs.pushes.cells.parts.Marks.{mask_of_marks};
-ghost use Rattle.nested_arrays_generic_builders.specs.pushes.cells.taken.OpenColumns.{AddsNull, IsFrozen, KeepsFirst, TakesColumn};
+ghost use Rattle.nested_arrays_generic_builders.specs.cells.parts.Marks.{mask_of_marks};
+ghost use Rattle.nested_arrays_generic_builders.specs.cells.taken.OpenColumns.{AddsNull, IsFrozen, KeepsFirst, TakesColumn};
 ghost use Rattle.nested_arrays_sized_builders.specs.FixedListBuilders.{fixed_lists_column, fixed_lists_of, items_with_one, lists_over};
 ghost use Rattle.nested_arrays_sized_builders.specs.FixedListBuilders.{no_fixed_lists, with_items, AddsNullFixedList, AddsNulls, ClosesFixedColumn};
 ghost use Rattle.nested_arrays_sized_builders.specs.FixedListBuilders.{ClosesFixedList, FillsMarks, FreezesLists, KeepsMarks, LeavesNoLists, MarksBehind};
@@ -15,12 +15,12 @@ ghost use Rattle.nested_arrays_sized_builders.specs.FixedListBuilders.{JoinsFixe
 
 use crate::filled_marks::join_filled;
 use nested_arrays_generic_builders::MutValues;
+use nested_arrays_generic_builders::cells::parts::Marks;
+use nested_arrays_generic_builders::cells::taken::MutableArray;
 use nested_arrays_generic_builders::nulls::arrays::{AnyArray, FixedSizeListArray};
 use nested_arrays_generic_builders::nulls::columnar_memory::{
     Boxed, DataType, Error, Field, MutableBitmap, Result, Text,
 };
-use nested_arrays_generic_builders::pushes::cells::parts::Marks;
-use nested_arrays_generic_builders::pushes::cells::taken::MutableArray;
 use std::alloc::Global;
 use std::marker::Model;
 use std::mem;

@@ -14,6 +14,34 @@ pub use nested_arrays_generic_builders::{
 pub use nulls_alone::MutableNullArray;
 pub use sized_strings::{MutableFixedSizeBinaryArray, read_bytes};
 
+/// What `nested_arrays_generic_builders::cells` has, as far as packages above use it.
+pub mod cells {
+    pub use nested_arrays_generic_builders::cells::{TryPushFrom, cell_at};
+
+    /// Of `builders`.
+    pub mod builders {
+        pub use nested_arrays_generic_builders::cells::builders::{AnyMutableArray, is_cell_of};
+
+        /// Of `values`.
+        pub mod values {
+            pub use nested_arrays_generic_builders::cells::builders::values::{
+                Places, SlotUses, add_use, hash_of_bytes, most_values_of, rebase_strings,
+                rebase_texts,
+            };
+        }
+    }
+
+    /// Of `parts`.
+    pub mod parts {
+        pub use nested_arrays_generic_builders::cells::parts::{AnyScalar, Marks, Strings};
+    }
+
+    /// Of `taken`.
+    pub mod taken {
+        pub use nested_arrays_generic_builders::cells::taken::MutableArray;
+    }
+}
+
 /// What `nested_arrays_generic_builders::nulls` has, as far as packages above use it.
 pub mod nulls {
     pub use nested_arrays_generic_builders::nulls::{
@@ -77,42 +105,5 @@ pub mod nulls {
     /// Of `parts`.
     pub mod parts {
         pub use nested_arrays_generic_builders::nulls::parts::{FlatArray, FlatNode, ListOffsets};
-    }
-}
-
-/// What `nested_arrays_generic_builders::pushes` has, as far as packages above use it.
-pub mod pushes {
-    pub use nested_arrays_generic_builders::pushes::TryPushFrom;
-
-    /// Of `cells`.
-    pub mod cells {
-        pub use nested_arrays_generic_builders::pushes::cells::cell_at;
-
-        /// Of `builders`.
-        pub mod builders {
-            pub use nested_arrays_generic_builders::pushes::cells::builders::{
-                AnyMutableArray, is_cell_of,
-            };
-
-            /// Of `values`.
-            pub mod values {
-                pub use nested_arrays_generic_builders::pushes::cells::builders::values::{
-                    Places, SlotUses, add_use, hash_of_bytes, most_values_of, rebase_strings,
-                    rebase_texts,
-                };
-            }
-        }
-
-        /// Of `parts`.
-        pub mod parts {
-            pub use nested_arrays_generic_builders::pushes::cells::parts::{
-                AnyScalar, Marks, Strings,
-            };
-        }
-
-        /// Of `taken`.
-        pub mod taken {
-            pub use nested_arrays_generic_builders::pushes::cells::taken::MutableArray;
-        }
     }
 }

@@ -4,16 +4,16 @@ ghost use Rattle.nested_arrays_generic_builders.specs.nulls.columnar_memory.Resu
 ghost use Rattle.nested_arrays_generic_builders.specs.nulls.columns.Kinds.{most_slots};
 ghost use Rattle.nested_arrays_generic_builders.specs.nulls.columns.SoundColumns.{is_null_type, is_sound};
 ghost use Rattle.nested_arrays_generic_builders.specs.nulls.columns.StoredColumns.{nulls, type_layer};
-ghost use Rattle.nested_arrays_generic_builders.specs.pushes.cells.taken.OpenColumns.{AddsNull};
+ghost use Rattle.nested_arrays_generic_builders.specs.cells.taken.OpenColumns.{AddsNull};
 ghost use Rattle.nested_arrays_sized_builders.specs.NullBuilders.{BeginsNulls, CountsNull};
 
+use nested_arrays_generic_builders::cells::taken::MutableArray;
 use nested_arrays_generic_builders::nulls::arrays::AnyArray;
 use nested_arrays_generic_builders::nulls::columnar_memory::{
     DataType, Error, MutableBitmap, PhysicalType, Result,
 };
 use nested_arrays_generic_builders::nulls::flat::NullArray;
 use nested_arrays_generic_builders::nulls::generic::ToBoxed;
-use nested_arrays_generic_builders::pushes::cells::taken::MutableArray;
 use std::alloc::Global;
 use std::marker::Model;
 use std::rc::Rc;

@@ -9,21 +9,21 @@ ghost use Rattle.nested_arrays_generic_builders.specs.nulls.columns.Slots.{null}
 ghost use Rattle.nested_arrays_generic_builders.specs.nulls.columns.SoundColumns.{is_byte, is_sound, mask_fits};
 ghost use Rattle.nested_arrays_generic_builders.specs.nulls.columns.StoredColumns.{column_len};
 ghost use Rattle.nested_arrays_generic_builders.specs.nulls.flat.FlatColumns.{byte_width, fixed_column};
-ghost use Rattle.nested_arrays_generic_builders.specs.pushes.cells.parts.Marks.{mask_of_marks};
-ghost use Rattle.nested_arrays_generic_builders.specs.pushes.cells.taken.OpenColumns.{AddsNull, KeepsFirst, TakesColumn};
+ghost use Rattle.nested_arrays_generic_builders.specs.cells.parts.Marks.{mask_of_marks};
+ghost use Rattle.nested_arrays_generic_builders.specs.cells.taken.OpenColumns.{AddsNull, KeepsFirst, TakesColumn};
 ghost use Rattle.nested_arrays_sized_builders.specs.MarkedSlots.{AddsSlot};
 ghost use Rattle.nested_arrays_sized_builders.specs.SizedStrings.{AddsBytes, AddsString, IsBuilt, JoinsBytes, JoinsStrings};
 ghost use Rattle.nested_arrays_sized_builders.specs.SizedStrings.{TakesLast, first_strings, is_sized, no_strings};
 ghost use Rattle.nested_arrays_sized_builders.specs.SizedStrings.{sized_column, sized_type, sized_string_at, string_slot, value_at};
 
+use nested_arrays_generic_builders::cells::parts::Marks;
+use nested_arrays_generic_builders::cells::taken::MutableArray;
 use nested_arrays_generic_builders::nulls::arrays::AnyArray;
 use nested_arrays_generic_builders::nulls::columnar_memory::{
     Bitmap, Buffer, DataType, Error, MutableBitmap, Result,
 };
 use nested_arrays_generic_builders::nulls::flat::FixedSizeBinaryArray;
 use nested_arrays_generic_builders::nulls::generic::ToBoxed;
-use nested_arrays_generic_builders::pushes::cells::parts::Marks;
-use nested_arrays_generic_builders::pushes::cells::taken::MutableArray;
 use nested_arrays_generic_builders::{join_marks, marks_of};
 use std::alloc::Global;
 use std::marker::Model;

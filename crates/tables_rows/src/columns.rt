@@ -1,7 +1,7 @@
 //! Open columns: one for each field of a schema.
 ghost use Rattle.std.specs.Prelude.{◌≡◌, ◌≤◌, ◌<◌, ℕ, get_or, length, true};
 ghost use Rattle.tables_rows.specs.Columns.{are_fitting, cut_back, lowered, open_count};
-ghost use Rattle.tables_chunks.specs.ipc_format.nested_arrays.builders.cells.parts.Open.{Open};
+ghost use Rattle.tables_chunks.specs.ipc_format.nested_arrays.builders.parts.Open.{Open};
 
 use columnar_memory_types::Error;
 use tables_chunks::Fault;

@@ -1,8 +1,8 @@
 //! Rows that are pushed: each cell stands behind those of its column.
 ghost use Rattle.std.specs.Prelude.{◌≡◌, ◌≤◌, ◌<◌, ℕ, get_or, length, map};
 ghost use Rattle.tables_rows.specs.Columns.{AreLong, PushesAt, PushesEach};
-ghost use Rattle.tables_chunks.specs.ipc_format.nested_arrays.builders.cells.parts.Open.{Open};
-ghost use Rattle.tables_chunks.specs.ipc_format.nested_arrays.builders.cells.parts.Scalars.{scalar_slot};
+ghost use Rattle.tables_chunks.specs.ipc_format.nested_arrays.builders.parts.Open.{Open};
+ghost use Rattle.tables_chunks.specs.ipc_format.nested_arrays.builders.parts.Scalars.{scalar_slot};
 
 use crate::columns::{keep_first, lower_fault};
 use tables_chunks::Fault;

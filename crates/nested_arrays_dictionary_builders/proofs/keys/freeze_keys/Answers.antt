@@ -1,7 +1,7 @@
 use Rattle.std.proofs.Common.{◌≡◌, ◌∙◌, map, ap, rules}
 use Rattle.nested_arrays_sized_builders.specs.values.Uses.{keys_from}
 use Rattle.nested_arrays_sized_builders.specs.nulls.columns.StoredColumns.{dictionary}
-use Rattle.nested_arrays_sized_builders.specs.pushes.cells.parts.Marks.{mask_of_marks}
+use Rattle.nested_arrays_sized_builders.specs.cells.parts.Marks.{mask_of_marks}
 use Rattle.nested_arrays_dictionary_builders.proofs.KeyedParts.{keys_frozen}
 use Rattle.nested_arrays_dictionary_builders.proofs.keys.freeze_keys.Goals as goal
 

@@ -1,6 +1,6 @@
 use Rattle.std.proofs.Common.{◌≡◌, ℕ, List, rules, subst}
 use Rattle.nested_arrays_sized_builders.specs.nulls.columns.Slots.{bytes}
-use Rattle.nested_arrays_sized_builders.specs.pushes.cells.taken.builders.values.ByteBuilders.{open_binary}
+use Rattle.nested_arrays_sized_builders.specs.cells.taken.builders.values.ByteBuilders.{open_binary}
 use Rattle.nested_arrays_sized_builders.specs.MarkedSlots.{AddsSlot}
 use Rattle.nested_arrays_dictionary_builders.proofs.ByteItems.{binary_pushed}
 use Rattle.nested_arrays_dictionary_builders.proofs.texts.add_bytes.Goals as goal

@@ -1,7 +1,7 @@
 use Rattle.std.proofs.Common.{◌≡◌, ℕ, List, rules, subst}
 use Rattle.std.specs.String.{string_bytes}
 use Rattle.nested_arrays_sized_builders.specs.nulls.columns.Slots.{text}
-use Rattle.nested_arrays_sized_builders.specs.pushes.cells.taken.builders.values.ByteBuilders.{open_text}
+use Rattle.nested_arrays_sized_builders.specs.cells.taken.builders.values.ByteBuilders.{open_text}
 use Rattle.nested_arrays_sized_builders.specs.MarkedSlots.{AddsSlot}
 use Rattle.nested_arrays_dictionary_builders.proofs.ByteItems.{text_pushed}
 use Rattle.nested_arrays_dictionary_builders.proofs.texts.add_text.Goals as goal

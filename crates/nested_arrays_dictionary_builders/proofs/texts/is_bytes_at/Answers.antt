@@ -2,7 +2,7 @@ use Rattle.std.proofs.Common.{◌≡◌, ◌<◌, ℕ, rules, subst, sym}
 use Rattle.nested_arrays_sized_builders.specs.nulls.columns.Slots.{bytes}
 use Rattle.nested_arrays_sized_builders.specs.nulls.columns.StoredColumns.{slot_at}
 use Rattle.nested_arrays_sized_builders.specs.flat_arrays.ByteStrings.{ByteStrings, len_of}
-use Rattle.nested_arrays_sized_builders.specs.pushes.cells.taken.builders.values.ByteBuilders.{from_zero, open_binary}
+use Rattle.nested_arrays_sized_builders.specs.cells.taken.builders.values.ByteBuilders.{from_zero, open_binary}
 use Rattle.nested_arrays_sized_builders.proofs.nulls_lemmas.flat_lemmas.SoundStrings.{strings_len}
 use Rattle.nested_arrays_dictionary_builders.proofs.ByteItems.{binary_same, told_by}
 use Rattle.nested_arrays_dictionary_builders.proofs.texts.is_bytes_at.Goals as goal

@@ -3,7 +3,7 @@ use Rattle.std.specs.String.{string_bytes}
 use Rattle.nested_arrays_sized_builders.specs.nulls.columns.Slots.{text}
 use Rattle.nested_arrays_sized_builders.specs.nulls.columns.StoredColumns.{slot_at}
 use Rattle.nested_arrays_sized_builders.specs.flat_arrays.ByteStrings.{ByteStrings, len_of}
-use Rattle.nested_arrays_sized_builders.specs.pushes.cells.taken.builders.values.ByteBuilders.{from_zero, open_text}
+use Rattle.nested_arrays_sized_builders.specs.cells.taken.builders.values.ByteBuilders.{from_zero, open_text}
 use Rattle.nested_arrays_sized_builders.proofs.nulls_lemmas.flat_lemmas.SoundStrings.{texts_len}
 use Rattle.nested_arrays_dictionary_builders.proofs.ByteItems.{text_same, told_by}
 use Rattle.nested_arrays_dictionary_builders.proofs.texts.is_text_at.Goals as goal

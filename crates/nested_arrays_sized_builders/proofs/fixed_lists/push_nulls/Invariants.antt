@@ -1,7 +1,7 @@
 use Rattle.std.proofs.Common.{◌++◌, replicate}
 use Rattle.nested_arrays_generic_builders.specs.nulls.columns.Slots.{null}
 use Rattle.nested_arrays_generic_builders.specs.nulls.columns.StoredColumns.{slots}
-use Rattle.nested_arrays_generic_builders.specs.pushes.cells.taken.OpenColumns.{Becomes}
+use Rattle.nested_arrays_generic_builders.specs.cells.taken.OpenColumns.{Becomes}
 use Rattle.nested_arrays_sized_builders.proofs.fixed_lists.push_nulls.Given as goal
 
 -- the nulls so far

@@ -1,6 +1,6 @@
 use Rattle.std.proofs.Common.{◌++◌, map, take}
 use Rattle.nested_arrays_sized_builders.specs.nulls.columns.StoredColumns.{slots}
-use Rattle.nested_arrays_sized_builders.specs.pushes.cells.taken.OpenColumns.{Becomes}
+use Rattle.nested_arrays_sized_builders.specs.cells.taken.OpenColumns.{Becomes}
 use Rattle.nested_arrays_dictionary_builders.proofs.items.TryExtend.try_extend.Given as goal
 
 -- the slots so far

@@ -3,7 +3,7 @@ use Rattle.std.specs.Prelude.{◌/◌, ◌%◌}
 use Rattle.std.specs.List.{list_all}
 use Rattle.nested_arrays_generic_builders.specs.nulls.columns.SoundColumns.{is_byte, mask_fits}
 use Rattle.nested_arrays_generic_builders.specs.nulls.flat.FlatColumns.{byte_width}
-use Rattle.nested_arrays_generic_builders.specs.pushes.cells.parts.Marks.{marks}
+use Rattle.nested_arrays_generic_builders.specs.cells.parts.Marks.{marks}
 use Rattle.nested_arrays_generic_builders.proofs.nulls_lemmas.flat_lemmas.FixedWidths.{tested}
 use Rattle.nested_arrays_sized_builders.specs.SizedStrings.{sized_parts}
 use Rattle.nested_arrays_sized_builders.proofs.sized_strings.MutableFixedSizeBinaryArray.try_new.Goals as goal

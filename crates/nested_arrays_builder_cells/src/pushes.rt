@@ -1,16 +1,16 @@
 //! A slot of an array pushed into a builder.
 ghost use Rattle.std.specs.Prelude.{◌<◌};
 ghost use Rattle.nested_arrays_builder_cells.specs.ArrayCells.{has_cell_at};
-ghost use Rattle.nested_arrays_builder_cells.specs.arrays.columns.StoredColumns.{column_len, slot_at};
-ghost use Rattle.nested_arrays_builder_cells.specs.parts.Open.{IsPushed, Open};
-ghost use Rattle.nested_arrays_builder_cells.specs.parts.Scalars.{scalar_slot};
-ghost use Rattle.nested_arrays_builder_pushes.specs.Pushes.{IsPushedIf};
+ghost use Rattle.nested_arrays_builder_arrays.specs.arrays.columns.StoredColumns.{column_len, slot_at};
+ghost use Rattle.nested_arrays_builder_arrays.specs.parts.Open.{IsPushed, Open};
+ghost use Rattle.nested_arrays_builder_arrays.specs.parts.Scalars.{scalar_slot};
+ghost use Rattle.nested_arrays_builder_cells.specs.Pushes.{IsPushedIf};
 
-use nested_arrays_builder_cells::arrays::AnyArray;
-use nested_arrays_builder_cells::arrays::columnar_memory::{Error, Result};
-use nested_arrays_builder_cells::builders::AnyMutableArray;
-use nested_arrays_builder_cells::cell_at;
-use nested_arrays_builder_cells::taken::MutableArray;
+use crate::cells::cell_at;
+use nested_arrays_builder_arrays::MutableArray;
+use nested_arrays_builder_arrays::arrays::AnyArray;
+use nested_arrays_builder_arrays::arrays::columnar_memory::{Error, Result};
+use nested_arrays_builder_arrays::builders::AnyMutableArray;
 use nested_arrays_scalars::AnyScalar;
 use std::alloc::Global;
 

@@ -1,5 +1,0 @@
-pub use Rattle.nested_arrays_builder_cells.proofs.generic_lemmas
-pub use Rattle.nested_arrays_builder_cells.proofs as cells_lemmas
-pub use Rattle.nested_arrays_builder_cells.proofs.taken_lemmas.builders_lemmas.growth_lemmas
-pub use Rattle.nested_arrays_builder_cells.proofs.taken_lemmas.builders_lemmas.columns_lemmas
-pub use Rattle.nested_arrays_builder_cells.proofs.taken_lemmas.parts_lemmas
