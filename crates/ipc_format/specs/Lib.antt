@@ -70,8 +70,8 @@ pub use Rattle.ipc_format_files.specs.stream_writer.reader.chunk_writing.reading
 pub use Rattle.ipc_format_files.specs.stream_writer.reader.chunk_writing.reading.Reads
 pub use Rattle.ipc_format_files.specs.stream_writer.reader.chunk_writing.reading.Buffers as QueuedBuffers
 pub use Rattle.ipc_format_files.specs.stream_writer.reader.chunk_writing.reading.FlatColumns
-pub use Rattle.ipc_format_files.specs.stream_writer.reader.chunk_writing.reading.childless_reading.array_reading.TypedReads
-pub use Rattle.ipc_format_files.specs.stream_writer.reader.chunk_writing.reading.childless_reading.array_reading.column_writing.Written
+pub use Rattle.ipc_format_files.specs.stream_writer.reader.chunk_writing.reading.array_reading.TypedReads
+pub use Rattle.ipc_format_files.specs.stream_writer.reader.chunk_writing.reading.array_reading.column_writing.Written
 pub use Rattle.ipc_format_files.specs.stream_writer.reader.chunk_writing.column_bytes.Bodies
 pub use Rattle.ipc_format_files.specs.stream_writer.reader.chunk_writing.column_bytes.FlatColumns as WrittenFlatColumns
 pub use Rattle.ipc_format_files.specs.stream_writer.reader.chunk_writing.column_bytes.Numbers

@@ -4,6 +4,12 @@ pub mod SmallNodes
 pub mod UnionReads
 pub mod MadeChecks
 pub mod FixedColumns
+pub mod ArrayReading
+pub mod ChildlessLayers
+pub mod KeyedArrays
+pub mod KeyedColumns
+pub mod KeyedReading
+pub mod OwnIds
 pub use Rattle.ipc_format_column_writing.proofs.columnar_memory_lemmas.bitmap_lemmas.Lists
 pub use Rattle.ipc_format_column_writing.proofs.reading_lemmas.bytes_lemmas.Joined
 pub use Rattle.ipc_format_column_writing.proofs.reading_lemmas.bytes_lemmas.MessageLimits

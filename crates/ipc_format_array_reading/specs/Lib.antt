@@ -2,6 +2,9 @@ pub mod ArrayReads
 pub mod Limits
 pub mod Parts
 pub mod TypedReads
+pub mod Flats
+pub mod Keyed
+pub mod ReadArrays
 pub use Rattle.ipc_format_column_writing.specs as column_writing
 pub use Rattle.ipc_format_column_writing.specs.Chunks
 pub use Rattle.ipc_format_column_writing.specs.nested_arrays

@@ -7,8 +7,8 @@ use Rattle.std.proofs.lemmas.Bool.{and_from, le-leb, leb-true}
 use Rattle.std.proofs.lemmas.List.{length-drop, length-map, length-replicate}
 use Rattle.ipc_format_reading.specs.Queues.{TakesOff}
 use Rattle.ipc_format_reading.specs.columnar_memory.declared.Error.{Error}
-use Rattle.ipc_format_reading.specs.childless_reading.array_reading.column_writing.column_reading.column_bytes.streams.Queues.{MakesQueues, buffer_of, fits_by, source_with}
-use Rattle.ipc_format_reading.specs.childless_reading.array_reading.column_writing.column_reading.column_bytes.streams.declared.queues.BatchQueues.{BatchQueues}
+use Rattle.ipc_format_reading.specs.array_reading.column_writing.column_reading.column_bytes.streams.Queues.{MakesQueues, buffer_of, fits_by, source_with}
+use Rattle.ipc_format_reading.specs.array_reading.column_writing.column_reading.column_bytes.streams.declared.queues.BatchQueues.{BatchQueues}
 use Rattle.ipc_format_reading.specs.flatbuffers.FlatBuffers.{TablePlace, Vector, if_present, number_at, reference_field, table_field, vector_at}
 use Rattle.ipc_format_reading.specs.flatbuffers.FlatBuffers.{vector_field}
 use Rattle.ipc_format_reading.specs.flatbuffers.Reading.{◌>>=◌, guard}

@@ -10,8 +10,8 @@ use Rattle.std.proofs.lemmas.Option.{slice_get-get_or}
 use Rattle.ipc_format_reading.specs.Below.{no_own_ids, type_of}
 use Rattle.ipc_format_reading.specs.Queues.{field_buffers_of, field_nodes_of}
 use Rattle.ipc_format_reading.specs.Rooms.{ForBytes, ReadsAs, Stays, Told}
-use Rattle.ipc_format_reading.specs.childless_reading.ReadArrays.{ReadsArray, at_front}
-use Rattle.ipc_format_reading.specs.childless_reading.array_reading.ArrayReads.{array_slots}
+use Rattle.ipc_format_reading.specs.array_reading.ReadArrays.{ReadsArray, at_front}
+use Rattle.ipc_format_reading.specs.array_reading.ArrayReads.{array_slots}
 use Rattle.ipc_format_reading.specs.columnar_memory.declared.Error.{Error}
 use Rattle.ipc_format_reading.specs.columnar_memory.declared.Field.{Field}
 use Rattle.ipc_format_reading.specs.columns.Slots.{Slot}

@@ -4,7 +4,7 @@ use Rattle.std.specs.Prelude.{Option, Some, None, Result, Ok, Err, slice_get}
 use Rattle.std.proofs.lemmas.Bool.{and_from, and_parts}
 use Rattle.std.proofs.lemmas.Bool.Decides.{Decides-eqb}
 use Rattle.ipc_format_reading.specs.Below.{arrays_below}
-use Rattle.ipc_format_reading.specs.childless_reading.array_reading.Chunks.{AreAsLong, HaveLength, rows_of}
+use Rattle.ipc_format_reading.specs.array_reading.Chunks.{AreAsLong, HaveLength, rows_of}
 use Rattle.ipc_format_reading.specs.Rooms.{ForBytes, ReadsAs, Told}
 use Rattle.ipc_format_reading.specs.columnar_memory.declared.Error.{Error}
 use Rattle.ipc_format_reading.specs.columnar_memory.declared.Field.{Field}

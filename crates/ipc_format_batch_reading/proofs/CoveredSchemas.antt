@@ -5,7 +5,7 @@ use Rattle.std.specs.Ordering.{int_eq}
 use Rattle.std.specs.Int.{w8, w16, w32, w64}
 use Rattle.std.proofs.lemmas.Bool.{and_from}
 use denote.Hole.Carrier
-use Rattle.ipc_format_reading.specs.childless_reading.array_reading.ArrayReads.{Test}
+use Rattle.ipc_format_reading.specs.array_reading.ArrayReads.{Test}
 use Rattle.ipc_format_reading.specs.columnar_memory.declared.DataType.{DataType}
 use Rattle.ipc_format_reading.specs.columnar_memory.declared.DataType.TheOpen as layer
 use Rattle.ipc_format_reading.specs.columnar_memory.declared.DataType.TheVariants as types

@@ -1,7 +1,7 @@
 -- Types with dictionary ids beside each field at every depth, also below dictionaries; the one form of a type has them where the type does.
 use Rattle.std.proofs.Common.{◌≡◌, ◌∙◌, Bool, true, false, ◌&&◌, List, [], ◌∷◌, map, refl, sym, ap, subst}
 use Rattle.std.specs.Prelude.{Option, None}
-use Rattle.ipc_format_reading.specs.childless_reading.array_reading.ArrayReads.{Test, fields_below}
+use Rattle.ipc_format_reading.specs.array_reading.ArrayReads.{Test, fields_below}
 use Rattle.ipc_format_reading.specs.columnar_memory.declared.DataType.{DataType, map-DataType}
 use Rattle.ipc_format_reading.specs.columnar_memory.declared.DataType.TheOpen as layer
 use Rattle.ipc_format_reading.specs.columnar_memory.declared.DataType.TheViews.{roll-DataType}

@@ -7,8 +7,8 @@ use Rattle.std.specs.Ordering.{int_eq}
 use Rattle.std.specs.Prelude.{Option, Some, None, Result, Ok, Err, IfOk, not, if◌then◌else◌}
 use Rattle.std.proofs.lemmas.Bool.Decides.{Decides-int_eq}
 use denote.Hole.Carrier
-use Rattle.ipc_format_reading.specs.childless_reading.ReadArrays.{dictionary_of}
-use Rattle.ipc_format_reading.specs.childless_reading.array_reading.ArrayReads.{array_slots}
+use Rattle.ipc_format_reading.specs.array_reading.ReadArrays.{dictionary_of}
+use Rattle.ipc_format_reading.specs.array_reading.ArrayReads.{array_slots}
 use Rattle.ipc_format_reading.specs.Rooms.{ForBytes, IsRefusal, ReadsAs, Told}
 use Rattle.ipc_format_reading.specs.columnar_memory.declared.Error.{Error}
 use Rattle.ipc_format_reading.specs.columns.Slots.{Slot}
@@ -24,7 +24,7 @@ use Rattle.ipc_format_reading.specs.metadata.Views.{ids_step, ids_view, ids_view
 use Rattle.ipc_format_reading.specs.metadata.declared.ipc_schema.IpcField.{IpcField}
 use Rattle.ipc_format_reading.specs.metadata.declared.ipc_schema.IpcField.TheFolds.{fold-roll-IpcField}
 use Rattle.ipc_format_reading.specs.metadata.declared.ipc_schema.IpcField.TheViews.{roll-IpcField}
-use Rattle.ipc_format_reading.specs.childless_reading.array_reading.column_writing.column_reading.column_bytes.streams.Queues.{is_compressed}
+use Rattle.ipc_format_reading.specs.array_reading.column_writing.column_reading.column_bytes.streams.Queues.{is_compressed}
 use Rattle.ipc_format_reading.proofs.NextBuffers.{refusal_for}
 use Rattle.ipc_format_batch_reading.specs.BatchReads.{entry_in}
 use Rattle.ipc_format_batch_reading.specs.DictionaryReads.{dictionary_array, is_unread, is_unread_by, placed_dictionary, stated_dictionary}

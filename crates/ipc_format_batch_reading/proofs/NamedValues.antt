@@ -23,7 +23,7 @@ use Rattle.ipc_format_reading.specs.grammar.Dictionaries.{Values, or_else, value
 use Rattle.ipc_format_reading.specs.grammar.Schemas.{Ids}
 use Rattle.ipc_format_reading.specs.metadata.Views.{ids_views}
 use Rattle.ipc_format_reading.specs.metadata.declared.ipc_schema.IpcField.{IpcField}
-use Rattle.ipc_format_reading.specs.childless_reading.array_reading.column_writing.column_reading.column_bytes.streams.Values.{ids_beside}
+use Rattle.ipc_format_reading.specs.array_reading.column_writing.column_reading.column_bytes.streams.Values.{ids_beside}
 use Rattle.ipc_format_batch_reading.specs.NamedValues.{GainsValues, values_under, known_view}
 use Rattle.ipc_format_batch_reading.specs.declared.named_values.KnownValues.{KnownValues}
 use Rattle.ipc_format_reading.proofs.Finding.{either, no_values}

@@ -4,7 +4,7 @@ use Rattle.std.specs.Prelude.{Some, nat_lt, slice_get}
 use Rattle.std.specs.List.{AllByRecursion, AllZip, cons_option, range_with_len}
 use Rattle.std.proofs.lemmas.Bool.{and_from, lt-ltb}
 use Rattle.std.proofs.lemmas.Option.{none-some, same_Some}
-use Rattle.ipc_format_reading.specs.childless_reading.array_reading.Chunks.{AreAsLong, HaveLength, rows_of}
+use Rattle.ipc_format_reading.specs.array_reading.Chunks.{AreAsLong, HaveLength, rows_of}
 use Rattle.ipc_format_reading.specs.columns.StoredColumns.{Column, column_len}
 use Rattle.ipc_format_reading.specs.columns.Tables.{chosen}
 use Rattle.ipc_format_batch_reading.specs.Projections.{are_below, put_back}

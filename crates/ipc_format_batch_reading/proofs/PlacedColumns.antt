@@ -7,7 +7,7 @@ use Rattle.std.proofs.Math.Seq.{drop-cons}
 use Rattle.std.proofs.lemmas.Bool.{and_parts}
 use Rattle.std.proofs.lemmas.List.Sums.{sum_by-cons}
 use Rattle.ipc_format_reading.specs.Below.{arrays_below, no_own_ids}
-use Rattle.ipc_format_reading.specs.childless_reading.array_reading.ArrayReads.{array_slots, is_readable}
+use Rattle.ipc_format_reading.specs.array_reading.ArrayReads.{array_slots, is_readable}
 use Rattle.ipc_format_reading.specs.columnar_memory.declared.DataType.{DataType}
 use Rattle.ipc_format_reading.specs.columnar_memory.declared.Field.{Field}
 use Rattle.ipc_format_reading.specs.columns.Slots.{Slot, window}

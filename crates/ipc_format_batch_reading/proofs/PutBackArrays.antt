@@ -6,7 +6,7 @@ use Rattle.std.specs.Option.{option_map}
 use Rattle.std.proofs.lemmas.Bool.{and_from, and_parts}
 use Rattle.std.proofs.lemmas.Bool.Decides.{Decides-eqb}
 use Rattle.std.proofs.lemmas.Option.{get_or_from_slice_get, none-some, same_Some, slice_get-get_or, slice_get_within}
-use Rattle.ipc_format_reading.specs.childless_reading.array_reading.ArrayReads.{array_slots}
+use Rattle.ipc_format_reading.specs.array_reading.ArrayReads.{array_slots}
 use Rattle.ipc_format_reading.specs.columns.Slots.{Slot}
 use Rattle.ipc_format_reading.specs.flatbuffers.FlatBuffers.{TablePlace}
 use Rattle.ipc_format_reading.specs.flatbuffers.Reading.{◌>>=◌, guard}

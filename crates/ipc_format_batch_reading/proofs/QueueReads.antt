@@ -10,8 +10,8 @@ use Rattle.ipc_format_reading.specs.flatbuffers.Reading.{◌>>=◌, guard}
 use Rattle.ipc_format_reading.specs.grammar.Columns.{Source}
 use Rattle.ipc_format_reading.specs.grammar.Dictionaries.{source_in}
 use Rattle.ipc_format_reading.specs.grammar.Messages.{Header, Version}
-use Rattle.ipc_format_reading.specs.childless_reading.array_reading.column_writing.column_reading.column_bytes.streams.Queues.{MakesQueues, is_compressed, source_with}
-use Rattle.ipc_format_reading.specs.childless_reading.array_reading.column_writing.column_reading.column_bytes.streams.declared.queues.BatchQueues.{BatchQueues}
+use Rattle.ipc_format_reading.specs.array_reading.column_writing.column_reading.column_bytes.streams.Queues.{MakesQueues, is_compressed, source_with}
+use Rattle.ipc_format_reading.specs.array_reading.column_writing.column_reading.column_bytes.streams.declared.queues.BatchQueues.{BatchQueues}
 use Rattle.ipc_format_batch_reading.specs.BatchReads.{entry_in, sized}
 use Rattle.ipc_format_batch_reading.proofs.CoveredSchemas.{same_value}
 

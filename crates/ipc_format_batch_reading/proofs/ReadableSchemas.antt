@@ -3,7 +3,7 @@ use Rattle.std.proofs.Common.{◌≡◌, ◌∙◌, ℕ, zero, suc, ℤ, Bool, t
 use Rattle.std.specs.Prelude.{Option, Some, None, not, nat_le, slice_get}
 use Rattle.std.specs.List.{list_all}
 use Rattle.std.proofs.lemmas.Bool.{and_parts, and_from}
-use Rattle.ipc_format_reading.specs.childless_reading.array_reading.ArrayReads.{Test, array_slots, is_readable}
+use Rattle.ipc_format_reading.specs.array_reading.ArrayReads.{Test, array_slots, is_readable}
 use Rattle.ipc_format_reading.specs.columnar_memory.declared.Field.{Field}
 use Rattle.ipc_format_reading.specs.columnar_memory.declared.Schema.{Schema}
 use Rattle.ipc_format_reading.specs.columns.Slots.{Slot}

@@ -5,8 +5,8 @@ use Rattle.std.specs.List.{list_all}
 use Rattle.std.specs.Ordering.{int_eq}
 use Rattle.std.proofs.lemmas.Bool.{and_parts, and_from}
 use Rattle.std.proofs.lemmas.List.{length-map}
-use Rattle.ipc_format_reading.specs.childless_reading.array_reading.ArrayReads.{Test, fields_below, has_arrays, is_readable, pass_each}
-use Rattle.ipc_format_reading.specs.childless_reading.array_reading.ArrayReads.{readable_step}
+use Rattle.ipc_format_reading.specs.array_reading.ArrayReads.{Test, fields_below, has_arrays, is_readable, pass_each}
+use Rattle.ipc_format_reading.specs.array_reading.ArrayReads.{readable_step}
 use Rattle.ipc_format_reading.specs.columnar_memory.declared.DataType.{DataType, map-DataType}
 use Rattle.ipc_format_reading.specs.columnar_memory.declared.DataType.TheOpen as layer
 use Rattle.ipc_format_reading.specs.columnar_memory.declared.DataType.TheViews.{roll-DataType}

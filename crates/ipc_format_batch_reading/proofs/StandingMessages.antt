@@ -5,8 +5,8 @@ use Rattle.std.specs.BTreeMap.{BTreeMap}
 use Rattle.std.specs.Map.{lookup}
 use Rattle.std.specs.Ordering.{int_eq}
 use Rattle.std.proofs.lemmas.Bool.Decides.{Decides-int_eq}
-use Rattle.ipc_format_reading.specs.childless_reading.ReadArrays.{dictionary_of, standing_in}
-use Rattle.ipc_format_reading.specs.childless_reading.array_reading.ArrayReads.{array_slots, is_readable}
+use Rattle.ipc_format_reading.specs.array_reading.ReadArrays.{dictionary_of, standing_in}
+use Rattle.ipc_format_reading.specs.array_reading.ArrayReads.{array_slots, is_readable}
 use Rattle.ipc_format_reading.specs.columnar_memory.declared.DataType.{DataType}
 use Rattle.ipc_format_reading.specs.columnar_memory.declared.Field.{Field}
 use Rattle.ipc_format_reading.specs.columns.Slots.{Slot}

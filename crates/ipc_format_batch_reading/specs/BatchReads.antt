@@ -4,7 +4,7 @@ use Rattle.std.specs.Prelude.{Option, Some, None, Result, Ok, Err}
 use Rattle.std.specs.List.{list_all}
 use Rattle.ipc_format_reading.specs.Below.{arrays_below, no_own_ids}
 use Rattle.ipc_format_reading.specs.Rooms.{Told}
-use Rattle.ipc_format_reading.specs.childless_reading.array_reading.ArrayReads.{array_slots}
+use Rattle.ipc_format_reading.specs.array_reading.ArrayReads.{array_slots}
 use Rattle.ipc_format_reading.specs.columnar_memory.Error.{IsOutOfSpec}
 use Rattle.ipc_format_reading.specs.columnar_memory.declared.Error.{Error}
 use Rattle.ipc_format_reading.specs.columnar_memory.declared.Field.{Field}

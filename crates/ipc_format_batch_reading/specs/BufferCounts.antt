@@ -1,7 +1,7 @@
 -- How many buffers are read of a record batch (Arrow IPC, "RecordBatch message").
 use Rattle.std.specs.Prelude.{◌≡◌, ◌+◌, ◌≤◌, ◌<◌, ℕ, Bool, true, List, length, Option, Some, None, Result, Ok, Err}
 use Rattle.std.specs.List.{list_all}
-use Rattle.ipc_format_reading.specs.childless_reading.array_reading.column_writing.column_reading.column_bytes.streams.Queues.{fits_by}
+use Rattle.ipc_format_reading.specs.array_reading.column_writing.column_reading.column_bytes.streams.Queues.{fits_by}
 use Rattle.ipc_format_reading.specs.columnar_memory.declared.Error.{Error}
 use Rattle.ipc_format_reading.specs.flatbuffers.FlatBuffers.{TablePlace}
 use Rattle.ipc_format_reading.specs.flatbuffers.Reading.{◌>>=◌}

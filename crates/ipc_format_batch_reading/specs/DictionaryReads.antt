@@ -2,8 +2,8 @@
 use Rattle.std.specs.Prelude.{◌≡◌, ◌||◌, ◌∷◌, ℕ, ℤ, Bool, false, not, List, Option, Some, None, Result, Ok, Err}
 use Rattle.std.specs.BTreeMap.{BTreeMap, IsUnchanged}
 use Rattle.ipc_format_reading.specs.Below.{no_own_ids}
-use Rattle.ipc_format_reading.specs.childless_reading.ReadArrays.{dictionary_of, standing_in}
-use Rattle.ipc_format_reading.specs.childless_reading.array_reading.ArrayReads.{array_slots}
+use Rattle.ipc_format_reading.specs.array_reading.ReadArrays.{dictionary_of, standing_in}
+use Rattle.ipc_format_reading.specs.array_reading.ArrayReads.{array_slots}
 use Rattle.ipc_format_reading.specs.Rooms.{Told, ReadsAs}
 use Rattle.ipc_format_reading.specs.columnar_memory.declared.Error.{Error}
 use Rattle.ipc_format_reading.specs.columns.StoredColumns.{Column}
@@ -13,7 +13,7 @@ use Rattle.ipc_format_reading.specs.grammar.Columns.{Dictionary, Place}
 use Rattle.ipc_format_reading.specs.grammar.Dictionaries.{Entry, Layout, source_in, values_of}
 use Rattle.ipc_format_reading.specs.grammar.Messages.{DictionaryBatch, dictionary_batch_in}
 use Rattle.ipc_format_reading.specs.grammar.Schemas.{ids}
-use Rattle.ipc_format_reading.specs.childless_reading.array_reading.column_writing.column_reading.column_bytes.streams.Queues.{is_compressed}
+use Rattle.ipc_format_reading.specs.array_reading.column_writing.column_reading.column_bytes.streams.Queues.{is_compressed}
 use Rattle.ipc_format_batch_reading.specs.Standing.{Puts, StandAlike}
 
 -- the dictionary of an id whose values are a column at a place, where there are arrays of their type

@@ -16,9 +16,9 @@ pub use Rattle.ipc_format_reading.specs.metadata
 pub use Rattle.ipc_format_reading.specs.nested_arrays
 pub use Rattle.ipc_format_reading.specs.Rooms
 pub use Rattle.ipc_format_reading.specs.Below
-pub use Rattle.ipc_format_reading.specs.childless_reading.ReadArrays
-pub use Rattle.ipc_format_reading.specs.childless_reading.array_reading.ArrayReads
-pub use Rattle.ipc_format_reading.specs.childless_reading.array_reading.Chunks
-pub use Rattle.ipc_format_reading.specs.childless_reading.array_reading.column_writing.column_reading.column_bytes.streams
-pub use Rattle.ipc_format_reading.specs.childless_reading.array_reading.column_writing.column_reading.column_bytes.Bodies
-pub use Rattle.ipc_format_reading.specs.childless_reading.array_reading.column_writing.column_reading.column_bytes.Placing
+pub use Rattle.ipc_format_reading.specs.array_reading.ReadArrays
+pub use Rattle.ipc_format_reading.specs.array_reading.ArrayReads
+pub use Rattle.ipc_format_reading.specs.array_reading.Chunks
+pub use Rattle.ipc_format_reading.specs.array_reading.column_writing.column_reading.column_bytes.streams
+pub use Rattle.ipc_format_reading.specs.array_reading.column_writing.column_reading.column_bytes.Bodies
+pub use Rattle.ipc_format_reading.specs.array_reading.column_writing.column_reading.column_bytes.Placing

@@ -1,8 +1,8 @@
 //! Columns that are read with a step for each buffer that is taken off.
 ghost use Rattle.std.specs.Prelude.{◌≡◌, ◌+◌, ◌-◌, false, length, map, IfOk};
 ghost use Rattle.ipc_format_reading.specs.Below.{arrays_below, buffers_below, no_own_ids, nodes_below, type_of};
-ghost use Rattle.ipc_format_reading.specs.childless_reading.ReadArrays.{ReadsArray, at_front, standing_in};
-ghost use Rattle.ipc_format_reading.specs.childless_reading.array_reading.ArrayReads.{Takes};
+ghost use Rattle.ipc_format_reading.specs.array_reading.ReadArrays.{ReadsArray, at_front, standing_in};
+ghost use Rattle.ipc_format_reading.specs.array_reading.ArrayReads.{Takes};
 ghost use Rattle.ipc_format_reading.specs.columns.StoredColumns.{column_type, slots};
 ghost use Rattle.ipc_format_reading.specs.messages.MessageViews.{version_view};
 ghost use Rattle.ipc_format_reading.specs.metadata.Views.{ids_view, ids_views};

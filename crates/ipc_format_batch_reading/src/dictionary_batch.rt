@@ -2,14 +2,14 @@
 ghost use Rattle.std.specs.Prelude.{◌≡◌, IfOk, None, option_copied, false};
 ghost use Rattle.std.specs.Option.{ForSome};
 ghost use Rattle.ipc_format_reading.specs.Below.{no_own_ids};
-ghost use Rattle.ipc_format_reading.specs.childless_reading.ReadArrays.{at_front, dictionary_of, standing_in};
+ghost use Rattle.ipc_format_reading.specs.array_reading.ReadArrays.{at_front, dictionary_of, standing_in};
 ghost use Rattle.ipc_format_reading.specs.Rooms.{ReadsAs};
 ghost use Rattle.ipc_format_reading.specs.flatbuffers.Views.{table_of};
 ghost use Rattle.ipc_format_reading.specs.grammar.Messages.{dictionary_batch};
 ghost use Rattle.ipc_format_reading.specs.grammar.Schemas.{ids};
 ghost use Rattle.ipc_format_reading.specs.messages.MessageViews.{version_view};
 ghost use Rattle.ipc_format_reading.specs.metadata.Views.{ids_view, ids_views};
-ghost use Rattle.ipc_format_reading.specs.childless_reading.array_reading.column_writing.column_reading.column_bytes.streams.Queues.{is_compressed};
+ghost use Rattle.ipc_format_reading.specs.array_reading.column_writing.column_reading.column_bytes.streams.Queues.{is_compressed};
 ghost use Rattle.ipc_format_batch_reading.specs.BatchReads.{entry_in, sized};
 ghost use Rattle.ipc_format_batch_reading.specs.NamedValues.{AreValuesOf};
 ghost use Rattle.ipc_format_batch_reading.specs.DictionaryReads.{ReadsDictionary, dictionary_array, is_unread, placed_dictionary, stated_dictionary};

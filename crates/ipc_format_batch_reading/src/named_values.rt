@@ -5,7 +5,7 @@ ghost use Rattle.ipc_format_reading.specs.grammar.Columns.{first_ids};
 ghost use Rattle.ipc_format_reading.specs.grammar.Dictionaries as format;
 ghost use Rattle.ipc_format_reading.specs.grammar.Dictionaries.{values_if};
 ghost use Rattle.ipc_format_reading.specs.metadata.Views.{ids_views};
-ghost use Rattle.ipc_format_reading.specs.childless_reading.array_reading.column_writing.column_reading.column_bytes.streams.Values.{ids_beside, values_or_within, values_view};
+ghost use Rattle.ipc_format_reading.specs.array_reading.column_writing.column_reading.column_bytes.streams.Values.{ids_beside, values_or_within, values_view};
 ghost use Rattle.ipc_format_batch_reading.specs.NamedValues.{AreValuesOf, GainsValues, known_view};
 
 use ipc_format_reading::columnar_memory::{DataType, Field, Items};

@@ -2,7 +2,7 @@
 ghost use Rattle.std.specs.Prelude.{◌≡◌, ◌+◌, ◌≤◌, IfOk, false, length, map, true};
 ghost use Rattle.std.specs.Option.{option_copied};
 ghost use Rattle.ipc_format_reading.specs.Below.{buffers_below, no_own_ids, type_of};
-ghost use Rattle.ipc_format_reading.specs.childless_reading.ReadArrays.{at_front, standing_in};
+ghost use Rattle.ipc_format_reading.specs.array_reading.ReadArrays.{at_front, standing_in};
 ghost use Rattle.ipc_format_reading.specs.Rooms.{ReadsAs};
 ghost use Rattle.ipc_format_reading.specs.columns.StoredColumns.{column_type, slots};
 ghost use Rattle.ipc_format_reading.specs.columns.Tables.{chosen};
@@ -10,7 +10,7 @@ ghost use Rattle.ipc_format_reading.specs.flatbuffers.Views.{table_of};
 ghost use Rattle.ipc_format_reading.specs.grammar.Messages.{record_batch};
 ghost use Rattle.ipc_format_reading.specs.messages.MessageViews.{version_view};
 ghost use Rattle.ipc_format_reading.specs.metadata.Views.{ids_views};
-ghost use Rattle.ipc_format_reading.specs.childless_reading.array_reading.column_writing.column_reading.column_bytes.streams.Queues.{is_compressed};
+ghost use Rattle.ipc_format_reading.specs.array_reading.column_writing.column_reading.column_bytes.streams.Queues.{is_compressed};
 ghost use Rattle.ipc_format_batch_reading.specs.BatchReads.{IsProjection, asked_arrays, asked_fields, chosen_arrays, chosen_record_arrays, rise_below};
 ghost use Rattle.ipc_format_batch_reading.specs.BatchReads.{MakesBatch, entry_in, placed_arrays, record_arrays, sized};
 ghost use Rattle.ipc_format_batch_reading.specs.BufferCounts.{AreStated, CountsTaken, stated_buffers};

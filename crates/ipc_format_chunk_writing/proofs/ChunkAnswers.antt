@@ -8,7 +8,7 @@ use Rattle.ipc_format_batch_reading.specs.columns.StoredColumns.{Column}
 use Rattle.ipc_format_batch_reading.specs.grammar.Schemas.{IdsList}
 use Rattle.ipc_format_batch_reading.specs.grammar.WrittenMessages.{Written}
 use Rattle.ipc_format_batch_reading.specs.grammar.WrittenStreams.{Batch, batch_of_stored}
-use Rattle.ipc_format_batch_reading.specs.reading.childless_reading.array_reading.column_writing.declared.Compression.{Compression}
+use Rattle.ipc_format_batch_reading.specs.reading.array_reading.column_writing.declared.Compression.{Compression}
 use Rattle.ipc_format_chunk_writing.specs.EncodedChunks.{Encodes, EncodesChunk, EncodesFitting}
 use Rattle.ipc_format_chunk_writing.specs.Types.{ids_fit_columns}
 

@@ -21,7 +21,7 @@ use Rattle.ipc_format_batch_reading.specs.grammar.WrittenMessages.{Written, body
 use Rattle.ipc_format_batch_reading.specs.grammar.WrittenStreams.{has_nodes_in_room, is_node}
 use Rattle.ipc_format_batch_reading.specs.messages.declared.FieldNode.{FieldNode}
 use Rattle.ipc_format_batch_reading.specs.messages.declared.Buffer.{Buffer}
-use Rattle.ipc_format_batch_reading.specs.reading.childless_reading.array_reading.column_writing.column_reading.column_bytes.declared.Placed.{Placed}
+use Rattle.ipc_format_batch_reading.specs.reading.array_reading.column_writing.column_reading.column_bytes.declared.Placed.{Placed}
 use Rattle.ipc_format_chunk_writing.specs.EncodedChunks.{EncodesMessage, is_given_within}
 
 -- ---- columns one behind the other

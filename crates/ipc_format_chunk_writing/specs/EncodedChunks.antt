@@ -15,7 +15,7 @@ use Rattle.ipc_format_batch_reading.specs.grammar.WriterRuns.{may_tell}
 use Rattle.ipc_format_batch_reading.specs.grammar.WrittenMessages.{Written, dictionary_message, record_message}
 use Rattle.ipc_format_batch_reading.specs.grammar.WrittenStreams.{Batch, batch_of_stored}
 use Rattle.ipc_format_batch_reading.specs.streams.declared.EncodedData.{EncodedData}
-use Rattle.ipc_format_batch_reading.specs.reading.childless_reading.array_reading.column_writing.declared.Compression.{Compression}
+use Rattle.ipc_format_batch_reading.specs.reading.array_reading.column_writing.declared.Compression.{Compression}
 use Rattle.ipc_format_chunk_writing.specs.Tracking.{Tells, form_by}
 use Rattle.ipc_format_chunk_writing.specs.Types.{ids_fit_columns}
 

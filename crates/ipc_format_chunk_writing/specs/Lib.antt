@@ -28,4 +28,4 @@ pub use Rattle.ipc_format_batch_reading.specs.Below
 pub use Rattle.ipc_format_batch_reading.specs.ArrayReads
 pub use Rattle.ipc_format_batch_reading.specs.streams
 pub use Rattle.ipc_format_batch_reading.specs.reading
-pub use Rattle.ipc_format_batch_reading.specs.reading.childless_reading.array_reading.column_writing.column_reading.column_bytes
+pub use Rattle.ipc_format_batch_reading.specs.reading.array_reading.column_writing.column_reading.column_bytes

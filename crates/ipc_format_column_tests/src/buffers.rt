@@ -1,6 +1,6 @@
 //! Single buffers, from bytes in memory.
 use crate::cases::{buffers, node};
-use ipc_format_reading::childless_reading::array_reading::column_writing::column_reading::{
+use ipc_format_reading::array_reading::column_writing::column_reading::{
     read_bitmap, read_buffer, read_bytes, read_validity,
 };
 use ipc_format_reading::columnar_memory::Error;

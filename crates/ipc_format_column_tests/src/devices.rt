@@ -1,7 +1,7 @@
 //! Buffers that are read from devices.
 use crate::cases::buffers;
 use ipc_format_reading::Room;
-use ipc_format_reading::childless_reading::array_reading::column_writing::column_reading::read_buffer;
+use ipc_format_reading::array_reading::column_writing::column_reading::read_buffer;
 use ipc_format_reading::columnar_memory::{Buffer, Error};
 use ipc_format_reading::streams::{Counting, Faults};
 use std::alloc::Global;

@@ -1,7 +1,7 @@
 //! Columns of numbers, booleans, byte strings and texts, from bytes in memory.
 use crate::cases::{buffers, nodes};
 use ipc_format_reading::InMemory;
-use ipc_format_reading::childless_reading::array_reading::column_writing::column_reading::{
+use ipc_format_reading::array_reading::column_writing::column_reading::{
     read_binary, read_boolean, read_primitive, read_utf8,
 };
 use ipc_format_reading::columnar_memory::{DataType, Error, IntervalUnit, days_ms};

@@ -1,7 +1,7 @@
 //! Columns of nulls and of byte strings of one size.
 use crate::cases::{buffers, nodes};
 use ipc_format_reading::InMemory;
-use ipc_format_reading::childless_reading::array_reading::{read_fixed_size_binary, read_null};
+use ipc_format_reading::array_reading::{read_fixed_size_binary, read_null};
 use ipc_format_reading::columnar_memory::{DataType, Error};
 use std::alloc::Global;
 use std::test::*;

@@ -1,7 +1,7 @@
 //! Columns that are passed over.
 use crate::cases::{buffers, field, list, nodes, pair, union};
 use ipc_format_reading::MetadataVersion;
-use ipc_format_reading::childless_reading::array_reading::column_writing::column_reading::{
+use ipc_format_reading::array_reading::column_writing::column_reading::{
     skip, skip_binary, skip_boolean, skip_dictionary, skip_fixed_size_binary, skip_fixed_size_list,
     skip_list, skip_map, skip_null, skip_primitive, skip_struct, skip_union, skip_utf8,
 };

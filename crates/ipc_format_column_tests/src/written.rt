@@ -1,8 +1,6 @@
 //! Arrays of each form, cut or whole, in either byte order.
 use crate::arrays::{any_of, lists, numbers, record, sparse, written};
-use ipc_format_reading::childless_reading::array_reading::column_writing::{
-    write_struct, write_union,
-};
+use ipc_format_reading::array_reading::column_writing::{write_struct, write_union};
 use ipc_format_reading::columnar_memory::{Bitmap, Error};
 use ipc_format_reading::nested_arrays_core::AnyArray;
 use ipc_format_reading::nested_arrays_core::flat_arrays::PrimitiveArray;

@@ -39,5 +39,9 @@ pub use vectors::{BlocksRef, BuffersRef, FieldNodesRef, NumbersRef, TablesRef};
 
 /// What `ipc_format_metadata` has, as far as packages above use it.
 pub mod metadata {
-    pub use ipc_format_metadata::{IpcField, IpcSchema, MOST_LEVELS, OutOfSpecKind, Tag, any_schema_in, can_write, deserialize_schema, deserialize_schema_counted, mode_of, schema_in, schema_in_counted, sizes, slots, tag_numbers, tag_of, unit_in};
+    pub use ipc_format_metadata::{
+        IpcField, IpcSchema, MOST_LEVELS, OutOfSpecKind, Tag, any_schema_in, can_write,
+        deserialize_schema, deserialize_schema_counted, mode_of, schema_in, schema_in_counted,
+        sizes, slots, tag_numbers, tag_of, unit_in,
+    };
 }

@@ -3,17 +3,17 @@
 use Rattle.std.proofs.Common.{◌≡◌, ◌∙◌, ℕ, zero, suc, ◌+◌, Bool, List, [], ◌∷◌, map, drop, refl, sym, ap, inl, inr, zero-add, arith}
 use Rattle.std.specs.Prelude.{Option, slice_get}
 use Rattle.std.proofs.lemmas.List.{drop-map}
-use Rattle.ipc_format_childless_reading.specs.flatbuffers.Reading.{guard}
-use Rattle.ipc_format_childless_reading.specs.columnar_memory.declared.DataType.{DataType}
-use Rattle.ipc_format_childless_reading.specs.columnar_memory.declared.Field.{Field}
-use Rattle.ipc_format_childless_reading.specs.columns.Slots.{Slot}
-use Rattle.ipc_format_childless_reading.specs.grammar.Columns.{Place, Dictionary, slots_in, first_below, behind_column}
-use Rattle.ipc_format_childless_reading.specs.grammar.Layouts.{node_count, buffer_count}
-use Rattle.ipc_format_childless_reading.specs.grammar.Messages.{FieldNode, Buffer, Version}
-use Rattle.ipc_format_childless_reading.specs.grammar.Schemas.{Ids, IdsList, ids_then, no_ids}
-use Rattle.ipc_format_childless_reading.specs.array_reading.ArrayReads.{array_slots, is_readable}
+use Rattle.ipc_format_array_reading.specs.flatbuffers.Reading.{guard}
+use Rattle.ipc_format_array_reading.specs.columnar_memory.declared.DataType.{DataType}
+use Rattle.ipc_format_array_reading.specs.columnar_memory.declared.Field.{Field}
+use Rattle.ipc_format_array_reading.specs.columns.Slots.{Slot}
+use Rattle.ipc_format_array_reading.specs.grammar.Columns.{Place, Dictionary, slots_in, first_below, behind_column}
+use Rattle.ipc_format_array_reading.specs.grammar.Layouts.{node_count, buffer_count}
+use Rattle.ipc_format_array_reading.specs.grammar.Messages.{FieldNode, Buffer, Version}
+use Rattle.ipc_format_array_reading.specs.grammar.Schemas.{Ids, IdsList, ids_then, no_ids}
+use Rattle.ipc_format_array_reading.specs.ArrayReads.{array_slots, is_readable}
 use Rattle.ipc_format_reading.specs.Below.{arrays_below}
-use Rattle.ipc_format_childless_reading.specs.array_reading.Limits.{AlikeLimits}
+use Rattle.ipc_format_array_reading.specs.Limits.{AlikeLimits}
 use Rattle.ipc_format_reading.proofs.AlikePlaces.{Spot, put, spot_further, LimitsAgree, StandsAlike, Agrees, both_same}
 use Rattle.ipc_format_reading.proofs.AlikeColumns.{alike_behind}
 use Rattle.ipc_format_reading.proofs.AlikeTypes.{types_agree}

@@ -3,24 +3,24 @@ use Rattle.std.proofs.Common.{◌≡◌, ℕ, ◌+◌, ◌*◌, ◌/◌, ℤ, Bo
 use Rattle.std.specs.Prelude.{Option, Some, None, true}
 use Rattle.std.specs.Int.{Width, w8}
 use Rattle.std.proofs.Math.Nat.{add_assoc}
-use Rattle.ipc_format_childless_reading.specs.flatbuffers.Reading.{guard}
-use Rattle.ipc_format_childless_reading.specs.columnar_memory.Equality.{same_type}
-use Rattle.ipc_format_childless_reading.specs.columnar_memory.declared.DataType.{DataType}
-use Rattle.ipc_format_childless_reading.specs.columnar_memory.declared.Field.{Field}
-use Rattle.ipc_format_childless_reading.specs.columnar_memory.declared.IntegerType.{IntegerType}
-use Rattle.ipc_format_childless_reading.specs.columnar_memory.declared.PrimitiveType.{PrimitiveType}
-use Rattle.ipc_format_childless_reading.specs.columnar_memory.declared.UnionMode.{UnionMode}
-use Rattle.ipc_format_childless_reading.specs.columnar_memory.declared.UnionMode.TheVariants as modes
-use Rattle.ipc_format_childless_reading.specs.columns.Slots.{Slot, truth, bytes, window}
-use Rattle.ipc_format_childless_reading.specs.grammar.Layouts.{node_count, buffer_count}
-use Rattle.ipc_format_childless_reading.specs.grammar.Messages.{FieldNode, natural}
-use Rattle.ipc_format_childless_reading.specs.grammar.Schemas.{IdsList}
-use Rattle.ipc_format_childless_reading.specs.grammar.Values.{bit_at, signed_of, kind_size, value_at, element_bytes, key_size}
-use Rattle.ipc_format_childless_reading.specs.grammar.Columns.{Place, Reader, Dictionary, Marked, null_slots, fixed_slots, truth_slots, number_slots}
-use Rattle.ipc_format_childless_reading.specs.grammar.Columns.{fixed_bytes_slots, last_of, byte_slots, dictionary_slots, first_ids, other_ids, ids_below}
-use Rattle.ipc_format_childless_reading.specs.grammar.Columns.{own_id, standing_for}
-use Rattle.ipc_format_childless_reading.specs.grammar.Columns.{first_below, behind_column, limit_times, list_slots, fixed_list_slots, columns_below, struct_slots}
-use Rattle.ipc_format_childless_reading.specs.grammar.Columns.{places_in, are_as_long, all_of, picked, child_of, union_slots}
+use Rattle.ipc_format_array_reading.specs.flatbuffers.Reading.{guard}
+use Rattle.ipc_format_array_reading.specs.columnar_memory.Equality.{same_type}
+use Rattle.ipc_format_array_reading.specs.columnar_memory.declared.DataType.{DataType}
+use Rattle.ipc_format_array_reading.specs.columnar_memory.declared.Field.{Field}
+use Rattle.ipc_format_array_reading.specs.columnar_memory.declared.IntegerType.{IntegerType}
+use Rattle.ipc_format_array_reading.specs.columnar_memory.declared.PrimitiveType.{PrimitiveType}
+use Rattle.ipc_format_array_reading.specs.columnar_memory.declared.UnionMode.{UnionMode}
+use Rattle.ipc_format_array_reading.specs.columnar_memory.declared.UnionMode.TheVariants as modes
+use Rattle.ipc_format_array_reading.specs.columns.Slots.{Slot, truth, bytes, window}
+use Rattle.ipc_format_array_reading.specs.grammar.Layouts.{node_count, buffer_count}
+use Rattle.ipc_format_array_reading.specs.grammar.Messages.{FieldNode, natural}
+use Rattle.ipc_format_array_reading.specs.grammar.Schemas.{IdsList}
+use Rattle.ipc_format_array_reading.specs.grammar.Values.{bit_at, signed_of, kind_size, value_at, element_bytes, key_size}
+use Rattle.ipc_format_array_reading.specs.grammar.Columns.{Place, Reader, Dictionary, Marked, null_slots, fixed_slots, truth_slots, number_slots}
+use Rattle.ipc_format_array_reading.specs.grammar.Columns.{fixed_bytes_slots, last_of, byte_slots, dictionary_slots, first_ids, other_ids, ids_below}
+use Rattle.ipc_format_array_reading.specs.grammar.Columns.{own_id, standing_for}
+use Rattle.ipc_format_array_reading.specs.grammar.Columns.{first_below, behind_column, limit_times, list_slots, fixed_list_slots, columns_below, struct_slots}
+use Rattle.ipc_format_array_reading.specs.grammar.Columns.{places_in, are_as_long, all_of, picked, child_of, union_slots}
 use Rattle.ipc_format_reading.proofs.AlikePlaces.{Spot, put, spot_further, LimitsAgree, StandsAlike, Agrees, limits_further, limits_times}
 use Rattle.ipc_format_reading.proofs.AlikePlaces.{alike_further, agrees_below, both_known, both_same, node_alike, buffer_alike, taken_alike}
 use Rattle.ipc_format_reading.proofs.AlikePlaces.{counts_alike, marked_agree, offsets_alike}

@@ -1,17 +1,17 @@
 -- The arrays of columns below a column, and of those behind one, are read at the fronts of what is left of the queues.
 use Rattle.std.proofs.Common.{◌≡◌, ℕ, Bool, List, map, drop}
 use Rattle.std.specs.Prelude.{Option}
-use Rattle.ipc_format_childless_reading.specs.ReadArrays.{at_front}
-use Rattle.ipc_format_childless_reading.specs.array_reading.Limits.{AlikeLimits}
-use Rattle.ipc_format_childless_reading.specs.Buffers.{node_of, buffer_of}
-use Rattle.ipc_format_childless_reading.specs.columnar_memory.declared.DataType.{DataType}
-use Rattle.ipc_format_childless_reading.specs.columnar_memory.declared.Field.{Field}
-use Rattle.ipc_format_childless_reading.specs.grammar.Columns.{Dictionary, behind_column, first_below}
-use Rattle.ipc_format_childless_reading.specs.grammar.Layouts.{buffer_count, node_count}
-use Rattle.ipc_format_childless_reading.specs.grammar.Messages.{Version}
-use Rattle.ipc_format_childless_reading.specs.grammar.Schemas.{Ids, IdsList}
-use Rattle.ipc_format_childless_reading.specs.messages.declared.values.Buffer.{Buffer}
-use Rattle.ipc_format_childless_reading.specs.messages.declared.values.FieldNode.{FieldNode}
+use Rattle.ipc_format_array_reading.specs.ReadArrays.{at_front}
+use Rattle.ipc_format_array_reading.specs.Limits.{AlikeLimits}
+use Rattle.ipc_format_array_reading.specs.Buffers.{node_of, buffer_of}
+use Rattle.ipc_format_array_reading.specs.columnar_memory.declared.DataType.{DataType}
+use Rattle.ipc_format_array_reading.specs.columnar_memory.declared.Field.{Field}
+use Rattle.ipc_format_array_reading.specs.grammar.Columns.{Dictionary, behind_column, first_below}
+use Rattle.ipc_format_array_reading.specs.grammar.Layouts.{buffer_count, node_count}
+use Rattle.ipc_format_array_reading.specs.grammar.Messages.{Version}
+use Rattle.ipc_format_array_reading.specs.grammar.Schemas.{Ids, IdsList}
+use Rattle.ipc_format_array_reading.specs.messages.declared.values.Buffer.{Buffer}
+use Rattle.ipc_format_array_reading.specs.messages.declared.values.FieldNode.{FieldNode}
 use Rattle.ipc_format_reading.specs.Below.{arrays_below}
 use Rattle.ipc_format_reading.proofs.AlikeArrays.{behind_at_front, below_at_front}
 

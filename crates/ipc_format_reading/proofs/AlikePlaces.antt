@@ -4,13 +4,13 @@ use Rattle.std.proofs.Common.{add-zero, nat_lt, ◌==◌, inl, inr}
 use Rattle.std.specs.Prelude.{Option, Some, None, slice_get, int_lt, if◌then◌else◌}
 use Rattle.std.specs.Int.{Width, byte_len}
 use Rattle.std.proofs.Math.Nat.{add_assoc, le-mul_of_pos_right, mul-zero, min-eq_right}
-use Rattle.ipc_format_childless_reading.specs.flatbuffers.Reading.{◌>>=◌}
-use Rattle.ipc_format_childless_reading.specs.columns.Slots.{window}
-use Rattle.ipc_format_childless_reading.specs.grammar.Messages.{FieldNode, Buffer, natural}
-use Rattle.ipc_format_childless_reading.specs.grammar.Values.{signed_of, element_bytes}
-use Rattle.ipc_format_childless_reading.specs.grammar.Columns.{Place, Validity, all_valid, bitmap, buffer_at, validity_in, marked_in}
-use Rattle.ipc_format_childless_reading.specs.grammar.Columns.{taken_in, taken_of, limit_times, rising, offsets_in, first_below}
-use Rattle.ipc_format_childless_reading.specs.array_reading.Limits.{IsBig}
+use Rattle.ipc_format_array_reading.specs.flatbuffers.Reading.{◌>>=◌}
+use Rattle.ipc_format_array_reading.specs.columns.Slots.{window}
+use Rattle.ipc_format_array_reading.specs.grammar.Messages.{FieldNode, Buffer, natural}
+use Rattle.ipc_format_array_reading.specs.grammar.Values.{signed_of, element_bytes}
+use Rattle.ipc_format_array_reading.specs.grammar.Columns.{Place, Validity, all_valid, bitmap, buffer_at, validity_in, marked_in}
+use Rattle.ipc_format_array_reading.specs.grammar.Columns.{taken_in, taken_of, limit_times, rising, offsets_in, first_below}
+use Rattle.ipc_format_array_reading.specs.Limits.{IsBig}
 
 -- ---- places
 

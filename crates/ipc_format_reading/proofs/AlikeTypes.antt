@@ -3,17 +3,17 @@ use Rattle.std.proofs.Common.{List, [], ◌∷◌, map, length, subst}
 use Rattle.std.specs.Int.{w32, w64}
 use Rattle.std.specs.Str.{is_utf8}
 use Rattle.std.specs.Prelude.{true}
-use Rattle.ipc_format_childless_reading.specs.columnar_memory.declared.DataType.{DataType, map-DataType}
-use Rattle.ipc_format_childless_reading.specs.columnar_memory.declared.DataType.TheOpen as layer
-use Rattle.ipc_format_childless_reading.specs.columnar_memory.declared.DataType.TheViews.{roll-DataType, roll-Field}
-use Rattle.ipc_format_childless_reading.specs.columnar_memory.declared.DataType.TheFolds.{para-Field, para-roll-DataType, para-roll-Field, ind-DataType}
-use Rattle.ipc_format_childless_reading.specs.columnar_memory.declared.Field.{Field, map-Field}
-use Rattle.ipc_format_childless_reading.specs.columnar_memory.declared.IntervalUnit.TheVariants as intervals
-use Rattle.ipc_format_childless_reading.specs.columnar_memory.declared.PrimitiveType.TheVariants as kinds
-use Rattle.ipc_format_childless_reading.specs.columns.Slots.{bytes, text}
-use Rattle.ipc_format_childless_reading.specs.grammar.Layouts.{before_V5, union_parts}
-use Rattle.ipc_format_childless_reading.specs.grammar.Columns.{Reader, read_step, read_field_step, slots_in}
-use Rattle.ipc_format_childless_reading.proofs.Claims.{TypeWith, FieldWith, LayerWith, bare_layer}
+use Rattle.ipc_format_array_reading.specs.columnar_memory.declared.DataType.{DataType, map-DataType}
+use Rattle.ipc_format_array_reading.specs.columnar_memory.declared.DataType.TheOpen as layer
+use Rattle.ipc_format_array_reading.specs.columnar_memory.declared.DataType.TheViews.{roll-DataType, roll-Field}
+use Rattle.ipc_format_array_reading.specs.columnar_memory.declared.DataType.TheFolds.{para-Field, para-roll-DataType, para-roll-Field, ind-DataType}
+use Rattle.ipc_format_array_reading.specs.columnar_memory.declared.Field.{Field, map-Field}
+use Rattle.ipc_format_array_reading.specs.columnar_memory.declared.IntervalUnit.TheVariants as intervals
+use Rattle.ipc_format_array_reading.specs.columnar_memory.declared.PrimitiveType.TheVariants as kinds
+use Rattle.ipc_format_array_reading.specs.columns.Slots.{bytes, text}
+use Rattle.ipc_format_array_reading.specs.grammar.Layouts.{before_V5, union_parts}
+use Rattle.ipc_format_array_reading.specs.grammar.Columns.{Reader, read_step, read_field_step, slots_in}
+use Rattle.ipc_format_array_reading.proofs.Claims.{TypeWith, FieldWith, LayerWith, bare_layer}
 use Rattle.ipc_format_reading.proofs.AlikePlaces.{Agrees}
 use Rattle.ipc_format_reading.proofs.AlikeColumns.{nulls_agree, truths_agree, numbers_agree, fixed_bytes_agree, bytes_agree, keys_agree}
 use Rattle.ipc_format_reading.proofs.AlikeColumns.{lists_agree, fixed_lists_agree, AllAgree, structs_agree, unions_agree}

@@ -5,28 +5,28 @@ use Rattle.std.specs.Prelude.{Option, Some, None, Result, Ok, Err}
 use Rattle.std.proofs.Math.Seq.{drop-cons, take-suc}
 use Rattle.std.proofs.lemmas.List.{append-nil, length-drop, map-append}
 use Rattle.std.proofs.lemmas.List.Sums.{sum_by-append}
-use Rattle.ipc_format_childless_reading.specs.ReadArrays.{ReadsArray}
-use Rattle.ipc_format_childless_reading.specs.array_reading.ArrayReads.{Takes, array_slots}
-use Rattle.ipc_format_childless_reading.specs.Queues.{IsEnd, TakesOff}
-use Rattle.ipc_format_childless_reading.specs.Rooms.{Told, Stays, ForBytes, ReadsAs}
-use Rattle.ipc_format_childless_reading.specs.columnar_memory.declared.DataType.{DataType}
-use Rattle.ipc_format_childless_reading.specs.columnar_memory.declared.Error.{Error}
-use Rattle.ipc_format_childless_reading.specs.columnar_memory.declared.Field.{Field}
-use Rattle.ipc_format_childless_reading.specs.columns.Slots.{Slot}
-use Rattle.ipc_format_childless_reading.specs.columns.StoredColumns.{Column, column_type, slots}
-use Rattle.ipc_format_childless_reading.specs.flatbuffers.Reading.{◌>>=◌}
-use Rattle.ipc_format_childless_reading.specs.grammar.Columns.{Place, behind_column}
-use Rattle.ipc_format_childless_reading.specs.grammar.Layouts.{buffer_count, node_count, total}
-use Rattle.ipc_format_childless_reading.specs.grammar.Messages.{Version}
-use Rattle.ipc_format_childless_reading.specs.grammar.Schemas.{IdsList, no_ids}
-use Rattle.ipc_format_childless_reading.specs.messages.declared.values.Buffer.{Buffer}
-use Rattle.ipc_format_childless_reading.specs.messages.declared.values.FieldNode.{FieldNode}
-use Rattle.ipc_format_childless_reading.specs.metadata.Views.{ids_view, ids_views}
-use Rattle.ipc_format_childless_reading.specs.metadata.declared.ipc_schema.IpcField.{IpcField}
-use Rattle.ipc_format_childless_reading.proofs.Taking.{drop_none, off_behind}
-use Rattle.ipc_format_childless_reading.proofs.ColumnReads.{takes_behind}
-use Rattle.ipc_format_childless_reading.proofs.NextBuffers.{refusal_for}
-use Rattle.ipc_format_childless_reading.proofs.Readings.{reads_behind}
+use Rattle.ipc_format_array_reading.specs.ReadArrays.{ReadsArray}
+use Rattle.ipc_format_array_reading.specs.ArrayReads.{Takes, array_slots}
+use Rattle.ipc_format_array_reading.specs.Queues.{IsEnd, TakesOff}
+use Rattle.ipc_format_array_reading.specs.Rooms.{Told, Stays, ForBytes, ReadsAs}
+use Rattle.ipc_format_array_reading.specs.columnar_memory.declared.DataType.{DataType}
+use Rattle.ipc_format_array_reading.specs.columnar_memory.declared.Error.{Error}
+use Rattle.ipc_format_array_reading.specs.columnar_memory.declared.Field.{Field}
+use Rattle.ipc_format_array_reading.specs.columns.Slots.{Slot}
+use Rattle.ipc_format_array_reading.specs.columns.StoredColumns.{Column, column_type, slots}
+use Rattle.ipc_format_array_reading.specs.flatbuffers.Reading.{◌>>=◌}
+use Rattle.ipc_format_array_reading.specs.grammar.Columns.{Place, behind_column}
+use Rattle.ipc_format_array_reading.specs.grammar.Layouts.{buffer_count, node_count, total}
+use Rattle.ipc_format_array_reading.specs.grammar.Messages.{Version}
+use Rattle.ipc_format_array_reading.specs.grammar.Schemas.{IdsList, no_ids}
+use Rattle.ipc_format_array_reading.specs.messages.declared.values.Buffer.{Buffer}
+use Rattle.ipc_format_array_reading.specs.messages.declared.values.FieldNode.{FieldNode}
+use Rattle.ipc_format_array_reading.specs.metadata.Views.{ids_view, ids_views}
+use Rattle.ipc_format_array_reading.specs.metadata.declared.ipc_schema.IpcField.{IpcField}
+use Rattle.ipc_format_array_reading.proofs.Taking.{drop_none, off_behind}
+use Rattle.ipc_format_array_reading.proofs.ColumnReads.{takes_behind}
+use Rattle.ipc_format_array_reading.proofs.NextBuffers.{refusal_for}
+use Rattle.ipc_format_array_reading.proofs.Readings.{reads_behind}
 use Rattle.ipc_format_reading.specs.Below.{arrays_below, buffers_below, nodes_below, type_of}
 
 -- where the next column stands, by what is left of the nodes and of the buffers

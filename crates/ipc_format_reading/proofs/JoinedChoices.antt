@@ -1,11 +1,11 @@
 -- What a union picks does not depend on the readers beside its fields, and ids and places may be given by functions.
 use Rattle.std.proofs.Common.{◌≡◌, ◌∙◌, ℕ, ◌+◌, ◌<◌, ℤ, pos, List, map, ap, ap₂, arith}
 use Rattle.std.specs.Prelude.{Option, slice_index_or}
-use Rattle.ipc_format_childless_reading.specs.columnar_memory.declared.Field.{Field}
-use Rattle.ipc_format_childless_reading.specs.columns.Slots.{Slot, window}
-use Rattle.ipc_format_childless_reading.proofs.Windows.{window_same}
-use Rattle.ipc_format_childless_reading.specs.grammar.Columns.{Reader, all_of, child_of, picked}
-use Rattle.ipc_format_childless_reading.specs.grammar.Messages.{natural}
+use Rattle.ipc_format_array_reading.specs.columnar_memory.declared.Field.{Field}
+use Rattle.ipc_format_array_reading.specs.columns.Slots.{Slot, window}
+use Rattle.ipc_format_array_reading.proofs.Windows.{window_same}
+use Rattle.ipc_format_array_reading.specs.grammar.Columns.{Reader, all_of, child_of, picked}
+use Rattle.ipc_format_array_reading.specs.grammar.Messages.{natural}
 use Rattle.ipc_format_reading.proofs.JoinedSlots.{choice_at, picked_any, picked_of, place_at}
 
 -- the fields beside which readers stand

@@ -5,24 +5,24 @@ use Rattle.std.specs.Prelude.{Option, Some, None, slice_get, slice_index_or}
 use Rattle.std.specs.List.{list_all}
 use Rattle.std.proofs.lemmas.Bool.{and_from}
 use Rattle.std.proofs.lemmas.List.{length-map}
-use Rattle.ipc_format_childless_reading.specs.columnar_memory.Equality.{same_type, same_type-Decides}
-use Rattle.ipc_format_childless_reading.specs.columnar_memory.declared.DataType.{DataType, map-DataType}
-use Rattle.ipc_format_childless_reading.specs.columnar_memory.declared.DataType.TheOpen as layer
-use Rattle.ipc_format_childless_reading.specs.columnar_memory.declared.DataType.TheViews.{out-DataType}
-use Rattle.ipc_format_childless_reading.specs.columnar_memory.declared.Field.{Field}
-use Rattle.ipc_format_childless_reading.specs.columnar_memory.declared.UnionMode.{UnionMode}
-use Rattle.ipc_format_childless_reading.specs.columnar_memory.declared.UnionMode.TheVariants as modes
-use Rattle.ipc_format_childless_reading.specs.columns.Kinds.{is_signed, most_offset}
-use Rattle.ipc_format_childless_reading.specs.columns.Slots.{Slot, fields, in_slots, items, pick, window}
-use Rattle.ipc_format_childless_reading.specs.columns.SoundColumns.{are_sound, has_an_id_each, have_types, is_entry, mask_fits}
-use Rattle.ipc_format_childless_reading.specs.columns.StoredColumns.{Column, column_type, in_columns, unless_null}
-use Rattle.ipc_format_childless_reading.specs.columns.Tables.{row_at}
-use Rattle.ipc_format_childless_reading.proofs.TypeLayers.{Layer, layer_layout}
-use Rattle.ipc_format_childless_reading.specs.flatbuffers.Reading.{◌>>=◌, guard}
-use Rattle.ipc_format_childless_reading.specs.grammar.Columns.{all_of, are_as_long, child_of, have_length, last_of, picked, piece_at, taken_of, Reader}
-use Rattle.ipc_format_childless_reading.specs.grammar.Messages.{natural}
-use Rattle.ipc_format_childless_reading.specs.array_reading.ArrayReads.{fields_below, has_arrays}
-use Rattle.ipc_format_childless_reading.specs.array_reading.Parts.{Parts, choices, marks, spans}
+use Rattle.ipc_format_array_reading.specs.columnar_memory.Equality.{same_type, same_type-Decides}
+use Rattle.ipc_format_array_reading.specs.columnar_memory.declared.DataType.{DataType, map-DataType}
+use Rattle.ipc_format_array_reading.specs.columnar_memory.declared.DataType.TheOpen as layer
+use Rattle.ipc_format_array_reading.specs.columnar_memory.declared.DataType.TheViews.{out-DataType}
+use Rattle.ipc_format_array_reading.specs.columnar_memory.declared.Field.{Field}
+use Rattle.ipc_format_array_reading.specs.columnar_memory.declared.UnionMode.{UnionMode}
+use Rattle.ipc_format_array_reading.specs.columnar_memory.declared.UnionMode.TheVariants as modes
+use Rattle.ipc_format_array_reading.specs.columns.Kinds.{is_signed, most_offset}
+use Rattle.ipc_format_array_reading.specs.columns.Slots.{Slot, fields, in_slots, items, pick, window}
+use Rattle.ipc_format_array_reading.specs.columns.SoundColumns.{are_sound, has_an_id_each, have_types, is_entry, mask_fits}
+use Rattle.ipc_format_array_reading.specs.columns.StoredColumns.{Column, column_type, in_columns, unless_null}
+use Rattle.ipc_format_array_reading.specs.columns.Tables.{row_at}
+use Rattle.ipc_format_array_reading.proofs.TypeLayers.{Layer, layer_layout}
+use Rattle.ipc_format_array_reading.specs.flatbuffers.Reading.{◌>>=◌, guard}
+use Rattle.ipc_format_array_reading.specs.grammar.Columns.{all_of, are_as_long, child_of, have_length, last_of, picked, piece_at, taken_of, Reader}
+use Rattle.ipc_format_array_reading.specs.grammar.Messages.{natural}
+use Rattle.ipc_format_array_reading.specs.ArrayReads.{fields_below, has_arrays}
+use Rattle.ipc_format_array_reading.specs.Parts.{Parts, choices, marks, spans}
 
 -- ---- layers
 

@@ -1,20 +1,20 @@
 -- What readers of one kind of columns answer, by the reader of every kind.
 use Rattle.std.proofs.Common.{◌≡◌, ◌∙◌, ℕ, Bool, List, inl, refl, ap}
 use Rattle.std.specs.Prelude.{Option, Result, Ok, Err}
-use Rattle.ipc_format_childless_reading.specs.ReadArrays.{ReadsArray}
-use Rattle.ipc_format_childless_reading.specs.array_reading.ArrayReads.{array_slots}
-use Rattle.ipc_format_childless_reading.specs.Reads.{ReadsColumn}
-use Rattle.ipc_format_childless_reading.specs.Rooms.{Told}
-use Rattle.ipc_format_childless_reading.specs.columnar_memory.Layouts.{physical_type}
-use Rattle.ipc_format_childless_reading.specs.columnar_memory.declared.DataType.{DataType}
-use Rattle.ipc_format_childless_reading.specs.columnar_memory.declared.Error.{Error}
-use Rattle.ipc_format_childless_reading.specs.columnar_memory.declared.PhysicalType.{PhysicalType}
-use Rattle.ipc_format_childless_reading.specs.columns.StoredColumns.{Column, column_type}
-use Rattle.ipc_format_childless_reading.specs.grammar.Columns.{Place}
-use Rattle.ipc_format_childless_reading.specs.grammar.Layouts.{buffer_count, node_count}
-use Rattle.ipc_format_childless_reading.specs.grammar.Messages.{Version}
-use Rattle.ipc_format_childless_reading.specs.messages.declared.values.Buffer.{Buffer}
-use Rattle.ipc_format_childless_reading.specs.messages.declared.values.FieldNode.{FieldNode}
+use Rattle.ipc_format_array_reading.specs.ReadArrays.{ReadsArray}
+use Rattle.ipc_format_array_reading.specs.ArrayReads.{array_slots}
+use Rattle.ipc_format_array_reading.specs.Reads.{ReadsColumn}
+use Rattle.ipc_format_array_reading.specs.Rooms.{Told}
+use Rattle.ipc_format_array_reading.specs.columnar_memory.Layouts.{physical_type}
+use Rattle.ipc_format_array_reading.specs.columnar_memory.declared.DataType.{DataType}
+use Rattle.ipc_format_array_reading.specs.columnar_memory.declared.Error.{Error}
+use Rattle.ipc_format_array_reading.specs.columnar_memory.declared.PhysicalType.{PhysicalType}
+use Rattle.ipc_format_array_reading.specs.columns.StoredColumns.{Column, column_type}
+use Rattle.ipc_format_array_reading.specs.grammar.Columns.{Place}
+use Rattle.ipc_format_array_reading.specs.grammar.Layouts.{buffer_count, node_count}
+use Rattle.ipc_format_array_reading.specs.grammar.Messages.{Version}
+use Rattle.ipc_format_array_reading.specs.messages.declared.values.Buffer.{Buffer}
+use Rattle.ipc_format_array_reading.specs.messages.declared.values.FieldNode.{FieldNode}
 
 abbrev pub ReadsKind : PhysicalType → Bool → Told → Told → DataType → (List ℕ → Place) → Version → List FieldNode → List FieldNode → List Buffer
     → List Buffer → Result Column Error → Type 0

@@ -2,22 +2,22 @@
 use Rattle.std.proofs.Common.{◌≡◌, ◌∙◌, ℕ, ℤ, Bool, true, false, List, [], ◌∷◌, map, refl, sym, ap, subst, nat_lt, ◌==◌}
 use Rattle.std.specs.Prelude.{Option, Some, None}
 use Rattle.std.proofs.lemmas.Bool.{and_from, and_parts, eq-eqb, false≢true}
-use Rattle.ipc_format_childless_reading.specs.columnar_memory.Equality.{same_type}
-use Rattle.ipc_format_childless_reading.specs.columnar_memory.Layouts.{physical_type}
-use Rattle.ipc_format_childless_reading.specs.columnar_memory.declared.DataType.{DataType}
-use Rattle.ipc_format_childless_reading.specs.columnar_memory.declared.DataType.TheOpen as layer
-use Rattle.ipc_format_childless_reading.specs.columnar_memory.declared.DataType.TheViews.{out-DataType}
-use Rattle.ipc_format_childless_reading.specs.columnar_memory.declared.Field.{Field}
-use Rattle.ipc_format_childless_reading.specs.columnar_memory.declared.PhysicalType.{PhysicalType}
-use Rattle.ipc_format_childless_reading.specs.columnar_memory.declared.UnionMode.TheVariants as modes
-use Rattle.ipc_format_childless_reading.specs.columns.Kinds.{most_offset}
-use Rattle.ipc_format_childless_reading.specs.columns.SoundColumns.{are_sound, has_child_types, has_field_types, has_fixed_item_type, has_item_type, is_entry}
-use Rattle.ipc_format_childless_reading.specs.columns.SoundColumns.{is_sound}
-use Rattle.ipc_format_childless_reading.specs.columns.StoredColumns.{Column, column_type, in_columns, slots, type_layer}
-use Rattle.ipc_format_childless_reading.proofs.TypeLayers.{Layer, layer_layout, layout_is}
-use Rattle.ipc_format_childless_reading.specs.flatbuffers.Reading.{◌>>=◌}
-use Rattle.ipc_format_childless_reading.specs.array_reading.ArrayReads.{fields_below}
-use Rattle.ipc_format_childless_reading.specs.array_reading.Parts.{Parts, choices, joined_column, made_column, marks, sound_column, spans}
+use Rattle.ipc_format_array_reading.specs.columnar_memory.Equality.{same_type}
+use Rattle.ipc_format_array_reading.specs.columnar_memory.Layouts.{physical_type}
+use Rattle.ipc_format_array_reading.specs.columnar_memory.declared.DataType.{DataType}
+use Rattle.ipc_format_array_reading.specs.columnar_memory.declared.DataType.TheOpen as layer
+use Rattle.ipc_format_array_reading.specs.columnar_memory.declared.DataType.TheViews.{out-DataType}
+use Rattle.ipc_format_array_reading.specs.columnar_memory.declared.Field.{Field}
+use Rattle.ipc_format_array_reading.specs.columnar_memory.declared.PhysicalType.{PhysicalType}
+use Rattle.ipc_format_array_reading.specs.columnar_memory.declared.UnionMode.TheVariants as modes
+use Rattle.ipc_format_array_reading.specs.columns.Kinds.{most_offset}
+use Rattle.ipc_format_array_reading.specs.columns.SoundColumns.{are_sound, has_child_types, has_field_types, has_fixed_item_type, has_item_type, is_entry}
+use Rattle.ipc_format_array_reading.specs.columns.SoundColumns.{is_sound}
+use Rattle.ipc_format_array_reading.specs.columns.StoredColumns.{Column, column_type, in_columns, slots, type_layer}
+use Rattle.ipc_format_array_reading.proofs.TypeLayers.{Layer, layer_layout, layout_is}
+use Rattle.ipc_format_array_reading.specs.flatbuffers.Reading.{◌>>=◌}
+use Rattle.ipc_format_array_reading.specs.ArrayReads.{fields_below}
+use Rattle.ipc_format_array_reading.specs.Parts.{Parts, choices, joined_column, made_column, marks, sound_column, spans}
 use Rattle.ipc_format_reading.proofs.JoinedSlots.{AreChildren, AreSpans, AreTyped, AreWhole, joined_lists, joined_slots, layer_arrays}
 use Rattle.ipc_format_reading.proofs.JoinedSlots.{one_child, same_itself, typed_each}
 use Rattle.ipc_format_reading.proofs.MadeFixedLists.{fixed_lists_made}

@@ -4,13 +4,13 @@ use Rattle.std.proofs.Common.{ap, arith, ◌==◌, ◌&&◌, nat_le, nat_lt, sli
 use Rattle.std.specs.Prelude.{Option, Some, None, if◌then◌else◌}
 use Rattle.std.proofs.Math.Nat.{mul-add, mul_comm, mul-le-mul_left, mul-div_cancel_left}
 use Rattle.std.proofs.lemmas.Bool.{and_from, cases_Bool, eq-eqb, eqb-true, le-leb, ltb-true}
-use Rattle.ipc_format_childless_reading.specs.columnar_memory.declared.DataType.{DataType}
-use Rattle.ipc_format_childless_reading.specs.columns.Slots.{Slot, in_slots, items, window}
-use Rattle.ipc_format_childless_reading.specs.columns.SoundColumns.{are_pieces, has_fixed_item_type, is_sound, mask_fits}
-use Rattle.ipc_format_childless_reading.specs.columns.StoredColumns.{Column, column_len, column_type, fixed_lists, slot_at, slots, type_layer, unless_null}
-use Rattle.ipc_format_childless_reading.proofs.Windows.{cut_list-window, length-window, window_same}
-use Rattle.ipc_format_childless_reading.specs.flatbuffers.Reading.{◌>>=◌, guard}
-use Rattle.ipc_format_childless_reading.specs.array_reading.Parts.{if_long, marks, sound_column}
+use Rattle.ipc_format_array_reading.specs.columnar_memory.declared.DataType.{DataType}
+use Rattle.ipc_format_array_reading.specs.columns.Slots.{Slot, in_slots, items, window}
+use Rattle.ipc_format_array_reading.specs.columns.SoundColumns.{are_pieces, has_fixed_item_type, is_sound, mask_fits}
+use Rattle.ipc_format_array_reading.specs.columns.StoredColumns.{Column, column_len, column_type, fixed_lists, slot_at, slots, type_layer, unless_null}
+use Rattle.ipc_format_array_reading.proofs.Windows.{cut_list-window, length-window, window_same}
+use Rattle.ipc_format_array_reading.specs.flatbuffers.Reading.{◌>>=◌, guard}
+use Rattle.ipc_format_array_reading.specs.Parts.{if_long, marks, sound_column}
 use Rattle.ipc_format_reading.proofs.JoinedSlots.{joined_fixed}
 
 -- so many pieces, by their length

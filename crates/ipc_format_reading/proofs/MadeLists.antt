@@ -5,17 +5,17 @@ use Rattle.std.proofs.Common.{ap, subst, arith, ◌==◌, ◌&&◌, nat_le, slic
 use Rattle.std.specs.Prelude.{Option, Some, None, if◌then◌else◌}
 use Rattle.std.specs.List.{list_all}
 use Rattle.std.proofs.lemmas.Bool.{and_from, cases_Bool, eqb-true, le-leb}
-use Rattle.ipc_format_childless_reading.specs.columnar_memory.declared.DataType.{DataType}
-use Rattle.ipc_format_childless_reading.specs.columnar_memory.Layouts.{physical_type}
-use Rattle.ipc_format_childless_reading.specs.columns.Kinds.{most_offset}
-use Rattle.ipc_format_childless_reading.specs.columns.Slots.{Slot, in_slots, items, window}
-use Rattle.ipc_format_childless_reading.specs.columns.SoundColumns.{are_offsets, has_item_type, holds_below, is_sound, mask_fits, rises_at}
-use Rattle.ipc_format_childless_reading.specs.columns.StoredColumns.{Column, column_len, column_type, lists, slot_at, slots, type_layer, unless_null}
-use Rattle.ipc_format_childless_reading.proofs.Conditions.{holds_from}
-use Rattle.ipc_format_childless_reading.proofs.Windows.{cut_list-window, length-window, window_same}
-use Rattle.ipc_format_childless_reading.specs.flatbuffers.Reading.{◌>>=◌, guard}
-use Rattle.ipc_format_childless_reading.specs.grammar.Columns.{last_of, piece_at}
-use Rattle.ipc_format_childless_reading.specs.array_reading.Parts.{if_long, sound_column, spans}
+use Rattle.ipc_format_array_reading.specs.columnar_memory.declared.DataType.{DataType}
+use Rattle.ipc_format_array_reading.specs.columnar_memory.Layouts.{physical_type}
+use Rattle.ipc_format_array_reading.specs.columns.Kinds.{most_offset}
+use Rattle.ipc_format_array_reading.specs.columns.Slots.{Slot, in_slots, items, window}
+use Rattle.ipc_format_array_reading.specs.columns.SoundColumns.{are_offsets, has_item_type, holds_below, is_sound, mask_fits, rises_at}
+use Rattle.ipc_format_array_reading.specs.columns.StoredColumns.{Column, column_len, column_type, lists, slot_at, slots, type_layer, unless_null}
+use Rattle.ipc_format_array_reading.proofs.Conditions.{holds_from}
+use Rattle.ipc_format_array_reading.proofs.Windows.{cut_list-window, length-window, window_same}
+use Rattle.ipc_format_array_reading.specs.flatbuffers.Reading.{◌>>=◌, guard}
+use Rattle.ipc_format_array_reading.specs.grammar.Columns.{last_of, piece_at}
+use Rattle.ipc_format_array_reading.specs.Parts.{if_long, sound_column, spans}
 use Rattle.ipc_format_reading.proofs.JoinedSlots.{AreSpans, joined_lists}
 
 -- ---- offsets

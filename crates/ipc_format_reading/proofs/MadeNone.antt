@@ -4,23 +4,23 @@ use Rattle.std.proofs.Common.{ap, arith, ◌==◌, nat_le, nat_lt}
 use Rattle.std.specs.Prelude.{Option, Some, None, if◌then◌else◌, min}
 use Rattle.std.specs.List.{list_all}
 use Rattle.std.proofs.lemmas.Bool.{and_left, and_right, false≢true, lt-leb, ltb-false}
-use Rattle.ipc_format_childless_reading.specs.columnar_memory.Equality.{same_type}
-use Rattle.ipc_format_childless_reading.specs.columnar_memory.Layouts.{physical_type}
-use Rattle.ipc_format_childless_reading.specs.columnar_memory.declared.DataType.{DataType}
-use Rattle.ipc_format_childless_reading.specs.columnar_memory.declared.DataType.TheOpen as layer
-use Rattle.ipc_format_childless_reading.specs.columnar_memory.declared.DataType.TheViews.{out-DataType}
-use Rattle.ipc_format_childless_reading.specs.columnar_memory.declared.UnionMode.TheVariants as modes
-use Rattle.ipc_format_childless_reading.specs.columns.Kinds.{is_signed, most_offset}
-use Rattle.ipc_format_childless_reading.specs.columns.SoundColumns.{are_offsets, are_pieces, are_sound, has_an_id_each, has_child_at, has_child_types, has_field_types}
-use Rattle.ipc_format_childless_reading.specs.columns.SoundColumns.{has_fixed_item_type, has_item_type, has_places, have_len, have_types, holds_below, is_entry}
-use Rattle.ipc_format_childless_reading.specs.columns.SoundColumns.{is_sound, mask_fits}
-use Rattle.ipc_format_childless_reading.specs.columns.StoredColumns.{Column, column_len, column_type, fixed_lists, in_columns, lists, records, type_layer, unions}
-use Rattle.ipc_format_childless_reading.proofs.TypeLayers.{Layer}
-use Rattle.ipc_format_childless_reading.specs.flatbuffers.Reading.{◌>>=◌}
-use Rattle.ipc_format_childless_reading.specs.grammar.Columns.{last_of}
-use Rattle.ipc_format_childless_reading.specs.array_reading.ArrayReads.{fields_below}
-use Rattle.ipc_format_childless_reading.specs.array_reading.Parts.{Parts, choices, cut_under, if_long, made_column, marked_column, marks, single}
-use Rattle.ipc_format_childless_reading.specs.array_reading.Parts.{sound_column, spans}
+use Rattle.ipc_format_array_reading.specs.columnar_memory.Equality.{same_type}
+use Rattle.ipc_format_array_reading.specs.columnar_memory.Layouts.{physical_type}
+use Rattle.ipc_format_array_reading.specs.columnar_memory.declared.DataType.{DataType}
+use Rattle.ipc_format_array_reading.specs.columnar_memory.declared.DataType.TheOpen as layer
+use Rattle.ipc_format_array_reading.specs.columnar_memory.declared.DataType.TheViews.{out-DataType}
+use Rattle.ipc_format_array_reading.specs.columnar_memory.declared.UnionMode.TheVariants as modes
+use Rattle.ipc_format_array_reading.specs.columns.Kinds.{is_signed, most_offset}
+use Rattle.ipc_format_array_reading.specs.columns.SoundColumns.{are_offsets, are_pieces, are_sound, has_an_id_each, has_child_at, has_child_types, has_field_types}
+use Rattle.ipc_format_array_reading.specs.columns.SoundColumns.{has_fixed_item_type, has_item_type, has_places, have_len, have_types, holds_below, is_entry}
+use Rattle.ipc_format_array_reading.specs.columns.SoundColumns.{is_sound, mask_fits}
+use Rattle.ipc_format_array_reading.specs.columns.StoredColumns.{Column, column_len, column_type, fixed_lists, in_columns, lists, records, type_layer, unions}
+use Rattle.ipc_format_array_reading.proofs.TypeLayers.{Layer}
+use Rattle.ipc_format_array_reading.specs.flatbuffers.Reading.{◌>>=◌}
+use Rattle.ipc_format_array_reading.specs.grammar.Columns.{last_of}
+use Rattle.ipc_format_array_reading.specs.ArrayReads.{fields_below}
+use Rattle.ipc_format_array_reading.specs.Parts.{Parts, choices, cut_under, if_long, made_column, marked_column, marks, single}
+use Rattle.ipc_format_array_reading.specs.Parts.{sound_column, spans}
 use Rattle.ipc_format_reading.proofs.JoinedSlots.{AreTyped, layer_arrays}
 
 -- ---- columns that are not sound

@@ -3,24 +3,24 @@ use Rattle.std.proofs.Common.{◌≡◌, ◌∙◌, ℕ, zero, suc, ◌+◌, ◌
 use Rattle.std.proofs.Common.{add-one, slice_index}
 use Rattle.std.specs.Prelude.{Option, Some, None}
 use Rattle.std.proofs.lemmas.Bool.{eq-eqb, false≢true}
-use Rattle.ipc_format_childless_reading.specs.columnar_memory.declared.DataType.TheOpen as layer
-use Rattle.ipc_format_childless_reading.specs.columnar_memory.declared.DataType.{DataType}
-use Rattle.ipc_format_childless_reading.specs.columnar_memory.declared.Field.{Field}
-use Rattle.ipc_format_childless_reading.specs.columnar_memory.Spans as memory
-use Rattle.ipc_format_childless_reading.specs.columnar_memory.Spans.{Spans, ends_from, offsets_of}
-use Rattle.ipc_format_childless_reading.specs.columns.Kinds.{most_offset}
-use Rattle.ipc_format_childless_reading.specs.columns.StoredColumns.{Column, slots, type_layer}
-use Rattle.ipc_format_childless_reading.specs.columns.SoundColumns.{mask_fits}
-use Rattle.ipc_format_childless_reading.proofs.TypeLayers.{Layer, layer_layout}
-use Rattle.ipc_format_childless_reading.specs.flatbuffers.Reading.{◌>>=◌}
-use Rattle.ipc_format_childless_reading.specs.array_reading.ArrayReads.{fields_below, has_arrays}
-use Rattle.ipc_format_childless_reading.specs.array_reading.column_writing.column_reading.Flat.{IsMaskOf}
-use Rattle.ipc_format_childless_reading.specs.array_reading.Parts.{AreInRange, AreParts, Parts, beginning_of, made_column, parts_in}
-use Rattle.ipc_format_childless_reading.specs.array_reading.declared.begun.Beginning.{Beginning}
-use Rattle.ipc_format_childless_reading.specs.array_reading.declared.begun.Beginning.TheVariants as beginnings
-use Rattle.ipc_format_childless_reading.specs.array_reading.declared.begun.Begun.{Begun}
-use Rattle.ipc_format_childless_reading.specs.array_reading.declared.begun.Begun.TheVariants as begun
-use Rattle.ipc_format_childless_reading.proofs.ColumnReads.{last_is}
+use Rattle.ipc_format_array_reading.specs.columnar_memory.declared.DataType.TheOpen as layer
+use Rattle.ipc_format_array_reading.specs.columnar_memory.declared.DataType.{DataType}
+use Rattle.ipc_format_array_reading.specs.columnar_memory.declared.Field.{Field}
+use Rattle.ipc_format_array_reading.specs.columnar_memory.Spans as memory
+use Rattle.ipc_format_array_reading.specs.columnar_memory.Spans.{Spans, ends_from, offsets_of}
+use Rattle.ipc_format_array_reading.specs.columns.Kinds.{most_offset}
+use Rattle.ipc_format_array_reading.specs.columns.StoredColumns.{Column, slots, type_layer}
+use Rattle.ipc_format_array_reading.specs.columns.SoundColumns.{mask_fits}
+use Rattle.ipc_format_array_reading.proofs.TypeLayers.{Layer, layer_layout}
+use Rattle.ipc_format_array_reading.specs.flatbuffers.Reading.{◌>>=◌}
+use Rattle.ipc_format_array_reading.specs.ArrayReads.{fields_below, has_arrays}
+use Rattle.ipc_format_array_reading.specs.column_writing.column_reading.Flat.{IsMaskOf}
+use Rattle.ipc_format_array_reading.specs.Parts.{AreInRange, AreParts, Parts, beginning_of, made_column, parts_in}
+use Rattle.ipc_format_array_reading.specs.declared.begun.Beginning.{Beginning}
+use Rattle.ipc_format_array_reading.specs.declared.begun.Beginning.TheVariants as beginnings
+use Rattle.ipc_format_array_reading.specs.declared.begun.Begun.{Begun}
+use Rattle.ipc_format_array_reading.specs.declared.begun.Begun.TheVariants as begun
+use Rattle.ipc_format_array_reading.proofs.ColumnReads.{last_is}
 use Rattle.ipc_format_reading.proofs.JoinedSlots.{AreChildren, AreSpans, AreTyped, AreWhole, arrays_any, beside, joined_slots}
 use Rattle.ipc_format_reading.proofs.MadeColumns.{made_has_slots}
 use Rattle.ipc_format_reading.proofs.MadeNone.{made_none}

@@ -4,15 +4,15 @@ use Rattle.std.proofs.Common.{ap, ap₂, arith, add-zero, ◌==◌, ◌&&◌}
 use Rattle.std.specs.Prelude.{Option, Some, None, if◌then◌else◌}
 use Rattle.std.specs.List.{list_all}
 use Rattle.std.proofs.lemmas.Bool.{and_from, and_parts, cases_Bool, eqb-true}
-use Rattle.ipc_format_childless_reading.specs.columnar_memory.declared.DataType.{DataType}
-use Rattle.ipc_format_childless_reading.specs.columns.Slots.{Slot, fields, in_slots, null, slot_then, window}
-use Rattle.ipc_format_childless_reading.specs.columns.SoundColumns.{are_sound, has_field_types, have_len, is_sound, mask_fits}
-use Rattle.ipc_format_childless_reading.specs.columns.StoredColumns.{Column, column_len, in_columns, records, slot_at, slots, slots_at, type_layer, unless_null}
-use Rattle.ipc_format_childless_reading.specs.columns.Tables.{row_at}
-use Rattle.ipc_format_childless_reading.proofs.Windows.{length-window, window_same}
-use Rattle.ipc_format_childless_reading.specs.flatbuffers.Reading.{◌>>=◌, guard}
-use Rattle.ipc_format_childless_reading.specs.grammar.Columns.{have_length}
-use Rattle.ipc_format_childless_reading.specs.array_reading.Parts.{if_long, marks, sound_column}
+use Rattle.ipc_format_array_reading.specs.columnar_memory.declared.DataType.{DataType}
+use Rattle.ipc_format_array_reading.specs.columns.Slots.{Slot, fields, in_slots, null, slot_then, window}
+use Rattle.ipc_format_array_reading.specs.columns.SoundColumns.{are_sound, has_field_types, have_len, is_sound, mask_fits}
+use Rattle.ipc_format_array_reading.specs.columns.StoredColumns.{Column, column_len, in_columns, records, slot_at, slots, slots_at, type_layer, unless_null}
+use Rattle.ipc_format_array_reading.specs.columns.Tables.{row_at}
+use Rattle.ipc_format_array_reading.proofs.Windows.{length-window, window_same}
+use Rattle.ipc_format_array_reading.specs.flatbuffers.Reading.{◌>>=◌, guard}
+use Rattle.ipc_format_array_reading.specs.grammar.Columns.{have_length}
+use Rattle.ipc_format_array_reading.specs.Parts.{if_long, marks, sound_column}
 use Rattle.ipc_format_reading.proofs.JoinedSlots.{joined_structs}
 
 -- ---- lengths

@@ -2,16 +2,16 @@
 use Rattle.std.proofs.Common.{◌≡◌, ◌∙◌, ℕ, ◌*◌, Bool, true, false, List, length, refl, sym, ap, ◌==◌}
 use Rattle.std.specs.Prelude.{Option, Some, None, if◌then◌else◌}
 use Rattle.std.specs.List.{list_all}
-use Rattle.ipc_format_childless_reading.specs.columnar_memory.declared.DataType.{DataType}
-use Rattle.ipc_format_childless_reading.specs.columnar_memory.declared.DataType.TheOpen as layer
-use Rattle.ipc_format_childless_reading.specs.columns.SoundColumns.{is_sound}
-use Rattle.ipc_format_childless_reading.specs.columns.StoredColumns.{Column, column_len, column_type, fixed_lists, in_columns, lists, records, type_layer, unions}
-use Rattle.ipc_format_childless_reading.proofs.Cuts.{column_type-cut}
-use Rattle.ipc_format_childless_reading.proofs.TypeLayers.{Layer}
-use Rattle.ipc_format_childless_reading.specs.flatbuffers.Reading.{◌>>=◌}
-use Rattle.ipc_format_childless_reading.specs.grammar.Columns.{last_of, taken_of}
-use Rattle.ipc_format_childless_reading.specs.array_reading.Parts.{Parts, choices, cut_under, if_long, joined_column, made_column, marked_column, marks, single}
-use Rattle.ipc_format_childless_reading.specs.array_reading.Parts.{sound_column, spans}
+use Rattle.ipc_format_array_reading.specs.columnar_memory.declared.DataType.{DataType}
+use Rattle.ipc_format_array_reading.specs.columnar_memory.declared.DataType.TheOpen as layer
+use Rattle.ipc_format_array_reading.specs.columns.SoundColumns.{is_sound}
+use Rattle.ipc_format_array_reading.specs.columns.StoredColumns.{Column, column_len, column_type, fixed_lists, in_columns, lists, records, type_layer, unions}
+use Rattle.ipc_format_array_reading.proofs.Cuts.{column_type-cut}
+use Rattle.ipc_format_array_reading.proofs.TypeLayers.{Layer}
+use Rattle.ipc_format_array_reading.specs.flatbuffers.Reading.{◌>>=◌}
+use Rattle.ipc_format_array_reading.specs.grammar.Columns.{last_of, taken_of}
+use Rattle.ipc_format_array_reading.specs.Parts.{Parts, choices, cut_under, if_long, joined_column, made_column, marked_column, marks, single}
+use Rattle.ipc_format_array_reading.specs.Parts.{sound_column, spans}
 
 -- a column that there may be has a type
 abbrev HasType : DataType → Option Column → Type 0

@@ -5,23 +5,23 @@ use Rattle.std.specs.Prelude.{Option, Some, None, int_le, slice_index_or, if◌t
 use Rattle.std.specs.List.{list_all}
 use Rattle.std.proofs.Math.Nat.{min-le_right}
 use Rattle.std.proofs.lemmas.Bool.{and_from, and_parts, cases_Bool, eq-eqb, false_from_ne_true, le-leb, true≢false}
-use Rattle.ipc_format_childless_reading.specs.columnar_memory.declared.DataType.{DataType}
-use Rattle.ipc_format_childless_reading.specs.columnar_memory.declared.DataType.TheOpen as layer
-use Rattle.ipc_format_childless_reading.specs.columnar_memory.declared.Field.{Field}
-use Rattle.ipc_format_childless_reading.specs.columnar_memory.declared.UnionMode.{UnionMode}
-use Rattle.ipc_format_childless_reading.specs.columnar_memory.declared.UnionMode.TheVariants as modes
-use Rattle.ipc_format_childless_reading.specs.columns.Kinds.{is_signed}
-use Rattle.ipc_format_childless_reading.specs.columns.Slots.{Slot, window}
-use Rattle.ipc_format_childless_reading.specs.columns.SoundColumns.{are_sound, has_an_id_each, has_child_at, has_child_types, has_places, have_len}
-use Rattle.ipc_format_childless_reading.specs.columns.SoundColumns.{have_types, holds_below, is_offset, is_sound}
-use Rattle.ipc_format_childless_reading.specs.columns.StoredColumns.{Column, child_number, column_len, cut, in_columns, picked_at, place_of, slot_at, slots, type_layer}
-use Rattle.ipc_format_childless_reading.specs.columns.StoredColumns.{union_place, unions}
-use Rattle.ipc_format_childless_reading.proofs.Conditions.{holds_at, holds_from, parts_of_5}
-use Rattle.ipc_format_childless_reading.proofs.CutsOfCuts.{slots-cut}
-use Rattle.ipc_format_childless_reading.proofs.TypeLayers.{Layer}
-use Rattle.ipc_format_childless_reading.specs.flatbuffers.Reading.{◌>>=◌}
-use Rattle.ipc_format_childless_reading.specs.grammar.Columns.{all_of, are_as_long, have_length, taken_of}
-use Rattle.ipc_format_childless_reading.specs.array_reading.Parts.{choices, sound_column}
+use Rattle.ipc_format_array_reading.specs.columnar_memory.declared.DataType.{DataType}
+use Rattle.ipc_format_array_reading.specs.columnar_memory.declared.DataType.TheOpen as layer
+use Rattle.ipc_format_array_reading.specs.columnar_memory.declared.Field.{Field}
+use Rattle.ipc_format_array_reading.specs.columnar_memory.declared.UnionMode.{UnionMode}
+use Rattle.ipc_format_array_reading.specs.columnar_memory.declared.UnionMode.TheVariants as modes
+use Rattle.ipc_format_array_reading.specs.columns.Kinds.{is_signed}
+use Rattle.ipc_format_array_reading.specs.columns.Slots.{Slot, window}
+use Rattle.ipc_format_array_reading.specs.columns.SoundColumns.{are_sound, has_an_id_each, has_child_at, has_child_types, has_places, have_len}
+use Rattle.ipc_format_array_reading.specs.columns.SoundColumns.{have_types, holds_below, is_offset, is_sound}
+use Rattle.ipc_format_array_reading.specs.columns.StoredColumns.{Column, child_number, column_len, cut, in_columns, picked_at, place_of, slot_at, slots, type_layer}
+use Rattle.ipc_format_array_reading.specs.columns.StoredColumns.{union_place, unions}
+use Rattle.ipc_format_array_reading.proofs.Conditions.{holds_at, holds_from, parts_of_5}
+use Rattle.ipc_format_array_reading.proofs.CutsOfCuts.{slots-cut}
+use Rattle.ipc_format_array_reading.proofs.TypeLayers.{Layer}
+use Rattle.ipc_format_array_reading.specs.flatbuffers.Reading.{◌>>=◌}
+use Rattle.ipc_format_array_reading.specs.grammar.Columns.{all_of, are_as_long, have_length, taken_of}
+use Rattle.ipc_format_array_reading.specs.Parts.{choices, sound_column}
 use Rattle.ipc_format_reading.proofs.JoinedSlots.{AreTyped, choice_at, joined_choices, place_at, typed_each}
 use Rattle.ipc_format_reading.proofs.MadeLists.{all_from}
 use Rattle.ipc_format_reading.proofs.MadeRecords.{lengths_same, lens_same}

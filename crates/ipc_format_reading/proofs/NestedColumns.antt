@@ -1,27 +1,27 @@
 -- A column of a type with columns below it, by its parts, by what is below these, and by what both make.
 use Rattle.std.proofs.Common.{◌≡◌, ◌∙◌, ◌+◌, ℕ, List, Bool, true, false, drop, map, refl, sym, ap, subst}
 use Rattle.std.specs.Prelude.{Option, Some, None, Result, Ok, Err, IfOk}
-use Rattle.ipc_format_childless_reading.specs.ReadArrays.{ReadsArray, at_front}
-use Rattle.ipc_format_childless_reading.specs.array_reading.ArrayReads.{Takes, array_slots, fields_below}
-use Rattle.ipc_format_childless_reading.specs.array_reading.Limits.{AlikeLimits}
-use Rattle.ipc_format_childless_reading.specs.array_reading.Parts.{AreInRange, AreParts, Makes, Parts, has_children, limit_below, made_column, next_parts}
-use Rattle.ipc_format_childless_reading.specs.array_reading.Parts.{own_buffers, parts_in}
-use Rattle.ipc_format_childless_reading.specs.array_reading.declared.begun.Begun.{Begun}
-use Rattle.ipc_format_childless_reading.specs.Buffers.{node_of}
-use Rattle.ipc_format_childless_reading.specs.Rooms.{Told}
-use Rattle.ipc_format_childless_reading.specs.columnar_memory.declared.DataType.{DataType}
-use Rattle.ipc_format_childless_reading.specs.columnar_memory.declared.Error.{Error}
-use Rattle.ipc_format_childless_reading.specs.columnar_memory.declared.Field.{Field}
-use Rattle.ipc_format_childless_reading.specs.columns.Slots.{Slot}
-use Rattle.ipc_format_childless_reading.specs.columns.SoundColumns.{are_sound}
-use Rattle.ipc_format_childless_reading.specs.columns.StoredColumns.{Column, column_type, in_columns, slots, type_layer}
-use Rattle.ipc_format_childless_reading.specs.flatbuffers.Reading.{◌>>=◌, guard}
-use Rattle.ipc_format_childless_reading.specs.grammar.Columns.{Dictionary, first_below, ids_below}
-use Rattle.ipc_format_childless_reading.specs.grammar.Layouts.{buffer_count, node_count}
-use Rattle.ipc_format_childless_reading.specs.grammar.Messages.{Version}
-use Rattle.ipc_format_childless_reading.specs.grammar.Schemas.{Ids, IdsList}
-use Rattle.ipc_format_childless_reading.specs.messages.declared.values.Buffer.{Buffer}
-use Rattle.ipc_format_childless_reading.specs.messages.declared.values.FieldNode.{FieldNode}
+use Rattle.ipc_format_array_reading.specs.ReadArrays.{ReadsArray, at_front}
+use Rattle.ipc_format_array_reading.specs.ArrayReads.{Takes, array_slots, fields_below}
+use Rattle.ipc_format_array_reading.specs.Limits.{AlikeLimits}
+use Rattle.ipc_format_array_reading.specs.Parts.{AreInRange, AreParts, Makes, Parts, has_children, limit_below, made_column, next_parts}
+use Rattle.ipc_format_array_reading.specs.Parts.{own_buffers, parts_in}
+use Rattle.ipc_format_array_reading.specs.declared.begun.Begun.{Begun}
+use Rattle.ipc_format_array_reading.specs.Buffers.{node_of}
+use Rattle.ipc_format_array_reading.specs.Rooms.{Told}
+use Rattle.ipc_format_array_reading.specs.columnar_memory.declared.DataType.{DataType}
+use Rattle.ipc_format_array_reading.specs.columnar_memory.declared.Error.{Error}
+use Rattle.ipc_format_array_reading.specs.columnar_memory.declared.Field.{Field}
+use Rattle.ipc_format_array_reading.specs.columns.Slots.{Slot}
+use Rattle.ipc_format_array_reading.specs.columns.SoundColumns.{are_sound}
+use Rattle.ipc_format_array_reading.specs.columns.StoredColumns.{Column, column_type, in_columns, slots, type_layer}
+use Rattle.ipc_format_array_reading.specs.flatbuffers.Reading.{◌>>=◌, guard}
+use Rattle.ipc_format_array_reading.specs.grammar.Columns.{Dictionary, first_below, ids_below}
+use Rattle.ipc_format_array_reading.specs.grammar.Layouts.{buffer_count, node_count}
+use Rattle.ipc_format_array_reading.specs.grammar.Messages.{Version}
+use Rattle.ipc_format_array_reading.specs.grammar.Schemas.{Ids, IdsList}
+use Rattle.ipc_format_array_reading.specs.messages.declared.values.Buffer.{Buffer}
+use Rattle.ipc_format_array_reading.specs.messages.declared.values.FieldNode.{FieldNode}
 use Rattle.ipc_format_reading.specs.Below.{arrays_below, buffers_below, no_own_ids, nodes_below, type_of}
 use Rattle.ipc_format_reading.proofs.AlikeFronts.{below_fronts}
 use Rattle.ipc_format_reading.proofs.JoinedSlots.{AreTyped, joined_slots, layer_arrays}

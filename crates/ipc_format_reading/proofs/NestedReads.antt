@@ -2,27 +2,27 @@
 use Rattle.std.proofs.Common.{◌≡◌, ◌∙◌, ◌+◌, ℕ, List, [], ◌∷◌, Bool, true, false, length, map, refl, sym, ap, arith}
 use Rattle.std.specs.Prelude.{Option, Some, None, Result, Ok, Err}
 use mathlib.Core.Logic.{inl, inr}
-use Rattle.ipc_format_childless_reading.specs.array_reading.ArrayReads.{Takes, fields_below}
-use Rattle.ipc_format_childless_reading.specs.array_reading.Parts.{Makes, has_children, own_buffers}
-use Rattle.ipc_format_childless_reading.specs.Rooms.{Told, ForBytes}
-use Rattle.ipc_format_childless_reading.specs.columnar_memory.declared.DataType.{DataType}
-use Rattle.ipc_format_childless_reading.specs.columnar_memory.declared.DataType.TheOpen as layer
-use Rattle.ipc_format_childless_reading.specs.columnar_memory.declared.Error.{Error}
-use Rattle.ipc_format_childless_reading.specs.columns.Slots.{Slot}
-use Rattle.ipc_format_childless_reading.specs.columns.StoredColumns.{Column, slots, type_layer}
-use Rattle.ipc_format_childless_reading.specs.flatbuffers.Reading.{◌>>=◌, guard}
-use Rattle.ipc_format_childless_reading.specs.grammar.Columns.{ids_below}
-use Rattle.ipc_format_childless_reading.specs.grammar.Layouts.{buffer_count, node_count}
-use Rattle.ipc_format_childless_reading.specs.grammar.Messages.{Version}
-use Rattle.ipc_format_childless_reading.specs.grammar.Schemas.{Ids}
-use Rattle.ipc_format_childless_reading.specs.metadata.Views.{ids_step, ids_view, ids_views}
-use Rattle.ipc_format_childless_reading.specs.metadata.declared.ipc_schema.IpcField.{IpcField}
-use Rattle.ipc_format_childless_reading.specs.metadata.declared.ipc_schema.IpcField.TheViews.{out-IpcField, roll-IpcField, roll-out-IpcField}
-use Rattle.ipc_format_childless_reading.specs.metadata.declared.ipc_schema.IpcField.TheFolds.{fold-roll-IpcField}
-use Rattle.ipc_format_childless_reading.proofs.Layers.{layer_buffers, layer_nodes, type_buffers, type_nodes}
-use Rattle.ipc_format_childless_reading.proofs.Taking.{takes_as, takes_made, takes_refused, takes_then}
-use Rattle.ipc_format_childless_reading.proofs.Readings.{made_none, out_of_memory, out_of_spec}
-use Rattle.ipc_format_childless_reading.proofs.TypeLayers.{Layer}
+use Rattle.ipc_format_array_reading.specs.ArrayReads.{Takes, fields_below}
+use Rattle.ipc_format_array_reading.specs.Parts.{Makes, has_children, own_buffers}
+use Rattle.ipc_format_array_reading.specs.Rooms.{Told, ForBytes}
+use Rattle.ipc_format_array_reading.specs.columnar_memory.declared.DataType.{DataType}
+use Rattle.ipc_format_array_reading.specs.columnar_memory.declared.DataType.TheOpen as layer
+use Rattle.ipc_format_array_reading.specs.columnar_memory.declared.Error.{Error}
+use Rattle.ipc_format_array_reading.specs.columns.Slots.{Slot}
+use Rattle.ipc_format_array_reading.specs.columns.StoredColumns.{Column, slots, type_layer}
+use Rattle.ipc_format_array_reading.specs.flatbuffers.Reading.{◌>>=◌, guard}
+use Rattle.ipc_format_array_reading.specs.grammar.Columns.{ids_below}
+use Rattle.ipc_format_array_reading.specs.grammar.Layouts.{buffer_count, node_count}
+use Rattle.ipc_format_array_reading.specs.grammar.Messages.{Version}
+use Rattle.ipc_format_array_reading.specs.grammar.Schemas.{Ids}
+use Rattle.ipc_format_array_reading.specs.metadata.Views.{ids_step, ids_view, ids_views}
+use Rattle.ipc_format_array_reading.specs.metadata.declared.ipc_schema.IpcField.{IpcField}
+use Rattle.ipc_format_array_reading.specs.metadata.declared.ipc_schema.IpcField.TheViews.{out-IpcField, roll-IpcField, roll-out-IpcField}
+use Rattle.ipc_format_array_reading.specs.metadata.declared.ipc_schema.IpcField.TheFolds.{fold-roll-IpcField}
+use Rattle.ipc_format_array_reading.proofs.Layers.{layer_buffers, layer_nodes, type_buffers, type_nodes}
+use Rattle.ipc_format_array_reading.proofs.Taking.{takes_as, takes_made, takes_refused, takes_then}
+use Rattle.ipc_format_array_reading.proofs.Readings.{made_none, out_of_memory, out_of_spec}
+use Rattle.ipc_format_array_reading.proofs.TypeLayers.{Layer}
 use denote.Hole.Carrier
 use Rattle.ipc_format_reading.specs.Below.{buffers_below, nodes_below}
 

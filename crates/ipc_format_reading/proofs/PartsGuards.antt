@@ -2,18 +2,18 @@
 use Rattle.std.proofs.Common.{◌≡◌, ◌∙◌, Bool, true, false, ◌&&◌, List, [], ◌∷◌, map, length, refl, sym, ap}
 use Rattle.std.specs.Prelude.{Option, Some, None}
 use Rattle.std.proofs.lemmas.Bool.{true≢false}
-use Rattle.ipc_format_childless_reading.specs.columnar_memory.declared.DataType.TheOpen as layer
-use Rattle.ipc_format_childless_reading.specs.columnar_memory.declared.Field.{Field}
-use Rattle.ipc_format_childless_reading.specs.columns.Slots.{Slot}
-use Rattle.ipc_format_childless_reading.specs.flatbuffers.Reading.{◌>>=◌, guard}
-use Rattle.ipc_format_childless_reading.specs.grammar.Columns.{Place, Reader, behind_column, columns_below, ids_below, slots_in}
-use Rattle.ipc_format_childless_reading.specs.grammar.Schemas.{Ids, IdsList, ids_then, no_ids}
-use Rattle.ipc_format_childless_reading.proofs.TypeLayers.{Layer}
-use Rattle.ipc_format_childless_reading.specs.array_reading.ArrayReads.{Test, fields_below, is_readable, pass_each}
+use Rattle.ipc_format_array_reading.specs.columnar_memory.declared.DataType.TheOpen as layer
+use Rattle.ipc_format_array_reading.specs.columnar_memory.declared.Field.{Field}
+use Rattle.ipc_format_array_reading.specs.columns.Slots.{Slot}
+use Rattle.ipc_format_array_reading.specs.flatbuffers.Reading.{◌>>=◌, guard}
+use Rattle.ipc_format_array_reading.specs.grammar.Columns.{Place, Reader, behind_column, columns_below, ids_below, slots_in}
+use Rattle.ipc_format_array_reading.specs.grammar.Schemas.{Ids, IdsList, ids_then, no_ids}
+use Rattle.ipc_format_array_reading.proofs.TypeLayers.{Layer}
+use Rattle.ipc_format_array_reading.specs.ArrayReads.{Test, fields_below, is_readable, pass_each}
 use Rattle.ipc_format_reading.specs.Below.{arrays_below}
-use Rattle.ipc_format_childless_reading.specs.array_reading.Parts.{has_children}
+use Rattle.ipc_format_array_reading.specs.Parts.{has_children}
 use Rattle.ipc_format_reading.proofs.JoinedSlots.{layer_arrays, arrays_any}
-use Rattle.ipc_format_childless_reading.proofs.Layers.{test_layer}
+use Rattle.ipc_format_array_reading.proofs.Layers.{test_layer}
 
 -- what reads each field
 abbrev pub read_each : List Field → List (Field × Reader)

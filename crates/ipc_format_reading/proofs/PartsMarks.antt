@@ -1,23 +1,23 @@
 -- Columns over children with a validity bitmap, by their parts and their children's slots: lists, lists of one size and structs.
 use Rattle.std.proofs.Common.{◌≡◌, ◌∙◌, ℕ, ◌+◌, ◌*◌, Bool, List, [], ◌∷◌, length, drop, refl, sym, ap, ◌==◌, slice_range}
 use Rattle.std.specs.Prelude.{Option, Some, None}
-use Rattle.ipc_format_childless_reading.specs.columnar_memory.declared.Field.{Field}
-use Rattle.ipc_format_childless_reading.specs.columns.Slots.{Slot, fields, in_slots, items}
-use Rattle.ipc_format_childless_reading.specs.columns.Tables.{row_at}
-use Rattle.ipc_format_childless_reading.specs.flatbuffers.Reading.{◌>>=◌, guard}
-use Rattle.ipc_format_childless_reading.specs.grammar.Columns.{Dictionary, Marked, Place, Reader, buffer_at, columns_below, first_below, fixed_list_slots}
-use Rattle.ipc_format_childless_reading.specs.grammar.Columns.{have_length, ids_below, last_of, limit_times, list_slots, marked_in, offsets_in}
-use Rattle.ipc_format_childless_reading.specs.grammar.Columns.{piece_at, slots_by, struct_slots, validity_in}
-use Rattle.ipc_format_childless_reading.specs.grammar.Messages.{Version}
-use Rattle.ipc_format_childless_reading.specs.grammar.Schemas.{Ids}
-use Rattle.ipc_format_childless_reading.specs.messages.declared.values.Buffer.{Buffer}
-use Rattle.ipc_format_childless_reading.specs.messages.declared.values.FieldNode.{FieldNode}
-use Rattle.ipc_format_childless_reading.specs.Buffers.{source_of}
-use Rattle.ipc_format_childless_reading.specs.Reads.{front, next_marked, next_offsets, offset_width}
-use Rattle.ipc_format_childless_reading.proofs.Marks.{front_made, later_offsets, marks_of, mask_of, slots_same}
-use Rattle.ipc_format_childless_reading.proofs.Readings.{through, through_found, through_two}
-use Rattle.ipc_format_childless_reading.specs.array_reading.Parts.{Parts, marks, next_marks, next_spans, spans}
-use Rattle.ipc_format_childless_reading.specs.ReadArrays.{at_front}
+use Rattle.ipc_format_array_reading.specs.columnar_memory.declared.Field.{Field}
+use Rattle.ipc_format_array_reading.specs.columns.Slots.{Slot, fields, in_slots, items}
+use Rattle.ipc_format_array_reading.specs.columns.Tables.{row_at}
+use Rattle.ipc_format_array_reading.specs.flatbuffers.Reading.{◌>>=◌, guard}
+use Rattle.ipc_format_array_reading.specs.grammar.Columns.{Dictionary, Marked, Place, Reader, buffer_at, columns_below, first_below, fixed_list_slots}
+use Rattle.ipc_format_array_reading.specs.grammar.Columns.{have_length, ids_below, last_of, limit_times, list_slots, marked_in, offsets_in}
+use Rattle.ipc_format_array_reading.specs.grammar.Columns.{piece_at, slots_by, struct_slots, validity_in}
+use Rattle.ipc_format_array_reading.specs.grammar.Messages.{Version}
+use Rattle.ipc_format_array_reading.specs.grammar.Schemas.{Ids}
+use Rattle.ipc_format_array_reading.specs.messages.declared.values.Buffer.{Buffer}
+use Rattle.ipc_format_array_reading.specs.messages.declared.values.FieldNode.{FieldNode}
+use Rattle.ipc_format_array_reading.specs.Buffers.{source_of}
+use Rattle.ipc_format_array_reading.specs.Reads.{front, next_marked, next_offsets, offset_width}
+use Rattle.ipc_format_array_reading.proofs.Marks.{front_made, later_offsets, marks_of, mask_of, slots_same}
+use Rattle.ipc_format_array_reading.proofs.Readings.{through, through_found, through_two}
+use Rattle.ipc_format_array_reading.specs.Parts.{Parts, marks, next_marks, next_spans, spans}
+use Rattle.ipc_format_array_reading.specs.ReadArrays.{at_front}
 use Rattle.ipc_format_reading.proofs.JoinedSlots.{joined_fixed, joined_lists, joined_structs}
 
 -- ---- the marks at the fronts

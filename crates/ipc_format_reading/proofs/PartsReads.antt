@@ -2,25 +2,25 @@
 use Rattle.std.proofs.Common.{◌≡◌, ◌∙◌, ℕ, Bool, true, false, ◌&&◌, List, [], ◌∷◌, length, drop, refl, sym}
 use Rattle.std.specs.Prelude.{Option, Some, None}
 use Rattle.std.proofs.lemmas.Bool.{true≢false}
-use Rattle.ipc_format_childless_reading.specs.columnar_memory.declared.DataType.{DataType}
-use Rattle.ipc_format_childless_reading.specs.columnar_memory.declared.DataType.TheOpen as layer
-use Rattle.ipc_format_childless_reading.specs.columnar_memory.declared.Field.{Field}
-use Rattle.ipc_format_childless_reading.specs.columns.Slots.{Slot}
-use Rattle.ipc_format_childless_reading.specs.columns.StoredColumns.{type_layer}
-use Rattle.ipc_format_childless_reading.specs.flatbuffers.Reading.{◌>>=◌, guard}
-use Rattle.ipc_format_childless_reading.specs.grammar.Columns.{Dictionary, Place, columns_below, first_below, ids_below, last_of, limit_times, slots_in}
-use Rattle.ipc_format_childless_reading.specs.grammar.Messages.{Version}
-use Rattle.ipc_format_childless_reading.specs.grammar.Schemas.{Ids}
-use Rattle.ipc_format_childless_reading.specs.messages.declared.values.Buffer.{Buffer}
-use Rattle.ipc_format_childless_reading.specs.messages.declared.values.FieldNode.{FieldNode}
-use Rattle.ipc_format_childless_reading.proofs.Readings.{through}
-use Rattle.ipc_format_childless_reading.proofs.TypeLayers.{Layer}
-use Rattle.ipc_format_childless_reading.specs.array_reading.ArrayReads.{array_slots, fields_below, pass_each}
+use Rattle.ipc_format_array_reading.specs.columnar_memory.declared.DataType.{DataType}
+use Rattle.ipc_format_array_reading.specs.columnar_memory.declared.DataType.TheOpen as layer
+use Rattle.ipc_format_array_reading.specs.columnar_memory.declared.Field.{Field}
+use Rattle.ipc_format_array_reading.specs.columns.Slots.{Slot}
+use Rattle.ipc_format_array_reading.specs.columns.StoredColumns.{type_layer}
+use Rattle.ipc_format_array_reading.specs.flatbuffers.Reading.{◌>>=◌, guard}
+use Rattle.ipc_format_array_reading.specs.grammar.Columns.{Dictionary, Place, columns_below, first_below, ids_below, last_of, limit_times, slots_in}
+use Rattle.ipc_format_array_reading.specs.grammar.Messages.{Version}
+use Rattle.ipc_format_array_reading.specs.grammar.Schemas.{Ids}
+use Rattle.ipc_format_array_reading.specs.messages.declared.values.Buffer.{Buffer}
+use Rattle.ipc_format_array_reading.specs.messages.declared.values.FieldNode.{FieldNode}
+use Rattle.ipc_format_array_reading.proofs.Readings.{through}
+use Rattle.ipc_format_array_reading.proofs.TypeLayers.{Layer}
+use Rattle.ipc_format_array_reading.specs.ArrayReads.{array_slots, fields_below, pass_each}
 use Rattle.ipc_format_reading.specs.Below.{arrays_below}
-use Rattle.ipc_format_childless_reading.specs.array_reading.Parts.{Parts, has_children, limit_below, marks, next_parts, own_buffers, spans}
-use Rattle.ipc_format_childless_reading.specs.ReadArrays.{at_front}
+use Rattle.ipc_format_array_reading.specs.Parts.{Parts, has_children, limit_below, marks, next_parts, own_buffers, spans}
+use Rattle.ipc_format_array_reading.specs.ReadArrays.{at_front}
 use Rattle.ipc_format_reading.proofs.JoinedSlots.{joined_fixed, joined_lists, joined_slots, layer_arrays}
-use Rattle.ipc_format_childless_reading.proofs.Layers.{layer_reads, layer_tests, read_layer}
+use Rattle.ipc_format_array_reading.proofs.Layers.{layer_reads, layer_tests, read_layer}
 use Rattle.ipc_format_reading.proofs.PartsGuards.{below_tested, layer_tested, read_each, test_each, tested_later}
 use Rattle.ipc_format_reading.proofs.PartsMarks.{fixed_given, lists_given, structs_given}
 use Rattle.ipc_format_reading.proofs.PartsUnions.{unions_given}

@@ -5,28 +5,28 @@ use Rattle.std.specs.Prelude.{Option, Some, None, slice_get, slice_index_or}
 use Rattle.std.specs.Int.{Width, w8, w32}
 use Rattle.std.proofs.Math.Nat.{mul-one}
 use Rattle.std.proofs.lemmas.List.{drop-drop, get_or-map, length-map}
-use Rattle.ipc_format_childless_reading.specs.columnar_memory.Numbers.{Numbers, first_number, kind_size, numbers_in, one, signed_in}
-use Rattle.ipc_format_childless_reading.specs.columnar_memory.declared.Field.{Field}
-use Rattle.ipc_format_childless_reading.specs.columnar_memory.declared.PrimitiveType.{PrimitiveType}
-use Rattle.ipc_format_childless_reading.specs.columnar_memory.declared.PrimitiveType.TheVariants as kinds
-use Rattle.ipc_format_childless_reading.specs.columnar_memory.declared.UnionMode.{UnionMode}
-use Rattle.ipc_format_childless_reading.specs.columnar_memory.declared.UnionMode.TheVariants as modes
-use Rattle.ipc_format_childless_reading.specs.columns.Slots.{Slot, pick, window}
-use Rattle.ipc_format_childless_reading.specs.flatbuffers.Reading.{◌>>=◌, guard}
-use Rattle.ipc_format_childless_reading.specs.grammar.Columns.{Dictionary, Place, all_of, are_as_long, buffer_at, child_of, columns_below, first_below}
-use Rattle.ipc_format_childless_reading.specs.grammar.Columns.{ids_below, picked, places_in, taken_of, union_slots}
-use Rattle.ipc_format_childless_reading.specs.grammar.Layouts.{before_V5, union_parts}
-use Rattle.ipc_format_childless_reading.specs.grammar.Messages.{Version, natural}
-use Rattle.ipc_format_childless_reading.specs.grammar.Schemas.{Ids}
-use Rattle.ipc_format_childless_reading.specs.grammar.Values.{element_bytes, signed_of}
-use Rattle.ipc_format_childless_reading.specs.messages.declared.values.Buffer.{Buffer}
-use Rattle.ipc_format_childless_reading.specs.messages.declared.values.FieldNode.{FieldNode}
-use Rattle.ipc_format_childless_reading.specs.Buffers.{next_values, next_window, node_of, values_in}
-use Rattle.ipc_format_childless_reading.proofs.Marks.{later_window}
-use Rattle.ipc_format_childless_reading.proofs.Readings.{through, through_found, through_two}
-use Rattle.ipc_format_childless_reading.proofs.Lists.{get_or-window, length-window, window_same}
-use Rattle.ipc_format_childless_reading.specs.array_reading.Parts.{Parts, choices, next_choices, next_places}
-use Rattle.ipc_format_childless_reading.specs.ReadArrays.{at_front}
+use Rattle.ipc_format_array_reading.specs.columnar_memory.Numbers.{Numbers, first_number, kind_size, numbers_in, one, signed_in}
+use Rattle.ipc_format_array_reading.specs.columnar_memory.declared.Field.{Field}
+use Rattle.ipc_format_array_reading.specs.columnar_memory.declared.PrimitiveType.{PrimitiveType}
+use Rattle.ipc_format_array_reading.specs.columnar_memory.declared.PrimitiveType.TheVariants as kinds
+use Rattle.ipc_format_array_reading.specs.columnar_memory.declared.UnionMode.{UnionMode}
+use Rattle.ipc_format_array_reading.specs.columnar_memory.declared.UnionMode.TheVariants as modes
+use Rattle.ipc_format_array_reading.specs.columns.Slots.{Slot, pick, window}
+use Rattle.ipc_format_array_reading.specs.flatbuffers.Reading.{◌>>=◌, guard}
+use Rattle.ipc_format_array_reading.specs.grammar.Columns.{Dictionary, Place, all_of, are_as_long, buffer_at, child_of, columns_below, first_below}
+use Rattle.ipc_format_array_reading.specs.grammar.Columns.{ids_below, picked, places_in, taken_of, union_slots}
+use Rattle.ipc_format_array_reading.specs.grammar.Layouts.{before_V5, union_parts}
+use Rattle.ipc_format_array_reading.specs.grammar.Messages.{Version, natural}
+use Rattle.ipc_format_array_reading.specs.grammar.Schemas.{Ids}
+use Rattle.ipc_format_array_reading.specs.grammar.Values.{element_bytes, signed_of}
+use Rattle.ipc_format_array_reading.specs.messages.declared.values.Buffer.{Buffer}
+use Rattle.ipc_format_array_reading.specs.messages.declared.values.FieldNode.{FieldNode}
+use Rattle.ipc_format_array_reading.specs.Buffers.{next_values, next_window, node_of, values_in}
+use Rattle.ipc_format_array_reading.proofs.Marks.{later_window}
+use Rattle.ipc_format_array_reading.proofs.Readings.{through, through_found, through_two}
+use Rattle.ipc_format_array_reading.proofs.Lists.{get_or-window, length-window, window_same}
+use Rattle.ipc_format_array_reading.specs.Parts.{Parts, choices, next_choices, next_places}
+use Rattle.ipc_format_array_reading.specs.ReadArrays.{at_front}
 use Rattle.ipc_format_reading.proofs.JoinedSlots.{choice_at, joined_choices, joined_unions, picked_of, place_at}
 use Rattle.ipc_format_reading.proofs.PartsGuards.{read_each}
 

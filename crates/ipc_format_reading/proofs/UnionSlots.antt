@@ -7,19 +7,19 @@ use Rattle.std.proofs.lemmas.Bool.{and_cases, cases_Bool, cases_lt, eqb-true, le
 use Rattle.std.proofs.lemmas.Bool.Decides.{Decides-int_eq}
 use Rattle.std.proofs.lemmas.List.{get_or_past}
 use Rattle.std.proofs.lemmas.Option.{slice_get-get_or, slice_get_past}
-use Rattle.ipc_format_childless_reading.specs.columnar_memory.declared.DataType.{DataType}
-use Rattle.ipc_format_childless_reading.specs.columnar_memory.declared.DataType.TheOpen as layer
-use Rattle.ipc_format_childless_reading.specs.columnar_memory.declared.Field.{Field}
-use Rattle.ipc_format_childless_reading.specs.columnar_memory.declared.UnionMode.{UnionMode}
-use Rattle.ipc_format_childless_reading.specs.columns.Slots.{Slot, null, pick, window}
-use Rattle.ipc_format_childless_reading.specs.columns.SoundColumns.{column_lens, has_an_id_each, holds_below}
-use Rattle.ipc_format_childless_reading.specs.columns.StoredColumns as stored
-use Rattle.ipc_format_childless_reading.specs.columns.StoredColumns.{Column, child_number, column_len, column_type, in_columns, picked_at, place_of, slot_at, slots}
-use Rattle.ipc_format_childless_reading.proofs.TypeLayers.{Layer}
-use Rattle.ipc_format_childless_reading.proofs.Windows.{length-window}
-use Rattle.ipc_format_childless_reading.specs.flatbuffers.Reading.{◌>>=◌}
-use Rattle.ipc_format_childless_reading.specs.grammar.Columns.{all_of, child_of, place_of_id}
-use Rattle.ipc_format_childless_reading.specs.grammar.Messages.{natural}
+use Rattle.ipc_format_array_reading.specs.columnar_memory.declared.DataType.{DataType}
+use Rattle.ipc_format_array_reading.specs.columnar_memory.declared.DataType.TheOpen as layer
+use Rattle.ipc_format_array_reading.specs.columnar_memory.declared.Field.{Field}
+use Rattle.ipc_format_array_reading.specs.columnar_memory.declared.UnionMode.{UnionMode}
+use Rattle.ipc_format_array_reading.specs.columns.Slots.{Slot, null, pick, window}
+use Rattle.ipc_format_array_reading.specs.columns.SoundColumns.{column_lens, has_an_id_each, holds_below}
+use Rattle.ipc_format_array_reading.specs.columns.StoredColumns as stored
+use Rattle.ipc_format_array_reading.specs.columns.StoredColumns.{Column, child_number, column_len, column_type, in_columns, picked_at, place_of, slot_at, slots}
+use Rattle.ipc_format_array_reading.proofs.TypeLayers.{Layer}
+use Rattle.ipc_format_array_reading.proofs.Windows.{length-window}
+use Rattle.ipc_format_array_reading.specs.flatbuffers.Reading.{◌>>=◌}
+use Rattle.ipc_format_array_reading.specs.grammar.Columns.{all_of, child_of, place_of_id}
+use Rattle.ipc_format_array_reading.specs.grammar.Messages.{natural}
 use Rattle.ipc_format_reading.proofs.JoinedSlots.{AreTyped, picked_of}
 use Rattle.ipc_format_reading.proofs.MadeRecords.{slot_there}
 

@@ -1,14 +1,14 @@
 -- The arrays that are read of the columns of some fields, one after another (Arrow IPC, "RecordBatch message").
 use Rattle.std.specs.Prelude.{ℕ, List, [], ◌∷◌, map, Option, Some, None}
-use Rattle.ipc_format_childless_reading.specs.array_reading.ArrayReads.{array_slots}
-use Rattle.ipc_format_childless_reading.specs.columnar_memory.declared.DataType.{DataType}
-use Rattle.ipc_format_childless_reading.specs.columnar_memory.declared.Field.{Field}
-use Rattle.ipc_format_childless_reading.specs.columns.Slots.{Slot}
-use Rattle.ipc_format_childless_reading.specs.flatbuffers.Reading.{◌>>=◌}
-use Rattle.ipc_format_childless_reading.specs.grammar.Columns.{Place, behind_column}
-use Rattle.ipc_format_childless_reading.specs.grammar.Layouts.{buffer_count, node_count, total}
-use Rattle.ipc_format_childless_reading.specs.grammar.Messages.{Version}
-use Rattle.ipc_format_childless_reading.specs.grammar.Schemas.{Ids, IdsList, ids, ids_then, no_ids}
+use Rattle.ipc_format_array_reading.specs.ArrayReads.{array_slots}
+use Rattle.ipc_format_array_reading.specs.columnar_memory.declared.DataType.{DataType}
+use Rattle.ipc_format_array_reading.specs.columnar_memory.declared.Field.{Field}
+use Rattle.ipc_format_array_reading.specs.columns.Slots.{Slot}
+use Rattle.ipc_format_array_reading.specs.flatbuffers.Reading.{◌>>=◌}
+use Rattle.ipc_format_array_reading.specs.grammar.Columns.{Place, behind_column}
+use Rattle.ipc_format_array_reading.specs.grammar.Layouts.{buffer_count, node_count, total}
+use Rattle.ipc_format_array_reading.specs.grammar.Messages.{Version}
+use Rattle.ipc_format_array_reading.specs.grammar.Schemas.{Ids, IdsList, ids, ids_then, no_ids}
 
 -- The slots of the arrays of some fields' columns, the first of them at a place, by the ids at the fields. Ids beyond the fields are not
 -- looked at.

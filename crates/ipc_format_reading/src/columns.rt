@@ -1,16 +1,16 @@
 //! Columns of every type, with the columns below them.
 ghost use Rattle.std.specs.Prelude.{◌≡◌, false, map, true, IfOk};
-ghost use Rattle.ipc_format_childless_reading.specs.ReadArrays.{ReadsArray, at_front, standing_in};
-ghost use Rattle.ipc_format_childless_reading.specs.array_reading.ArrayReads.{Takes, fields_below};
-ghost use Rattle.ipc_format_childless_reading.specs.array_reading.Parts.{has_children};
-ghost use Rattle.ipc_format_childless_reading.specs.columns.StoredColumns.{column_type, slots, type_layer};
-ghost use Rattle.ipc_format_childless_reading.specs.messages.MessageViews.{version_view};
-ghost use Rattle.ipc_format_childless_reading.specs.metadata.Views.{ids_view, ids_views};
+ghost use Rattle.ipc_format_array_reading.specs.ReadArrays.{ReadsArray, at_front, standing_in};
+ghost use Rattle.ipc_format_array_reading.specs.ArrayReads.{Takes, fields_below};
+ghost use Rattle.ipc_format_array_reading.specs.Parts.{has_children};
+ghost use Rattle.ipc_format_array_reading.specs.columns.StoredColumns.{column_type, slots, type_layer};
+ghost use Rattle.ipc_format_array_reading.specs.messages.MessageViews.{version_view};
+ghost use Rattle.ipc_format_array_reading.specs.metadata.Views.{ids_view, ids_views};
 ghost use Rattle.ipc_format_reading.specs.Below.{arrays_below, buffers_below, no_own_ids, nodes_below, type_of};
 
-use ipc_format_childless_reading::columnar_memory::{DataType, Error, Field, Result};
-use ipc_format_childless_reading::nested_arrays_core::AnyArray;
-use ipc_format_childless_reading::{
+use ipc_format_array_reading::columnar_memory::{DataType, Error, Field, Result};
+use ipc_format_array_reading::nested_arrays_core::AnyArray;
+use ipc_format_array_reading::{
     Buffer, Dictionaries, FieldNode, IpcField, MetadataVersion, Room, array_of, begin,
     has_children, limit_below, read_childless,
 };

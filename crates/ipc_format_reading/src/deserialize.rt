@@ -1,13 +1,13 @@
 //! A column of any type.
 ghost use Rattle.std.specs.Prelude.{is_some};
-ghost use Rattle.ipc_format_childless_reading.specs.ReadArrays.{ReadsArray, at_front, standing_in};
-ghost use Rattle.ipc_format_childless_reading.specs.messages.MessageViews.{version_view};
-ghost use Rattle.ipc_format_childless_reading.specs.metadata.Views.{ids_view};
+ghost use Rattle.ipc_format_array_reading.specs.ReadArrays.{ReadsArray, at_front, standing_in};
+ghost use Rattle.ipc_format_array_reading.specs.messages.MessageViews.{version_view};
+ghost use Rattle.ipc_format_array_reading.specs.metadata.Views.{ids_view};
 
 use crate::columns::read_column;
-use ipc_format_childless_reading::columnar_memory::{DataType, Error, Field, Result};
-use ipc_format_childless_reading::nested_arrays_core::AnyArray;
-use ipc_format_childless_reading::{
+use ipc_format_array_reading::columnar_memory::{DataType, Error, Field, Result};
+use ipc_format_array_reading::nested_arrays_core::AnyArray;
+use ipc_format_array_reading::{
     BodyCompressionRef, Buffer, Dictionaries, FieldNode, IpcField, MetadataVersion, Room,
 };
 use std::alloc::Global;

@@ -1,20 +1,20 @@
 //! Columns of one kind that have columns below them.
 ghost use Rattle.std.specs.Prelude.{◌≡◌, ◌↔◌, is_some, IsTrue};
-ghost use Rattle.ipc_format_childless_reading.specs.ReadArrays.{at_front, standing_in};
-ghost use Rattle.ipc_format_childless_reading.specs.array_reading.ArrayReads.{array_slots};
-ghost use Rattle.ipc_format_childless_reading.specs.Reads.{ReadsColumn};
-ghost use Rattle.ipc_format_childless_reading.specs.columnar_memory.Layouts.{physical_type};
-ghost use Rattle.ipc_format_childless_reading.specs.columnar_memory.declared.PhysicalType.TheVariants as layouts;
-ghost use Rattle.ipc_format_childless_reading.specs.grammar.Layouts.{buffer_count, node_count};
-ghost use Rattle.ipc_format_childless_reading.specs.messages.MessageViews.{version_view};
-ghost use Rattle.ipc_format_childless_reading.specs.metadata.Views.{ids_view};
+ghost use Rattle.ipc_format_array_reading.specs.ReadArrays.{at_front, standing_in};
+ghost use Rattle.ipc_format_array_reading.specs.ArrayReads.{array_slots};
+ghost use Rattle.ipc_format_array_reading.specs.Reads.{ReadsColumn};
+ghost use Rattle.ipc_format_array_reading.specs.columnar_memory.Layouts.{physical_type};
+ghost use Rattle.ipc_format_array_reading.specs.columnar_memory.declared.PhysicalType.TheVariants as layouts;
+ghost use Rattle.ipc_format_array_reading.specs.grammar.Layouts.{buffer_count, node_count};
+ghost use Rattle.ipc_format_array_reading.specs.messages.MessageViews.{version_view};
+ghost use Rattle.ipc_format_array_reading.specs.metadata.Views.{ids_view};
 
 use crate::deserialize::read_type;
-use ipc_format_childless_reading::columnar_memory::{DataType, Error, PhysicalType, Result};
-use ipc_format_childless_reading::nested_arrays_core::{
+use ipc_format_array_reading::columnar_memory::{DataType, Error, PhysicalType, Result};
+use ipc_format_array_reading::nested_arrays_core::{
     AnyArray, FixedSizeListArray, ListArray, MapArray, StructArray, UnionArray,
 };
-use ipc_format_childless_reading::{
+use ipc_format_array_reading::{
     BodyCompressionRef, Buffer, Dictionaries, FieldNode, IpcField, MetadataVersion, Room,
 };
 use std::alloc::Global;

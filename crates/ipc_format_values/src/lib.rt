@@ -34,15 +34,31 @@ pub use types::{Precision, Type_};
 
 /// What `ipc_format_writing::messages` has, as far as packages above use it.
 pub mod messages {
-    pub use ipc_format_writing::messages::{Block, BlocksRef, BodyCompressionRef, Buffer, BuffersRef, DateRef, DateUnit, DecimalRef, DictionaryBatchParts, DictionaryBatchRef, DictionaryEncodingRef, DictionaryKind, DurationRef, Endianness, Error, FieldNode, FieldNodesRef, FieldRef, FieldsRef, FixedSizeBinaryRef, FixedSizeListRef, FooterRef, IntRef, IntervalRef, KeyValueRef, KeyValuesRef, MapRef, MessageHeaderRef, MessageParts, MessageRef, MetadataVersion, NumbersRef, RecordBatchParts, RecordBatchRef, SchemaRef, TableRef, TablesRef, TimeRef, TimestampRef, TypeRef, UnionRef, as_memory_error, dictionary_batch_in, message_in, record_batch_in, version_in};
+    pub use ipc_format_writing::messages::{
+        Block, BlocksRef, BodyCompressionRef, Buffer, BuffersRef, DateRef, DateUnit, DecimalRef,
+        DictionaryBatchParts, DictionaryBatchRef, DictionaryEncodingRef, DictionaryKind,
+        DurationRef, Endianness, Error, FieldNode, FieldNodesRef, FieldRef, FieldsRef,
+        FixedSizeBinaryRef, FixedSizeListRef, FooterRef, IntRef, IntervalRef, KeyValueRef,
+        KeyValuesRef, MapRef, MessageHeaderRef, MessageParts, MessageRef, MetadataVersion,
+        NumbersRef, RecordBatchParts, RecordBatchRef, SchemaRef, TableRef, TablesRef, TimeRef,
+        TimestampRef, TypeRef, UnionRef, as_memory_error, dictionary_batch_in, message_in,
+        record_batch_in, version_in,
+    };
 }
 
 /// What `ipc_format_writing::metadata` has, as far as packages above use it.
 pub mod metadata {
-    pub use ipc_format_writing::metadata::{IpcField, IpcSchema, MOST_LEVELS, OutOfSpecKind, Tag, any_schema_in, can_write, deserialize_schema, deserialize_schema_counted, mode_of, schema_in, schema_in_counted, sizes, slots, tag_numbers, tag_of, unit_in};
+    pub use ipc_format_writing::metadata::{
+        IpcField, IpcSchema, MOST_LEVELS, OutOfSpecKind, Tag, any_schema_in, can_write,
+        deserialize_schema, deserialize_schema_counted, mode_of, schema_in, schema_in_counted,
+        sizes, slots, tag_numbers, tag_of, unit_in,
+    };
 }
 
 /// What `ipc_format_writing` has, as far as packages above use it.
 pub mod writing {
-    pub use ipc_format_writing::{default_ipc_fields, dictionary_batch_to_bytes, first_beside, footer_to_bytes, ids_fit, none_fit, normalised, record_batch_to_bytes, schema_to_bytes, type_fits};
+    pub use ipc_format_writing::{
+        default_ipc_fields, dictionary_batch_to_bytes, first_beside, footer_to_bytes, ids_fit,
+        none_fit, normalised, record_batch_to_bytes, schema_to_bytes, type_fits,
+    };
 }

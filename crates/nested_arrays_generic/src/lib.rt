@@ -26,32 +26,52 @@ pub use walks::{DictionaryKeys, DictionaryKeysIter};
 
 /// What `nested_arrays_access` has, as far as packages above use it.
 pub mod access {
-    pub use nested_arrays_access::{Array, a_null_slot_has_no_value, a_slot_without_a_value_is_null, nulls_are_counted, same_slot_ranges, same_slots};
+    pub use nested_arrays_access::{
+        Array, a_null_slot_has_no_value, a_slot_without_a_value_is_null, nulls_are_counted,
+        same_slot_ranges, same_slots,
+    };
 }
 
 /// What `nested_arrays_access::arrays` has, as far as packages above use it.
 pub mod arrays {
-    pub use nested_arrays_access::arrays::{AnyArray, DictionaryNode, FixedSizeListArray, ListNode, MapArray, Node, StructArray, UnionArray, columnar_memory, equal, equal_counted, flat_arrays};
+    pub use nested_arrays_access::arrays::{
+        AnyArray, DictionaryNode, FixedSizeListArray, ListNode, MapArray, Node, StructArray,
+        UnionArray, columnar_memory, equal, equal_counted, flat_arrays,
+    };
 
     /// Of `flat`.
     pub mod flat {
-        pub use nested_arrays_access::arrays::flat::{AnyPrimitive, FixedSizeBinaryArray, NullArray, PrimitiveKind, PrimitiveNode, mark_at, read_bytes};
+        pub use nested_arrays_access::arrays::flat::{
+            AnyPrimitive, FixedSizeBinaryArray, NullArray, PrimitiveKind, PrimitiveNode, mark_at,
+            read_bytes,
+        };
     }
 
     /// Of `parts`.
     pub mod parts {
-        pub use nested_arrays_access::arrays::parts::{FlatArray, FlatNode, ListOffsets, holds_values, is_valid};
+        pub use nested_arrays_access::arrays::parts::{
+            FlatArray, FlatNode, ListOffsets, holds_values, is_valid,
+        };
     }
 }
 
 /// What `nested_arrays_access::columns` has, as far as packages above use it.
 pub mod columns {
-    pub use nested_arrays_access::columns::{a_beginning_of_what_fits_fits, a_choice_of_a_part_is_the_part_of_the_choice, a_column_has_a_size, a_column_has_its_length, a_cut_has_a_range_of_the_slots, a_cut_has_its_length, a_cut_is_sound, a_cut_keeps_its_size, a_cut_of_a_cut_is_one_cut, a_limit_is_a_part, a_part_of_a_part_is_one_part, a_slot_has_its_place_among_distinct_ones, distinct_slots_are_distinct, joins_are_associative, null_fits_every_type, sameness_decides_equality, two_parts_make_the_whole};
+    pub use nested_arrays_access::columns::{
+        a_beginning_of_what_fits_fits, a_choice_of_a_part_is_the_part_of_the_choice,
+        a_column_has_a_size, a_column_has_its_length, a_cut_has_a_range_of_the_slots,
+        a_cut_has_its_length, a_cut_is_sound, a_cut_keeps_its_size, a_cut_of_a_cut_is_one_cut,
+        a_limit_is_a_part, a_part_of_a_part_is_one_part, a_slot_has_its_place_among_distinct_ones,
+        distinct_slots_are_distinct, joins_are_associative, null_fits_every_type,
+        sameness_decides_equality, two_parts_make_the_whole,
+    };
 }
 
 /// What `nested_arrays_access::flat` has, as far as packages above use it.
 pub mod flat {
-    pub use nested_arrays_access::flat::{AnyPrimitive, FixedSizeBinaryArray, NullArray, PrimitiveKind, PrimitiveNode, mark_at};
+    pub use nested_arrays_access::flat::{
+        AnyPrimitive, FixedSizeBinaryArray, NullArray, PrimitiveKind, PrimitiveNode, mark_at,
+    };
 }
 
 /// What `nested_arrays_access::parts` has, as far as packages above use it.

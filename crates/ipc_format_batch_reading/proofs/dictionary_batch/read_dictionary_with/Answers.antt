@@ -2,7 +2,7 @@
 use Rattle.std.proofs.Common.{◌≡◌, List, false, refl, rules, w64}
 use Rattle.std.proofs.lemmas.Int.{to_z-of_z}
 use Rattle.std.specs.Prelude.{ℕ, Err, Ok, Some}
-use Rattle.ipc_format_reading.specs.childless_reading.ReadArrays.{standing_in}
+use Rattle.ipc_format_reading.specs.array_reading.ReadArrays.{standing_in}
 use Rattle.ipc_format_reading.specs.flatbuffers.Views.{table_of}
 use Rattle.ipc_format_reading.specs.grammar.Dictionaries.{Layout}
 use Rattle.ipc_format_reading.specs.grammar.Messages.{dictionary_batch, dictionary_batch_in}

@@ -3,7 +3,7 @@ use Rattle.std.proofs.Common.{w64}
 use Rattle.std.proofs.lemmas.Int.{to_z-of_z}
 use Rattle.std.specs.Prelude.{None}
 use Rattle.ipc_format_reading.specs.Below.{no_own_ids}
-use Rattle.ipc_format_reading.specs.childless_reading.ReadArrays.{at_front, dictionary_of, standing_in}
+use Rattle.ipc_format_reading.specs.array_reading.ReadArrays.{at_front, dictionary_of, standing_in}
 use Rattle.ipc_format_reading.specs.flatbuffers.Views.{table_of}
 use Rattle.ipc_format_reading.specs.grammar.Dictionaries.{Layout}
 use Rattle.ipc_format_reading.specs.grammar.Messages.{dictionary_batch}

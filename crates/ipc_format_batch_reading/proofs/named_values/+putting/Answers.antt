@@ -8,7 +8,7 @@ use Rattle.ipc_format_reading.specs.grammar.Dictionaries.{values_in, values_of}
 use Rattle.ipc_format_reading.specs.metadata.Views.{ids_views}
 use Rattle.ipc_format_reading.specs.metadata.declared.ipc_schema.IpcField.{IpcField}
 use Rattle.ipc_format_reading.specs.grammar.Schemas.{ids}
-use Rattle.ipc_format_reading.specs.childless_reading.array_reading.column_writing.column_reading.column_bytes.streams.Values.{ids_beside, values_or_within}
+use Rattle.ipc_format_reading.specs.array_reading.column_writing.column_reading.column_bytes.streams.Values.{ids_beside, values_or_within}
 use Rattle.ipc_format_batch_reading.specs.NamedValues.{GainsValues}
 use Rattle.ipc_format_reading.proofs.Finding.{in_dictionary, in_extension, in_list, in_large_list, in_fixed_list, in_map}
 use Rattle.ipc_format_reading.proofs.Finding.{in_struct, in_union}

@@ -3,7 +3,7 @@ use Rattle.std.proofs.Common.{◌≡◌, ◌∙◌, ◌+◌, ◌++◌, ◌∷◌
 use Rattle.std.specs.Prelude.{Err}
 use Rattle.std.proofs.lemmas.List.{get_or_default}
 use Rattle.ipc_format_reading.specs.Below.{type_of}
-use Rattle.ipc_format_reading.specs.childless_reading.ReadArrays.{standing_in}
+use Rattle.ipc_format_reading.specs.array_reading.ReadArrays.{standing_in}
 use Rattle.ipc_format_reading.specs.columnar_memory.declared.Field.{Field}
 use Rattle.ipc_format_reading.specs.columns.Tables.{chosen}
 use Rattle.ipc_format_reading.specs.grammar.Layouts.{buffer_count}

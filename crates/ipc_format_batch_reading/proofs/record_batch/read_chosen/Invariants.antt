@@ -1,7 +1,7 @@
 -- The first columns are read, the queues are those of the batch behind the last of them, and a step was taken for each of their buffers.
 use Rattle.std.specs.Prelude.{length, take}
 use Rattle.ipc_format_reading.specs.Below.{type_of}
-use Rattle.ipc_format_reading.specs.childless_reading.ReadArrays.{standing_in}
+use Rattle.ipc_format_reading.specs.array_reading.ReadArrays.{standing_in}
 use Rattle.ipc_format_reading.specs.columnar_memory.declared.Field.{Field}
 use Rattle.ipc_format_reading.specs.columns.Tables.{chosen}
 use Rattle.ipc_format_reading.specs.grammar.Layouts.{buffer_count}

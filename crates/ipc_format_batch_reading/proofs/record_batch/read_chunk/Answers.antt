@@ -2,7 +2,7 @@
 use Rattle.std.proofs.Common.{◌≡◌, ℕ, List, [], ap, length, map, refl, rules}
 use Rattle.std.specs.Prelude.{Err, Ok}
 use Rattle.ipc_format_reading.specs.Below.{buffers_below, no_own_ids}
-use Rattle.ipc_format_reading.specs.childless_reading.ReadArrays.{at_front, standing_in}
+use Rattle.ipc_format_reading.specs.array_reading.ReadArrays.{at_front, standing_in}
 use Rattle.ipc_format_reading.specs.columns.StoredColumns.{slots}
 use Rattle.ipc_format_reading.specs.messages.MessageViews.{version_view}
 use Rattle.ipc_format_reading.specs.metadata.Views.{ids_views}

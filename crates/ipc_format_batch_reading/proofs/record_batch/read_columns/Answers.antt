@@ -2,7 +2,7 @@
 use Rattle.std.proofs.Common.{◌≡◌, List, length, map, rules}
 use Rattle.std.specs.Prelude.{Err}
 use Rattle.ipc_format_reading.specs.Below.{buffers_below, no_own_ids}
-use Rattle.ipc_format_reading.specs.childless_reading.ReadArrays.{standing_in}
+use Rattle.ipc_format_reading.specs.array_reading.ReadArrays.{standing_in}
 use Rattle.ipc_format_reading.specs.columns.StoredColumns.{slots}
 use Rattle.ipc_format_reading.specs.flatbuffers.Views.{table_of}
 use Rattle.ipc_format_reading.specs.grammar.Messages.{record_batch}

@@ -1,16 +1,16 @@
 -- A column with columns below it, and the columns of fields one after another.
 use Rattle.std.proofs.Common.{◌≡◌, ◌∙◌, ◌+◌, ◌*◌, ◌<◌, ◌++◌, ◌∷◌, [], ℕ, suc, map, get_or, refl, sym, ap, rules, arith}
 use Rattle.std.specs.Prelude.{Err}
-use Rattle.ipc_format_childless_reading.specs.ReadArrays.{at_front, standing_in}
-use Rattle.ipc_format_childless_reading.specs.array_reading.ArrayReads.{fields_below}
-use Rattle.ipc_format_childless_reading.specs.columnar_memory.declared.Error.TheVariants as errors
-use Rattle.ipc_format_childless_reading.specs.columnar_memory.declared.Field.{Field}
-use Rattle.ipc_format_childless_reading.specs.columns.StoredColumns.{Column, slots, type_layer}
-use Rattle.ipc_format_childless_reading.specs.grammar.Layouts.{node_count}
-use Rattle.ipc_format_childless_reading.specs.messages.MessageViews.{version_view}
-use Rattle.ipc_format_childless_reading.specs.metadata.Views.{ids_view, ids_views}
-use Rattle.ipc_format_childless_reading.proofs.Readings.{out_of_memory}
-use Rattle.ipc_format_childless_reading.proofs.Skipping.{total_within}
+use Rattle.ipc_format_array_reading.specs.ReadArrays.{at_front, standing_in}
+use Rattle.ipc_format_array_reading.specs.ArrayReads.{fields_below}
+use Rattle.ipc_format_array_reading.specs.columnar_memory.declared.Error.TheVariants as errors
+use Rattle.ipc_format_array_reading.specs.columnar_memory.declared.Field.{Field}
+use Rattle.ipc_format_array_reading.specs.columns.StoredColumns.{Column, slots, type_layer}
+use Rattle.ipc_format_array_reading.specs.grammar.Layouts.{node_count}
+use Rattle.ipc_format_array_reading.specs.messages.MessageViews.{version_view}
+use Rattle.ipc_format_array_reading.specs.metadata.Views.{ids_view, ids_views}
+use Rattle.ipc_format_array_reading.proofs.Readings.{out_of_memory}
+use Rattle.ipc_format_array_reading.proofs.Skipping.{total_within}
 use Rattle.ipc_format_reading.specs.Below.{no_own_ids, nodes_below, type_of}
 use Rattle.ipc_format_reading.proofs.AlikeFronts.{behind_fronts}
 use Rattle.ipc_format_reading.proofs.ChildReads.{child_refused, ids_missing, memory_refused, one_more_read, read_to}

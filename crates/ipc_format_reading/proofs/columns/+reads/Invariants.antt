@@ -1,8 +1,8 @@
 -- Fewer nodes are left each time; and the first fields' columns are read.
 use Rattle.std.specs.Prelude.{◌+◌, ◌*◌}
-use Rattle.ipc_format_childless_reading.specs.ReadArrays.{at_front, standing_in}
-use Rattle.ipc_format_childless_reading.specs.grammar.Layouts.{node_count}
-use Rattle.ipc_format_childless_reading.specs.messages.MessageViews.{version_view}
+use Rattle.ipc_format_array_reading.specs.ReadArrays.{at_front, standing_in}
+use Rattle.ipc_format_array_reading.specs.grammar.Layouts.{node_count}
+use Rattle.ipc_format_array_reading.specs.messages.MessageViews.{version_view}
 use Rattle.ipc_format_reading.specs.Below.{no_own_ids, nodes_below}
 use Rattle.ipc_format_reading.proofs.ChildReads.{LeftToRead}
 use Rattle.ipc_format_reading.proofs.columns.+reads.Given as goal

@@ -2,9 +2,9 @@
 use Rattle.std.proofs.Common.{◌≡◌, false, true, inr, refl, sym}
 use Rattle.std.specs.Prelude.{is_some}
 use Rattle.std.proofs.lemmas.Bool.{true≢false}
-use Rattle.ipc_format_childless_reading.specs.ReadArrays.{at_front, standing_in}
-use Rattle.ipc_format_childless_reading.specs.messages.MessageViews.{version_view}
-use Rattle.ipc_format_childless_reading.specs.metadata.Views.{ids_view}
+use Rattle.ipc_format_array_reading.specs.ReadArrays.{at_front, standing_in}
+use Rattle.ipc_format_array_reading.specs.messages.MessageViews.{version_view}
+use Rattle.ipc_format_array_reading.specs.metadata.Views.{ids_view}
 use Rattle.ipc_format_reading.proofs.KindReads.{of_kind}
 use Rattle.ipc_format_reading.proofs.typed.read_as.Goals as goal
 
