@@ -1,5 +1,6 @@
 //! What the layers above nested arrays stand on, under one name: arrays of any type and of each layout, their cuts, their equality by slots, and
-//! the builder of any type; and the definitions of slots, columns and tables, with their laws. `nested_arrays` has the builders of a type each too.
+//! the builder of any type; and the definitions of slots, columns and tables, with their laws. `nested_arrays` has iterators, arrays
+//! of nulls and the builders of a type each too.
 #![tactic(auto)]
 
 pub use nested_arrays_builder_cells::builders::{AnyMutableArray, is_cell_of};
