@@ -1,5 +1,5 @@
-//! The jobs of `benches columns` in plain Rust, on the same data, to measure against. Columns lie in their batches as `write` lays them. The metadata
-//! of a batch is a list of numbers and no table of FlatBuffers, and a file's footer a list of blocks: beside the bodies they weigh little.
+//! The jobs of `benches_format columns` in plain Rust, on the same data, to measure against. Columns lie in their batches as `write` lays them. The
+//! metadata of a batch is a list of numbers and no table of FlatBuffers, and a file's footer a list of blocks: beside the bodies they weigh little.
 //!
 //!     plain_columns JOB SIZE     the job, the least nanoseconds of its rounds, the checksum, and the least nanoseconds of copies of the same bytes
 //!     plain_columns              each job at a small size: its name and the checksum alone

@@ -1,5 +1,5 @@
-//! The jobs of `benches metadata` in plain Rust, on the same schema, to measure against: its metadata is read with each place tested against the
-//! bytes' end and each text for UTF-8, and written in the same layout, object by object from the front, references filled in behind.
+//! The jobs of `benches_format metadata` in plain Rust, on the same schema, to measure against: its metadata is read with each place tested against
+//! the bytes' end and each text for UTF-8, and written in the same layout, object by object from the front, references filled in behind.
 //!
 //!     plain_metadata JOB SIZE     the job, the least nanoseconds of its rounds, the checksum
 //!     plain_metadata              each job at a small size: its name and the checksum alone
