@@ -19,7 +19,7 @@ LAYERS = ('nested_arrays', 'ipc_format', 'tables')
 # what a facade offers whole, beside its own items
 WHOLE = {
     'ipc_format': ('columnar_memory', 'flatbuffers', 'messages', 'metadata', 'streams', 'reading_laws'),
-    'tables': ('columnar_memory', 'nested_arrays_core'),
+    'tables': ('columnar_memory', 'nested_arrays_core', 'nested_arrays_cells'),
 }
 MADE = re.compile(r'\n*/// What `([\w:]+)` has(?:, as far as packages above use it)?\.\npub mod (\w+) \{')
 USE = re.compile(r'(?m)^[ \t]*(pub(?:\([^)]*\))?\s+)?use\s+([^;]+);')
@@ -182,7 +182,7 @@ class Packages:
         return found
 
 
-def is_treated(name): return name.startswith(LAYERS) and not name.endswith('_tests') and name not in ('nested_arrays', 'nested_arrays_core')
+def is_treated(name): return name.startswith(LAYERS) and not name.endswith('_tests') and name not in ('nested_arrays', 'nested_arrays_core', 'nested_arrays_cells')
 
 
 def module(source, groups, path, name, doc, indent=''):

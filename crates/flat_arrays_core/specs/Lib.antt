@@ -15,3 +15,4 @@ pub use Rattle.flat_arrays_bytes.specs.Fits
 pub use Rattle.flat_arrays_bytes.specs.Laws
 pub use Rattle.flat_arrays_bytes.specs.Texts
 pub use Rattle.flat_arrays_bytes.specs.ByteWalks
+pub use Rattle.flat_arrays_bytes.specs.columnar_memory

@@ -14,4 +14,5 @@ pub use flat_arrays_bytes::{
     BinaryArray, BinaryValueIter, ByteValuesIter, HoldsByteStrings, HoldsTexts, TextValuesIter,
     Utf8Array, Utf8ValuesIter, a_cut_of_a_cut_of_byte_strings_is_one_cut,
     a_cut_of_byte_strings_has_a_range_of_the_slots, a_walk_over_byte_strings_begins_with_all_slots,
+    columnar_memory,
 };

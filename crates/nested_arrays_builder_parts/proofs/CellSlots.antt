@@ -16,7 +16,7 @@ use Rattle.nested_arrays_builder_parts.specs.AnyNumbers.{kind_of_number, numbers
 use Rattle.nested_arrays_builder_parts.specs.CellParts.{is_nested}
 use Rattle.nested_arrays_generic.specs.arrays.flat.FlatColumns.{is_native}
 use Rattle.nested_arrays_builder_parts.specs.Growing.{numbers_for}
-use Rattle.nested_arrays_growth.specs.OpenParts.{is_of_kind}
+use Rattle.nested_arrays_generic.specs.columns.OpenParts.{is_of_kind}
 use Rattle.nested_arrays_builder_parts.specs.declared.numbers.AnyNumber.{AnyNumber}
 use Rattle.nested_arrays_builder_parts.specs.declared.numbers.AnyNumber.TheVariants as variant
 use Rattle.nested_arrays_generic.proofs.arrays_lemmas.flat_lemmas.InRange.{native_in_range}

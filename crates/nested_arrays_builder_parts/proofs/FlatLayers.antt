@@ -30,10 +30,10 @@ use Rattle.nested_arrays_generic.specs.arrays.columns.Slots.{Slot}
 use Rattle.nested_arrays_generic.specs.arrays.columns.StoredColumns.{Stored, bits, numbers, pairs, triples, texts, byte_strings, fixed_bytes, flat, type_layer}
 use Rattle.nested_arrays_generic.proofs.arrays_lemmas.columns_lemmas.FreshLengths.{Layer, cell_layer, unlike}
 use Rattle.nested_arrays_generic.proofs.arrays_lemmas.columns_lemmas.TypeLayers.{is_extension, layer_layout}
-use Rattle.nested_arrays_growth.specs.OpenParts.{is_of_kind, kind_in}
-use Rattle.nested_arrays_growth.proofs.LayerParts.{fresh_nulls, fresh_booleans, fresh_binary, fresh_large_binary, fresh_texts}
-use Rattle.nested_arrays_growth.proofs.LayerParts.{fresh_large_texts, fresh_fixed_binary, fresh_primitive, kind_by_layout}
-use Rattle.nested_arrays_growth.proofs.TypeSteps.{within_layer, cell_by_layer, within_by_layer, layout_by_layer, not_extended}
+use Rattle.nested_arrays_generic.specs.columns.OpenParts.{is_of_kind, kind_in}
+use Rattle.nested_arrays_generic.proofs.columns_lemmas.LayerParts.{fresh_nulls, fresh_booleans, fresh_binary, fresh_large_binary, fresh_texts}
+use Rattle.nested_arrays_generic.proofs.columns_lemmas.LayerParts.{fresh_large_texts, fresh_fixed_binary, fresh_primitive, kind_by_layout}
+use Rattle.nested_arrays_generic.proofs.columns_lemmas.TypeSteps.{within_layer, cell_by_layer, within_by_layer, layout_by_layer, not_extended}
 use Rattle.nested_arrays_builder_parts.specs.Growing.{Growing, nothing, truths, whole, strings, sized, numbers_for, values_of, takes, most_bytes}
 use Rattle.nested_arrays_builder_parts.specs.Growing.{numbers_stored, layout_of, width_of, grown_column}
 use Rattle.nested_arrays_generic.specs.arrays.flat.FlatColumns.{layer_width, byte_width}

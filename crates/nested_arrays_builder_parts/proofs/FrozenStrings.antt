@@ -19,7 +19,7 @@ use Rattle.nested_arrays_generic.specs.arrays.columns.StoredColumns as stored
 use Rattle.nested_arrays_generic.specs.arrays.columns.StoredColumns.{flat}
 use Rattle.nested_arrays_builder_parts.specs.Growing.{strings, grown_column}
 use Rattle.nested_arrays_generic.specs.arrays.flat_arrays.ByteStrings.{cut_by, packed}
-use Rattle.nested_arrays_growth.proofs.Pieces.{offsets_are_sums}
+use Rattle.nested_arrays_generic.proofs.columns_lemmas.Pieces.{offsets_are_sums}
 use Rattle.nested_arrays_builder_parts.proofs.StringLists.{last_packed, strings_back}
 
 mask_is : (mask : Option (List Bool)) (n m : ℕ) → n ≡ m → mask_fits mask n ≡ true → IsMaskOf m mask

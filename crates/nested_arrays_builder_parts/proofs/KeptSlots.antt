@@ -70,9 +70,9 @@ use Rattle.nested_arrays_builder_parts.specs.Open.{opened, first_slots, IsPushed
 use Rattle.nested_arrays_generic.specs.arrays.flat.FlatColumns.{byte_width}
 use Rattle.nested_arrays_builder_parts.proofs.FlatLayers.{values_within, AreValuesOf, values_of_type}
 use Rattle.nested_arrays_builder_parts.proofs.MarkLists.{positive, unset-first}
-use Rattle.nested_arrays_growth.proofs.Masks.{mask_is}
-use Rattle.nested_arrays_growth.proofs.Pieces.{joined_one_more, sized_cut, sized_length}
-use Rattle.nested_arrays_growth.specs.OpenParts.{marks_of, mask_from}
+use Rattle.nested_arrays_generic.proofs.columns_lemmas.Masks.{mask_is}
+use Rattle.nested_arrays_generic.proofs.columns_lemmas.Pieces.{joined_one_more, sized_cut, sized_length}
+use Rattle.nested_arrays_generic.specs.columns.OpenParts.{marks_of, mask_from}
 
 -- ---- masks
 

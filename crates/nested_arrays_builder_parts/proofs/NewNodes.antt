@@ -15,9 +15,9 @@ use Rattle.nested_arrays_generic.specs.arrays.columns.Kinds.{kind_of}
 use Rattle.nested_arrays_generic.specs.arrays.columns.StoredColumns.{type_layer}
 use Rattle.nested_arrays_generic.proofs.arrays_lemmas.columns_lemmas.FreshLengths.{Layer, buildable_layer, unlike}
 use Rattle.nested_arrays_generic.specs.arrays.parts.Childless.{is_childless}
-use Rattle.nested_arrays_growth.specs.OpenParts.{kind_in}
-use Rattle.nested_arrays_growth.proofs.LayerParts.{kind_by_layout}
-use Rattle.nested_arrays_growth.proofs.TypeSteps.{buildable_by_layer}
+use Rattle.nested_arrays_generic.specs.columns.OpenParts.{kind_in}
+use Rattle.nested_arrays_generic.proofs.columns_lemmas.LayerParts.{kind_by_layout}
+use Rattle.nested_arrays_generic.proofs.columns_lemmas.TypeSteps.{buildable_by_layer}
 use Rattle.nested_arrays_builder_parts.specs.Growing.{Growing, nothing, truths, whole, strings, sized, layout_of, width_of}
 use Rattle.nested_arrays_builder_parts.specs.KeptValues.{IsTyped}
 use Rattle.nested_arrays_builder_parts.specs.NewValues.{is_float, is_of_floats, IsEmptyFor}

@@ -28,7 +28,7 @@ use Rattle.nested_arrays_generic.specs.arrays.columns.StoredColumns.{
   byte_strings,
   fixed_bytes,
 }
-use Rattle.nested_arrays_growth.specs.OpenParts.{is_of_kind}
+use Rattle.nested_arrays_generic.specs.columns.OpenParts.{is_of_kind}
 
 pub data Growing : Type 0 where
   -- of nulls alone nothing is stored

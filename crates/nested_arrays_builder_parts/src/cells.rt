@@ -3,7 +3,7 @@ ghost use Rattle.std.specs.Prelude.{◌≡◌, true};
 ghost use Rattle.std.specs.List.{list_all};
 ghost use Rattle.nested_arrays_generic.specs.arrays.columns.Cells.{is_bytes, is_null, is_text, is_truth};
 ghost use Rattle.nested_arrays_generic.specs.arrays.columns.FreshColumns.{content_of, is_true};
-ghost use Rattle.nested_arrays_growth.specs.OpenParts.{is_of_kind};
+ghost use Rattle.nested_arrays_generic.specs.columns.OpenParts.{is_of_kind};
 ghost use Rattle.nested_arrays_builder_parts.specs.Growing.{IsStoredFor, numbers_for};
 ghost use Rattle.nested_arrays_builder_parts.specs.Scalars.{scalar_slot};
 ghost use Rattle.nested_arrays_builder_parts.specs.AnyNumbers.{slot_of_number};

@@ -1,3 +1,4 @@
+pub mod Below
 pub mod Claims
 pub mod ColumnSizes
 pub mod Columns
@@ -7,6 +8,9 @@ pub mod CutStored
 pub mod Cuts
 pub mod CutsOfCuts
 pub mod Distinct
+pub mod Fields
+pub mod FirstOnes
+pub mod Fits
 pub mod Fitting
 pub mod Folds
 pub mod FreshBelow
@@ -17,12 +21,21 @@ pub mod FreshPlaces
 pub mod FreshSlots
 pub mod FreshSound
 pub mod FreshTypes
+pub mod Laws
+pub mod LayerParts
+pub mod LayersLaid
+pub mod Limits
+pub mod Masks
+pub mod OneMore
 pub mod Parts
+pub mod Pieces
 pub mod RowBatches
 pub mod SameSlotsDecide
 pub mod SoundCuts
 pub mod SoundParts
 pub mod TextBytes
 pub mod TypeLayers
+pub mod TypeSteps
+pub mod Values
 pub mod Windows
 pub use Rattle.columnar_memory.proofs as columnar_memory_lemmas

@@ -2,10 +2,14 @@ pub mod Cells
 pub mod Children
 pub mod ColumnCodes
 pub mod ColumnLaws
+pub mod CutLaws
 pub mod FreshColumns
 pub mod FreshLaws
+pub mod GrowthLaws
 pub mod Kinds
+pub mod LayerLaws
 pub mod OpenBatch
+pub mod OpenParts
 pub mod Rows
 pub mod SameSlots
 pub mod Sealing
@@ -17,4 +21,6 @@ pub mod SoundColumns
 pub mod StoredColumns
 pub mod TableLaws
 pub mod Tables
+pub mod TypeLayouts
+pub mod ValueLaws
 pub use Rattle.columnar_memory.specs as columnar_memory

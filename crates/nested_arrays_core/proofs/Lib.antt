@@ -1,3 +1,3 @@
-pub use Rattle.nested_arrays_builder_cells.proofs.generic_lemmas.columns_lemmas
-pub use Rattle.nested_arrays_builder_cells.proofs.generic_lemmas.flat_lemmas
-pub use Rattle.nested_arrays_builder_cells.proofs.generic_lemmas.parts_lemmas
+pub use Rattle.nested_arrays_generic.proofs.columns_lemmas
+pub use Rattle.nested_arrays_generic.proofs.flat_lemmas
+pub use Rattle.nested_arrays_generic.proofs.parts_lemmas

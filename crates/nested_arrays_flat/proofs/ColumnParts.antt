@@ -3,7 +3,7 @@ use Rattle.std.proofs.Common.{◌≡◌, ◌∙◌, ℕ, ◌+◌, ◌≤◌, ◌
 use Rattle.std.specs.Prelude.{Bool, false, ◌&&◌, ◌/◌, ◌-◌, min, Option}
 use Rattle.std.specs.Option.{ForSome}
 use Rattle.std.proofs.lemmas.Bool.{and_from, and_parts}
-use Rattle.columnar_memory.specs.Layouts.{physical_type}
+use Rattle.flat_arrays_core.specs.columnar_memory.Layouts.{physical_type}
 use Rattle.nested_arrays_columns.proofs.Conditions.{parts_of_3, parts_of_4}
 use Rattle.nested_arrays_columns.proofs.SoundCuts.{is_sound-cut}
 use Rattle.nested_arrays_columns.specs.Kinds.{most_offset}

@@ -4,7 +4,7 @@ use Rattle.std.specs.Prelude.{Bool, true, false, Option, Some, None, slice_get}
 use Rattle.std.specs.Option.{ForSome}
 use Rattle.std.proofs.lemmas.Bool.{eq-eqb, eqb-true}
 use Rattle.std.proofs.lemmas.Option.{get_or_from_slice_get}
-use Rattle.columnar_memory.specs.Window.{window}
+use Rattle.flat_arrays_core.specs.columnar_memory.Window.{window}
 use Rattle.nested_arrays_columns.specs.SoundColumns.{mask_fits}
 use Rattle.nested_arrays_columns.specs.StoredColumns.{cut_list, is_valid_at}
 

@@ -12,12 +12,12 @@ use Rattle.std.specs.Iterator.{Yields}
 use Rattle.std.specs.Iterator.Runs.{SomeRun}
 use Rattle.std.specs.List.{concat, flat_map}
 use Rattle.std.specs.Prelude.{◌⊎◌, ◌/◌, ◌==◌, All, Option, Some, None, Result, MatchResult, if◌then◌else◌, is_some, option_map}
-use Rattle.columnar_memory.specs.Bits.{unset_count}
-use Rattle.columnar_memory.specs.Error.{IsInvalidArgument, IsOutOfMemory, IsOutOfSpec}
-use Rattle.columnar_memory.specs.declared.DataType.TheOpen as layer
-use Rattle.columnar_memory.specs.declared.DataType.TheVariants as types
-use Rattle.columnar_memory.specs.declared.DataType.TheViews.{roll-DataType}
-use Rattle.columnar_memory.specs.declared.Error.{Error}
+use Rattle.flat_arrays_core.specs.columnar_memory.Bits.{unset_count}
+use Rattle.flat_arrays_core.specs.columnar_memory.Error.{IsInvalidArgument, IsOutOfMemory, IsOutOfSpec}
+use Rattle.flat_arrays_core.specs.columnar_memory.declared.DataType.TheOpen as layer
+use Rattle.flat_arrays_core.specs.columnar_memory.declared.DataType.TheVariants as types
+use Rattle.flat_arrays_core.specs.columnar_memory.declared.DataType.TheViews.{roll-DataType}
+use Rattle.flat_arrays_core.specs.columnar_memory.declared.Error.{Error}
 use Rattle.flat_arrays_core.specs.Flat.{mask_of}
 use Rattle.nested_arrays_columns.specs.SoundColumns.{mask_fits}
 use Rattle.nested_arrays_columns.specs.StoredColumns.{Column}

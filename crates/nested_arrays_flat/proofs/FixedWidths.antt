@@ -5,15 +5,15 @@ use Rattle.std.specs.List.{list_all}
 use Rattle.std.proofs.Math.Nat.{mod-eq-sub-mul-div, mul-div-le, mul-div_cancel_left, mul-add, mul-le-mul_left}
 use Rattle.std.proofs.lemmas.Bool.{and_from, and_parts, eq-eqb, eqb-true, le-leb, leb-true, false≢true}
 use Rattle.std.proofs.lemmas.List.{length-replicate}
-use Rattle.columnar_memory.specs.Layouts.{logical_type, physical_type}
-use Rattle.columnar_memory.specs.Window.{window}
-use Rattle.columnar_memory.specs.declared.DataType.{DataType}
-use Rattle.columnar_memory.specs.declared.DataType.TheOpen as layer
-use Rattle.columnar_memory.specs.declared.DataType.TheVariants as types
-use Rattle.columnar_memory.specs.declared.DataType.TheViews.{out-DataType, roll-DataType, out-roll-DataType, roll-out-DataType}
-use Rattle.columnar_memory.specs.declared.IntervalUnit.TheVariants as intervals
-use Rattle.columnar_memory.specs.declared.PhysicalType.{PhysicalType}
-use Rattle.columnar_memory.specs.declared.PhysicalType.TheVariants as physical
+use Rattle.flat_arrays_core.specs.columnar_memory.Layouts.{logical_type, physical_type}
+use Rattle.flat_arrays_core.specs.columnar_memory.Window.{window}
+use Rattle.flat_arrays_core.specs.columnar_memory.declared.DataType.{DataType}
+use Rattle.flat_arrays_core.specs.columnar_memory.declared.DataType.TheOpen as layer
+use Rattle.flat_arrays_core.specs.columnar_memory.declared.DataType.TheVariants as types
+use Rattle.flat_arrays_core.specs.columnar_memory.declared.DataType.TheViews.{out-DataType, roll-DataType, out-roll-DataType, roll-out-DataType}
+use Rattle.flat_arrays_core.specs.columnar_memory.declared.IntervalUnit.TheVariants as intervals
+use Rattle.flat_arrays_core.specs.columnar_memory.declared.PhysicalType.{PhysicalType}
+use Rattle.flat_arrays_core.specs.columnar_memory.declared.PhysicalType.TheVariants as physical
 use Rattle.nested_arrays_columns.proofs.Conditions.{parts_of_3}
 use Rattle.nested_arrays_columns.proofs.CutStored.{pieces_within}
 use Rattle.nested_arrays_columns.specs.SoundColumns.{are_pieces, has_size, is_byte, is_sound, is_stored_as, mask_fits}

@@ -5,9 +5,9 @@ use Rattle.std.specs.Int.{Width, w8, w16, w32, w64, w128, FitsUnsignedBits}
 use Rattle.std.proofs.lemmas.Int.{ints}
 use mir.Val.{hbits}
 use Rattle.std.proofs.lemmas.Bool.{and_from, lt-ltb}
-use Rattle.columnar_memory.specs.declared.PrimitiveType.{PrimitiveType}
-use Rattle.columnar_memory.specs.declared.PrimitiveType.TheVariants as kinds
-use Rattle.columnar_memory.specs.Numbers.{Numbers, one, two, three, IsNative, FitsWide}
+use Rattle.flat_arrays_core.specs.columnar_memory.declared.PrimitiveType.{PrimitiveType}
+use Rattle.flat_arrays_core.specs.columnar_memory.declared.PrimitiveType.TheVariants as kinds
+use Rattle.flat_arrays_core.specs.columnar_memory.Numbers.{Numbers, one, two, three, IsNative, FitsWide}
 use Rattle.nested_arrays_columns.specs.Kinds.{is_signed, is_unsigned, numbers_of_kind}
 use Rattle.nested_arrays_flat.specs.FlatColumns.{is_native}
 

@@ -1,13 +1,13 @@
 -- A type's layout is that of its layer, once its extensions are taken off.
 use Rattle.std.proofs.Common.{◌≡◌, ◌∙◌, refl, sym, ap, subst, Bool, true, false}
 use Rattle.std.specs.Prelude.{List, ℕ, Option, unwrap_or}
-use Rattle.columnar_memory.specs.declared.DataType.{DataType, map-DataType}
-use Rattle.columnar_memory.specs.declared.DataType.TheOpen as layer
-use Rattle.columnar_memory.specs.declared.DataType.TheViews.{out-DataType, roll-DataType, out-roll-DataType}
-use Rattle.columnar_memory.specs.declared.DataType.TheFolds.{ind-DataType, fold-roll-DataType, para-roll-DataType}
-use Rattle.columnar_memory.specs.declared.Field.{Field}
-use Rattle.columnar_memory.specs.declared.PhysicalType.{PhysicalType}
-use Rattle.columnar_memory.specs.Layouts.{stored_step, physical_step, physical_type}
+use Rattle.flat_arrays_core.specs.columnar_memory.declared.DataType.{DataType, map-DataType}
+use Rattle.flat_arrays_core.specs.columnar_memory.declared.DataType.TheOpen as layer
+use Rattle.flat_arrays_core.specs.columnar_memory.declared.DataType.TheViews.{out-DataType, roll-DataType, out-roll-DataType}
+use Rattle.flat_arrays_core.specs.columnar_memory.declared.DataType.TheFolds.{ind-DataType, fold-roll-DataType, para-roll-DataType}
+use Rattle.flat_arrays_core.specs.columnar_memory.declared.Field.{Field}
+use Rattle.flat_arrays_core.specs.columnar_memory.declared.PhysicalType.{PhysicalType}
+use Rattle.flat_arrays_core.specs.columnar_memory.Layouts.{stored_step, physical_step, physical_type}
 use Rattle.nested_arrays_columns.specs.StoredColumns.{type_layer}
 use denote.Hole.Carrier
 

@@ -1,11 +1,11 @@
 -- Which types are of nulls alone.
 use Rattle.std.proofs.Common.{◌≡◌, ◌∙◌, refl, sym, true, false}
 use Rattle.std.specs.Prelude.{◌↔◌, ℕ}
-use Rattle.columnar_memory.specs.declared.DataType.{DataType}
-use Rattle.columnar_memory.specs.declared.DataType.TheOpen as layer
-use Rattle.columnar_memory.specs.declared.IntervalUnit.TheVariants as intervals
-use Rattle.columnar_memory.specs.declared.PhysicalType.TheVariants as physical
-use Rattle.columnar_memory.specs.Layouts.{physical_type}
+use Rattle.flat_arrays_core.specs.columnar_memory.declared.DataType.{DataType}
+use Rattle.flat_arrays_core.specs.columnar_memory.declared.DataType.TheOpen as layer
+use Rattle.flat_arrays_core.specs.columnar_memory.declared.IntervalUnit.TheVariants as intervals
+use Rattle.flat_arrays_core.specs.columnar_memory.declared.PhysicalType.TheVariants as physical
+use Rattle.flat_arrays_core.specs.columnar_memory.Layouts.{physical_type}
 use Rattle.nested_arrays_columns.specs.SoundColumns.{is_null_type, is_sound}
 use Rattle.nested_arrays_columns.specs.StoredColumns.{nulls, type_layer}
 use Rattle.nested_arrays_flat.proofs.Layers.{Layer, is_extension, layer_layout, type_lies}

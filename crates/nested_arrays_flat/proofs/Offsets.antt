@@ -1,7 +1,7 @@
 -- Offsets as spans, and as a list of numbers.
 use Rattle.std.proofs.Common.{◌≡◌, ℕ, zero, suc, ◌+◌, ◌-◌, ◌≤◌, ◌<◌, List, [], ◌∷◌, length, take, drop, get_or, sum, refl, sym, ap, ◌∙◌, arith}
 use Rattle.std.proofs.lemmas.List.Sums.{sum_by-cons}
-use Rattle.columnar_memory.specs.Spans.{Spans, ends_from, offsets_of, offset_at, spans_between}
+use Rattle.flat_arrays_core.specs.columnar_memory.Spans.{Spans, ends_from, offsets_of, offset_at, spans_between}
 use Rattle.nested_arrays_columns.specs.StoredColumns.{cut_list}
 
 sum-cons : (l : ℕ) (ls : List ℕ) → sum (l ∷ ls) ≡ l + sum ls

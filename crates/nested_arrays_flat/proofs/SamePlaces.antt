@@ -2,7 +2,7 @@
 use Rattle.std.proofs.Common.{◌≡◌, ◌∙◌, ◌<◌, ◌+◌, ℕ, Bool, zero, suc, sym, ap, arith, length}
 use Rattle.std.specs.Prelude.{◌↔◌, ◌==◌, IsTrue}
 use Rattle.std.proofs.lemmas.Bool.{eq-eqb, eqb-true}
-use Rattle.columnar_memory.specs.declared.DataType.{DataType}
+use Rattle.flat_arrays_core.specs.columnar_memory.declared.DataType.{DataType}
 use Rattle.nested_arrays_columns.proofs.Windows.{window_same, length-window}
 use Rattle.nested_arrays_columns.specs.Slots.{Slot, Slots, null, no_slot, slot_then, in_slots, window}
 use Rattle.nested_arrays_columns.specs.StoredColumns.{Column, column_len, column_type, nulls, slot_at, slots}

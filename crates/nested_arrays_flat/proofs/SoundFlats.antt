@@ -4,14 +4,14 @@ use Rattle.std.specs.Prelude.{Bool, false, nat_le, ◌&&◌, Option, Some, None,
 use Rattle.std.specs.List.{list_all}
 use Rattle.std.proofs.lemmas.Bool.{and_from, and_parts, both_ways, eq-eqb, eqb-true}
 use Rattle.std.proofs.lemmas.List.{length-map, take-map, drop-map}
-use Rattle.columnar_memory.specs.Window.{window}
-use Rattle.columnar_memory.specs.Layouts.{physical_type}
-use Rattle.columnar_memory.specs.declared.DataType.TheOpen as layer
-use Rattle.columnar_memory.specs.declared.PhysicalType.{PhysicalType}
-use Rattle.columnar_memory.specs.declared.PhysicalType.TheVariants as physical
-use Rattle.columnar_memory.specs.declared.PrimitiveType.{PrimitiveType}
-use Rattle.columnar_memory.specs.declared.PrimitiveType.TheVariants as kinds
-use Rattle.columnar_memory.specs.Numbers.{Numbers, one, two, three, first_number}
+use Rattle.flat_arrays_core.specs.columnar_memory.Window.{window}
+use Rattle.flat_arrays_core.specs.columnar_memory.Layouts.{physical_type}
+use Rattle.flat_arrays_core.specs.columnar_memory.declared.DataType.TheOpen as layer
+use Rattle.flat_arrays_core.specs.columnar_memory.declared.PhysicalType.{PhysicalType}
+use Rattle.flat_arrays_core.specs.columnar_memory.declared.PhysicalType.TheVariants as physical
+use Rattle.flat_arrays_core.specs.columnar_memory.declared.PrimitiveType.{PrimitiveType}
+use Rattle.flat_arrays_core.specs.columnar_memory.declared.PrimitiveType.TheVariants as kinds
+use Rattle.flat_arrays_core.specs.columnar_memory.Numbers.{Numbers, one, two, three, first_number}
 use Rattle.flat_arrays_core.specs.Flat as arrays
 use Rattle.flat_arrays_core.specs.Flat.{Flat, IsFlat, IsMaskOf}
 use Rattle.nested_arrays_columns.specs.Kinds.{in_kind, is_signed, same_kind, numbers_of_kind}

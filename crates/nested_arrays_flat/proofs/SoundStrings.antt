@@ -6,11 +6,11 @@ use Rattle.std.specs.Str.{is_utf8}
 use Rattle.std.proofs.lemmas.Bool.{and_from, le-leb, eq-eqb}
 use Rattle.std.proofs.lemmas.Str.{is_utf8-from_IsUtf8}
 use Rattle.std.proofs.Math.Nat.{le-min}
-use Rattle.columnar_memory.specs.Layouts.{physical_type}
-use Rattle.columnar_memory.specs.Spans.{Spans, ends_from, offsets_of, offset_at, last_of}
-use Rattle.columnar_memory.specs.declared.DataType.TheOpen as layer
-use Rattle.columnar_memory.specs.declared.PhysicalType.{PhysicalType}
-use Rattle.columnar_memory.specs.declared.PhysicalType.TheVariants as physical
+use Rattle.flat_arrays_core.specs.columnar_memory.Layouts.{physical_type}
+use Rattle.flat_arrays_core.specs.columnar_memory.Spans.{Spans, ends_from, offsets_of, offset_at, last_of}
+use Rattle.flat_arrays_core.specs.columnar_memory.declared.DataType.TheOpen as layer
+use Rattle.flat_arrays_core.specs.columnar_memory.declared.PhysicalType.{PhysicalType}
+use Rattle.flat_arrays_core.specs.columnar_memory.declared.PhysicalType.TheVariants as physical
 use Rattle.columnar_memory.proofs.buffer_lemmas.Runs.{sum-cons, offset_at-more, nonnegative}
 use Rattle.flat_arrays_core.proofs.bytes_lemmas.Places.{value_between, text_among}
 use Rattle.flat_arrays_core.specs.ByteStrings as arrays

@@ -1,7 +1,7 @@
 -- What calls that check the parts of an array answer.
 use Rattle.std.specs.Prelude.{◌≡◌, true, Result, MatchResult}
-use Rattle.columnar_memory.specs.declared.Error.{Error}
-use Rattle.columnar_memory.specs.Error.{IsOutOfSpec}
+use Rattle.flat_arrays_core.specs.columnar_memory.declared.Error.{Error}
+use Rattle.flat_arrays_core.specs.columnar_memory.Error.{IsOutOfSpec}
 use Rattle.nested_arrays_columns.specs.SoundColumns.{is_sound}
 use Rattle.nested_arrays_columns.specs.StoredColumns.{Column}
 

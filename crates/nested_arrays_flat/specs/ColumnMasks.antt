@@ -1,8 +1,8 @@
 -- The masks of columns: none, or a mark for each slot (Arrow columnar format, "Validity bitmaps").
 use Rattle.std.specs.Prelude.{◌≡◌, ℕ, Bool, true, List, Option, Some, None, Result, MatchResult}
-use Rattle.columnar_memory.specs.Bits.{unset_count}
-use Rattle.columnar_memory.specs.Error.{IsInvalidArgument}
-use Rattle.columnar_memory.specs.declared.Error.{Error}
+use Rattle.flat_arrays_core.specs.columnar_memory.Bits.{unset_count}
+use Rattle.flat_arrays_core.specs.columnar_memory.Error.{IsInvalidArgument}
+use Rattle.flat_arrays_core.specs.columnar_memory.declared.Error.{Error}
 use Rattle.nested_arrays_columns.specs.SoundColumns.{is_sound, mask_fits}
 use Rattle.nested_arrays_columns.specs.StoredColumns.{Column, nulls, flat, lists, fixed_lists, records, unions, dictionary, column_len}
 

@@ -1,5 +1,5 @@
 -- The data types of columns.
-use Rattle.columnar_memory.specs.declared.DataType.{DataType}
+use Rattle.flat_arrays_core.specs.columnar_memory.declared.DataType.{DataType}
 use Rattle.nested_arrays_columns.specs.StoredColumns.{Column, nulls, flat, lists, fixed_lists, records, unions, dictionary}
 
 -- the same values and mask under another data type

@@ -4,9 +4,9 @@ use Rattle.std.specs.Prelude.{◌≡◌, ◌<◌, ◌⊎◌, ℕ, Bool, List, []
 use Rattle.std.specs.Prelude.{IfSome, option_map, unwrap_or, Result, MatchResult}
 use Rattle.std.specs.Iterator.Runs.{SomeRun, WholeRun}
 use Rattle.std.specs.List.{concat}
-use Rattle.columnar_memory.specs.Error.{IsInvalidArgument, IsOutOfMemory, IsOutOfSpec}
-use Rattle.columnar_memory.specs.declared.DataType.TheVariants as types
-use Rattle.columnar_memory.specs.declared.Error.{Error}
+use Rattle.flat_arrays_core.specs.columnar_memory.Error.{IsInvalidArgument, IsOutOfMemory, IsOutOfSpec}
+use Rattle.flat_arrays_core.specs.columnar_memory.declared.DataType.TheVariants as types
+use Rattle.flat_arrays_core.specs.columnar_memory.declared.Error.{Error}
 use Rattle.flat_arrays_core.specs.Flat.{mask_of}
 use Rattle.nested_arrays_columns.specs.StoredColumns.{Column}
 use Rattle.nested_arrays_flat.specs.FlatColumns.{fixed_column}

@@ -1,12 +1,12 @@
 -- The columns that flat arrays store (Arrow columnar format, "Fixed-size Primitive Layout", "Variable-size Binary Layout").
 use Rattle.std.specs.Prelude.{ℕ, ℤ, Bool, ◌&&◌, List, map, Option}
-use Rattle.columnar_memory.specs.declared.DataType.{DataType}
-use Rattle.columnar_memory.specs.declared.DataType.TheOpen as layer
-use Rattle.columnar_memory.specs.declared.Field.{Field}
-use Rattle.columnar_memory.specs.declared.PrimitiveType.{PrimitiveType}
-use Rattle.columnar_memory.specs.declared.PrimitiveType.TheVariants as kinds
-use Rattle.columnar_memory.specs.Numbers.{Numbers, one, two, three, first_number, second_number, third_number}
-use Rattle.columnar_memory.specs.Spans.{offsets_of}
+use Rattle.flat_arrays_core.specs.columnar_memory.declared.DataType.{DataType}
+use Rattle.flat_arrays_core.specs.columnar_memory.declared.DataType.TheOpen as layer
+use Rattle.flat_arrays_core.specs.columnar_memory.declared.Field.{Field}
+use Rattle.flat_arrays_core.specs.columnar_memory.declared.PrimitiveType.{PrimitiveType}
+use Rattle.flat_arrays_core.specs.columnar_memory.declared.PrimitiveType.TheVariants as kinds
+use Rattle.flat_arrays_core.specs.columnar_memory.Numbers.{Numbers, one, two, three, first_number, second_number, third_number}
+use Rattle.flat_arrays_core.specs.columnar_memory.Spans.{offsets_of}
 use Rattle.flat_arrays_core.specs.Flat.{Flat}
 use Rattle.flat_arrays_core.specs.ByteStrings.{ByteStrings}
 use Rattle.nested_arrays_columns.specs.Kinds.{in_kind, is_signed, same_kind}

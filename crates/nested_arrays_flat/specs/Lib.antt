@@ -9,4 +9,4 @@ pub mod SameArrays
 pub mod Taken
 pub use Rattle.flat_arrays_core.specs as flat_arrays
 pub use Rattle.nested_arrays_columns.specs as columns
-pub use Rattle.columnar_memory.specs as columnar_memory
+pub use Rattle.flat_arrays_core.specs.columnar_memory

@@ -1,9 +1,9 @@
 -- The columns of arrays of numbers of any kind.
 use Rattle.std.specs.Prelude.{Bool, true, false, pos}
-use Rattle.columnar_memory.specs.declared.PhysicalType.{PhysicalType}
-use Rattle.columnar_memory.specs.declared.PhysicalType.TheVariants as physical
-use Rattle.columnar_memory.specs.declared.PrimitiveType.TheVariants as kinds
-use Rattle.columnar_memory.specs.Numbers.{one, two, three}
+use Rattle.flat_arrays_core.specs.columnar_memory.declared.PhysicalType.{PhysicalType}
+use Rattle.flat_arrays_core.specs.columnar_memory.declared.PhysicalType.TheVariants as physical
+use Rattle.flat_arrays_core.specs.columnar_memory.declared.PrimitiveType.TheVariants as kinds
+use Rattle.flat_arrays_core.specs.columnar_memory.Numbers.{one, two, three}
 use Rattle.nested_arrays_columns.specs.StoredColumns.{Column}
 use Rattle.nested_arrays_flat.specs.FlatColumns.{primitive_column}
 use Rattle.nested_arrays_flat.specs.declared.primitive.PrimitiveNode.{PrimitiveNode}

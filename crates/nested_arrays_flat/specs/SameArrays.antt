@@ -3,8 +3,8 @@ use Rattle.std.specs.Prelude.{◌&&◌, Bool}
 use Rattle.std.specs.Bool.{Decides}
 use Rattle.std.specs.Cmp.{IsEquivalence, IsPartialEquivalence, partial_equiv_from_equiv, and_equiv, on_equiv, first_so, second_so}
 use Rattle.std.specs.Cmp.Lexicographic.{pointwise, pointwise_decides, lists_equiv}
-use Rattle.columnar_memory.specs.Equality.{same_type, same_type-Decides, same_type-equivalence}
-use Rattle.columnar_memory.specs.Sameness.{equivalence_from_Decides}
+use Rattle.flat_arrays_core.specs.columnar_memory.Equality.{same_type, same_type-Decides, same_type-equivalence}
+use Rattle.flat_arrays_core.specs.columnar_memory.Sameness.{equivalence_from_Decides}
 use Rattle.nested_arrays_columns.proofs.SameSlotsDecide.{sameness_decides}
 use Rattle.nested_arrays_columns.specs.SameSlots.{same_slot}
 use Rattle.nested_arrays_columns.specs.StoredColumns.{Column, column_type, slots}

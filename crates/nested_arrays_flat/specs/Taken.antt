@@ -1,10 +1,10 @@
 -- What taking an array of numbers out of one of any kind answers.
 use Rattle.std.specs.Prelude.{◌≡◌, Bool, List, Option, Result, MatchOption, MatchResult}
-use Rattle.columnar_memory.specs.declared.DataType.{DataType}
-use Rattle.columnar_memory.specs.declared.PhysicalType.TheVariants as physical
-use Rattle.columnar_memory.specs.declared.PrimitiveType.{PrimitiveType}
-use Rattle.columnar_memory.specs.Layouts.{physical_type}
-use Rattle.columnar_memory.specs.Numbers.{Numbers}
+use Rattle.flat_arrays_core.specs.columnar_memory.declared.DataType.{DataType}
+use Rattle.flat_arrays_core.specs.columnar_memory.declared.PhysicalType.TheVariants as physical
+use Rattle.flat_arrays_core.specs.columnar_memory.declared.PrimitiveType.{PrimitiveType}
+use Rattle.flat_arrays_core.specs.columnar_memory.Layouts.{physical_type}
+use Rattle.flat_arrays_core.specs.columnar_memory.Numbers.{Numbers}
 use Rattle.flat_arrays_core.specs.Flat.{Flat, flat, IsFlat}
 use Rattle.nested_arrays_columns.specs.StoredColumns.{Column, column_type}
 use Rattle.nested_arrays_flat.specs.ColumnMasks.{column_mask}

@@ -1,9 +1,9 @@
 //! Arrays of byte strings of one size.
 ghost use Rattle.std.specs.Prelude.{◌≡◌, ◌+◌, ◌*◌, ◌/◌, ◌^◌, ◌<◌, ◌≤◌, ◌↔◌, IsTrue, [], length, replicate};
 ghost use Rattle.std.specs.Prelude.{false, true, MatchOption, None, Some, option_copied};
-ghost use Rattle.columnar_memory.specs.Layouts.{physical_type};
-ghost use Rattle.columnar_memory.specs.Results.{OrOutOfMemory};
-ghost use Rattle.columnar_memory.specs.declared.PhysicalType.TheVariants as physical;
+ghost use Rattle.flat_arrays_core.specs.columnar_memory.Layouts.{physical_type};
+ghost use Rattle.flat_arrays_core.specs.columnar_memory.Results.{OrOutOfMemory};
+ghost use Rattle.flat_arrays_core.specs.columnar_memory.declared.PhysicalType.TheVariants as physical;
 ghost use Rattle.nested_arrays_columns.specs.Slots.{bytes, null};
 ghost use Rattle.nested_arrays_columns.specs.SoundColumns.{is_sound, mask_fits};
 ghost use Rattle.nested_arrays_columns.specs.StoredColumns.{column_len, column_type, cut, cut_list, is_valid_at, slot_at, slots};
@@ -16,7 +16,7 @@ ghost use Rattle.nested_arrays_flat.specs.SameArrays.{same_column, same_column-e
 
 use crate::masks::{is_mask_of, mark_at, slice_mask, unset_marks};
 use crate::ranges::read_bytes;
-use columnar_memory::{Bitmap, Buffer, DataType, Error, Result};
+use flat_arrays_core::columnar_memory::{Bitmap, Buffer, DataType, Error, Result};
 use std::alloc::{AllocError, Global};
 use std::marker::Model;
 

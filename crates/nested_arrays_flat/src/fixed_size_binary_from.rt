@@ -1,13 +1,13 @@
 //! Arrays of byte strings of one size made of values and of slots.
 ghost use Rattle.std.specs.Prelude.{◌≡◌, ◌*◌, ◌/◌, ◌<◌, ◌++◌, length, option_map, replicate, true};
 ghost use Rattle.std.specs.Iterator.{IsFinite};
-ghost use Rattle.columnar_memory.specs.Results.{OrOutOfMemory};
+ghost use Rattle.flat_arrays_core.specs.columnar_memory.Results.{OrOutOfMemory};
 ghost use Rattle.nested_arrays_columns.specs.SoundColumns.{mask_fits};
 ghost use Rattle.nested_arrays_flat.specs.FixedSizeItems.{GathersAlong, HasSize, StoresSlot, of_slots, of_values, sized_column, stored_for};
 
 use crate::fixed_size_binary::FixedSizeBinaryArray;
 use crate::ranges::read_bytes;
-use columnar_memory::{BitGatherer, Bitmap, Buffer, DataType, Error, Result};
+use flat_arrays_core::columnar_memory::{BitGatherer, Bitmap, Buffer, DataType, Error, Result};
 use std::alloc::Global;
 use std::convert::AsSlice;
 

@@ -1,16 +1,16 @@
 //! The kinds of numbers, each with the array of its values.
 ghost use Rattle.std.specs.Prelude.{◌≡◌, MatchResult, option_copied, pos};
-ghost use Rattle.columnar_memory.specs.Numbers.{one, two, three};
-ghost use Rattle.columnar_memory.specs.declared.PhysicalType.TheVariants as physical;
-ghost use Rattle.columnar_memory.specs.declared.PrimitiveType.TheVariants as kinds;
+ghost use Rattle.flat_arrays_core.specs.columnar_memory.Numbers.{one, two, three};
+ghost use Rattle.flat_arrays_core.specs.columnar_memory.declared.PhysicalType.TheVariants as physical;
+ghost use Rattle.flat_arrays_core.specs.columnar_memory.declared.PrimitiveType.TheVariants as kinds;
 ghost use Rattle.flat_arrays_core.specs.Flat.{flat, IsFlat};
 ghost use Rattle.nested_arrays_flat.specs.FlatColumns.{primitive_column};
 ghost use Rattle.nested_arrays_flat.specs.Taken.{ArePartsOf, IsInside, IsLeft};
 
 use crate::primitive::{AnyPrimitive, Parts, PrimitiveKind, PrimitiveNode};
 use crate::sound::primitive_is_sound;
-use columnar_memory::{Bitmap, Buffer, DataType, days_ms, i256, months_days_ns};
 use flat_arrays_core::PrimitiveArray;
+use flat_arrays_core::columnar_memory::{Bitmap, Buffer, DataType, days_ms, i256, months_days_ns};
 
 impl PrimitiveKind for i8 {
     fn wrap(data_type: DataType, values: Buffer<i8>, validity: Option<Bitmap>) -> AnyPrimitive

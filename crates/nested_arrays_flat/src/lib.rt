@@ -10,9 +10,9 @@ mod primitive;
 mod ranges;
 mod sound;
 
-pub use columnar_memory;
 pub use fixed_size_binary::FixedSizeBinaryArray;
 pub use flat_arrays_core as flat_arrays;
+pub use flat_arrays_core::columnar_memory;
 pub use masks::{is_mask_of, mark_at, slice_mask, unset_marks};
 pub use null::NullArray;
 pub use primitive::{AnyPrimitive, Parts, PrimitiveKind, PrimitiveNode};

@@ -6,7 +6,7 @@ ghost use Rattle.nested_arrays_columns.specs.SoundColumns.{mask_fits};
 ghost use Rattle.nested_arrays_columns.specs.StoredColumns.{cut_mask, is_valid_at};
 ghost use Rattle.nested_arrays_flat.specs.ColumnMasks.{unset_in};
 
-use columnar_memory::Bitmap;
+use flat_arrays_core::columnar_memory::Bitmap;
 
 /// Narrows a mask, if there is one, to the `count` marks from `offset` on.
 #[tactic(auto, using(crate::proofs::CutMasks::cut_window))]

@@ -1,7 +1,7 @@
 //! Arrays of nulls.
 ghost use Rattle.std.specs.Prelude.{◌≡◌, ◌+◌, ◌≤◌, ◌↔◌, IsTrue, true, MatchResult, option_copied};
-ghost use Rattle.columnar_memory.specs.Layouts.{physical_type};
-ghost use Rattle.columnar_memory.specs.declared.PhysicalType.TheVariants as physical;
+ghost use Rattle.flat_arrays_core.specs.columnar_memory.Layouts.{physical_type};
+ghost use Rattle.flat_arrays_core.specs.columnar_memory.declared.PhysicalType.TheVariants as physical;
 ghost use Rattle.nested_arrays_columns.specs.SoundColumns.{is_sound};
 ghost use Rattle.nested_arrays_columns.specs.StoredColumns.{column_len, column_type, cut, nulls};
 ghost use Rattle.nested_arrays_flat.specs.Checked.{IsChecked};
@@ -9,7 +9,7 @@ ghost use Rattle.nested_arrays_flat.specs.ColumnMasks.{column_mask, ReplacesMask
 ghost use Rattle.nested_arrays_flat.specs.EqualArrays.{AreEqual};
 ghost use Rattle.nested_arrays_flat.specs.SameArrays.{same_column, same_column-equivalence, same_column-per};
 
-use columnar_memory::{Bitmap, DataType, Error, PhysicalType, Result};
+use flat_arrays_core::columnar_memory::{Bitmap, DataType, Error, PhysicalType, Result};
 use std::alloc::AllocError;
 use std::marker::Model;
 

@@ -1,7 +1,7 @@
 //! Arrays of numbers of any kind.
 ghost use Rattle.std.specs.Prelude.{◌≡◌, ◌+◌, ◌<◌, ◌≤◌, ◌↔◌, IsTrue, MatchResult, option_copied, true};
-ghost use Rattle.columnar_memory.specs.Layouts.{physical_type};
-ghost use Rattle.columnar_memory.specs.declared.PhysicalType.TheVariants as physical;
+ghost use Rattle.flat_arrays_core.specs.columnar_memory.Layouts.{physical_type};
+ghost use Rattle.flat_arrays_core.specs.columnar_memory.declared.PhysicalType.TheVariants as physical;
 ghost use Rattle.flat_arrays_core.specs.Flat.{flat, IsFlat};
 ghost use Rattle.nested_arrays_columns.specs.SoundColumns.{is_sound, mask_fits};
 ghost use Rattle.nested_arrays_columns.specs.StoredColumns.{column_len, column_type, cut, is_valid_at};
@@ -11,10 +11,10 @@ ghost use Rattle.nested_arrays_flat.specs.Primitives.{is_primitive};
 ghost use Rattle.nested_arrays_flat.specs.Taken.{ArePartsOf, IsInside, IsLeft, Shows, Takes};
 
 use crate::masks::{is_mask_of, mark_at, unset_marks};
-use columnar_memory::{
+use flat_arrays_core::PrimitiveArray;
+use flat_arrays_core::columnar_memory::{
     Bitmap, Buffer, DataType, Error, NativeType, Result, days_ms, i256, months_days_ns,
 };
-use flat_arrays_core::PrimitiveArray;
 use std::alloc::AllocError;
 use std::marker::Model;
 

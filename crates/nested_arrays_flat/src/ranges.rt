@@ -4,7 +4,7 @@ ghost use Rattle.std.specs.List.{list_all};
 ghost use Rattle.nested_arrays_columns.specs.SoundColumns.{is_byte};
 ghost use Rattle.nested_arrays_flat.specs.FlatColumns.{is_native};
 
-use columnar_memory::NativeType;
+use flat_arrays_core::columnar_memory::NativeType;
 
 /// Reads each value, by which a proof knows that it is one of its kind.
 pub(crate) fn read_each<T: NativeType>(values: &[T])

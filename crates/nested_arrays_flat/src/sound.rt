@@ -4,8 +4,8 @@ ghost use Rattle.nested_arrays_columns.specs.SoundColumns.{is_sound};
 ghost use Rattle.nested_arrays_flat.specs.FlatColumns.{primitive_column};
 
 use crate::ranges::read_each;
-use columnar_memory::NativeType;
 use flat_arrays_core::PrimitiveArray;
+use flat_arrays_core::columnar_memory::NativeType;
 
 /// The column of an array of numbers is sound.
 #[tactic(auto, using(crate::proofs::SoundFlats::primitive_sound, crate::proofs::InRange::native_has_numbers))]

@@ -19,6 +19,6 @@ pub use tables_rows::tables_chunks::{
 };
 pub use tables_rows::{
     ReadChoice, Seal, TableBuilder, can_seal, choices_are_isolated, choices_are_of_the_whole,
-    is_batch_size, seal_bar, sealable_tables_are_sealed, seals_are_canonical,
+    is_batch_size, nested_arrays_cells, seal_bar, sealable_tables_are_sealed, seals_are_canonical,
     seals_are_sealed_again, seals_of_choices_are_of_the_whole,
 };

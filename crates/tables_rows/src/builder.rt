@@ -3,7 +3,7 @@ ghost use Rattle.std.specs.Prelude.{◌≡◌, length, map};
 ghost use Rattle.tables_rows.specs.Building.{IsBuilding, IsNew};
 ghost use Rattle.tables_rows.specs.Ending.{EndsBatch, Finishes};
 ghost use Rattle.tables_rows.specs.Pushing.{PushesRow};
-ghost use Rattle.tables_chunks.specs.ipc_format.nested_arrays.builders.parts.Scalars.{cell_of};
+ghost use Rattle.nested_arrays_cells.specs.builders.parts.Scalars.{cell_of};
 
 use crate::bars::seal_bar;
 use crate::columns::{are_whole, count_of};
@@ -12,9 +12,9 @@ use crate::groups::begin_columns;
 use crate::pushing::push_each;
 use crate::taking::take_batch;
 use columnar_memory_types::Schema;
+use nested_arrays_cells::{AnyMutableArray, AnyScalar};
 use std::alloc::Global;
 use std::marker::Model;
-use tables_chunks::nested_arrays_core::{AnyMutableArray, AnyScalar};
 use tables_chunks::{Fault, GrowingTable, Table};
 
 /// A table that grows by rows of cells, in batches. A contract sees its schema, the batches that were ended, as what their columns store, and the

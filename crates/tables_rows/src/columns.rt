@@ -1,11 +1,11 @@
 //! Open columns: one for each field of a schema.
 ghost use Rattle.std.specs.Prelude.{◌≡◌, ◌≤◌, ◌<◌, ℕ, get_or, length, true};
 ghost use Rattle.tables_rows.specs.Columns.{are_fitting, cut_back, lowered, open_count};
-ghost use Rattle.tables_chunks.specs.ipc_format.nested_arrays.builders.parts.Open.{Open};
+ghost use Rattle.nested_arrays_cells.specs.builders.parts.Open.{Open};
 
 use columnar_memory_types::Error;
+use nested_arrays_cells::AnyMutableArray;
 use tables_chunks::Fault;
-use tables_chunks::nested_arrays_core::AnyMutableArray;
 
 /// What a column refused, as a fault.
 pub(crate) fn lower_fault(error: Error) -> Fault

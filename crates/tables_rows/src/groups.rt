@@ -6,16 +6,17 @@ ghost use Rattle.tables_chunks.specs.SameRows.{rows_from, stored_row};
 ghost use Rattle.tables_chunks.specs.declared.fault.Fault.TheVariants.{Memory};
 ghost use Rattle.tables_chunks.specs.ipc_format.columns.FreshLaws.{is_buildable};
 ghost use Rattle.tables_chunks.specs.ipc_format.columns.StoredColumns.{column_len, column_type, slot_at};
-ghost use Rattle.tables_chunks.specs.ipc_format.nested_arrays.builders.builders.Begun.{opened_none};
-ghost use Rattle.tables_chunks.specs.ipc_format.nested_arrays.builders.builders.BuiltTypes.{has_builder, have_builders};
-ghost use Rattle.tables_chunks.specs.ipc_format.nested_arrays.builders.parts.Open.{Open, opened};
+ghost use Rattle.nested_arrays_cells.specs.builders.builders.Begun.{opened_none};
+ghost use Rattle.nested_arrays_cells.specs.builders.builders.BuiltTypes.{has_builder, have_builders};
+ghost use Rattle.nested_arrays_cells.specs.builders.parts.Open.{Open, opened};
 ghost use Rattle.tables_rows.specs.Grouping.{GroupsRows, IsReady, PushesRow, PushesRows, PushesSlot, TakesColumns, TakesRow};
 ghost use Rattle.tables_rows.specs.Grouping.{all_fit, closed, refusal_of};
 ghost use Rattle.tables_rows.specs.GroupViews.{grouped};
 
 use columnar_memory_types::{DataType, Error, Field};
+use nested_arrays_cells::{AnyMutableArray, MutableArray, TryPushFrom};
 use std::alloc::Global;
-use tables_chunks::nested_arrays_core::{AnyArray, AnyMutableArray, MutableArray, TryPushFrom};
+use tables_chunks::nested_arrays_core::AnyArray;
 use tables_chunks::{Chunk, Fault, Table};
 
 /// Rows in groups of one size: the batches of the groups that are full, the open columns of the last group, and how many rows these have.

@@ -26,6 +26,7 @@ pub use laws::{
     sealable_tables_are_sealed, seals_are_canonical, seals_are_sealed_again,
     seals_of_choices_are_of_the_whole,
 };
+pub use nested_arrays_cells;
 pub use read_choice::ReadChoice;
 pub use seal::{MOST_BATCH_ROWS, Seal, is_batch_size};
 pub use tables_chunks;

@@ -1,12 +1,12 @@
 //! Rows that are pushed: each cell stands behind those of its column.
 ghost use Rattle.std.specs.Prelude.{◌≡◌, ◌≤◌, ◌<◌, ℕ, get_or, length, map};
 ghost use Rattle.tables_rows.specs.Columns.{AreLong, PushesAt, PushesEach};
-ghost use Rattle.tables_chunks.specs.ipc_format.nested_arrays.builders.parts.Open.{Open};
-ghost use Rattle.tables_chunks.specs.ipc_format.nested_arrays.builders.parts.Scalars.{scalar_slot};
+ghost use Rattle.nested_arrays_cells.specs.builders.parts.Open.{Open};
+ghost use Rattle.nested_arrays_cells.specs.builders.parts.Scalars.{scalar_slot};
 
 use crate::columns::{keep_first, lower_fault};
+use nested_arrays_cells::{AnyMutableArray, AnyScalar};
 use tables_chunks::Fault;
-use tables_chunks::nested_arrays_core::{AnyMutableArray, AnyScalar};
 
 /// Pushes a cell to the column at a place, or else keeps the first `held` slots of the columns before it alone.
 fn push_at(

@@ -4,8 +4,9 @@ ghost use Rattle.tables_rows.specs.Columns.{open_count};
 
 use crate::columns::{are_whole, keep_first, lower_fault};
 use columnar_memory_types::Result as Answer;
+use nested_arrays_cells::{AnyMutableArray, MutableArray};
 use std::alloc::Global;
-use tables_chunks::nested_arrays_core::{AnyArray, AnyMutableArray, MutableArray};
+use tables_chunks::nested_arrays_core::AnyArray;
 use tables_chunks::{Chunk, Fault};
 
 /// The arrays of what the columns hold, which are left empty; or only those up to the first for which there was no memory are.

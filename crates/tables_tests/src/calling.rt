@@ -6,7 +6,7 @@ ghost use Rattle.tables.specs.TableParts.{cut_table};
 
 use std::alloc::Global;
 use tables::columnar_memory::Error;
-use tables::nested_arrays_core::AnyScalar;
+use tables::nested_arrays_cells::AnyScalar;
 use tables::{Fault, Table, TableBuilder};
 
 /// The stream of a table's first rows, `count` of them where there are so many.

@@ -1,7 +1,7 @@
 //! Tables of chosen columns that are read from bytes.
 use columnar_memory_types::{DataType, Field, Schema, Text};
 use std::alloc::{AllocError, Global};
-use tables::nested_arrays_core::AnyScalar;
+use tables::nested_arrays_cells::AnyScalar;
 use tables::{Fault, Form, ReadChoice, Table, TableBuilder, distinct};
 
 fn schema_of(alloc: Global, columns: [(&str, DataType); 2]) -> Result<Schema, AllocError> {

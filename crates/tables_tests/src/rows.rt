@@ -2,7 +2,7 @@
 use crate::samples::EXAMPLE;
 use columnar_memory_types::{Boxed, DataType, Field, IntegerType, Items, Schema, Text, UnionMode};
 use std::alloc::{AllocError, Global};
-use tables::nested_arrays_core::AnyScalar;
+use tables::nested_arrays_cells::AnyScalar;
 use tables::{Fault, Form, Table, TableBuilder};
 
 fn column(alloc: Global, name: &str, data_type: DataType) -> Result<Field, AllocError> {

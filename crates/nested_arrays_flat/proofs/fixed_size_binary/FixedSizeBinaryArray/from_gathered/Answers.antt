@@ -1,6 +1,6 @@
 use Rattle.std.proofs.Common.{◌≡◌, ◌∙◌, ap, sym, true}
 use Rattle.std.specs.List.{list_all}
-use Rattle.columnar_memory.specs.declared.DataType.TheVariants as types
+use Rattle.flat_arrays_core.specs.columnar_memory.declared.DataType.TheVariants as types
 use Rattle.nested_arrays_columns.specs.SoundColumns.{is_byte, is_sound}
 use Rattle.nested_arrays_flat.proofs.FixedItems.{plainest_width}
 use Rattle.nested_arrays_flat.proofs.FixedWidths.{fixed_sound}

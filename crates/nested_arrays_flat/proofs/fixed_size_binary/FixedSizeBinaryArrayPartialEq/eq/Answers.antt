@@ -1,6 +1,6 @@
 use Rattle.std.proofs.Common.{◌≡◌, ◌∙◌, ap, sym, rules}
 use Rattle.std.proofs.lemmas.Bool.Decides.{same_from_decides}
-use Rattle.columnar_memory.specs.Equality.{same_type, same_type-Decides}
+use Rattle.flat_arrays_core.specs.columnar_memory.Equality.{same_type, same_type-Decides}
 use Rattle.nested_arrays_columns.specs.StoredColumns.{column_type}
 use Rattle.nested_arrays_flat.proofs.SamePlaces.{equal_then}
 use Rattle.nested_arrays_flat.specs.SameArrays.{same_column, same_column-Decides}

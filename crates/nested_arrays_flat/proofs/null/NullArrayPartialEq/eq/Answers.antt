@@ -1,7 +1,7 @@
 use Rattle.std.proofs.Common.{◌≡◌, ◌∙◌, sym, rules}
 use Rattle.std.specs.Prelude.{◌==◌}
 use Rattle.std.proofs.lemmas.Bool.Decides.{same_from_decides}
-use Rattle.columnar_memory.specs.Equality.{same_type, same_type-Decides}
+use Rattle.flat_arrays_core.specs.columnar_memory.Equality.{same_type, same_type-Decides}
 use Rattle.nested_arrays_flat.proofs.SamePlaces.{nulls_same}
 use Rattle.nested_arrays_flat.specs.SameArrays.{same_column, same_column-Decides}
 use Rattle.nested_arrays_flat.proofs.null.NullArrayPartialEq.eq.Goals as goal

@@ -3,24 +3,24 @@ use Rattle.std.proofs.Common.{◌∙◌, ap}
 use Rattle.nested_arrays_columns.specs.Children.{dictionary_values}
 use Rattle.nested_arrays_columns.specs.FreshColumns.{mask_of, fresh}
 use Rattle.nested_arrays_columns.specs.StoredColumns.{dictionary}
-use Rattle.nested_arrays_growth.specs.CutLaws.{ListsCut, FixedListsCut, StructsCut, DictionariesCut}
-use Rattle.nested_arrays_growth.specs.GrowthLaws.{ListsGrow, FixedListsGrow, StructsGrow, DictionariesGrow, OneMoreListFits}
-use Rattle.nested_arrays_growth.specs.GrowthLaws.{OneMoreLargeListFits, OneMoreFixedListFits, OneMoreStructFits, OneMoreKeyFits, OneMoreNumberFits}
-use Rattle.nested_arrays_growth.specs.LayerLaws.{ListsStored, FixedListsStored, StructsStored, DictionariesStored, NumbersStored}
-use Rattle.nested_arrays_growth.specs.LayerLaws.{ListsFit, LargeListsFit, MapsFit, FixedListsFit, StructsFit}
-use Rattle.nested_arrays_growth.specs.LayerLaws.{DictionariesFit, NumbersFit, NothingFits, FirstOnesFit}
-use Rattle.nested_arrays_growth.specs.ValueLaws.{ValuesDistinct, ValuesGrow, KeysByPlace, KeysOfNew}
-use Rattle.nested_arrays_growth.proofs.FirstOnes.{items_stored_cut, fixed_stored_cut, struct_stored_cut, dictionary_stored_cut}
-use Rattle.nested_arrays_growth.proofs.Fits.{fits_list, fits_large_list, fits_map, fits_fixed_list, fits_struct}
-use Rattle.nested_arrays_growth.proofs.Fits.{fits_dictionary, fits_primitive, nothing_fits}
-use Rattle.nested_arrays_growth.proofs.LayerParts.{fresh_items, fresh_fixed_list, fresh_struct, fresh_dictionary, fresh_primitive}
-use Rattle.nested_arrays_growth.proofs.Limits.{first_ones_fit}
-use Rattle.nested_arrays_growth.proofs.OneMore.{items_stored_one_more, fixed_stored_one_more, struct_stored_one_more}
-use Rattle.nested_arrays_growth.proofs.OneMore.{dictionary_stored_one_more, list_fits_one_more}
-use Rattle.nested_arrays_growth.proofs.OneMore.{large_list_fits_one_more, fixed_list_fits_one_more, struct_fits_one_more}
-use Rattle.nested_arrays_growth.proofs.OneMore.{dictionary_fits_one_more, primitives_fit_one_more}
-use Rattle.nested_arrays_growth.proofs.Values.{keys_are, values_distinct, values_grow, key_at}
-use Rattle.nested_arrays_growth.proofs.Values.{key_new}
+use Rattle.nested_arrays_columns.specs.CutLaws.{ListsCut, FixedListsCut, StructsCut, DictionariesCut}
+use Rattle.nested_arrays_columns.specs.GrowthLaws.{ListsGrow, FixedListsGrow, StructsGrow, DictionariesGrow, OneMoreListFits}
+use Rattle.nested_arrays_columns.specs.GrowthLaws.{OneMoreLargeListFits, OneMoreFixedListFits, OneMoreStructFits, OneMoreKeyFits, OneMoreNumberFits}
+use Rattle.nested_arrays_columns.specs.LayerLaws.{ListsStored, FixedListsStored, StructsStored, DictionariesStored, NumbersStored}
+use Rattle.nested_arrays_columns.specs.LayerLaws.{ListsFit, LargeListsFit, MapsFit, FixedListsFit, StructsFit}
+use Rattle.nested_arrays_columns.specs.LayerLaws.{DictionariesFit, NumbersFit, NothingFits, FirstOnesFit}
+use Rattle.nested_arrays_columns.specs.ValueLaws.{ValuesDistinct, ValuesGrow, KeysByPlace, KeysOfNew}
+use Rattle.nested_arrays_columns.proofs.FirstOnes.{items_stored_cut, fixed_stored_cut, struct_stored_cut, dictionary_stored_cut}
+use Rattle.nested_arrays_columns.proofs.Fits.{fits_list, fits_large_list, fits_map, fits_fixed_list, fits_struct}
+use Rattle.nested_arrays_columns.proofs.Fits.{fits_dictionary, fits_primitive, nothing_fits}
+use Rattle.nested_arrays_columns.proofs.LayerParts.{fresh_items, fresh_fixed_list, fresh_struct, fresh_dictionary, fresh_primitive}
+use Rattle.nested_arrays_columns.proofs.Limits.{first_ones_fit}
+use Rattle.nested_arrays_columns.proofs.OneMore.{items_stored_one_more, fixed_stored_one_more, struct_stored_one_more}
+use Rattle.nested_arrays_columns.proofs.OneMore.{dictionary_stored_one_more, list_fits_one_more}
+use Rattle.nested_arrays_columns.proofs.OneMore.{large_list_fits_one_more, fixed_list_fits_one_more, struct_fits_one_more}
+use Rattle.nested_arrays_columns.proofs.OneMore.{dictionary_fits_one_more, primitives_fit_one_more}
+use Rattle.nested_arrays_columns.proofs.Values.{keys_are, values_distinct, values_grow, key_at}
+use Rattle.nested_arrays_columns.proofs.Values.{key_new}
 
 pub lists_stored : ListsStored
 lists_stored = fresh_items

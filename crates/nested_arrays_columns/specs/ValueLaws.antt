@@ -5,7 +5,7 @@ use Rattle.nested_arrays_columns.specs.Children.{dictionary_values}
 use Rattle.nested_arrays_columns.specs.FreshColumns.{key_among}
 use Rattle.nested_arrays_columns.specs.SameSlots.{same_slot, is_among, are_distinct}
 use Rattle.nested_arrays_columns.specs.Slots.{Slot}
-use Rattle.nested_arrays_growth.specs.OpenParts.{grown_values, keys_among}
+use Rattle.nested_arrays_columns.specs.OpenParts.{grown_values, keys_among}
 
 -- no value stands twice
 abbrev pub ValuesDistinct : Type 0

@@ -13,7 +13,7 @@ use Rattle.nested_arrays_columns.specs.FreshColumns.{content_of, content_offsets
 use Rattle.nested_arrays_columns.specs.Slots.{Slot, slot_list, in_slots}
 use Rattle.nested_arrays_columns.proofs.Conditions.{list_all-take}
 use Rattle.nested_arrays_columns.proofs.FreshBelow.{pieces_length}
-use Rattle.nested_arrays_growth.specs.OpenParts.{content_spans, item_spans}
+use Rattle.nested_arrays_columns.specs.OpenParts.{content_spans, item_spans}
 
 -- ---- sums
 

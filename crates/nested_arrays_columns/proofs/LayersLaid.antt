@@ -5,8 +5,8 @@ use Rattle.nested_arrays_columns.specs.columnar_memory.declared.IntervalUnit.The
 use Rattle.nested_arrays_columns.specs.StoredColumns.{type_layer}
 use Rattle.nested_arrays_columns.proofs.FreshLengths.{Layer}
 use Rattle.nested_arrays_columns.proofs.TypeLayers.{is_extension, layer_layout, layout_is}
-use Rattle.nested_arrays_growth.specs.TypeLayouts.{IsLaidAs, LayoutsTell}
-use Rattle.nested_arrays_growth.proofs.TypeSteps.{not_extended}
+use Rattle.nested_arrays_columns.specs.TypeLayouts.{IsLaidAs, LayoutsTell}
+use Rattle.nested_arrays_columns.proofs.TypeSteps.{not_extended}
 
 layer_laid : (x : Layer) → is_extension x ≡ false → IsLaidAs (layer_layout x) x
 layer_laid (layer.Interval intervals.YearMonth) plain = refl

@@ -21,10 +21,10 @@ use Rattle.nested_arrays_columns.specs.StoredColumns.{type_layer}
 use Rattle.nested_arrays_columns.proofs.Conditions.{parts_of_3, parts_of_4}
 use Rattle.nested_arrays_columns.proofs.FreshBelow.{no_items}
 use Rattle.nested_arrays_columns.proofs.FreshLengths.{Layer, buildable_field, answers, can_all, unlike}
-use Rattle.nested_arrays_growth.specs.OpenParts.{is_list, is_list_sized, is_record_sized, item_of, most_items, slots_of_fields}
-use Rattle.nested_arrays_growth.proofs.Fields.{column_fits, field_at, fields_count}
-use Rattle.nested_arrays_growth.proofs.Fits.{nothing_fits, fits_list, fits_large_list, fits_map, fits_fixed_list, fits_struct, fits_dictionary}
-use Rattle.nested_arrays_growth.proofs.TypeSteps.{buildable_by_layer, buildable_field_is}
+use Rattle.nested_arrays_columns.specs.OpenParts.{is_list, is_list_sized, is_record_sized, item_of, most_items, slots_of_fields}
+use Rattle.nested_arrays_columns.proofs.Fields.{column_fits, field_at, fields_count}
+use Rattle.nested_arrays_columns.proofs.Fits.{nothing_fits, fits_list, fits_large_list, fits_map, fits_fixed_list, fits_struct, fits_dictionary}
+use Rattle.nested_arrays_columns.proofs.TypeSteps.{buildable_by_layer, buildable_field_is}
 
 -- ---- what fits below
 

@@ -1,5 +1,5 @@
 //! Laws of the first ones of slots: what their column stores, in terms of what that of all stores.
-ghost use Rattle.nested_arrays_growth.specs.CutLaws.{ListsCut, FixedListsCut, StructsCut, DictionariesCut};
+ghost use Rattle.nested_arrays_columns.specs.CutLaws.{ListsCut, FixedListsCut, StructsCut, DictionariesCut};
 
 /// The first lists have the first offsets, and the items up to the last of them.
 #[tactic(auto, using(crate::proofs::Laws::lists_cut))]

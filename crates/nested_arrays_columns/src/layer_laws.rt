@@ -1,8 +1,8 @@
 //! Laws of what the column of some slots stores, and of which slots fit, by one layer of their type.
-ghost use Rattle.nested_arrays_growth.specs.LayerLaws.{ListsStored, FixedListsStored, StructsStored, DictionariesStored, NumbersStored, ListsFit};
-ghost use Rattle.nested_arrays_growth.specs.LayerLaws.{LargeListsFit, MapsFit, FixedListsFit, StructsFit, DictionariesFit, NumbersFit};
-ghost use Rattle.nested_arrays_growth.specs.LayerLaws.{NothingFits, FirstOnesFit};
-ghost use Rattle.nested_arrays_growth.specs.TypeLayouts.{LayoutsTell};
+ghost use Rattle.nested_arrays_columns.specs.LayerLaws.{ListsStored, FixedListsStored, StructsStored, DictionariesStored, NumbersStored, ListsFit};
+ghost use Rattle.nested_arrays_columns.specs.LayerLaws.{LargeListsFit, MapsFit, FixedListsFit, StructsFit, DictionariesFit, NumbersFit};
+ghost use Rattle.nested_arrays_columns.specs.LayerLaws.{NothingFits, FirstOnesFit};
+ghost use Rattle.nested_arrays_columns.specs.TypeLayouts.{LayoutsTell};
 
 /// Lists of either width and maps store the items of their slots, joined.
 #[tactic(auto, using(crate::proofs::Laws::lists_stored))]

@@ -11,7 +11,7 @@ use Rattle.nested_arrays_columns.specs.OpenBatch.{fits}
 use Rattle.nested_arrays_columns.specs.Rows.{fresh_columns}
 use Rattle.nested_arrays_columns.specs.Slots.{Slot}
 use Rattle.nested_arrays_columns.specs.StoredColumns.{lists, fixed_lists, records, dictionary, in_columns, type_layer}
-use Rattle.nested_arrays_growth.specs.OpenParts.{marks_of, mask_from, item_of, item_spans, slots_of_fields, keys_among, values_used}
+use Rattle.nested_arrays_columns.specs.OpenParts.{marks_of, mask_from, item_of, item_spans, slots_of_fields, keys_among, values_used}
 
 abbrev pub ListsCut : Type 0
 ListsCut = (t : DataType) (item : Field) → item_of (type_layer t) ≡ Some item → (n : ℕ) (some : List Slot)

@@ -1,7 +1,7 @@
 //! Laws of slots with one more: what their column stores, and when they fit where the others do.
-ghost use Rattle.nested_arrays_growth.specs.GrowthLaws.{ListsGrow, FixedListsGrow, StructsGrow, DictionariesGrow, OneMoreListFits};
-ghost use Rattle.nested_arrays_growth.specs.GrowthLaws.{OneMoreLargeListFits};
-ghost use Rattle.nested_arrays_growth.specs.GrowthLaws.{OneMoreFixedListFits, OneMoreStructFits, OneMoreKeyFits, OneMoreNumberFits};
+ghost use Rattle.nested_arrays_columns.specs.GrowthLaws.{ListsGrow, FixedListsGrow, StructsGrow, DictionariesGrow, OneMoreListFits};
+ghost use Rattle.nested_arrays_columns.specs.GrowthLaws.{OneMoreLargeListFits};
+ghost use Rattle.nested_arrays_columns.specs.GrowthLaws.{OneMoreFixedListFits, OneMoreStructFits, OneMoreKeyFits, OneMoreNumberFits};
 
 /// One more list has an offset behind the last, and its items stand behind the others.
 #[tactic(auto, using(crate::proofs::Laws::lists_grow))]

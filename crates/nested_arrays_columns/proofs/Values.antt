@@ -19,7 +19,7 @@ use Rattle.nested_arrays_columns.proofs.Distinct.{among_distinct, distinct_disti
 use Rattle.nested_arrays_columns.proofs.FreshKeys.{all_among, among_values}
 use Rattle.nested_arrays_columns.proofs.FreshParts.{keys_of}
 use Rattle.nested_arrays_columns.proofs.SameSlotsDecide.{same_slot-implies, same_slot-itself}
-use Rattle.nested_arrays_growth.specs.OpenParts.{marks_of, grown_values, keys_among, used_by, values_used}
+use Rattle.nested_arrays_columns.specs.OpenParts.{marks_of, grown_values, keys_among, used_by, values_used}
 
 -- ---- sameness
 

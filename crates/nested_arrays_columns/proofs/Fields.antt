@@ -12,8 +12,8 @@ use Rattle.nested_arrays_columns.specs.Slots.{Slot, Slots, null, fields, no_slot
 use Rattle.nested_arrays_columns.specs.StoredColumns.{Column}
 use Rattle.nested_arrays_columns.proofs.FreshPlaces.{at_window}
 use Rattle.nested_arrays_columns.proofs.Windows.{length-window, window_same}
-use Rattle.nested_arrays_growth.specs.OpenParts.{is_record_sized, slots_of_fields, fields_of_slot, pushed_each}
-use Rattle.nested_arrays_growth.proofs.Pieces.{listed}
+use Rattle.nested_arrays_columns.specs.OpenParts.{is_record_sized, slots_of_fields, fields_of_slot, pushed_each}
+use Rattle.nested_arrays_columns.proofs.Pieces.{listed}
 
 -- ---- one field
 

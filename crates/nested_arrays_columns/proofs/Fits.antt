@@ -30,10 +30,10 @@ use Rattle.nested_arrays_columns.proofs.FreshBelow.{no_items, values_fit, TakeNu
 use Rattle.nested_arrays_columns.proofs.FreshKeys.{implied, all_among, among_values}
 use Rattle.nested_arrays_columns.proofs.FreshLengths.{Layer, cell_field, cell_layer, unlike}
 use Rattle.nested_arrays_columns.proofs.SameSlotsDecide.{same_slot-implies}
-use Rattle.nested_arrays_growth.specs.OpenParts.{is_list, is_list_sized, is_record_sized, is_of_kind, kind_in}
-use Rattle.nested_arrays_growth.specs.OpenParts.{slots_of_fields}
-use Rattle.nested_arrays_growth.proofs.LayerParts.{kind_by_layout}
-use Rattle.nested_arrays_growth.proofs.TypeSteps.{within_field, within_layer, fits_by_layer, cell_field_is, within_field_is}
+use Rattle.nested_arrays_columns.specs.OpenParts.{is_list, is_list_sized, is_record_sized, is_of_kind, kind_in}
+use Rattle.nested_arrays_columns.specs.OpenParts.{slots_of_fields}
+use Rattle.nested_arrays_columns.proofs.LayerParts.{kind_by_layout}
+use Rattle.nested_arrays_columns.proofs.TypeSteps.{within_field, within_layer, fits_by_layer, cell_field_is, within_field_is}
 
 -- ---- tests
 

@@ -16,8 +16,8 @@ use Rattle.nested_arrays_columns.specs.Rows.{columns_fit, fresh_columns}
 use Rattle.nested_arrays_columns.specs.SameSlots.{is_among}
 use Rattle.nested_arrays_columns.specs.Slots.{Slot}
 use Rattle.nested_arrays_columns.specs.StoredColumns.{lists, fixed_lists, records, dictionary, in_columns, type_layer}
-use Rattle.nested_arrays_growth.specs.OpenParts.{marks_of, mask_from, item_of, is_list, is_list_sized, is_record_sized, is_of_kind}
-use Rattle.nested_arrays_growth.specs.OpenParts.{slots_of_fields, fields_of_slot, pushed_each, grown_values, keys_among}
+use Rattle.nested_arrays_columns.specs.OpenParts.{marks_of, mask_from, item_of, is_list, is_list_sized, is_record_sized, is_of_kind}
+use Rattle.nested_arrays_columns.specs.OpenParts.{slots_of_fields, fields_of_slot, pushed_each, grown_values, keys_among}
 
 -- ---- what is stored
 

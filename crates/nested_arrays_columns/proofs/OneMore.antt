@@ -24,17 +24,17 @@ use Rattle.nested_arrays_columns.specs.Slots.{Slot, null}
 use Rattle.nested_arrays_columns.specs.StoredColumns.{nulls, lists, fixed_lists, records, dictionary}
 use Rattle.nested_arrays_columns.specs.StoredColumns.{in_columns, type_layer}
 use Rattle.nested_arrays_columns.proofs.Conditions.{parts_of_3, parts_of_4}
-use Rattle.nested_arrays_growth.specs.OpenParts.{marks_of, mask_from, is_list, is_list_sized, is_record_sized, item_of, is_of_kind, slots_of_fields}
-use Rattle.nested_arrays_growth.specs.OpenParts.{fields_of_slot, pushed_each, grown_values, keys_among}
-use Rattle.nested_arrays_growth.proofs.Fields.{fields_one_more}
-use Rattle.nested_arrays_growth.proofs.Fits.{fits_list, fits_large_list, fits_map, fits_fixed_list, fits_struct, fits_dictionary, fits_nulls}
-use Rattle.nested_arrays_growth.proofs.Fits.{fits_booleans, fits_binary, fits_large_binary, fits_texts, fits_large_texts, fits_fixed_binary}
-use Rattle.nested_arrays_growth.proofs.Fits.{fits_primitive}
-use Rattle.nested_arrays_growth.proofs.LayerParts.{fresh_items, fresh_fixed_list, fresh_struct, fresh_dictionary, fresh_nulls}
-use Rattle.nested_arrays_growth.proofs.Limits.{all_one_more, length_one_more, bytes_counted}
-use Rattle.nested_arrays_growth.proofs.Masks.{mask_one_more}
-use Rattle.nested_arrays_growth.proofs.Pieces.{joined_one_more, joined_length_one_more, offsets_one_more}
-use Rattle.nested_arrays_growth.proofs.Values.{values_grow, keys_one_more, keys_are}
+use Rattle.nested_arrays_columns.specs.OpenParts.{marks_of, mask_from, is_list, is_list_sized, is_record_sized, item_of, is_of_kind, slots_of_fields}
+use Rattle.nested_arrays_columns.specs.OpenParts.{fields_of_slot, pushed_each, grown_values, keys_among}
+use Rattle.nested_arrays_columns.proofs.Fields.{fields_one_more}
+use Rattle.nested_arrays_columns.proofs.Fits.{fits_list, fits_large_list, fits_map, fits_fixed_list, fits_struct, fits_dictionary, fits_nulls}
+use Rattle.nested_arrays_columns.proofs.Fits.{fits_booleans, fits_binary, fits_large_binary, fits_texts, fits_large_texts, fits_fixed_binary}
+use Rattle.nested_arrays_columns.proofs.Fits.{fits_primitive}
+use Rattle.nested_arrays_columns.proofs.LayerParts.{fresh_items, fresh_fixed_list, fresh_struct, fresh_dictionary, fresh_nulls}
+use Rattle.nested_arrays_columns.proofs.Limits.{all_one_more, length_one_more, bytes_counted}
+use Rattle.nested_arrays_columns.proofs.Masks.{mask_one_more}
+use Rattle.nested_arrays_columns.proofs.Pieces.{joined_one_more, joined_length_one_more, offsets_one_more}
+use Rattle.nested_arrays_columns.proofs.Values.{values_grow, keys_one_more, keys_are}
 
 -- ---- what is stored
 

@@ -16,7 +16,7 @@ use Rattle.nested_arrays_columns.specs.OpenBatch.{most_short, most_long, is_leng
 use Rattle.nested_arrays_columns.specs.Rows.{columns_fit, fresh_columns}
 use Rattle.nested_arrays_columns.specs.Slots.{Slot}
 use Rattle.nested_arrays_columns.specs.StoredColumns.{flat, lists, fixed_lists, records, dictionary, in_columns, type_layer}
-use Rattle.nested_arrays_growth.specs.OpenParts.{item_of, is_list, is_list_sized, is_record_sized, is_of_kind, slots_of_fields, keys_among}
+use Rattle.nested_arrays_columns.specs.OpenParts.{item_of, is_list, is_list_sized, is_record_sized, is_of_kind, slots_of_fields, keys_among}
 
 -- ---- what is stored
 

@@ -1,5 +1,5 @@
 //! Laws of the values and keys of dictionaries.
-ghost use Rattle.nested_arrays_growth.specs.ValueLaws.{ValuesDistinct, ValuesGrow, KeysStay, KeysByPlace, KeysOfNew, NotAmong};
+ghost use Rattle.nested_arrays_columns.specs.ValueLaws.{ValuesDistinct, ValuesGrow, KeysStay, KeysByPlace, KeysOfNew, NotAmong};
 
 /// No value stands twice.
 #[tactic(auto, using(crate::proofs::Laws::values_apart))]

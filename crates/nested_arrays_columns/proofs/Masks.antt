@@ -12,7 +12,7 @@ use Rattle.nested_arrays_columns.specs.columnar_memory.Bits.{unset_count}
 use Rattle.nested_arrays_columns.specs.Cells.{is_null}
 use Rattle.nested_arrays_columns.specs.FreshColumns.{is_valid, mask_of}
 use Rattle.nested_arrays_columns.specs.Slots.{Slot}
-use Rattle.nested_arrays_growth.specs.OpenParts.{marks_of, mask_from}
+use Rattle.nested_arrays_columns.specs.OpenParts.{marks_of, mask_from}
 
 twice : (b : Bool) → b ≡ not (not b)
 twice true = refl

@@ -21,8 +21,8 @@ use Rattle.nested_arrays_columns.specs.StoredColumns.{column_then, in_columns, t
 use Rattle.nested_arrays_columns.proofs.FreshLengths.{Layer, fresh_field, fresh_layer, makers_of, unlike}
 use Rattle.nested_arrays_columns.proofs.FreshParts.{keys_of}
 use Rattle.nested_arrays_columns.proofs.TypeLayers.{is_extension, layer_layout}
-use Rattle.nested_arrays_growth.specs.OpenParts.{item_of, kind_in, slots_of_fields}
-use Rattle.nested_arrays_growth.proofs.TypeSteps.{fresh_by_layer, layout_by_layer, not_extended, fresh_field_is}
+use Rattle.nested_arrays_columns.specs.OpenParts.{item_of, kind_in, slots_of_fields}
+use Rattle.nested_arrays_columns.proofs.TypeSteps.{fresh_by_layer, layout_by_layer, not_extended, fresh_field_is}
 
 -- ---- lists and maps
 

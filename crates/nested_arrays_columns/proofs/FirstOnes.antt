@@ -19,15 +19,15 @@ use Rattle.nested_arrays_columns.specs.StoredColumns.{bits, texts, byte_strings,
 use Rattle.nested_arrays_columns.specs.StoredColumns.{in_columns, type_layer}
 use Rattle.nested_arrays_columns.proofs.Conditions.{parts_of_3}
 use Rattle.nested_arrays_columns.proofs.FreshLengths.{content_piece}
-use Rattle.nested_arrays_growth.specs.OpenParts.{marks_of, mask_from, is_list_sized, item_of, slots_of_fields, keys_among, values_used, content_spans}
-use Rattle.nested_arrays_growth.specs.OpenParts.{item_spans}
-use Rattle.nested_arrays_growth.proofs.Fields.{fields_cut}
-use Rattle.nested_arrays_growth.proofs.Fits.{fits_fixed_list, fits_fixed_binary}
-use Rattle.nested_arrays_growth.proofs.LayerParts.{fresh_items, fresh_fixed_list, fresh_struct, fresh_dictionary, fresh_nulls, fresh_booleans}
-use Rattle.nested_arrays_growth.proofs.LayerParts.{fresh_binary, fresh_large_binary, fresh_texts, fresh_large_texts, fresh_fixed_binary}
-use Rattle.nested_arrays_growth.proofs.Masks.{mask_cut}
-use Rattle.nested_arrays_growth.proofs.Pieces.{joined_cut_at, offsets_cut, sized_cut}
-use Rattle.nested_arrays_growth.proofs.Values.{keys_are, keys_first, values_cut}
+use Rattle.nested_arrays_columns.specs.OpenParts.{marks_of, mask_from, is_list_sized, item_of, slots_of_fields, keys_among, values_used, content_spans}
+use Rattle.nested_arrays_columns.specs.OpenParts.{item_spans}
+use Rattle.nested_arrays_columns.proofs.Fields.{fields_cut}
+use Rattle.nested_arrays_columns.proofs.Fits.{fits_fixed_list, fits_fixed_binary}
+use Rattle.nested_arrays_columns.proofs.LayerParts.{fresh_items, fresh_fixed_list, fresh_struct, fresh_dictionary, fresh_nulls, fresh_booleans}
+use Rattle.nested_arrays_columns.proofs.LayerParts.{fresh_binary, fresh_large_binary, fresh_texts, fresh_large_texts, fresh_fixed_binary}
+use Rattle.nested_arrays_columns.proofs.Masks.{mask_cut}
+use Rattle.nested_arrays_columns.proofs.Pieces.{joined_cut_at, offsets_cut, sized_cut}
+use Rattle.nested_arrays_columns.proofs.Values.{keys_are, keys_first, values_cut}
 
 -- ---- parts
 

@@ -1,5 +1,0 @@
-use Rattle.nested_arrays_growth.proofs.Values.{keys_stay}
-use Rattle.nested_arrays_growth.proofs.value_laws.slots_keep_their_keys.Goals as goal
-
-pub returns : goal.returns
-returns c = keys_stay

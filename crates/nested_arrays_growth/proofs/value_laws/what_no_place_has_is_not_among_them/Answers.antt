@@ -1,5 +1,0 @@
-use Rattle.nested_arrays_growth.proofs.Values.{not_among}
-use Rattle.nested_arrays_growth.proofs.value_laws.what_no_place_has_is_not_among_them.Goals as goal
-
-pub returns : goal.returns
-returns c = not_among
