@@ -19,7 +19,6 @@ pub use Rattle.nested_arrays_generic.specs.flat.EqualArrays
 pub use Rattle.nested_arrays_generic.specs.flat.FixedSizeItems
 pub use Rattle.nested_arrays_generic.specs.flat.FlatColumns
 pub use Rattle.nested_arrays_generic.specs.flat.Primitives
-pub use Rattle.nested_arrays_generic.specs.flat.SameArrays
 pub use Rattle.nested_arrays_generic.specs.flat.Taken
 pub use Rattle.nested_arrays_generic.specs.parts.Childless
 pub use Rattle.nested_arrays_generic.specs.parts.FlatLayouts
@@ -44,3 +43,4 @@ pub use Rattle.nested_arrays_generic.specs.access.MaskedArrays
 pub use Rattle.nested_arrays_generic.specs.access.NullLaws
 pub use Rattle.nested_arrays_generic.specs.access.Nulls
 pub use Rattle.nested_arrays_generic.specs.columnar_memory
+pub use Rattle.nested_arrays_generic.specs as generic
