@@ -3,17 +3,23 @@
 
 usage: prove.py LIBS PACKAGE..      LIBS: a folder for what is built, as NAME/NAME.rlib; what is there is taken as it is
 
-`rt ci` gives a proof more than one job only where it reckons memory for it, so near the top it proves one package at a time with one job. Here each
-proof gets the jobs that are idle when it begins, two proofs at most stand side by side, and a line says how long each took; its output is
-LIBS/NAME.log. It is no verdict: only the gate's is. A package that changed is proved again only once its folder in LIBS is removed, and so are those
-above it. LANES says how many processors to use.
+`rt ci` gives a proof more than one job only where it reckons memory for it, so near the top it proves one package at a time with one job. Here the
+package that most others wait for gets all processors (LANES, or those of the machine), and two at most stand beside it, with what processors are
+idle while it loads what is below it. A line says how long each took; its output is LIBS/NAME.log, and a program is linked as LIBS/NAME/NAME. It is no
+verdict: only the gate's is. A package that changed is proved again only once its folder in LIBS is removed, and so are those above it. Started anew,
+it takes over what a run that was stopped left running.
 """
 import os, shutil, subprocess, sys, time
 
 ROOT = os.path.dirname(os.path.dirname(os.path.dirname(os.path.abspath(__file__))))
 KIT = os.path.dirname(os.path.dirname(os.path.realpath(shutil.which('rt') or 'rt')))
+TARGET = 'x86_64-unknown-linux-gnu'
 LANES = int(os.environ.get('LANES') or len(os.sched_getaffinity(0)))
-MOST = 2
+# What a package costs before its first function, in lines, and the memory without which none is begun beside another, in kB.
+FIXED = 1500
+FREE = 8_000_000
+# How much of the processors packages get that stand side by side, by the `nice` of their sessions: what most others wait for, and what comes next.
+SHARES = -10, -5, 19
 
 
 class Packages:
@@ -42,19 +48,23 @@ class Packages:
             found.append(name)
 
     def lines(self, name):
-        files = [os.path.join(folder, it) for part in ('src', 'specs', 'proofs') for folder, _, its in os.walk(f'{ROOT}/crates/{name}/{part}') for it in its]
-        return sum(open(it, 'rb').read().count(b'\n') for it in files)
+        files = [os.path.join(folder, it) for folder, _, its in os.walk(f'{ROOT}/crates/{name}/src') for it in its]
+        return FIXED + sum(open(it, 'rb').read().count(b'\n') for it in files)
 
-    def lib(self, name): return f'{self.libs}/{name}/{name}.rlib'
+    def is_program(self, name): return os.path.isfile(f'{ROOT}/crates/{name}/src/main.rt')
 
-    def is_built(self, name): return os.path.isfile(f'{self.lib(name)}/format')
+    def lib(self, name): return f'{self.libs}/{name}/{name}' + ('' if self.is_program(name) else '.rlib')
 
-    def command(self, name, jobs, out):
+    def is_built(self, name): return os.path.isfile(self.lib(name) if self.is_program(name) else f'{self.lib(name)}/format')
+
+    def begun(self, name): return f'{self.libs}/{name}.begun'
+
+    def command(self, name, jobs):
         below = []
         self.visit(name, below)
         kit = ['std', *(it for it in self.listed[name] if it not in self.listed)]
-        top = 'src/main.rt' if os.path.isfile(f'{ROOT}/crates/{name}/src/main.rt') else 'src/lib.rt'
-        words = [f'{KIT}/bin/rattle', 'build', '--crate-name', name, top]
+        program = self.is_program(name)
+        words = [f'{KIT}/bin/rattle', 'build', '--crate-name', name, f'src/{"main" if program else "lib"}.rt']
         for it in dict.fromkeys(kit):
             words += ['--extern', f'{it}={KIT}/rlibs/{it}.rlib']
         words += ['-L', f'dependency={KIT}/rlibs']
@@ -63,43 +73,93 @@ class Packages:
         for it in below[:-1]:
             words += ['-L', f'dependency={self.libs}/{it}']
         words += ['--antt-project', f'{KIT}/rattle/logic/antt-project.json', '--logic-built', f'{KIT}/logic_built', '--links', f'{name}=']
-        return [*words, '--jobs', str(jobs), '--statements', '-o', out, '--empty-contracts']
+        words += ['--toolchain', f'{KIT}/toolchain', '--backend', 'llvm'] if program else ['--statements', '--empty-contracts']
+        return [*words, '--jobs', str(jobs), '-o', self.begun(name)]
+
+    def keep(self, name):
+        """Puts what was built where it is looked for; whether there was something."""
+        if not os.path.exists(self.begun(name)):
+            return False
+        os.makedirs(f'{self.libs}/{name}', exist_ok=True)
+        if not self.is_program(name):
+            os.rename(self.begun(name), self.lib(name))
+            return True
+        c = [f'{KIT}/c/libos_c.a', f'{KIT}/c/liblibc_c.a']
+        words = [f'{KIT}/bin/rattle-link', '--target', TARGET, '--toolchain', f'{KIT}/toolchain', '-o', self.lib(name)]
+        os.rename(self.begun(name), f'{self.lib(name)}.o')
+        return subprocess.call([*words, f'{self.lib(name)}.o', *c], stdout=subprocess.DEVNULL) == 0
 
 
 def say(text): print(time.strftime('%H:%M:%S'), text, flush=True)
 
 
+def written(path, text):
+    """Writes to a file, where the machine lets us."""
+    try:
+        with open(path, 'w', encoding='utf-8') as it:
+            it.write(text)
+    except OSError:
+        pass
+
+
+def free():
+    with open('/proc/meminfo', encoding='utf-8') as found:
+        return next(int(line.split()[1]) for line in found if line.startswith('MemAvailable'))
+
+
+def is_alive(pid):
+    try:
+        with open(f'/proc/{pid}/stat', encoding='utf-8') as found:
+            return found.read().rpartition(')')[2].split()[0] != 'Z'
+    except OSError:
+        return False
+
+
 def begin(packages, name, jobs):
-    out = f'{packages.libs}/{name}.begun'
-    shutil.rmtree(out, ignore_errors=True)
+    remove = shutil.rmtree if os.path.isdir(packages.begun(name)) else os.remove
+    if os.path.exists(packages.begun(name)):
+        remove(packages.begun(name))
     with open(f'{packages.libs}/{name}.log', 'w', encoding='utf-8') as log:
-        process = subprocess.Popen(packages.command(name, jobs, out), cwd=f'{ROOT}/crates/{name}', stdout=log, stderr=subprocess.STDOUT)
+        command, folder = packages.command(name, jobs), f'{ROOT}/crates/{name}'
+        process = subprocess.Popen(command, cwd=folder, stdout=log, stderr=subprocess.STDOUT, start_new_session=True)
+    written(f'{packages.libs}/{name}.pid', str(process.pid))
     say(f'begins {name}, {jobs} jobs')
-    return process, time.time(), jobs, out
+    return process.pid, time.time()
+
+
+def left_running(packages):
+    found = {}
+    for name in packages.wanted:
+        if os.path.isfile(f'{packages.libs}/{name}.pid'):
+            with open(f'{packages.libs}/{name}.pid', encoding='utf-8') as it:
+                found[name] = int(it.read()), time.time()
+    return found
 
 
 def main(libs, targets):
     os.makedirs(libs, exist_ok=True)
-    packages, running, failed = Packages(os.path.abspath(libs), targets), {}, []
-    left = sorted((it for it in packages.wanted if not packages.is_built(it)), key=lambda it: -packages.behind[it])
+    packages = Packages(os.path.abspath(libs), targets)
+    running, failed, order = left_running(packages), [], []
+    left = sorted((it for it in packages.wanted if it not in running and not packages.is_built(it)), key=lambda it: -packages.behind[it])
     while left or running:
-        for name in [it for it in running if running[it][0].poll() is not None]:
-            process, start, jobs, out = running.pop(name)
-            if process.returncode or not os.path.isdir(out):
-                failed.append(name)
-            else:
-                os.makedirs(f'{packages.libs}/{name}', exist_ok=True)
-                os.rename(out, packages.lib(name))
-            say(f'{"FAILED" if name in failed else "proved"} {name} after {time.time() - start:.0f} s, {jobs} jobs')
+        for name in [it for it in running if not is_alive(running[it][0])]:
+            start = running.pop(name)[1]
+            os.remove(f'{packages.libs}/{name}.pid')
+            failed += [] if packages.keep(name) else [name]
+            say(f'{"FAILED" if name in failed else "proved"} {name} after {time.time() - start:.0f} s')
         ready = [it for it in left if all(packages.is_built(below) for below in packages.own(it))]
-        idle = LANES - sum(it[2] for it in running.values())
-        if ready and idle > 0 and len(running) < MOST:
+        first = ready and all(packages.behind[ready[0]] > packages.behind[it] for it in running)
+        if ready and len(running) < len(SHARES) and (first or free() > FREE):
             left.remove(ready[0])
-            running[ready[0]] = begin(packages, ready[0], idle if len(ready) == 1 else max(1, idle * 3 // 4))
-        elif running:
-            time.sleep(1)
-        else:
+            running[ready[0]] = begin(packages, ready[0], LANES if first else max(1, LANES // 2))
+        elif not running:
             break
+        if sorted(running) != sorted(order):
+            order = sorted(running, key=lambda it: -packages.behind[it])
+            for name, share in zip(order, SHARES):
+                written(f'/proc/{running[name][0]}/autogroup', str(share))
+                written(f'/proc/{running[name][0]}/oom_score_adj', '0' if name == order[0] else '800')
+        time.sleep(1)
     say(f'failed: {" ".join(failed) or "none"}; not reached: {len(left)}')
     return bool(failed or left)
 
