@@ -11,4 +11,4 @@ pub mod SoundFlats
 pub mod SoundStrings
 pub use Rattle.flat_arrays_core.proofs as flat_arrays_lemmas
 pub use Rattle.nested_arrays_columns.proofs as columns_lemmas
-pub use Rattle.columnar_memory.proofs as columnar_memory_lemmas
+pub use Rattle.flat_arrays_core.proofs.bytes_lemmas.columnar_memory_lemmas

@@ -11,7 +11,7 @@ use Rattle.flat_arrays_core.specs.columnar_memory.Spans.{Spans, ends_from, offse
 use Rattle.flat_arrays_core.specs.columnar_memory.declared.DataType.TheOpen as layer
 use Rattle.flat_arrays_core.specs.columnar_memory.declared.PhysicalType.{PhysicalType}
 use Rattle.flat_arrays_core.specs.columnar_memory.declared.PhysicalType.TheVariants as physical
-use Rattle.columnar_memory.proofs.buffer_lemmas.Runs.{sum-cons, offset_at-more, nonnegative}
+use Rattle.flat_arrays_core.proofs.bytes_lemmas.columnar_memory_lemmas.buffer_lemmas.Runs.{sum-cons, offset_at-more, nonnegative}
 use Rattle.flat_arrays_core.proofs.bytes_lemmas.Places.{value_between, text_among}
 use Rattle.flat_arrays_core.specs.ByteStrings as arrays
 use Rattle.flat_arrays_core.specs.ByteStrings.{ByteStrings, len_of, values_of}
