@@ -1,5 +1,6 @@
 #!/usr/bin/env python3
-"""Lists the paths into specs/ and proofs/ that lead nowhere: those of `use` and `ghost use`, and of the attributes `using` and `unfolding`.
+"""Lists the paths into specs/ and proofs/ that lead nowhere, or into a package that crates.txt does not list for the one that writes them: those of
+`use` and `ghost use`, and of the attributes `using` and `unfolding`.
 
 usage: resolve.py      prints a line for each, and a count last; the status is 1 where there is one
 
@@ -36,10 +37,10 @@ def attributes(text, crate):
 
 
 @functools.lru_cache(None)
-def listed():
-    """The packages and libraries that crates.txt names, and those that it need not name."""
+def listed(crate=None):
+    """The packages and libraries that crates.txt names, or those that a package may name: itself, what its line lists, and what need not be listed."""
     with open(os.path.join(os.path.dirname(CRATES), 'crates.txt'), encoding='utf-8') as found:
-        return {'std', 'core', *re.findall(r'\w+', found.read())}
+        return {'std', 'core', *(it for line in found if not crate or line.startswith(crate + ':') for it in re.findall(r'\w+', line))}
 
 
 @functools.lru_cache(None)
@@ -87,7 +88,8 @@ def main():
                 with open(path, encoding='utf-8') as found:
                     text = found.read()
                 for used in [*(it for it, _ in uses(text)), *attributes(text, crate)]:
-                    count, where = count + 1, lost(used)
+                    library = used.split('.')[1]
+                    count, where = count + 1, lost(used) if library in listed(crate) else library + ' is not listed'
                     if where:
                         wrong += 1
                         print('%s: %s: %s' % (os.path.relpath(path, CRATES), used, where))
