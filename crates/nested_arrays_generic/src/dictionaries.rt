@@ -1,6 +1,7 @@
 //! Dictionaries.
 ghost use Rattle.std.specs.Prelude.{◌≡◌, ◌+◌, ◌<◌, ◌≤◌, ◌≤ℤ◌, ◌↔◌, IsTrue, false, not, option_copied, pos, true};
 ghost use Rattle.nested_arrays_access.specs.columnar_memory.Layouts.{physical_type};
+ghost use Rattle.nested_arrays_access.specs.columnar_memory.Results.{OrOutOfMemory};
 ghost use Rattle.nested_arrays_access.specs.columnar_memory.declared.PhysicalType.TheVariants as physical;
 ghost use Rattle.nested_arrays_access.specs.columns.StoredColumns.{column_len, column_type, cut, is_valid_at, type_layer};
 ghost use Rattle.nested_arrays_access.specs.flat.ColumnMasks.{column_mask, unset_in, ReplacesMask};
@@ -79,6 +80,13 @@ fn are_parts<K: DictionaryKey>(
     name_values(keys, keys.validity(), values.len())
 }
 
+/// A data type in memory of its own.
+fn boxed_type(alloc: Global, data_type: &DataType) -> Result<Boxed<DataType>>
+    ensures { OrOutOfMemory result (λ boxed. boxed ≡ data_type.now) }
+{
+    Ok(Boxed::new(alloc, data_type.clone()?)?)
+}
+
 impl<K: DictionaryKey> DictionaryArray<K> {
     /// The array of a data type, keys and values. Takes no memory.
     ///
@@ -93,6 +101,9 @@ impl<K: DictionaryKey> DictionaryArray<K> {
         ensures { IsCheckedAs (physical.Dictionary K.KEY_TYPE) (keyed_by K.value data_type keys values.value) result }
     {
         if !are_parts(&data_type, &keys, &values) {
+            drop(data_type);
+            drop(keys);
+            drop(values);
             return Err(Error::OutOfSpec("a type, keys and values that make no dictionary"));
         }
         Ok(DictionaryArray {
@@ -114,7 +125,7 @@ impl<K: DictionaryKey> DictionaryArray<K> {
     ) -> Result<Self>
         ensures { IsDictionaryOf K.KEY_TYPE (λ data_type. keyed_by K.value data_type keys values.value) (column_type values.value) result }
     {
-        let value_type = Boxed::new(alloc, values.data_type().clone()?)?;
+        let value_type = boxed_type(alloc, values.data_type())?;
         DictionaryArray::try_new(
             DataType::Dictionary(K::KEY_TYPE, value_type, false),
             keys,

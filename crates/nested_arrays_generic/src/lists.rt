@@ -98,6 +98,10 @@ impl<O: Offset> ListArray<O> {
         ensures { IsCheckedAs (list_layout O.IS_LARGE) (lists data_type validity (offsets_of offsets) values.value) result }
     {
         if !are_lists(&data_type, &offsets, &values, &validity) {
+            drop(data_type);
+            drop(offsets);
+            drop(values);
+            drop(validity);
             return Err(Error::OutOfSpec(
                 "a type, offsets, items and a mask that make no array of lists",
             ));
