@@ -40,12 +40,12 @@ use Rattle.nested_arrays_builders.proofs.arrays_lemmas.flat_lemmas.Offsets.{get_
 use Rattle.nested_arrays_builders.proofs.arrays_lemmas.flat_lemmas.SoundStrings.{spans_sound}
 use Rattle.nested_arrays_builders.proofs.columns_lemmas.Conditions.{holds_at, holds_from, list_all-take, parts_of_3}
 use Rattle.nested_arrays_builders.proofs.columns_lemmas.FreshLengths.{Layer}
-use Rattle.nested_arrays_builders.proofs.growth_lemmas.Fits.{fits_binary, fits_large_binary, fits_large_texts, fits_texts}
-use Rattle.nested_arrays_builders.proofs.growth_lemmas.LayerParts.{fresh_binary, fresh_large_binary, fresh_large_texts, fresh_texts}
-use Rattle.nested_arrays_builders.proofs.growth_lemmas.Limits.{bytes_counted}
-use Rattle.nested_arrays_builders.proofs.growth_lemmas.OneMore.{binary_fits_one_more, large_binary_fits_one_more, large_texts_fit_one_more}
-use Rattle.nested_arrays_builders.proofs.growth_lemmas.OneMore.{texts_fit_one_more}
-use Rattle.nested_arrays_builders.proofs.growth_lemmas.Pieces.{content_spans_are, joined_cut_at, joined_one_more, lengths_cut, lengths_one_more}
+use Rattle.nested_arrays_builders.proofs.columns_lemmas.Fits.{fits_binary, fits_large_binary, fits_large_texts, fits_texts}
+use Rattle.nested_arrays_builders.proofs.columns_lemmas.LayerParts.{fresh_binary, fresh_large_binary, fresh_large_texts, fresh_texts}
+use Rattle.nested_arrays_builders.proofs.columns_lemmas.Limits.{bytes_counted}
+use Rattle.nested_arrays_builders.proofs.columns_lemmas.OneMore.{binary_fits_one_more, large_binary_fits_one_more, large_texts_fit_one_more}
+use Rattle.nested_arrays_builders.proofs.columns_lemmas.OneMore.{texts_fit_one_more}
+use Rattle.nested_arrays_builders.proofs.columns_lemmas.Pieces.{content_spans_are, joined_cut_at, joined_one_more, lengths_cut, lengths_one_more}
 use Rattle.nested_arrays_builders.proofs.parts_lemmas.FlatLayers.{at_layout, binary_layer, large_binary_layer, large_text_layer, text_layer}
 use Rattle.nested_arrays_builders.specs.values.ByteBuilders.{AddsByteNull, LeavesNoBytes, from_zero}
 use Rattle.nested_arrays_builder_arrays.specs.OpenColumns.{AddsNull, Becomes, IsEmptied, KeepsFirst, slots_and}

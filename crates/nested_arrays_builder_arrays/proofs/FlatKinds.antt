@@ -28,11 +28,11 @@ use Rattle.nested_arrays_builders.specs.columns.Slots.{Slot, null, truth, number
 use Rattle.nested_arrays_builders.specs.columns.SoundColumns.{has_size, is_stored_as, mask_fits}
 use Rattle.nested_arrays_builders.specs.columns.StoredColumns.{Column, Stored, bits, numbers, pairs, triples, flat, pair_slot, triple_slot}
 use Rattle.nested_arrays_builders.specs.columns.StoredColumns.{type_layer}
-use Rattle.nested_arrays_builders.specs.growth.OpenParts.{is_of_kind}
+use Rattle.nested_arrays_builders.specs.columns.OpenParts.{is_of_kind}
 use Rattle.nested_arrays_builders.proofs.columns_lemmas.Conditions.{list_all-take, parts_of_3}
 use Rattle.nested_arrays_builders.proofs.columns_lemmas.FreshLengths.{Layer}
-use Rattle.nested_arrays_builders.proofs.growth_lemmas.LayerParts.{fresh_booleans, fresh_primitive}
-use Rattle.nested_arrays_builders.proofs.growth_lemmas.OneMore.{booleans_fit_one_more, primitives_fit_one_more}
+use Rattle.nested_arrays_builders.proofs.columns_lemmas.LayerParts.{fresh_booleans, fresh_primitive}
+use Rattle.nested_arrays_builders.proofs.columns_lemmas.OneMore.{booleans_fit_one_more, primitives_fit_one_more}
 use Rattle.nested_arrays_builders.proofs.parts_lemmas.FlatLayers.{at_layout, boolean_layer}
 use Rattle.nested_arrays_builder_arrays.specs.OpenColumns.{Becomes, IsEmptied, KeepsFirst, slots_and}
 use Rattle.nested_arrays_builder_arrays.proofs.FlatSlots.{FlatLaws, Keeps, KeepsEach, each_kept, first_kept, first_marks, none_left, null_added}

@@ -24,13 +24,13 @@ use Rattle.nested_arrays_builders.specs.columns.Slots.{Slot, null, window}
 use Rattle.nested_arrays_builders.specs.columns.SoundColumns.{has_size, is_sound, is_stored_as, mask_fits}
 use Rattle.nested_arrays_builders.specs.columns.StoredColumns.{Column, Stored, bits, column_type, flat, is_valid_at, slot_at, slots, stored_at}
 use Rattle.nested_arrays_builders.specs.columns.StoredColumns.{stored_len, type_layer}
-use Rattle.nested_arrays_builders.specs.growth.OpenParts.{marks_of}
+use Rattle.nested_arrays_builders.specs.columns.OpenParts.{marks_of}
 use Rattle.nested_arrays_builders.specs.generic.access.Nulls.{is_null_at}
 use Rattle.nested_arrays_builders.proofs.columns_lemmas.ColumnSizes.{slots_lengths}
 use Rattle.nested_arrays_builders.proofs.columns_lemmas.Windows.{window_same}
-use Rattle.nested_arrays_builders.proofs.growth_lemmas.Limits.{first_ones_fit, fits_length}
-use Rattle.nested_arrays_builders.proofs.growth_lemmas.Masks.{all_valid, cut_stays_away, marks_away, marks_there, mask_away, mask_by_count}
-use Rattle.nested_arrays_builders.proofs.growth_lemmas.Masks.{mask_comes, mask_cut, mask_grows, mask_is, mask_one_more, mask_there}
+use Rattle.nested_arrays_builders.proofs.columns_lemmas.Limits.{first_ones_fit, fits_length}
+use Rattle.nested_arrays_builders.proofs.columns_lemmas.Masks.{all_valid, cut_stays_away, marks_away, marks_there, mask_away, mask_by_count}
+use Rattle.nested_arrays_builders.proofs.columns_lemmas.Masks.{mask_comes, mask_cut, mask_grows, mask_is, mask_one_more, mask_there}
 use Rattle.nested_arrays_builder_arrays.specs.FlatBuilders.{AddsFlatNull}
 use Rattle.nested_arrays_builder_arrays.specs.OpenColumns.{AddsNull, Becomes, IsEmptied, IsFresh, KeepsFirst, TakesColumn, slots_and}
 

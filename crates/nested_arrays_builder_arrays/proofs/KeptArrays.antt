@@ -20,11 +20,11 @@ use Rattle.nested_arrays_builders.specs.columns.StoredColumns.{type_layer}
 use Rattle.nested_arrays_builders.proofs.columns_lemmas.Conditions.{parts_of_4}
 use Rattle.nested_arrays_builders.proofs.columns_lemmas.FreshLengths.{Layer}
 use Rattle.nested_arrays_builders.proofs.columns_lemmas.FreshSound.{fresh_is_sound}
-use Rattle.nested_arrays_builders.specs.growth.OpenParts.{mask_from, slots_of_fields}
-use Rattle.nested_arrays_builders.proofs.growth_lemmas.Below.{buildable_struct, values_fit_below}
-use Rattle.nested_arrays_builders.proofs.growth_lemmas.Fields.{fields_count}
-use Rattle.nested_arrays_builders.proofs.growth_lemmas.Masks.{mask_by_count}
-use Rattle.nested_arrays_builders.proofs.growth_lemmas.TypeSteps.{layout_by_layer}
+use Rattle.nested_arrays_builders.specs.columns.OpenParts.{mask_from, slots_of_fields}
+use Rattle.nested_arrays_builders.proofs.columns_lemmas.Below.{buildable_struct, values_fit_below}
+use Rattle.nested_arrays_builders.proofs.columns_lemmas.Fields.{fields_count}
+use Rattle.nested_arrays_builders.proofs.columns_lemmas.Masks.{mask_by_count}
+use Rattle.nested_arrays_builders.proofs.columns_lemmas.TypeSteps.{layout_by_layer}
 use Rattle.nested_arrays_builders.specs.arrays.Lengths.{size_of, layer_size, struct_len}
 use Rattle.nested_arrays_builders.specs.parts.Marks.{mask_of_marks}
 use Rattle.nested_arrays_builders.specs.parts.Open.{Open, column_of}

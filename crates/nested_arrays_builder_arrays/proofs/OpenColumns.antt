@@ -24,9 +24,9 @@ use Rattle.nested_arrays_builders.proofs.columns_lemmas.FreshSlots.{fresh_slots,
 use Rattle.nested_arrays_builders.proofs.columns_lemmas.FreshSound.{fresh_is_sound}
 use Rattle.nested_arrays_builders.proofs.columns_lemmas.FreshTypes.{fresh_types}
 use Rattle.nested_arrays_builders.proofs.columns_lemmas.TypeLayers.{is_extension}
-use Rattle.nested_arrays_builders.proofs.growth_lemmas.Fits.{nothing_fits}
-use Rattle.nested_arrays_builders.proofs.growth_lemmas.Limits.{first_ones_fit}
-use Rattle.nested_arrays_builders.proofs.growth_lemmas.TypeSteps.{buildable_is, cell_is, fresh_is, not_extended}
+use Rattle.nested_arrays_builders.proofs.columns_lemmas.Fits.{nothing_fits}
+use Rattle.nested_arrays_builders.proofs.columns_lemmas.Limits.{first_ones_fit}
+use Rattle.nested_arrays_builders.proofs.columns_lemmas.TypeSteps.{buildable_is, cell_is, fresh_is, not_extended}
 use Rattle.nested_arrays_builder_arrays.specs.OpenColumns.{IsFresh, Becomes, AddsNull, KeepsFirst, IsEmptied, TakesColumn, slots_and}
 use Rattle.nested_arrays_builder_arrays.specs.Taken.{IsTaken}
 

@@ -30,7 +30,7 @@ use Rattle.nested_arrays_builder_arrays.proofs.arrays_lemmas.KeyPlaces.{key_with
 use Rattle.nested_arrays_builder_arrays.proofs.arrays_lemmas.SlotPlaces.{struct_fields}
 use Rattle.nested_arrays_builder_arrays.proofs.arrays_lemmas.columns_lemmas.Conditions.{holds_at, parts_of_3, parts_of_4, parts_of_5}
 use Rattle.nested_arrays_builder_arrays.proofs.arrays_lemmas.parts_lemmas.SameForms.{valid_slot}
-use Rattle.nested_arrays_builder_arrays.proofs.parts_lemmas.growth_lemmas.TypeSteps.{layout_by_layer}
+use Rattle.nested_arrays_builder_arrays.proofs.parts_lemmas.columns_lemmas.TypeSteps.{layout_by_layer}
 use Rattle.nested_arrays_builder_cells.specs.ArrayCells.{has_cell, has_cell_at}
 use Rattle.nested_arrays_builder_cells.specs.Inside.{AreCellFields, AreCellItems, IsCellValue}
 use Rattle.nested_arrays_builder_cells.proofs.HasCells.{fixed_has, list_has, list_lies, map_has, map_lies, null_has, stored_has, struct_has}

@@ -23,8 +23,8 @@ use Rattle.nested_arrays_builder_arrays.specs.arrays.columns.StoredColumns.{type
 use Rattle.nested_arrays_builder_arrays.proofs.arrays_lemmas.columns_lemmas.FreshLengths.{Layer}
 use Rattle.nested_arrays_builder_arrays.proofs.arrays_lemmas.columns_lemmas.Folds.{fold_keeps}
 use Rattle.nested_arrays_builder_arrays.proofs.arrays_lemmas.columns_lemmas.TypeLayers.{is_extension, layer_layout}
-use Rattle.nested_arrays_builder_arrays.proofs.parts_lemmas.growth_lemmas.Pieces.{listed}
-use Rattle.nested_arrays_builder_arrays.proofs.parts_lemmas.growth_lemmas.TypeSteps.{by_layer, layout_by_layer, not_extended}
+use Rattle.nested_arrays_builder_arrays.proofs.parts_lemmas.columns_lemmas.Pieces.{listed}
+use Rattle.nested_arrays_builder_arrays.proofs.parts_lemmas.columns_lemmas.TypeSteps.{by_layer, layout_by_layer, not_extended}
 use Rattle.nested_arrays_builder_cells.specs.ArrayCells.{has_cell, has_cell_at, has_cell_step}
 
 -- ---- null

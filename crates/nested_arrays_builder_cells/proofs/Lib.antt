@@ -8,6 +8,5 @@ pub mod StoredNumbers
 pub mod StoredValues
 pub use Rattle.nested_arrays_builder_arrays.proofs as taken_lemmas
 pub use Rattle.nested_arrays_builder_arrays.proofs.generic_lemmas
-pub use Rattle.nested_arrays_builder_arrays.proofs.builders_lemmas.growth_lemmas
 pub use Rattle.nested_arrays_builder_arrays.proofs.builders_lemmas.columns_lemmas
 pub use Rattle.nested_arrays_builder_arrays.proofs.parts_lemmas

@@ -9,5 +9,5 @@ pub mod NewNodes
 pub mod StringLists
 pub mod StringSlots
 pub use Rattle.nested_arrays_generic.proofs.arrays_lemmas
-pub use Rattle.nested_arrays_generic.proofs.columns_lemmas as growth_lemmas
+pub use Rattle.nested_arrays_generic.proofs.columns_lemmas
 pub use Rattle.nested_arrays_generic.proofs as generic_lemmas

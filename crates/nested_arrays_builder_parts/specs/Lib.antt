@@ -10,5 +10,5 @@ pub mod Open
 pub mod Scalars
 pub mod Strings
 pub use Rattle.nested_arrays_generic.specs.arrays
-pub use Rattle.nested_arrays_generic.specs.columns as growth
+pub use Rattle.nested_arrays_generic.specs.columns
 pub use Rattle.nested_arrays_generic.specs as generic

@@ -7,7 +7,7 @@ use Rattle.nested_arrays_builder_values.specs.Newest.{IsNewest}
 use Rattle.nested_arrays_builder_parts.specs.arrays.columns.SameSlots.{same_slot}
 use Rattle.nested_arrays_builder_parts.specs.arrays.columns.Slots.{null}
 use Rattle.nested_arrays_builder_parts.proofs.arrays_lemmas.columns_lemmas.SameSlotsDecide.{same_slot-implies, same_slot-itself}
-use Rattle.nested_arrays_builder_parts.proofs.growth_lemmas.Values.{not_among}
+use Rattle.nested_arrays_builder_parts.proofs.columns_lemmas.Values.{not_among}
 use Rattle.nested_arrays_builder_parts.specs.Scalars.{scalar_slot}
 use Rattle.nested_arrays_scalars.specs.declared.scalars.AnyScalar.{AnyScalar}
 use Rattle.nested_arrays_builder_values.specs.Found.{IsPlaceOf, IsSlotAt}

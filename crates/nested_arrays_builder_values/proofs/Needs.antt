@@ -6,8 +6,8 @@ use Rattle.nested_arrays_builder_parts.specs.arrays.columns.Cells.{is_null}
 use Rattle.nested_arrays_builder_parts.specs.arrays.columns.FreshColumns.{key_among}
 use Rattle.nested_arrays_builder_parts.specs.arrays.columns.SameSlots.{are_distinct, is_among, same_slot}
 use Rattle.nested_arrays_builder_parts.specs.arrays.columns.Slots.{Slot, null}
-use Rattle.nested_arrays_builder_parts.specs.growth.OpenParts.{used_by}
-use Rattle.nested_arrays_builder_parts.proofs.growth_lemmas.Values.{among_at, key_at}
+use Rattle.nested_arrays_builder_parts.specs.columns.OpenParts.{used_by}
+use Rattle.nested_arrays_builder_parts.proofs.columns_lemmas.Values.{among_at, key_at}
 use Rattle.nested_arrays_builder_values.specs.Uses.{greatest, use_among}
 
 -- ---- what a slot needs

@@ -6,9 +6,9 @@ use Rattle.std.proofs.Math.Seq.{take-length}
 use Rattle.nested_arrays_builder_parts.specs.arrays.columns.Children.{dictionary_values}
 use Rattle.nested_arrays_builder_parts.specs.arrays.columns.FreshColumns.{is_valid, key_among}
 use Rattle.nested_arrays_builder_parts.specs.arrays.columns.Slots.{Slot}
-use Rattle.nested_arrays_builder_parts.specs.growth.OpenParts.{grown_values, keys_among, marks_of, used_by, values_used}
-use Rattle.nested_arrays_builder_parts.proofs.growth_lemmas.Masks.{marks_cut, marks_one_more}
-use Rattle.nested_arrays_builder_parts.proofs.growth_lemmas.Values.{keys_first, keys_one_more, used_by_first, values_cut, values_grow}
+use Rattle.nested_arrays_builder_parts.specs.columns.OpenParts.{grown_values, keys_among, marks_of, used_by, values_used}
+use Rattle.nested_arrays_builder_parts.proofs.columns_lemmas.Masks.{marks_cut, marks_one_more}
+use Rattle.nested_arrays_builder_parts.proofs.columns_lemmas.Values.{keys_first, keys_one_more, used_by_first, values_cut, values_grow}
 use Rattle.nested_arrays_builder_values.specs.Uses.{greatest, use_among, uses_among}
 
 -- ---- uses by marks and keys

@@ -2,7 +2,7 @@
 use Rattle.std.specs.Prelude.{ℕ, zero, suc, ◌+◌, ◌-◌, ℤ, pos, max, List, [], ◌∷◌, ◌++◌, map, replicate}
 use Rattle.nested_arrays_builder_parts.specs.arrays.columns.FreshColumns.{is_valid, key_among}
 use Rattle.nested_arrays_builder_parts.specs.arrays.columns.Slots.{Slot}
-use Rattle.nested_arrays_builder_parts.specs.growth.OpenParts.{used_by}
+use Rattle.nested_arrays_builder_parts.specs.columns.OpenParts.{used_by}
 
 -- how many of some values a slot needs: one more than its key, and none under a null
 abbrev pub use_among : List Slot → Slot → ℕ

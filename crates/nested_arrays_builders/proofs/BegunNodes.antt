@@ -16,9 +16,9 @@ use Rattle.nested_arrays_builder_values.specs.parts.arrays.columns.Children.{fie
 use Rattle.nested_arrays_builder_values.specs.parts.arrays.columns.FreshLaws.{is_buildable, are_buildable}
 use Rattle.nested_arrays_builder_values.specs.parts.arrays.columns.Slots.{Slot, window}
 use Rattle.nested_arrays_builder_values.specs.parts.arrays.columns.StoredColumns.{slots, type_layer}
-use Rattle.nested_arrays_builder_values.proofs.parts_lemmas.growth_lemmas.Below.{buildable_list, buildable_large_list, buildable_fixed_list, buildable_struct}
-use Rattle.nested_arrays_builder_values.proofs.parts_lemmas.growth_lemmas.Below.{buildable_dictionary}
-use Rattle.nested_arrays_builder_values.proofs.parts_lemmas.growth_lemmas.Fits.{nothing_fits}
+use Rattle.nested_arrays_builder_values.proofs.parts_lemmas.columns_lemmas.Below.{buildable_list, buildable_large_list, buildable_fixed_list, buildable_struct}
+use Rattle.nested_arrays_builder_values.proofs.parts_lemmas.columns_lemmas.Below.{buildable_dictionary}
+use Rattle.nested_arrays_builder_values.proofs.parts_lemmas.columns_lemmas.Fits.{nothing_fits}
 use Rattle.nested_arrays_builder_values.specs.parts.Open.{Open, opened}
 use Rattle.nested_arrays_builders.specs.Begun.{fields_size, opened_none, AreNoBuilders, IsNoBuilder}
 use Rattle.nested_arrays_builders.specs.BuiltTypes.{has_builder, has_floats, have_builders, is_invalid}

@@ -22,7 +22,7 @@ use denote.Hole.Carrier
 use Rattle.nested_arrays_builder_values.specs.parts.arrays.columns.StoredColumns.{type_layer}
 use Rattle.nested_arrays_builder_values.proofs.parts_lemmas.arrays_lemmas.columns_lemmas.FreshLengths.{Layer, buildable_layer}
 use Rattle.nested_arrays_builder_values.proofs.parts_lemmas.arrays_lemmas.columns_lemmas.TypeLayers.{is_extension, layer_layout}
-use Rattle.nested_arrays_builder_values.proofs.parts_lemmas.growth_lemmas.TypeSteps.{by_layer, buildable_by_layer, layout_by_layer, not_extended}
+use Rattle.nested_arrays_builder_values.proofs.parts_lemmas.columns_lemmas.TypeSteps.{by_layer, buildable_by_layer, layout_by_layer, not_extended}
 use Rattle.nested_arrays_builder_values.proofs.parts_lemmas.MarkLists.{positive}
 use Rattle.nested_arrays_builder_values.specs.parts.NewValues.{is_of_floats}
 use Rattle.nested_arrays_builder_values.specs.parts.arrays.parts.Childless.{is_childless}

@@ -10,8 +10,8 @@ use Rattle.nested_arrays_builder_values.specs.parts.arrays.columns.Cells.{fit_ea
 use Rattle.nested_arrays_builder_values.specs.parts.arrays.columns.Children.{field_of, fixed_items_of, items_of, slot_number}
 use Rattle.nested_arrays_builder_values.specs.parts.arrays.columns.Rows.{Cell, cell_slot, cell_slots}
 use Rattle.nested_arrays_builder_values.specs.parts.arrays.columns.Slots.{Slot, null, items, fields, in_slots, slot_list, slot_then}
-use Rattle.nested_arrays_builder_values.specs.parts.growth.OpenParts.{is_list, is_list_sized, is_record_sized}
-use Rattle.nested_arrays_builder_values.proofs.parts_lemmas.growth_lemmas.Pieces.{listed}
+use Rattle.nested_arrays_builder_values.specs.parts.columns.OpenParts.{is_list, is_list_sized, is_record_sized}
+use Rattle.nested_arrays_builder_values.proofs.parts_lemmas.columns_lemmas.Pieces.{listed}
 use Rattle.nested_arrays_builder_values.specs.parts.Scalars.{in_cells, cell_step, cell_of, scalar_slot}
 use Rattle.nested_arrays_scalars.specs.declared.scalars.AnyScalar.{AnyScalar, map-AnyScalar}
 use Rattle.nested_arrays_scalars.specs.declared.scalars.AnyScalar.TheFolds.{fold-roll-AnyScalar}

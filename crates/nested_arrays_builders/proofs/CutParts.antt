@@ -16,14 +16,14 @@ use Rattle.nested_arrays_builder_values.specs.parts.arrays.columns.Slots.{Slot, 
 use Rattle.nested_arrays_builder_values.specs.parts.arrays.columns.StoredColumns.{slots, type_layer}
 use Rattle.nested_arrays_builder_values.proofs.parts_lemmas.arrays_lemmas.columns_lemmas.FreshBelow.{pieces_length}
 use Rattle.nested_arrays_builder_values.proofs.parts_lemmas.arrays_lemmas.columns_lemmas.FreshLengths.{Layer}
-use Rattle.nested_arrays_builder_values.specs.parts.growth.OpenParts.{is_list_sized, item_spans, slots_of_fields}
-use Rattle.nested_arrays_builder_values.proofs.parts_lemmas.growth_lemmas.Below.{fixed_items_fit_below}
-use Rattle.nested_arrays_builder_values.proofs.parts_lemmas.growth_lemmas.Fields.{fields_cut}
-use Rattle.nested_arrays_builder_values.proofs.parts_lemmas.growth_lemmas.FirstOnes.{fixed_items_cut}
-use Rattle.nested_arrays_builder_values.proofs.parts_lemmas.growth_lemmas.Limits.{first_ones_fit}
-use Rattle.nested_arrays_builder_values.proofs.parts_lemmas.growth_lemmas.Masks.{marks_cut}
-use Rattle.nested_arrays_builder_values.proofs.parts_lemmas.growth_lemmas.Values.{values_distinct}
-use Rattle.nested_arrays_builder_values.proofs.parts_lemmas.growth_lemmas.Pieces.{item_spans_cut, item_spans_last, joined_cut}
+use Rattle.nested_arrays_builder_values.specs.parts.columns.OpenParts.{is_list_sized, item_spans, slots_of_fields}
+use Rattle.nested_arrays_builder_values.proofs.parts_lemmas.columns_lemmas.Below.{fixed_items_fit_below}
+use Rattle.nested_arrays_builder_values.proofs.parts_lemmas.columns_lemmas.Fields.{fields_cut}
+use Rattle.nested_arrays_builder_values.proofs.parts_lemmas.columns_lemmas.FirstOnes.{fixed_items_cut}
+use Rattle.nested_arrays_builder_values.proofs.parts_lemmas.columns_lemmas.Limits.{first_ones_fit}
+use Rattle.nested_arrays_builder_values.proofs.parts_lemmas.columns_lemmas.Masks.{marks_cut}
+use Rattle.nested_arrays_builder_values.proofs.parts_lemmas.columns_lemmas.Values.{values_distinct}
+use Rattle.nested_arrays_builder_values.proofs.parts_lemmas.columns_lemmas.Pieces.{item_spans_cut, item_spans_last, joined_cut}
 use Rattle.nested_arrays_builder_values.specs.parts.Open.{Open, opened, first_slots}
 use Rattle.nested_arrays_builder_values.specs.Uses.{greatest, use_among}
 use Rattle.nested_arrays_builder_values.proofs.Needs.{greatest_first}

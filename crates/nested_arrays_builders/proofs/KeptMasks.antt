@@ -4,10 +4,10 @@ use Rattle.std.specs.Prelude.{Option}
 use Rattle.nested_arrays_builder_values.specs.parts.arrays.columnar_memory.declared.DataType.{DataType}
 use Rattle.nested_arrays_builder_values.specs.parts.arrays.columns.StoredColumns.{slots}
 use Rattle.nested_arrays_builder_values.specs.parts.arrays.flat.ColumnMasks.{column_mask}
-use Rattle.nested_arrays_builder_values.specs.parts.growth.OpenParts.{mask_from}
+use Rattle.nested_arrays_builder_values.specs.parts.columns.OpenParts.{mask_from}
 use Rattle.nested_arrays_builder_values.specs.parts.Marks.{mask_of_marks}
 use Rattle.nested_arrays_builder_values.specs.parts.Open.{Open, column_of, opened}
-use Rattle.nested_arrays_builder_values.proofs.parts_lemmas.growth_lemmas.Masks.{mask_by_count}
+use Rattle.nested_arrays_builder_values.proofs.parts_lemmas.columns_lemmas.Masks.{mask_by_count}
 use Rattle.nested_arrays_builders.specs.KeptColumns.{column_kept}
 use Rattle.nested_arrays_builders.specs.Nodes.{held_of, parts_of}
 use Rattle.nested_arrays_builders.specs.Parts.{Parts, listed, sized, of_fields, keyed, seen, parts_column, IsHeld, IsKept}

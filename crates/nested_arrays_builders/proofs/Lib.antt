@@ -17,7 +17,6 @@ pub mod SameNodes
 pub mod TakenSlots
 pub use Rattle.nested_arrays_builder_values.proofs as values_lemmas
 pub use Rattle.nested_arrays_builder_values.proofs.parts_lemmas
-pub use Rattle.nested_arrays_builder_values.proofs.parts_lemmas.growth_lemmas
-pub use Rattle.nested_arrays_builder_values.proofs.parts_lemmas.arrays_lemmas.columns_lemmas
+pub use Rattle.nested_arrays_builder_values.proofs.parts_lemmas.columns_lemmas
 pub use Rattle.nested_arrays_builder_values.proofs.parts_lemmas.arrays_lemmas
 pub use Rattle.nested_arrays_builder_values.proofs.generic_lemmas

@@ -14,10 +14,10 @@ use Rattle.nested_arrays_builder_values.specs.parts.arrays.columns.SameSlots.{is
 use Rattle.nested_arrays_builder_values.specs.parts.arrays.columns.Slots.{Slot}
 use Rattle.nested_arrays_builder_values.specs.parts.arrays.columns.StoredColumns.{type_layer}
 use Rattle.nested_arrays_builder_values.proofs.parts_lemmas.arrays_lemmas.columns_lemmas.FreshLengths.{Layer}
-use Rattle.nested_arrays_builder_values.specs.parts.growth.OpenParts.{is_list, is_list_sized, is_record_sized, slots_of_fields, fields_of_slot, pushed_each}
-use Rattle.nested_arrays_builder_values.proofs.parts_lemmas.growth_lemmas.Fields.{fields_count}
-use Rattle.nested_arrays_builder_values.proofs.parts_lemmas.growth_lemmas.OneMore.{list_fits_one_more, large_list_fits_one_more, fixed_list_fits_one_more}
-use Rattle.nested_arrays_builder_values.proofs.parts_lemmas.growth_lemmas.OneMore.{struct_fits_one_more, dictionary_fits_one_more}
+use Rattle.nested_arrays_builder_values.specs.parts.columns.OpenParts.{is_list, is_list_sized, is_record_sized, slots_of_fields, fields_of_slot, pushed_each}
+use Rattle.nested_arrays_builder_values.proofs.parts_lemmas.columns_lemmas.Fields.{fields_count}
+use Rattle.nested_arrays_builder_values.proofs.parts_lemmas.columns_lemmas.OneMore.{list_fits_one_more, large_list_fits_one_more, fixed_list_fits_one_more}
+use Rattle.nested_arrays_builder_values.proofs.parts_lemmas.columns_lemmas.OneMore.{struct_fits_one_more, dictionary_fits_one_more}
 use Rattle.nested_arrays_builder_values.specs.parts.Open.{Open, opened, with_slot}
 use Rattle.nested_arrays_builders.specs.Parts.{Parts, listed, sized, of_fields, keyed, opened_each, with_each, with_slots, is_formed, most_end}
 use Rattle.nested_arrays_builders.specs.Parts.{is_fitting, has_room, HoldsParts, IsKept}

@@ -10,14 +10,14 @@ use Rattle.nested_arrays_builder_values.specs.parts.arrays.columns.OpenBatch.{fi
 use Rattle.nested_arrays_builder_values.specs.parts.arrays.columns.Slots.{Slot}
 use Rattle.nested_arrays_builder_values.specs.parts.arrays.columns.StoredColumns.{type_layer}
 use Rattle.nested_arrays_builder_values.proofs.parts_lemmas.arrays_lemmas.columns_lemmas.FreshLengths.{Layer}
-use Rattle.nested_arrays_builder_values.specs.parts.growth.OpenParts.{slots_of_fields, fields_of_slot, pushed_each, grown_values}
-use Rattle.nested_arrays_builder_values.proofs.parts_lemmas.growth_lemmas.Fields.{fields_count, fields_one_more}
-use Rattle.nested_arrays_builder_values.proofs.parts_lemmas.growth_lemmas.Masks.{marks_one_more}
-use Rattle.nested_arrays_builder_values.proofs.parts_lemmas.growth_lemmas.Pieces.{item_spans_one_more, joined_one_more}
+use Rattle.nested_arrays_builder_values.specs.parts.columns.OpenParts.{slots_of_fields, fields_of_slot, pushed_each, grown_values}
+use Rattle.nested_arrays_builder_values.proofs.parts_lemmas.columns_lemmas.Fields.{fields_count, fields_one_more}
+use Rattle.nested_arrays_builder_values.proofs.parts_lemmas.columns_lemmas.Masks.{marks_one_more}
+use Rattle.nested_arrays_builder_values.proofs.parts_lemmas.columns_lemmas.Pieces.{item_spans_one_more, joined_one_more}
 use Rattle.nested_arrays_builder_values.specs.parts.Open.{Open, opened}
 use Rattle.nested_arrays_builder_values.specs.Uses.{use_among}
 use Rattle.nested_arrays_builder_values.proofs.UsedValues.{uses_one_more}
-use Rattle.nested_arrays_builder_values.proofs.parts_lemmas.growth_lemmas.Values.{values_grow}
+use Rattle.nested_arrays_builder_values.proofs.parts_lemmas.columns_lemmas.Values.{values_grow}
 use Rattle.nested_arrays_builders.specs.Parts.{Parts, listed, sized, of_fields, keyed, more_parts, opened_each, with_each, with_slots}
 use Rattle.nested_arrays_builders.specs.Parts.{HoldsParts, IsKept}
 

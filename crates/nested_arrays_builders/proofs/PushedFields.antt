@@ -12,7 +12,7 @@ use Rattle.nested_arrays_builder_values.specs.parts.arrays.columns.Cells.{fits_c
 use Rattle.nested_arrays_builder_values.specs.parts.arrays.columns.Children.{field_of, slot_number}
 use Rattle.nested_arrays_builder_values.specs.parts.arrays.columns.Slots.{Slot, Slots, null, fields, no_slot, slot_then, window}
 use Rattle.nested_arrays_builder_values.proofs.parts_lemmas.arrays_lemmas.columns_lemmas.Fitting.{null_fits}
-use Rattle.nested_arrays_builder_values.specs.parts.growth.OpenParts.{fields_of_slot}
+use Rattle.nested_arrays_builder_values.specs.parts.columns.OpenParts.{fields_of_slot}
 use Rattle.nested_arrays_builder_values.specs.parts.Open.{Open, opened, first_slots, with_slot, IsRefusal}
 use Rattle.nested_arrays_builders.specs.Parts.{is_fitting, tests_of, with_each, IsShortOfEach}
 

@@ -13,8 +13,8 @@ use Rattle.nested_arrays_builder_values.specs.parts.arrays.columns.Children.{fix
 use Rattle.nested_arrays_builder_values.specs.parts.arrays.columns.OpenBatch.{fits}
 use Rattle.nested_arrays_builder_values.specs.parts.arrays.columns.Slots.{Slot, null, items, slot_list}
 use Rattle.nested_arrays_builder_values.proofs.parts_lemmas.arrays_lemmas.columns_lemmas.Fitting.{null_fits}
-use Rattle.nested_arrays_builder_values.specs.parts.growth.OpenParts.{is_list_sized}
-use Rattle.nested_arrays_builder_values.proofs.parts_lemmas.growth_lemmas.Limits.{fits_not_with_more}
+use Rattle.nested_arrays_builder_values.specs.parts.columns.OpenParts.{is_list_sized}
+use Rattle.nested_arrays_builder_values.proofs.parts_lemmas.columns_lemmas.Limits.{fits_not_with_more}
 use Rattle.nested_arrays_builder_values.specs.parts.Open.{Open, opened, first_slots, with_slot, IsRefusal}
 use Rattle.nested_arrays_builders.specs.Parts.{with_slots, IsShort}
 

@@ -9,11 +9,11 @@ use Rattle.nested_arrays_builder_values.specs.parts.arrays.columns.FreshColumns.
 use Rattle.nested_arrays_builder_values.specs.parts.arrays.columns.Kinds.{most_values}
 use Rattle.nested_arrays_builder_values.specs.parts.arrays.columns.SameSlots.{is_among}
 use Rattle.nested_arrays_builder_values.specs.parts.arrays.columns.Slots.{Slot}
-use Rattle.nested_arrays_builder_values.specs.parts.growth.OpenParts.{grown_values, used_by}
+use Rattle.nested_arrays_builder_values.specs.parts.columns.OpenParts.{grown_values, used_by}
 use Rattle.nested_arrays_builder_values.specs.parts.Open.{Open, opened, with_slot}
 use Rattle.nested_arrays_builder_values.specs.Keyed.{AddsUse}
 use Rattle.nested_arrays_builder_values.specs.Uses.{use_among}
-use Rattle.nested_arrays_builder_values.proofs.parts_lemmas.growth_lemmas.Values.{key_new}
+use Rattle.nested_arrays_builder_values.proofs.parts_lemmas.columns_lemmas.Values.{key_new}
 use Rattle.nested_arrays_builders.specs.Keyed.{MayLearn}
 use Rattle.nested_arrays_builders.specs.Parts.{keyed, is_fitting, has_room, AddsSlot}
 

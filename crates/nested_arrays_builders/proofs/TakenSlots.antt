@@ -9,9 +9,9 @@ use Rattle.nested_arrays_builder_values.specs.parts.arrays.columns.Cells.{fits_c
 use Rattle.nested_arrays_builder_values.specs.parts.arrays.columns.Slots.{Slot, Slots, null, items, fields, no_slot, slot_then, slot_list}
 use Rattle.nested_arrays_builder_values.specs.parts.arrays.columns.StoredColumns.{type_layer}
 use Rattle.nested_arrays_builder_values.proofs.parts_lemmas.arrays_lemmas.columns_lemmas.FreshLengths.{Layer, cell_field}
-use Rattle.nested_arrays_builder_values.specs.parts.growth.OpenParts.{slots_of_fields}
-use Rattle.nested_arrays_builder_values.proofs.parts_lemmas.growth_lemmas.Fields.{fields_count}
-use Rattle.nested_arrays_builder_values.proofs.parts_lemmas.growth_lemmas.TypeSteps.{cell_by_layer, cell_field_is}
+use Rattle.nested_arrays_builder_values.specs.parts.columns.OpenParts.{slots_of_fields}
+use Rattle.nested_arrays_builder_values.proofs.parts_lemmas.columns_lemmas.Fields.{fields_count}
+use Rattle.nested_arrays_builder_values.proofs.parts_lemmas.columns_lemmas.TypeSteps.{cell_by_layer, cell_field_is}
 use Rattle.nested_arrays_builder_values.specs.parts.Open.{Open}
 use Rattle.nested_arrays_builders.specs.Parts.{Parts, listed, sized, of_fields, keyed, opened_each, tests_of, takes_slot, is_formed, HoldsParts, IsKept}
 

@@ -12,10 +12,10 @@ use Rattle.nested_arrays_builder_values.specs.parts.arrays.columns.Rows.{fresh_c
 use Rattle.nested_arrays_builder_values.specs.parts.arrays.columns.Slots.{Slot, null}
 use Rattle.nested_arrays_builder_values.specs.parts.arrays.columns.StoredColumns.{lists, fixed_lists, records, dictionary, in_columns, type_layer}
 use Rattle.nested_arrays_builder_values.proofs.parts_lemmas.arrays_lemmas.columns_lemmas.FreshLengths.{Layer}
-use Rattle.nested_arrays_builder_values.specs.parts.growth.OpenParts.{marks_of, mask_from, slots_of_fields}
-use Rattle.nested_arrays_builder_values.proofs.parts_lemmas.growth_lemmas.LayerParts.{fresh_list, fresh_large_list, fresh_fixed_list, fresh_struct, fresh_dictionary}
-use Rattle.nested_arrays_builder_values.proofs.parts_lemmas.growth_lemmas.Masks.{mask_is}
-use Rattle.nested_arrays_builder_values.proofs.parts_lemmas.growth_lemmas.Pieces.{item_spans_are}
+use Rattle.nested_arrays_builder_values.specs.parts.columns.OpenParts.{marks_of, mask_from, slots_of_fields}
+use Rattle.nested_arrays_builder_values.proofs.parts_lemmas.columns_lemmas.LayerParts.{fresh_list, fresh_large_list, fresh_fixed_list, fresh_struct, fresh_dictionary}
+use Rattle.nested_arrays_builder_values.proofs.parts_lemmas.columns_lemmas.Masks.{mask_is}
+use Rattle.nested_arrays_builder_values.proofs.parts_lemmas.columns_lemmas.Pieces.{item_spans_are}
 use Rattle.nested_arrays_builder_values.specs.Uses.{key_of, keys_from, use_among, uses_among}
 use Rattle.nested_arrays_builder_values.specs.parts.Open.{column_of}
 use Rattle.nested_arrays_builders.specs.Parts.{Parts, listed, sized, of_fields, keyed, parts_column, opened_each, HoldsParts, IsKept}

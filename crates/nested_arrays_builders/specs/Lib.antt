@@ -9,7 +9,6 @@ pub mod TypeSizes
 pub mod Widths
 pub use Rattle.nested_arrays_builder_values.specs as values
 pub use Rattle.nested_arrays_builder_values.specs.parts
-pub use Rattle.nested_arrays_builder_values.specs.parts.growth
 pub use Rattle.nested_arrays_builder_values.specs.parts.arrays.columns
 pub use Rattle.nested_arrays_builder_values.specs.parts.arrays.columnar_memory
 pub use Rattle.nested_arrays_builder_values.specs.parts.arrays

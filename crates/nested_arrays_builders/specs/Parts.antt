@@ -18,8 +18,8 @@ use Rattle.nested_arrays_builder_values.specs.parts.arrays.columns.OpenBatch.{mo
 use Rattle.nested_arrays_builder_values.specs.parts.arrays.columns.SameSlots.{is_among, are_distinct}
 use Rattle.nested_arrays_builder_values.specs.parts.arrays.columns.Slots.{Slot}
 use Rattle.nested_arrays_builder_values.specs.parts.arrays.columns.StoredColumns.{Column, column_size, lists, fixed_lists, records, dictionary, in_columns, slots, type_layer}
-use Rattle.nested_arrays_builder_values.specs.parts.growth.OpenParts.{marks_of, mask_from, item_spans, slots_of_fields, fields_of_slot, is_list, is_list_sized}
-use Rattle.nested_arrays_builder_values.specs.parts.growth.OpenParts.{is_record_sized, grown_values}
+use Rattle.nested_arrays_builder_values.specs.parts.columns.OpenParts.{marks_of, mask_from, item_spans, slots_of_fields, fields_of_slot, is_list, is_list_sized}
+use Rattle.nested_arrays_builder_values.specs.parts.columns.OpenParts.{is_record_sized, grown_values}
 use Rattle.nested_arrays_builder_values.specs.Uses.{greatest, keys_from, use_among, uses_among}
 use Rattle.nested_arrays_builder_values.specs.parts.Open.{Open, opened, column_of, first_slots, with_slot, IsWithin}
 

@@ -9,8 +9,8 @@ use Rattle.nested_arrays_builder_values.specs.parts.arrays.columns.Rows.{fresh_c
 use Rattle.nested_arrays_builder_values.specs.parts.arrays.columns.Slots.{Slot, window}
 use Rattle.nested_arrays_builder_values.specs.parts.arrays.columns.StoredColumns.{column_size, columns_size, in_columns, type_layer}
 use Rattle.nested_arrays_builder_values.proofs.parts_lemmas.arrays_lemmas.columns_lemmas.FreshLengths.{Layer}
-use Rattle.nested_arrays_builder_values.specs.parts.growth.OpenParts.{slots_of_fields}
-use Rattle.nested_arrays_builder_values.proofs.parts_lemmas.growth_lemmas.LayerParts.{fresh_list, fresh_large_list, fresh_fixed_list, fresh_struct, fresh_dictionary}
+use Rattle.nested_arrays_builder_values.specs.parts.columns.OpenParts.{slots_of_fields}
+use Rattle.nested_arrays_builder_values.proofs.parts_lemmas.columns_lemmas.LayerParts.{fresh_list, fresh_large_list, fresh_fixed_list, fresh_struct, fresh_dictionary}
 use Rattle.nested_arrays_builder_values.specs.parts.Open.{Open}
 use Rattle.nested_arrays_builders.specs.Begun.{fields_size}
 use Rattle.nested_arrays_builders.specs.Parts.{Parts, listed, sized, of_fields, keyed, opened_each, type_size, types_size, parts_size, HoldsParts, IsKept}

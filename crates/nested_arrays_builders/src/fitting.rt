@@ -4,7 +4,7 @@ ghost use Rattle.std.specs.List.{list_all};
 ghost use Rattle.nested_arrays_builder_values.specs.parts.arrays.columns.Cells.{fit_each, fits_cell, is_bytes, is_bytes_of, is_interval, is_list_of, is_list_of_size};
 ghost use Rattle.nested_arrays_builder_values.specs.parts.arrays.columns.Cells.{is_number_of, is_record_of, is_text, is_truth, is_days_and_ms, is_months_days_and_ns};
 ghost use Rattle.nested_arrays_builder_values.specs.parts.arrays.columns.Slots.{in_slots};
-ghost use Rattle.nested_arrays_builder_values.specs.parts.growth.OpenParts.{is_of_kind};
+ghost use Rattle.nested_arrays_builder_values.specs.parts.columns.OpenParts.{is_of_kind};
 ghost use Rattle.nested_arrays_builder_values.specs.parts.AnyNumbers.{slot_of_number};
 ghost use Rattle.nested_arrays_builder_values.specs.parts.Scalars.{scalar_slot};
 

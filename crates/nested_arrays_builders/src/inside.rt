@@ -3,7 +3,7 @@ ghost use Rattle.std.specs.Prelude.{◌≡◌, ◌<◌, length, true, slice_inde
 ghost use Rattle.nested_arrays_builder_values.specs.parts.arrays.columns.Children.{field_of, fixed_items_of, items_of};
 ghost use Rattle.nested_arrays_builder_values.specs.parts.arrays.columns.Slots.{null};
 ghost use Rattle.nested_arrays_builder_values.specs.parts.Scalars.{scalar_slot};
-ghost use Rattle.nested_arrays_builder_values.specs.parts.growth.OpenParts.{is_list, is_list_sized, is_record_sized};
+ghost use Rattle.nested_arrays_builder_values.specs.parts.columns.OpenParts.{is_list, is_list_sized, is_record_sized};
 
 use nested_arrays_scalars::AnyScalar;
 

@@ -2,7 +2,7 @@
 ghost use Rattle.std.specs.Prelude.{◌≡◌, length, map, true, All};
 ghost use Rattle.nested_arrays_builder_values.specs.parts.arrays.columns.Cells.{fits_cell, is_record_of};
 ghost use Rattle.nested_arrays_builder_values.specs.parts.Scalars.{scalar_slot};
-ghost use Rattle.nested_arrays_builder_values.specs.parts.growth.OpenParts.{fields_of_slot};
+ghost use Rattle.nested_arrays_builder_values.specs.parts.columns.OpenParts.{fields_of_slot};
 ghost use Rattle.nested_arrays_builders.specs.Parts.{of_fields, tests_of, AddsSlot, PushesEach, PushesFirst};
 
 use crate::any::AnyMutableArray;

@@ -25,8 +25,8 @@ use Rattle.nested_arrays_sized_builders.specs.nulls.columns.StoredColumns.{strin
 use Rattle.nested_arrays_sized_builders.specs.nulls.flat.ColumnMasks.{column_mask}
 use Rattle.nested_arrays_sized_builders.specs.flat_arrays.Growth.{with_marks}
 use Rattle.nested_arrays_sized_builders.specs.cells.taken.OpenColumns.{Becomes, IsFresh, slots_and}
-use Rattle.nested_arrays_sized_builders.proofs.growth_lemmas.Limits.{bytes_counted, fits_length}
-use Rattle.nested_arrays_sized_builders.proofs.growth_lemmas.Pieces.{content_spans_are, joined_length_one_more, joined_one_more, lengths_one_more}
+use Rattle.nested_arrays_sized_builders.proofs.columns_lemmas.Limits.{bytes_counted, fits_length}
+use Rattle.nested_arrays_sized_builders.proofs.columns_lemmas.Pieces.{content_spans_are, joined_length_one_more, joined_one_more, lengths_one_more}
 use Rattle.nested_arrays_sized_builders.proofs.nulls_lemmas.arrays_lemmas.columns_lemmas.ColumnSizes.{slots_lengths}
 use Rattle.nested_arrays_sized_builders.proofs.nulls_lemmas.arrays_lemmas.columns_lemmas.Conditions.{parts_of_3}
 use Rattle.nested_arrays_sized_builders.proofs.nulls_lemmas.arrays_lemmas.columns_lemmas.Windows.{window_same}

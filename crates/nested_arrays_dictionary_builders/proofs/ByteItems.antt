@@ -31,8 +31,8 @@ use Rattle.nested_arrays_sized_builders.specs.flat_arrays.Growing.{IsFilled, IsG
 use Rattle.nested_arrays_sized_builders.specs.cells.taken.builders.values.ByteBuilders.{from_zero, open_binary, open_text}
 use Rattle.nested_arrays_sized_builders.specs.cells.taken.OpenColumns.{Becomes, IsFresh, slots_and}
 use Rattle.nested_arrays_sized_builders.specs.MarkedSlots.{AddsSlot}
-use Rattle.nested_arrays_sized_builders.proofs.growth_lemmas.Fits.{fits_binary, fits_large_binary, fits_large_texts, fits_texts}
-use Rattle.nested_arrays_sized_builders.proofs.growth_lemmas.LayerParts.{fresh_binary, fresh_large_binary, fresh_large_texts, fresh_texts}
+use Rattle.nested_arrays_sized_builders.proofs.columns_lemmas.Fits.{fits_binary, fits_large_binary, fits_large_texts, fits_texts}
+use Rattle.nested_arrays_sized_builders.proofs.columns_lemmas.LayerParts.{fresh_binary, fresh_large_binary, fresh_large_texts, fresh_texts}
 use Rattle.nested_arrays_sized_builders.proofs.nulls_lemmas.arrays_lemmas.columns_lemmas.Conditions.{holds_at, holds_from}
 use Rattle.nested_arrays_sized_builders.proofs.nulls_lemmas.arrays_lemmas.columns_lemmas.FreshLengths.{Layer}
 use Rattle.nested_arrays_sized_builders.proofs.nulls_lemmas.arrays_lemmas.columns_lemmas.TextBytes.{text_bytes}

@@ -21,12 +21,12 @@ use Rattle.nested_arrays_sized_builders.specs.nulls.columns.SoundColumns.{has_fi
 use Rattle.nested_arrays_sized_builders.specs.nulls.columns.StoredColumns.{Column, column_len, column_type, fixed_lists, slot_at, slots, type_layer}
 use Rattle.nested_arrays_sized_builders.specs.cells.parts.Marks.{mask_of_marks}
 use Rattle.nested_arrays_sized_builders.specs.cells.taken.OpenColumns.{Becomes, IsFresh, KeepsFirst}
-use Rattle.nested_arrays_sized_builders.specs.cells.taken.builders.growth.OpenParts.{is_list_sized, marks_of}
+use Rattle.nested_arrays_sized_builders.specs.cells.taken.builders.columns.OpenParts.{is_list_sized, marks_of}
 use Rattle.nested_arrays_sized_builders.specs.FixedListBuilders.{FixedListParts, KeepsMarks, fixed_list_parts, fixed_lists_column, lists_made}
 use Rattle.nested_arrays_sized_builders.specs.FixedListBuilders.{lists_over, marks_for, with_fixed_lists, with_items}
-use Rattle.nested_arrays_sized_builders.proofs.growth_lemmas.Below.{fixed_items_fit_below}
-use Rattle.nested_arrays_sized_builders.proofs.growth_lemmas.Laws.{fixed_lists_fit}
-use Rattle.nested_arrays_sized_builders.proofs.growth_lemmas.Limits.{fits_length}
+use Rattle.nested_arrays_sized_builders.proofs.columns_lemmas.Below.{fixed_items_fit_below}
+use Rattle.nested_arrays_sized_builders.proofs.columns_lemmas.Laws.{fixed_lists_fit}
+use Rattle.nested_arrays_sized_builders.proofs.columns_lemmas.Limits.{fits_length}
 use Rattle.nested_arrays_sized_builders.proofs.lists_lemmas.ListsStored.{marks_fit}
 use Rattle.nested_arrays_sized_builders.proofs.nulls_lemmas.arrays_lemmas.columns_lemmas.ColumnSizes.{slots_lengths}
 use Rattle.nested_arrays_sized_builders.proofs.nulls_lemmas.arrays_lemmas.columns_lemmas.Windows.{window_same}

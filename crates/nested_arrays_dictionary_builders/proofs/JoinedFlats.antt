@@ -29,9 +29,9 @@ use Rattle.nested_arrays_sized_builders.specs.nulls.flat.FlatColumns.{boolean_co
 use Rattle.nested_arrays_sized_builders.specs.nulls.flat.FlatColumns as flats
 use Rattle.nested_arrays_sized_builders.specs.flat_arrays.Flat.{Flat, IsFlat, marks, marks_of}
 use Rattle.nested_arrays_sized_builders.specs.flat_arrays.Growth.{grown, with_marks}
-use Rattle.nested_arrays_sized_builders.specs.cells.taken.builders.growth.OpenParts.{is_of_kind}
-use Rattle.nested_arrays_sized_builders.proofs.growth_lemmas.Fits.{fits_booleans, fits_primitive}
-use Rattle.nested_arrays_sized_builders.proofs.growth_lemmas.LayerParts.{fresh_booleans, fresh_primitive}
+use Rattle.nested_arrays_sized_builders.specs.cells.taken.builders.columns.OpenParts.{is_of_kind}
+use Rattle.nested_arrays_sized_builders.proofs.columns_lemmas.Fits.{fits_booleans, fits_primitive}
+use Rattle.nested_arrays_sized_builders.proofs.columns_lemmas.LayerParts.{fresh_booleans, fresh_primitive}
 use Rattle.nested_arrays_sized_builders.proofs.nulls_lemmas.arrays_lemmas.columns_lemmas.Conditions.{parts_of_3}
 use Rattle.nested_arrays_sized_builders.proofs.nulls_lemmas.arrays_lemmas.columns_lemmas.FreshLengths.{Layer}
 use Rattle.nested_arrays_sized_builders.proofs.values_lemmas.parts_lemmas.FlatLayers.{at_layout, boolean_layer}

@@ -27,11 +27,11 @@ use Rattle.nested_arrays_sized_builders.specs.nulls.generic.ListTypes.{items_fie
 use Rattle.nested_arrays_sized_builders.specs.cells.parts.Marks.{mask_of_marks}
 use Rattle.nested_arrays_sized_builders.specs.cells.parts.Open.{opened}
 use Rattle.nested_arrays_sized_builders.specs.cells.taken.OpenColumns.{Becomes, IsFresh, KeepsFirst}
-use Rattle.nested_arrays_sized_builders.specs.cells.taken.builders.growth.OpenParts.{is_list, item_spans, marks_of}
+use Rattle.nested_arrays_sized_builders.specs.cells.taken.builders.columns.OpenParts.{is_list, item_spans, marks_of}
 use Rattle.nested_arrays_sized_builders.specs.ListBuilders.{AreLists, HasNoRoomFor, ListParts, lists_column, with_lists}
-use Rattle.nested_arrays_sized_builders.proofs.growth_lemmas.Below.{items_fit_below}
-use Rattle.nested_arrays_sized_builders.proofs.growth_lemmas.Laws.{large_lists_fit_by_items, lists_fit_by_items}
-use Rattle.nested_arrays_sized_builders.proofs.growth_lemmas.Pieces.{item_spans_last}
+use Rattle.nested_arrays_sized_builders.proofs.columns_lemmas.Below.{items_fit_below}
+use Rattle.nested_arrays_sized_builders.proofs.columns_lemmas.Laws.{large_lists_fit_by_items, lists_fit_by_items}
+use Rattle.nested_arrays_sized_builders.proofs.columns_lemmas.Pieces.{item_spans_last}
 use Rattle.nested_arrays_sized_builders.proofs.lists_lemmas.ListSlots.{list_at, list_slots}
 use Rattle.nested_arrays_sized_builders.proofs.lists_lemmas.ListsStored.{item_is, items_stored, layered, list_buildable, list_layer, marks_fit}
 use Rattle.nested_arrays_sized_builders.proofs.lists_lemmas.ListsStored.{marks_stored, sound_parts, spans_stored, stored_lists, too_many, typed_as}

@@ -14,9 +14,9 @@ use Rattle.nested_arrays_sized_builders.specs.nulls.columns.StoredColumns.{is_va
 use Rattle.nested_arrays_sized_builders.specs.flat_arrays.Flat.{marks}
 use Rattle.nested_arrays_sized_builders.specs.flat_arrays.Growth.{with_marks}
 use Rattle.nested_arrays_sized_builders.specs.cells.parts.Marks.{mask_of_marks}
-use Rattle.nested_arrays_sized_builders.specs.cells.taken.builders.growth.OpenParts.{marks_of, mask_from}
-use Rattle.nested_arrays_sized_builders.proofs.growth_lemmas.Masks.{all_valid, marks_away, marks_there, mask_away, mask_by_count, mask_is}
-use Rattle.nested_arrays_sized_builders.proofs.growth_lemmas.Masks.{mask_there}
+use Rattle.nested_arrays_sized_builders.specs.cells.taken.builders.columns.OpenParts.{marks_of, mask_from}
+use Rattle.nested_arrays_sized_builders.proofs.columns_lemmas.Masks.{all_valid, marks_away, marks_there, mask_away, mask_by_count, mask_is}
+use Rattle.nested_arrays_sized_builders.proofs.columns_lemmas.Masks.{mask_there}
 
 -- ---- whether a mark is false
 

@@ -28,9 +28,9 @@ use Rattle.nested_arrays_sized_builders.specs.flat_arrays.Growth.{with_marks}
 use Rattle.nested_arrays_sized_builders.specs.cells.parts.Marks.{mask_of_marks}
 use Rattle.nested_arrays_sized_builders.specs.cells.taken.OpenColumns.{Becomes}
 use Rattle.nested_arrays_sized_builders.specs.SizedStrings.{JoinsStrings, SizedParts, sized_column, with_strings}
-use Rattle.nested_arrays_sized_builders.proofs.growth_lemmas.Fits.{fits_fixed_binary}
-use Rattle.nested_arrays_sized_builders.proofs.growth_lemmas.LayerParts.{fresh_fixed_binary}
-use Rattle.nested_arrays_sized_builders.proofs.growth_lemmas.TypeSteps.{layout_by_layer}
+use Rattle.nested_arrays_sized_builders.proofs.columns_lemmas.Fits.{fits_fixed_binary}
+use Rattle.nested_arrays_sized_builders.proofs.columns_lemmas.LayerParts.{fresh_fixed_binary}
+use Rattle.nested_arrays_sized_builders.proofs.columns_lemmas.TypeSteps.{layout_by_layer}
 use Rattle.nested_arrays_sized_builders.proofs.nulls_lemmas.arrays_lemmas.columns_lemmas.Conditions.{parts_of_3}
 use Rattle.nested_arrays_sized_builders.proofs.nulls_lemmas.arrays_lemmas.columns_lemmas.FreshLengths.{Layer}
 use Rattle.nested_arrays_sized_builders.proofs.SizedColumns.{content_at, same_with_more, sized_layer}

@@ -20,7 +20,7 @@ use Rattle.nested_arrays_sized_builders.specs.nulls.flat.ColumnMasks.{column_mas
 use Rattle.nested_arrays_sized_builders.specs.flat_arrays.Flat.{marks}
 use Rattle.nested_arrays_sized_builders.specs.flat_arrays.Growth.{with_marks}
 use Rattle.nested_arrays_sized_builders.specs.cells.taken.OpenColumns.{Becomes, IsFresh}
-use Rattle.nested_arrays_sized_builders.proofs.growth_lemmas.Limits.{fits_length}
+use Rattle.nested_arrays_sized_builders.proofs.columns_lemmas.Limits.{fits_length}
 use Rattle.nested_arrays_sized_builders.proofs.nulls_lemmas.arrays_lemmas.columns_lemmas.ColumnSizes.{slots_lengths}
 use Rattle.nested_arrays_sized_builders.proofs.nulls_lemmas.arrays_lemmas.columns_lemmas.Conditions.{parts_of_3}
 use Rattle.nested_arrays_sized_builders.proofs.nulls_lemmas.arrays_lemmas.columns_lemmas.Windows.{window_same}

@@ -30,8 +30,8 @@ use Rattle.nested_arrays_sized_builders.specs.flat_arrays.Fits.{binary_layout, t
 use Rattle.nested_arrays_sized_builders.specs.flat_arrays.Growing.{IsFilled, IsGrown, joined}
 use Rattle.nested_arrays_sized_builders.specs.cells.taken.builders.values.ByteBuilders.{from_zero, open_binary, open_text}
 use Rattle.nested_arrays_sized_builders.specs.cells.taken.OpenColumns.{IsFresh}
-use Rattle.nested_arrays_sized_builders.proofs.growth_lemmas.Limits.{bytes_counted}
-use Rattle.nested_arrays_sized_builders.proofs.growth_lemmas.Pieces.{last_span}
+use Rattle.nested_arrays_sized_builders.proofs.columns_lemmas.Limits.{bytes_counted}
+use Rattle.nested_arrays_sized_builders.proofs.columns_lemmas.Pieces.{last_span}
 use Rattle.nested_arrays_sized_builders.proofs.nulls_lemmas.flat_lemmas.Offsets.{spans_count}
 use Rattle.nested_arrays_sized_builders.proofs.nulls_lemmas.flat_lemmas.SoundStrings.{greatest_of, spans_sound}
 use Rattle.nested_arrays_dictionary_builders.specs.JoinedArrays.{JoinsBytes}

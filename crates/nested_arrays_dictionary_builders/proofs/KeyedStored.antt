@@ -13,9 +13,9 @@ use Rattle.nested_arrays_sized_builders.specs.nulls.columns.StoredColumns.{Colum
 use Rattle.nested_arrays_sized_builders.specs.nulls.flat.ColumnMasks.{column_mask}
 use Rattle.nested_arrays_sized_builders.specs.nulls.generic.Dictionaries.{keys_of, values_of}
 use Rattle.nested_arrays_sized_builders.specs.cells.parts.Marks.{marks, mask_of_marks}
-use Rattle.nested_arrays_sized_builders.specs.cells.taken.builders.growth.OpenParts.{keys_among, marks_of, used_by}
-use Rattle.nested_arrays_sized_builders.proofs.growth_lemmas.Laws.{dictionaries_stored}
-use Rattle.nested_arrays_sized_builders.proofs.growth_lemmas.Masks.{mask_by_count, mask_is}
+use Rattle.nested_arrays_sized_builders.specs.cells.taken.builders.columns.OpenParts.{keys_among, marks_of, used_by}
+use Rattle.nested_arrays_sized_builders.proofs.columns_lemmas.Laws.{dictionaries_stored}
+use Rattle.nested_arrays_sized_builders.proofs.columns_lemmas.Masks.{mask_by_count, mask_is}
 use Rattle.nested_arrays_sized_builders.proofs.values_lemmas.parts_lemmas.MarkLists.{marks_back}
 use Rattle.nested_arrays_dictionary_builders.specs.DictionaryBuilders.{is_used, keyed_over}
 

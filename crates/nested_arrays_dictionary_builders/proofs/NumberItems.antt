@@ -38,7 +38,7 @@ use Rattle.nested_arrays_sized_builders.specs.flat_arrays.Flat.{Flat, IsFlat, Is
 use Rattle.nested_arrays_sized_builders.specs.flat_arrays.Growth.{with_marks, with_values}
 use Rattle.nested_arrays_sized_builders.specs.nulls.parts.Keys.{kind_of_keys}
 use Rattle.nested_arrays_sized_builders.specs.cells.taken.OpenColumns.{Becomes, IsFresh, slots_and}
-use Rattle.nested_arrays_sized_builders.specs.cells.taken.builders.growth.OpenParts.{is_of_kind}
+use Rattle.nested_arrays_sized_builders.specs.cells.taken.builders.columns.OpenParts.{is_of_kind}
 use Rattle.nested_arrays_sized_builders.specs.MarkedSlots.{AddsSlot}
 use Rattle.nested_arrays_sized_builders.proofs.taken_lemmas.FlatSlots.{window_more}
 use Rattle.nested_arrays_dictionary_builders.proofs.OpenParts.{mask_with_value, marks_before, marks_more, value_marked}
@@ -46,9 +46,9 @@ use Rattle.nested_arrays_sized_builders.proofs.nulls_lemmas.arrays_lemmas.column
 use Rattle.nested_arrays_sized_builders.proofs.nulls_lemmas.arrays_lemmas.columns_lemmas.Conditions.{parts_of_3}
 use Rattle.nested_arrays_sized_builders.proofs.nulls_lemmas.arrays_lemmas.columns_lemmas.FreshLengths.{Layer}
 use Rattle.nested_arrays_sized_builders.proofs.nulls_lemmas.arrays_lemmas.columns_lemmas.Windows.{window_same}
-use Rattle.nested_arrays_sized_builders.proofs.growth_lemmas.LayerParts.{fresh_primitive}
-use Rattle.nested_arrays_sized_builders.proofs.growth_lemmas.Limits.{fits_length}
-use Rattle.nested_arrays_sized_builders.proofs.growth_lemmas.OneMore.{primitives_fit_one_more}
+use Rattle.nested_arrays_sized_builders.proofs.columns_lemmas.LayerParts.{fresh_primitive}
+use Rattle.nested_arrays_sized_builders.proofs.columns_lemmas.Limits.{fits_length}
+use Rattle.nested_arrays_sized_builders.proofs.columns_lemmas.OneMore.{primitives_fit_one_more}
 use Rattle.nested_arrays_sized_builders.proofs.nulls_lemmas.flat_lemmas.InRange.{native_in_range}
 use Rattle.nested_arrays_dictionary_builders.specs.NumberItems.{AddsNumber}
 

@@ -26,20 +26,20 @@ use Rattle.nested_arrays_sized_builders.specs.nulls.columns.SoundColumns.{is_sou
 use Rattle.nested_arrays_sized_builders.specs.nulls.columns.StoredColumns.{Column, column_len, column_type, slot_at, slots, type_layer}
 use Rattle.nested_arrays_sized_builders.specs.nulls.generic.Dictionaries.{is_value_type}
 use Rattle.nested_arrays_sized_builders.specs.cells.taken.OpenColumns.{Becomes, IsEmptied, IsFresh, KeepsFirst, slots_and}
-use Rattle.nested_arrays_sized_builders.specs.cells.taken.builders.growth.OpenParts.{grown_values, used_by}
+use Rattle.nested_arrays_sized_builders.specs.cells.taken.builders.columns.OpenParts.{grown_values, used_by}
 use Rattle.nested_arrays_sized_builders.proofs.nulls_lemmas.arrays_lemmas.columns_lemmas.FreshSlots.{fresh_slots}
 use Rattle.nested_arrays_sized_builders.proofs.nulls_lemmas.arrays_lemmas.columns_lemmas.FreshSound.{fresh_is_sound}
 use Rattle.nested_arrays_sized_builders.proofs.nulls_lemmas.arrays_lemmas.columns_lemmas.ColumnSizes.{slots_lengths}
 use Rattle.nested_arrays_sized_builders.proofs.nulls_lemmas.arrays_lemmas.columns_lemmas.FreshLengths.{Layer}
 use Rattle.nested_arrays_sized_builders.proofs.nulls_lemmas.arrays_lemmas.columns_lemmas.FreshPlaces.{at_window}
 use Rattle.nested_arrays_sized_builders.proofs.nulls_lemmas.arrays_lemmas.columns_lemmas.SameSlotsDecide.{same_slot-implies, same_slot-itself}
-use Rattle.nested_arrays_sized_builders.proofs.growth_lemmas.Below.{buildable_dictionary, values_fit_below}
-use Rattle.nested_arrays_sized_builders.proofs.growth_lemmas.Laws.{one_more_key}
-use Rattle.nested_arrays_sized_builders.proofs.growth_lemmas.LayersLaid.{layouts_tell}
-use Rattle.nested_arrays_sized_builders.proofs.growth_lemmas.Limits.{first_ones_fit, fits_length}
-use Rattle.nested_arrays_sized_builders.proofs.growth_lemmas.OneMore.{dictionary_takes_null}
-use Rattle.nested_arrays_sized_builders.proofs.growth_lemmas.TypeSteps.{cell_by_layer}
-use Rattle.nested_arrays_sized_builders.proofs.growth_lemmas.Values.{key_new, not_among, values_distinct, values_grow}
+use Rattle.nested_arrays_sized_builders.proofs.columns_lemmas.Below.{buildable_dictionary, values_fit_below}
+use Rattle.nested_arrays_sized_builders.proofs.columns_lemmas.Laws.{one_more_key}
+use Rattle.nested_arrays_sized_builders.proofs.columns_lemmas.LayersLaid.{layouts_tell}
+use Rattle.nested_arrays_sized_builders.proofs.columns_lemmas.Limits.{first_ones_fit, fits_length}
+use Rattle.nested_arrays_sized_builders.proofs.columns_lemmas.OneMore.{dictionary_takes_null}
+use Rattle.nested_arrays_sized_builders.proofs.columns_lemmas.TypeSteps.{cell_by_layer}
+use Rattle.nested_arrays_sized_builders.proofs.columns_lemmas.Values.{key_new, not_among, values_distinct, values_grow}
 use Rattle.nested_arrays_dictionary_builders.specs.DictionaryBuilders.{keyed_over}
 use Rattle.nested_arrays_dictionary_builders.proofs.KeyedSlots.{first_uses, greatest_more, one_use_more, slot_of_use, sound_below, sound_over}
 use Rattle.nested_arrays_dictionary_builders.proofs.OpenParts.{fresh_open}

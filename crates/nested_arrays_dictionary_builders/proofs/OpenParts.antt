@@ -15,9 +15,9 @@ use Rattle.nested_arrays_sized_builders.specs.nulls.columns.StoredColumns.{is_va
 use Rattle.nested_arrays_sized_builders.specs.flat_arrays.Growth.{with_marks}
 use Rattle.nested_arrays_sized_builders.specs.cells.parts.Marks.{mask_of_marks}
 use Rattle.nested_arrays_sized_builders.specs.cells.taken.OpenColumns.{IsFresh}
-use Rattle.nested_arrays_sized_builders.specs.cells.taken.builders.growth.OpenParts.{marks_of, mask_from}
-use Rattle.nested_arrays_sized_builders.proofs.growth_lemmas.Masks.{marks_away, marks_there, mask_grows, mask_is}
-use Rattle.nested_arrays_sized_builders.proofs.growth_lemmas.Masks.{mask_one_more, mask_stays_away}
+use Rattle.nested_arrays_sized_builders.specs.cells.taken.builders.columns.OpenParts.{marks_of, mask_from}
+use Rattle.nested_arrays_sized_builders.proofs.columns_lemmas.Masks.{marks_away, marks_there, mask_grows, mask_is}
+use Rattle.nested_arrays_sized_builders.proofs.columns_lemmas.Masks.{mask_one_more, mask_stays_away}
 use Rattle.nested_arrays_sized_builders.proofs.MarkedSlots.{valid_mark}
 use Rattle.nested_arrays_sized_builders.proofs.nulls_lemmas.arrays_lemmas.columns_lemmas.FreshSlots.{fresh_slots}
 use Rattle.nested_arrays_sized_builders.proofs.nulls_lemmas.arrays_lemmas.columns_lemmas.FreshTypes.{fresh_types}

@@ -21,7 +21,7 @@ use Rattle.nested_arrays_builder_cells.specs.parts.Open.{Open, first_slots}
 use Rattle.nested_arrays_builder_cells.specs.taken.OpenColumns.{AddsNull, Becomes, IsEmptied, IsFresh, KeepsFirst, TakesColumn, slots_and}
 use Rattle.nested_arrays_builder_cells.proofs.columns_lemmas.ColumnSizes.{slots_lengths}
 use Rattle.nested_arrays_builder_cells.proofs.columns_lemmas.Conditions.{parts_of_4}
-use Rattle.nested_arrays_builder_cells.proofs.growth_lemmas.Limits.{first_ones_fit}
+use Rattle.nested_arrays_builder_cells.proofs.columns_lemmas.Limits.{first_ones_fit}
 use Rattle.nested_arrays_generic_builders.specs.StructBuilders.{AddsMark, AddsNullRecord, AddsRow, ClosesRow, HasRow, StructParts}
 use Rattle.nested_arrays_generic_builders.specs.StructBuilders.{emptied, field_columns, first_records, is_stored, next_record, no_records}
 use Rattle.nested_arrays_generic_builders.specs.StructBuilders.{struct_parts, structs_column}

@@ -18,7 +18,7 @@ use Rattle.nested_arrays_builder_cells.specs.parts.Open.{IsWithin, Open, column_
 use Rattle.nested_arrays_builder_cells.proofs.taken_lemmas.OpenColumns.{open_long}
 use Rattle.nested_arrays_builder_cells.proofs.columns_lemmas.Conditions.{parts_of_4}
 use Rattle.nested_arrays_builder_cells.proofs.columns_lemmas.FreshLengths.{Layer}
-use Rattle.nested_arrays_builder_cells.proofs.growth_lemmas.Limits.{fits_length}
+use Rattle.nested_arrays_builder_cells.proofs.columns_lemmas.Limits.{fits_length}
 use Rattle.nested_arrays_generic_builders.specs.StructBuilders.{AddsMark, AddsNullRecord, AddsNulls, field_columns, has_fields, is_stored}
 use Rattle.nested_arrays_generic_builders.specs.StructBuilders.{struct_parts, structs_column}
 use Rattle.nested_arrays_generic_builders.proofs.ListsStored.{marks_fit}

@@ -28,7 +28,7 @@ use Rattle.nested_arrays_builder_cells.specs.builders.Parts.{with_each}
 use Rattle.nested_arrays_builder_cells.specs.parts.Marks.{marks, mask_of_marks}
 use Rattle.nested_arrays_builder_cells.specs.parts.Open.{Open, column_of, first_slots, opened}
 use Rattle.nested_arrays_builder_cells.specs.taken.OpenColumns.{IsFresh, slots_and}
-use Rattle.nested_arrays_builder_cells.specs.taken.builders.growth.OpenParts.{marks_of, slots_of_fields}
+use Rattle.nested_arrays_builder_cells.specs.taken.builders.columns.OpenParts.{marks_of, slots_of_fields}
 use Rattle.nested_arrays_builder_cells.proofs.taken_lemmas.KeptArrays.{record_is}
 use Rattle.nested_arrays_builder_cells.proofs.taken_lemmas.OpenColumns.{open_fresh, open_slots, open_sound, open_type}
 use Rattle.nested_arrays_builder_cells.proofs.taken_lemmas.builders_lemmas.CutParts.{kept_first}
@@ -37,10 +37,10 @@ use Rattle.nested_arrays_builder_cells.proofs.taken_lemmas.builders_lemmas.MoreP
 use Rattle.nested_arrays_builder_cells.proofs.columns_lemmas.ColumnSizes.{slots_lengths}
 use Rattle.nested_arrays_builder_cells.proofs.columns_lemmas.FreshSlots.{fresh_slots}
 use Rattle.nested_arrays_builder_cells.proofs.columns_lemmas.FreshTypes.{fresh_types}
-use Rattle.nested_arrays_builder_cells.proofs.growth_lemmas.Below.{buildable_struct, fields_fit_below}
-use Rattle.nested_arrays_builder_cells.proofs.growth_lemmas.Fields.{fields_count}
-use Rattle.nested_arrays_builder_cells.proofs.growth_lemmas.LayerParts.{fresh_struct}
-use Rattle.nested_arrays_builder_cells.proofs.growth_lemmas.Masks.{mask_by_count, mask_is}
+use Rattle.nested_arrays_builder_cells.proofs.columns_lemmas.Below.{buildable_struct, fields_fit_below}
+use Rattle.nested_arrays_builder_cells.proofs.columns_lemmas.Fields.{fields_count}
+use Rattle.nested_arrays_builder_cells.proofs.columns_lemmas.LayerParts.{fresh_struct}
+use Rattle.nested_arrays_builder_cells.proofs.columns_lemmas.Masks.{mask_by_count, mask_is}
 use Rattle.nested_arrays_builder_cells.proofs.parts_lemmas.MarkLists.{marks_back}
 use Rattle.nested_arrays_generic_builders.specs.StructBuilders.{emptied, field_columns, first_records, is_stored, no_records, struct_parts}
 use Rattle.nested_arrays_generic_builders.specs.StructBuilders.{structs_column}

@@ -26,7 +26,7 @@ use Rattle.nested_arrays_generic_builders.specs.nulls.columns.StoredColumns.{Col
 use Rattle.nested_arrays_generic_builders.specs.nulls.flat.ColumnMasks.{column_mask}
 use Rattle.nested_arrays_generic_builders.specs.cells.parts.Marks.{mask_of_marks}
 use Rattle.nested_arrays_generic_builders.specs.cells.parts.Open.{opened}
-use Rattle.nested_arrays_generic_builders.specs.cells.parts.growth.OpenParts.{is_list_sized, marks_of}
+use Rattle.nested_arrays_generic_builders.specs.cells.parts.columns.OpenParts.{is_list_sized, marks_of}
 use Rattle.nested_arrays_generic_builders.specs.cells.taken.OpenColumns.{Becomes, IsEmptied, IsFresh, KeepsFirst, slots_and}
 use Rattle.nested_arrays_generic_builders.specs.ListBuilders.{list_slot}
 use Rattle.nested_arrays_generic_builders.proofs.ListSlots.{window_rest}
@@ -38,13 +38,13 @@ use Rattle.nested_arrays_generic_builders.proofs.cells_lemmas.columns_lemmas.Fre
 use Rattle.nested_arrays_generic_builders.proofs.cells_lemmas.columns_lemmas.FreshPlaces.{at_window}
 use Rattle.nested_arrays_generic_builders.proofs.cells_lemmas.columns_lemmas.TypeLayers.{layer_itself}
 use Rattle.nested_arrays_generic_builders.proofs.cells_lemmas.columns_lemmas.Windows.{window_same}
-use Rattle.nested_arrays_generic_builders.proofs.cells_lemmas.growth_lemmas.Below.{buildable_fixed_list, fixed_items_fit_below}
-use Rattle.nested_arrays_generic_builders.proofs.cells_lemmas.growth_lemmas.FirstOnes.{fixed_items_cut}
-use Rattle.nested_arrays_generic_builders.proofs.cells_lemmas.growth_lemmas.LayerParts.{fresh_fixed_list}
-use Rattle.nested_arrays_generic_builders.proofs.cells_lemmas.growth_lemmas.Limits.{first_ones_fit}
-use Rattle.nested_arrays_generic_builders.proofs.cells_lemmas.growth_lemmas.Masks.{marks_cut, marks_one_more}
-use Rattle.nested_arrays_generic_builders.proofs.cells_lemmas.growth_lemmas.OneMore.{fixed_list_fits_one_more}
-use Rattle.nested_arrays_generic_builders.proofs.cells_lemmas.growth_lemmas.Pieces.{joined_one_more}
+use Rattle.nested_arrays_generic_builders.proofs.cells_lemmas.columns_lemmas.Below.{buildable_fixed_list, fixed_items_fit_below}
+use Rattle.nested_arrays_generic_builders.proofs.cells_lemmas.columns_lemmas.FirstOnes.{fixed_items_cut}
+use Rattle.nested_arrays_generic_builders.proofs.cells_lemmas.columns_lemmas.LayerParts.{fresh_fixed_list}
+use Rattle.nested_arrays_generic_builders.proofs.cells_lemmas.columns_lemmas.Limits.{first_ones_fit}
+use Rattle.nested_arrays_generic_builders.proofs.cells_lemmas.columns_lemmas.Masks.{marks_cut, marks_one_more}
+use Rattle.nested_arrays_generic_builders.proofs.cells_lemmas.columns_lemmas.OneMore.{fixed_list_fits_one_more}
+use Rattle.nested_arrays_generic_builders.proofs.cells_lemmas.columns_lemmas.Pieces.{joined_one_more}
 use Rattle.nested_arrays_sized_builders.specs.FixedListBuilders.{lists_over, marks_for}
 use Rattle.nested_arrays_sized_builders.proofs.GrownColumns.{begins, fresh_sound}
 use Rattle.nested_arrays_sized_builders.proofs.MarkedSlots.{first_marked, marks_by_mask, marks_masked, masked_at, one_more_marked, valid_mark}

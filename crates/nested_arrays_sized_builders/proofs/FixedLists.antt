@@ -18,17 +18,17 @@ use Rattle.nested_arrays_generic_builders.specs.nulls.columns.Slots.{Slot, null,
 use Rattle.nested_arrays_generic_builders.specs.nulls.columns.SoundColumns.{has_fixed_item_type, is_sound, mask_fits}
 use Rattle.nested_arrays_generic_builders.specs.nulls.columns.StoredColumns.{Column, column_len, column_type, fixed_lists, slot_at, slots, type_layer}
 use Rattle.nested_arrays_generic_builders.specs.cells.parts.Marks.{mask_of_marks}
-use Rattle.nested_arrays_generic_builders.specs.cells.parts.growth.OpenParts.{marks_of}
+use Rattle.nested_arrays_generic_builders.specs.cells.parts.columns.OpenParts.{marks_of}
 use Rattle.nested_arrays_generic_builders.specs.cells.taken.OpenColumns.{Becomes, IsEmptied, IsFresh, KeepsFirst, slots_and}
 use Rattle.nested_arrays_generic_builders.specs.ListBuilders.{list_slot}
 use Rattle.nested_arrays_generic_builders.proofs.ListsStored.{marks_fit}
 use Rattle.nested_arrays_generic_builders.proofs.cells_lemmas.columns_lemmas.ColumnSizes.{slots_lengths}
 use Rattle.nested_arrays_generic_builders.proofs.cells_lemmas.columns_lemmas.FreshPlaces.{at_window}
-use Rattle.nested_arrays_generic_builders.proofs.cells_lemmas.growth_lemmas.FirstOnes.{fixed_items_cut}
-use Rattle.nested_arrays_generic_builders.proofs.cells_lemmas.growth_lemmas.Limits.{first_ones_fit}
-use Rattle.nested_arrays_generic_builders.proofs.cells_lemmas.growth_lemmas.Masks.{marks_cut, marks_one_more}
-use Rattle.nested_arrays_generic_builders.proofs.cells_lemmas.growth_lemmas.OneMore.{fixed_list_fits_one_more}
-use Rattle.nested_arrays_generic_builders.proofs.cells_lemmas.growth_lemmas.Pieces.{joined_one_more}
+use Rattle.nested_arrays_generic_builders.proofs.cells_lemmas.columns_lemmas.FirstOnes.{fixed_items_cut}
+use Rattle.nested_arrays_generic_builders.proofs.cells_lemmas.columns_lemmas.Limits.{first_ones_fit}
+use Rattle.nested_arrays_generic_builders.proofs.cells_lemmas.columns_lemmas.Masks.{marks_cut, marks_one_more}
+use Rattle.nested_arrays_generic_builders.proofs.cells_lemmas.columns_lemmas.OneMore.{fixed_list_fits_one_more}
+use Rattle.nested_arrays_generic_builders.proofs.cells_lemmas.columns_lemmas.Pieces.{joined_one_more}
 use Rattle.nested_arrays_sized_builders.specs.FixedListBuilders.{AddsFixedList, Extends, lists_over, marks_for}
 use Rattle.nested_arrays_sized_builders.proofs.FixedColumns.{child_fresh, child_slots, child_type, count_is, fixed_slots, fresh_marks, grown_slots}
 use Rattle.nested_arrays_sized_builders.proofs.FixedColumns.{grown_sound, list_of, named, own_fit, same_list, sound_parts, sound_whole}

@@ -16,7 +16,7 @@ use Rattle.nested_arrays_generic_builders.proofs.OpenLists.{same_becomes}
 use Rattle.nested_arrays_generic_builders.proofs.cells_lemmas.taken_lemmas.OpenColumns.{open_sound}
 use Rattle.nested_arrays_generic_builders.proofs.cells_lemmas.columns_lemmas.ColumnSizes.{slots_lengths}
 use Rattle.nested_arrays_generic_builders.proofs.cells_lemmas.columns_lemmas.FreshPlaces.{at_window}
-use Rattle.nested_arrays_generic_builders.proofs.cells_lemmas.growth_lemmas.Limits.{fits_not_with_more}
+use Rattle.nested_arrays_generic_builders.proofs.cells_lemmas.columns_lemmas.Limits.{fits_not_with_more}
 
 -- fresh columns are sound
 pub fresh_sound : (c : Column) → IsFresh c → is_sound c ≡ true

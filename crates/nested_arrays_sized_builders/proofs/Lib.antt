@@ -9,7 +9,7 @@ pub mod SettledMarks
 pub mod SizedColumns
 pub mod SizedPushes
 pub use Rattle.nested_arrays_generic_builders.proofs.nulls_lemmas
-pub use Rattle.nested_arrays_generic_builders.proofs.cells_lemmas.growth_lemmas
+pub use Rattle.nested_arrays_generic_builders.proofs.cells_lemmas.columns_lemmas
 pub use Rattle.nested_arrays_generic_builders.proofs.cells_lemmas.taken_lemmas.builders_lemmas.values_lemmas
 pub use Rattle.nested_arrays_generic_builders.proofs.cells_lemmas.taken_lemmas
 pub use Rattle.nested_arrays_generic_builders.proofs as lists_lemmas

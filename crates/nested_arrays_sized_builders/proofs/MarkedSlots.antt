@@ -11,11 +11,11 @@ use Rattle.nested_arrays_generic_builders.specs.nulls.columns.OpenBatch.{fits}
 use Rattle.nested_arrays_generic_builders.specs.nulls.columns.Slots.{Slot, null, window}
 use Rattle.nested_arrays_generic_builders.specs.nulls.columns.StoredColumns.{is_valid_at}
 use Rattle.nested_arrays_generic_builders.specs.cells.parts.Marks.{marks, mask_of_marks}
-use Rattle.nested_arrays_generic_builders.specs.cells.parts.growth.OpenParts.{marks_of}
+use Rattle.nested_arrays_generic_builders.specs.cells.parts.columns.OpenParts.{marks_of}
 use Rattle.nested_arrays_generic_builders.proofs.ListSlots.{window_first, window_more}
 use Rattle.nested_arrays_generic_builders.proofs.cells_lemmas.columns_lemmas.Windows.{window_same}
-use Rattle.nested_arrays_generic_builders.proofs.cells_lemmas.growth_lemmas.Limits.{fits_length}
-use Rattle.nested_arrays_generic_builders.proofs.cells_lemmas.growth_lemmas.Masks.{mask_by_count, mask_is}
+use Rattle.nested_arrays_generic_builders.proofs.cells_lemmas.columns_lemmas.Limits.{fits_length}
+use Rattle.nested_arrays_generic_builders.proofs.cells_lemmas.columns_lemmas.Masks.{mask_by_count, mask_is}
 use Rattle.nested_arrays_generic_builders.proofs.cells_lemmas.parts_lemmas.MarkLists.{marks_back}
 
 -- ---- marks

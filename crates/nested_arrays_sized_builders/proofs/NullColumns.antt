@@ -23,9 +23,9 @@ use Rattle.nested_arrays_generic_builders.specs.cells.taken.OpenColumns.{Becomes
 use Rattle.nested_arrays_generic_builders.proofs.cells_lemmas.columns_lemmas.ColumnSizes.{slots_lengths}
 use Rattle.nested_arrays_generic_builders.proofs.cells_lemmas.columns_lemmas.FreshLengths.{Layer}
 use Rattle.nested_arrays_generic_builders.proofs.cells_lemmas.columns_lemmas.Windows.{window_same}
-use Rattle.nested_arrays_generic_builders.proofs.cells_lemmas.growth_lemmas.Fits.{fits_nulls}
-use Rattle.nested_arrays_generic_builders.proofs.cells_lemmas.growth_lemmas.LayerParts.{fresh_nulls}
-use Rattle.nested_arrays_generic_builders.proofs.cells_lemmas.growth_lemmas.TypeSteps.{buildable_by_layer}
+use Rattle.nested_arrays_generic_builders.proofs.cells_lemmas.columns_lemmas.Fits.{fits_nulls}
+use Rattle.nested_arrays_generic_builders.proofs.cells_lemmas.columns_lemmas.LayerParts.{fresh_nulls}
+use Rattle.nested_arrays_generic_builders.proofs.cells_lemmas.columns_lemmas.TypeSteps.{buildable_by_layer}
 use Rattle.nested_arrays_generic_builders.proofs.nulls_lemmas.flat_lemmas.NullTypes.{null_types}
 use Rattle.nested_arrays_generic_builders.proofs.ListSlots.{window_first, window_more}
 

@@ -25,7 +25,7 @@ use Rattle.nested_arrays_generic_builders.specs.nulls.columns.StoredColumns.{Col
 use Rattle.nested_arrays_generic_builders.specs.nulls.flat.ColumnMasks.{column_mask}
 use Rattle.nested_arrays_generic_builders.specs.nulls.flat.FlatColumns.{byte_width, fixed_column, layer_width}
 use Rattle.nested_arrays_generic_builders.specs.cells.parts.Marks.{mask_of_marks}
-use Rattle.nested_arrays_generic_builders.specs.cells.parts.growth.OpenParts.{marks_of}
+use Rattle.nested_arrays_generic_builders.specs.cells.parts.columns.OpenParts.{marks_of}
 use Rattle.nested_arrays_generic_builders.specs.cells.taken.OpenColumns.{Becomes, IsEmptied, IsFresh, KeepsFirst, TakesColumn, slots_and}
 use Rattle.nested_arrays_generic_builders.proofs.ListsStored.{marks_fit}
 use Rattle.nested_arrays_generic_builders.proofs.cells_lemmas.columns_lemmas.ColumnSizes.{slots_lengths}
@@ -33,13 +33,13 @@ use Rattle.nested_arrays_generic_builders.proofs.cells_lemmas.columns_lemmas.Con
 use Rattle.nested_arrays_generic_builders.proofs.cells_lemmas.columns_lemmas.FreshLengths.{Layer}
 use Rattle.nested_arrays_generic_builders.proofs.cells_lemmas.columns_lemmas.TypeLayers.{layer_itself}
 use Rattle.nested_arrays_generic_builders.proofs.cells_lemmas.columns_lemmas.Windows.{window_same}
-use Rattle.nested_arrays_generic_builders.proofs.cells_lemmas.growth_lemmas.FirstOnes.{fixed_contents_cut}
-use Rattle.nested_arrays_generic_builders.proofs.cells_lemmas.growth_lemmas.Fits.{fits_fixed_binary}
-use Rattle.nested_arrays_generic_builders.proofs.cells_lemmas.growth_lemmas.LayerParts.{fresh_fixed_binary}
-use Rattle.nested_arrays_generic_builders.proofs.cells_lemmas.growth_lemmas.Limits.{first_ones_fit}
-use Rattle.nested_arrays_generic_builders.proofs.cells_lemmas.growth_lemmas.Masks.{marks_cut, marks_one_more}
-use Rattle.nested_arrays_generic_builders.proofs.cells_lemmas.growth_lemmas.OneMore.{fixed_binary_fits_one_more}
-use Rattle.nested_arrays_generic_builders.proofs.cells_lemmas.growth_lemmas.Pieces.{joined_one_more}
+use Rattle.nested_arrays_generic_builders.proofs.cells_lemmas.columns_lemmas.FirstOnes.{fixed_contents_cut}
+use Rattle.nested_arrays_generic_builders.proofs.cells_lemmas.columns_lemmas.Fits.{fits_fixed_binary}
+use Rattle.nested_arrays_generic_builders.proofs.cells_lemmas.columns_lemmas.LayerParts.{fresh_fixed_binary}
+use Rattle.nested_arrays_generic_builders.proofs.cells_lemmas.columns_lemmas.Limits.{first_ones_fit}
+use Rattle.nested_arrays_generic_builders.proofs.cells_lemmas.columns_lemmas.Masks.{marks_cut, marks_one_more}
+use Rattle.nested_arrays_generic_builders.proofs.cells_lemmas.columns_lemmas.OneMore.{fixed_binary_fits_one_more}
+use Rattle.nested_arrays_generic_builders.proofs.cells_lemmas.columns_lemmas.Pieces.{joined_one_more}
 use Rattle.nested_arrays_generic_builders.proofs.nulls_lemmas.flat_lemmas.FixedWidths.{fixed_sound}
 use Rattle.nested_arrays_sized_builders.specs.SizedStrings.{is_sized, sized_type, stored_for, string_slot}
 use Rattle.nested_arrays_sized_builders.proofs.MarkedSlots.{first_marked, marks_by_mask, marks_masked, masked_at, one_more_marked, valid_mark}

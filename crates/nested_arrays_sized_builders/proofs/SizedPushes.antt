@@ -23,7 +23,7 @@ use Rattle.nested_arrays_generic_builders.proofs.cells_lemmas.columns_lemmas.Col
 use Rattle.nested_arrays_generic_builders.proofs.cells_lemmas.columns_lemmas.Conditions.{list_all-take}
 use Rattle.nested_arrays_generic_builders.proofs.cells_lemmas.columns_lemmas.Fitting.{null_fits}
 use Rattle.nested_arrays_generic_builders.proofs.cells_lemmas.columns_lemmas.FreshLengths.{cell_layer}
-use Rattle.nested_arrays_generic_builders.proofs.cells_lemmas.growth_lemmas.TypeSteps.{cell_is}
+use Rattle.nested_arrays_generic_builders.proofs.cells_lemmas.columns_lemmas.TypeSteps.{cell_is}
 use Rattle.nested_arrays_sized_builders.specs.MarkedSlots.{AddsSlot}
 use Rattle.nested_arrays_sized_builders.specs.SizedStrings.{AddsBytes, AddsString, AreSized, JoinsBytes, SizedParts, is_sized}
 use Rattle.nested_arrays_sized_builders.specs.SizedStrings.{sized_column, sized_parts, sized_type, stored_for, string_slot}

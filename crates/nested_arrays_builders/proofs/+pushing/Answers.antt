@@ -3,7 +3,7 @@ use Rattle.std.specs.Prelude.{slice_set}
 use Rattle.nested_arrays_builder_values.specs.parts.arrays.columns.Cells.{fits_cell}
 use Rattle.nested_arrays_builder_values.specs.parts.arrays.columns.Children.{fixed_items_of}
 use Rattle.nested_arrays_builder_values.specs.parts.arrays.columns.Slots.{null}
-use Rattle.nested_arrays_builder_values.specs.parts.growth.OpenParts.{fields_of_slot, is_record_sized}
+use Rattle.nested_arrays_builder_values.specs.parts.columns.OpenParts.{fields_of_slot, is_record_sized}
 use Rattle.nested_arrays_builder_values.specs.parts.Open.{Open, first_slots}
 use Rattle.nested_arrays_builder_values.specs.parts.Scalars.{scalar_slot}
 use Rattle.nested_arrays_builders.specs.Parts.{is_fitting, of_fields, type_size, types_size, with_each, IsShort, IsShortOfEach}

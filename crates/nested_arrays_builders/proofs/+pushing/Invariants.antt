@@ -1,6 +1,6 @@
 use Rattle.std.proofs.Common.{◌≡◌, ℕ, ◌<◌, ◌+◌, ◌*◌, take, length, get_or, true}
 use Rattle.nested_arrays_builder_values.specs.parts.arrays.columns.Children.{fixed_items_of}
-use Rattle.nested_arrays_builder_values.specs.parts.growth.OpenParts.{fields_of_slot}
+use Rattle.nested_arrays_builder_values.specs.parts.columns.OpenParts.{fields_of_slot}
 use Rattle.nested_arrays_builder_values.specs.parts.Open.{Open}
 use Rattle.nested_arrays_builder_values.specs.parts.Scalars.{scalar_slot}
 use Rattle.nested_arrays_builders.specs.Nodes.{parts_of}
