@@ -3,7 +3,6 @@ ghost use Rattle.std.specs.Prelude.{MatchResult};
 ghost use Rattle.columnar_memory_types.specs.Error.{IsOutOfMemory};
 ghost use Rattle.columnar_memory_bits.specs.Bits.{bits_of, unset_count};
 ghost use Rattle.columnar_memory_bits.specs.Bits as format;
-ghost use Rattle.columnar_memory_bits.specs.Words.{whole_words, rest_bits};
 ghost use Rattle.std.specs.Cmp.Lexicographic.{pointwise, lists_per, lists_equiv};
 ghost use Rattle.std.specs.Cmp.{bool_eq_equiv, partial_equiv_from_equiv};
 ghost use Rattle.std.proofs.Math.Bool.{beq};
@@ -15,9 +14,7 @@ ghost use Rattle.columnar_memory_bitmap.specs.Runs.{HoldsBits};
 
 use crate::MutableBitmap;
 use crate::equal::same_bits;
-use columnar_memory_bits::{
-    BitChunk, BitChunks, BitmapIter, bytes_for, count_zeros, get_bit, load_word,
-};
+use columnar_memory_bits::{BitmapIter, bytes_for, count_zeros, get_bit, load_word};
 use columnar_memory_types::{Error, Result};
 use either::Either;
 use std::alloc::{AllocError, Global};
@@ -141,13 +138,6 @@ impl Bitmap {
         ensures { result ≡ self.now }
     {
         BitmapIter::new(&self.bytes, self.offset, self.len)
-    }
-
-    /// The bits in whole chunks, and the bits behind them.
-    pub fn chunks<T: BitChunk>(&self) -> BitChunks<'_, T>
-        ensures { result ≡ (whole_words T.bits self.now, rest_bits T.bits self.now) }
-    {
-        BitChunks::new(&self.bytes, self.offset, self.len)
     }
 
     /// Narrows this to the `count` bits from `offset` on.

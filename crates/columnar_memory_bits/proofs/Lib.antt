@@ -6,6 +6,5 @@ pub mod Counts
 mod Loads
 pub mod Appends
 mod LastBytes
-pub mod Chunks
-mod Places
+pub mod Places
 mod Texts

@@ -4,6 +4,4 @@ pub mod Words
 pub mod Appends
 pub mod ZipValidity
 pub mod ZipValidityCases
-pub mod Chunks
 pub mod Text
-pub mod ChunksMut

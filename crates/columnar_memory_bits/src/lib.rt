@@ -5,11 +5,6 @@
 #![tactic(auto)]
 
 mod append;
-mod bit_chunk;
-mod bit_chunk_iter;
-mod chunk_iterator;
-mod chunks_exact;
-mod chunks_exact_mut;
 mod count;
 mod iterator;
 mod load;
@@ -19,11 +14,6 @@ mod zip_validity;
 mod zip_validity_iter;
 
 pub use append::{append_bits, append_constant, append_word, keep_bits};
-pub use bit_chunk::{BitChunk, ChunkWidth};
-pub use bit_chunk_iter::{BitChunkIter, BitChunkOnes};
-pub use chunk_iterator::BitChunks;
-pub use chunks_exact::{BitChunkIterExact, BitChunksExact};
-pub use chunks_exact_mut::BitChunksExactMut;
 pub use count::count_zeros;
 pub use iterator::BitmapIter;
 pub use load::{load_word, low_bits};

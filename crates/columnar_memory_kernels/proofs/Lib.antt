@@ -1,3 +1,4 @@
+pub mod Chunks
 mod WordLists
 mod Wordwise
 mod InPlace

@@ -4,8 +4,9 @@ ghost use Rattle.columnar_memory_bitmap.specs.bits.Bits.{bits_of};
 ghost use Rattle.columnar_memory_bitmap.specs.bits.Words.{word_at};
 ghost use Rattle.columnar_memory_kernels.specs.Kernels.{AnswersOne, AnswersTwo, CombinesValues, IsWordwise, TurnsValues};
 
+use crate::bit_chunk::BitChunk;
 use crate::write::{bits_of_word, write_word};
-use columnar_memory_bitmap::bits::{BitChunk, load_word};
+use columnar_memory_bitmap::bits::load_word;
 use columnar_memory_bitmap::{Bitmap, MutableBitmap};
 
 /// Writes the answers of a function to the words of some bits over them.

@@ -3,6 +3,7 @@ ghost use Rattle.std.specs.Prelude.{◌≡◌, length, IfOk};
 use crate::cases::{BYTES, LENGTHS, marked, unset};
 use columnar_memory_bitmap::{Bitmap, MutableBitmap, SlicesIterator};
 use columnar_memory_bits::ZipValidity;
+use columnar_memory_kernels::HasChunks;
 use columnar_memory_types::Error;
 use either::Either;
 use std::alloc::Global;

@@ -3,9 +3,10 @@ ghost use Rattle.std.specs.Int.{bit_not};
 
 use crate::cases::{BYTES, LENGTHS, bit, marked, unset};
 use columnar_memory_bits::{
+    BitmapIter, ZipValidity, append_bits, append_constant, count_zeros, get_bit, keep_bits, set_bit,
+};
+use columnar_memory_kernels::{
     BitChunk, BitChunkIterExact, BitChunkOnes, BitChunks, BitChunksExact, BitChunksExactMut,
-    BitmapIter, ZipValidity, append_bits, append_constant, count_zeros, get_bit, keep_bits,
-    set_bit,
 };
 use std::alloc::{AllocError, Global};
 use std::test::Fail;

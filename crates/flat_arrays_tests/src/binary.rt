@@ -1,5 +1,5 @@
 use crate::cases::{bytes_of, offsets_of};
-use columnar_memory::{DataType, Error};
+use columnar_memory_core::{DataType, Error};
 use flat_arrays::BinaryArray;
 use std::alloc::{AllocError, Global};
 use std::test::Fail;

@@ -1,4 +1,4 @@
-use columnar_memory::Error;
+use columnar_memory_core::Error;
 use either::Either;
 use flat_arrays::{BinaryArray, IntoMut, MutableBinaryArray};
 use std::alloc::Global;

@@ -1,4 +1,4 @@
-use columnar_memory::Error;
+use columnar_memory_core::Error;
 use flat_arrays::MutableBinaryValuesArray;
 use std::alloc::Global;
 use std::test::Fail;

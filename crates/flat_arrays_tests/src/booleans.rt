@@ -1,6 +1,6 @@
 ghost use Rattle.std.specs.Prelude.{◌≡◌, length, IfOk};
 
-use columnar_memory::{DataType, Error, MutableBitmap};
+use columnar_memory_core::{DataType, Error, MutableBitmap};
 use flat_arrays::BooleanArray;
 use std::alloc::Global;
 use std::test::Fail;

@@ -1,5 +1,5 @@
 //! Offsets and bytes to make arrays of.
-use columnar_memory::{Buffer, Error, OffsetsBuffer};
+use columnar_memory_core::{Buffer, Error, OffsetsBuffer};
 use std::alloc::Global;
 
 pub(crate) fn offsets_of(alloc: Global, offsets: &[i32]) -> Result<OffsetsBuffer<i32>, Error> {

@@ -1,4 +1,4 @@
-use columnar_memory::{Error, Index};
+use columnar_memory_core::{Error, Index};
 use flat_arrays::check_indexes;
 use std::test::Fail;
 

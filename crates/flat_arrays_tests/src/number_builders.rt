@@ -1,4 +1,4 @@
-use columnar_memory::{DataType, Error};
+use columnar_memory_core::{DataType, Error};
 use either::Either;
 use flat_arrays::{Int32Array, Int32Vec, IntoMut};
 use std::alloc::Global;

@@ -1,6 +1,6 @@
 ghost use Rattle.std.specs.Prelude.{◌≡◌, length, IfOk};
 
-use columnar_memory::{Buffer, DataType, Error};
+use columnar_memory_core::{Buffer, DataType, Error};
 use flat_arrays::Int32Array;
 use std::alloc::Global;
 use std::test::Fail;

@@ -1,5 +1,5 @@
 //! Arrays and builders made of texts and byte strings that are owned.
-use columnar_memory::Error;
+use columnar_memory_core::Error;
 use flat_arrays::{
     BinaryArray, MutableBinaryArray, MutableBinaryValuesArray, MutableUtf8Array,
     MutableUtf8ValuesArray, Utf8Array,

@@ -1,5 +1,5 @@
 //! Arrays and builders in a `for`, and walks over their values that are made of a reference.
-use columnar_memory::Error;
+use columnar_memory_core::Error;
 use flat_arrays::{
     ArrayAccessor, ArrayValuesIter, BinaryArray, BinaryValueIter, MutableBinaryArray,
     MutableBinaryValuesArray, MutableBinaryValuesIter, MutableBooleanArray, MutablePrimitiveArray,

@@ -3,7 +3,7 @@ use Rattle.std.proofs.Common.{◌≡◌, ◌∙◌, ℕ, ◌+◌, ◌<◌, ◌�
 use Rattle.std.proofs.lemmas.List.{length-append, length-replicate, length-map, map-append, replicate-append-replicate}
 use Rattle.std.specs.List.{zip}
 use Rattle.std.specs.Prelude.{Option, Some, None, is_some, unwrap_or}
-use Rattle.columnar_memory.specs.Bits.{unset_count}
+use Rattle.columnar_memory_core.specs.Bits.{unset_count}
 use Rattle.flat_arrays_values.specs.Flat.{Flat, marks, slot_of, slots_of, IsMaskOf}
 use Rattle.flat_arrays_values.specs.Growth.{grown, with_marks, with_slots}
 use Rattle.flat_arrays_values.proofs.Marked.{all-true, made, none_or_some, unmade}

@@ -5,9 +5,9 @@ use Rattle.std.proofs.lemmas.List.{take-map, drop-map, length-replicate}
 use Rattle.std.proofs.lemmas.List.Sums.{sum_by-cons}
 use Rattle.std.specs.Prelude.{Option, Some, None, cond, count_by, is_none}
 use Rattle.std.specs.List.{zip}
-use Rattle.columnar_memory.specs.Bits.{unset_count}
-use Rattle.columnar_memory.specs.Window.{window}
-use Rattle.columnar_memory.proofs.buffer_lemmas.Windows.{windows_join}
+use Rattle.columnar_memory_core.specs.Bits.{unset_count}
+use Rattle.columnar_memory_core.specs.Window.{window}
+use Rattle.columnar_memory_core.proofs.buffer_lemmas.Windows.{windows_join}
 use Rattle.flat_arrays_values.specs.Flat.{Flat, flat, cut, cut_mask, marks, marks_of, slot_of, slots_of, IsMaskOf}
 
 -- the slots of values and marks

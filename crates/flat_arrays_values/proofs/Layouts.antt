@@ -1,19 +1,19 @@
 -- The layout of the plainest types.
 use Rattle.std.proofs.Common.{◌≡◌}
 use denote.Hole.Carrier
-use Rattle.columnar_memory.specs.declared.PhysicalType.{PhysicalType}
-use Rattle.columnar_memory.specs.declared.PhysicalType.TheVariants as layouts
-use Rattle.columnar_memory.specs.declared.PrimitiveType.{PrimitiveType}
-use Rattle.columnar_memory.specs.declared.PrimitiveType.TheVariants as kinds
-use Rattle.columnar_memory.specs.declared.IntervalUnit.TheVariants as intervals
-use Rattle.columnar_memory.specs.declared.DataType.{DataType, map-DataType}
-use Rattle.columnar_memory.specs.declared.Field.{Field}
-use Rattle.columnar_memory.specs.declared.DataType.TheVariants as types
-use Rattle.columnar_memory.specs.declared.DataType.TheOpen as layer
-use Rattle.columnar_memory.specs.declared.DataType.TheViews.{roll-DataType}
-use Rattle.columnar_memory.specs.declared.DataType.TheFolds.{fold-Field, fold-roll-DataType}
-use Rattle.columnar_memory.specs.Conversions.{type_of_primitive}
-use Rattle.columnar_memory.specs.Layouts.{physical_step, physical_type}
+use Rattle.columnar_memory_core.specs.declared.PhysicalType.{PhysicalType}
+use Rattle.columnar_memory_core.specs.declared.PhysicalType.TheVariants as layouts
+use Rattle.columnar_memory_core.specs.declared.PrimitiveType.{PrimitiveType}
+use Rattle.columnar_memory_core.specs.declared.PrimitiveType.TheVariants as kinds
+use Rattle.columnar_memory_core.specs.declared.IntervalUnit.TheVariants as intervals
+use Rattle.columnar_memory_core.specs.declared.DataType.{DataType, map-DataType}
+use Rattle.columnar_memory_core.specs.declared.Field.{Field}
+use Rattle.columnar_memory_core.specs.declared.DataType.TheVariants as types
+use Rattle.columnar_memory_core.specs.declared.DataType.TheOpen as layer
+use Rattle.columnar_memory_core.specs.declared.DataType.TheViews.{roll-DataType}
+use Rattle.columnar_memory_core.specs.declared.DataType.TheFolds.{fold-Field, fold-roll-DataType}
+use Rattle.columnar_memory_core.specs.Conversions.{type_of_primitive}
+use Rattle.columnar_memory_core.specs.Layouts.{physical_step, physical_type}
 
 -- how one layer of a type lies in memory
 step : (x : layer.DataType-F DataType Field) → physical_type (roll-DataType x) ≡ physical_step (map-DataType DataType Field PhysicalType (Unit {0})

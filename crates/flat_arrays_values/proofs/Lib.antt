@@ -6,4 +6,4 @@ pub mod SameSlots
 pub mod Walks
 pub mod Added
 pub mod Marked
-pub use Rattle.columnar_memory.proofs as columnar_memory_lemmas
+pub use Rattle.columnar_memory_core.proofs as columnar_memory_lemmas

@@ -3,9 +3,9 @@ use Rattle.std.proofs.Common.{◌≡◌, ◌∙◌, ℕ, zero, suc, ◌+◌, ◌
 use Rattle.std.proofs.Common.{refl, ap, ap₂, sym, arith, rules}
 use Rattle.std.specs.Prelude.{Option, Some, None, is_some, unwrap_or, slice_get, slice_range}
 use Rattle.std.specs.List.{zip}
-use Rattle.columnar_memory.specs.declared.DataType.{DataType}
-use Rattle.columnar_memory.specs.Bits.{unset_count}
-use Rattle.columnar_memory.specs.Window.{window}
+use Rattle.columnar_memory_core.specs.declared.DataType.{DataType}
+use Rattle.columnar_memory_core.specs.Bits.{unset_count}
+use Rattle.columnar_memory_core.specs.Window.{window}
 use Rattle.std.proofs.lemmas.Option.{slice_get_past}
 use Rattle.flat_arrays_values.proofs.Cuts.{length-slots_of}
 use Rattle.flat_arrays_values.specs.Flat.{Flat, flat, mask_of, of_slots, slot_of, slots_of, IsMaskOf}

@@ -7,8 +7,8 @@ use Rattle.std.proofs.lemmas.List.Sums.{sum_by-cons}
 use Rattle.std.proofs.Math.Dec.{eqb-suc-zero}
 use Rattle.std.proofs.Math.Seq.{take-append_seam}
 use Rattle.std.specs.Prelude.{Option, Some, None, is_some, unwrap_or, cond, ◌==◌, if◌then◌else◌, slice_set}
-use Rattle.columnar_memory.specs.Bits.{unset_count}
-use Rattle.columnar_memory.proofs.bits_lemmas.Counts.{unset_count_append}
+use Rattle.columnar_memory_core.specs.Bits.{unset_count}
+use Rattle.columnar_memory_core.proofs.bits_lemmas.Counts.{unset_count_append}
 use Rattle.flat_arrays_values.proofs.MarkPlaces.{all_set}
 use Rattle.flat_arrays_values.specs.Flat.{Flat, flat, needed_mask, IsMaskOf}
 use Rattle.flat_arrays_values.specs.Growth.{grown, with_mark, with_marks, with_slots, with_values}

@@ -5,11 +5,11 @@ use Rattle.std.proofs.lemmas.List.Sums.{sum_by-cons}
 use Rattle.std.specs.Prelude.{Option, Some, None, cond, not, option_map}
 use Rattle.std.specs.Iterator.{YieldsFirst, YieldsFirstBy, YieldsLast, YieldsLastBy}
 use Rattle.std.specs.List.{zip}
-use Rattle.columnar_memory.specs.Bits.{unset_count}
-use Rattle.columnar_memory.specs.ZipValidity.{slot}
-use Rattle.columnar_memory.specs.ZipValidityCases.{StepsEither}
-use Rattle.columnar_memory.specs.declared.ZipValidity.{ZipValidity}
-use Rattle.columnar_memory.specs.declared.ZipValidity.TheVariants.{Required, Optional}
+use Rattle.columnar_memory_core.specs.Bits.{unset_count}
+use Rattle.columnar_memory_core.specs.ZipValidity.{slot}
+use Rattle.columnar_memory_core.specs.ZipValidityCases.{StepsEither}
+use Rattle.columnar_memory_core.specs.declared.ZipValidity.{ZipValidity}
+use Rattle.columnar_memory_core.specs.declared.ZipValidity.TheVariants.{Required, Optional}
 use Rattle.flat_arrays_values.specs.Walks.{slot_of, slots_left, IsEven, WalksGiveSlots}
 
 -- the slots of values and marks

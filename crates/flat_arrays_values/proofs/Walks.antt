@@ -4,9 +4,9 @@ use Rattle.std.specs.Prelude.{Option, Some, None}
 use Rattle.std.specs.Iterator.{YieldsFirst, YieldsFirstBy, YieldsLast, YieldsLastBy}
 use Rattle.std.specs.List.{zip}
 use Rattle.std.specs.Slice.Iter.{iter_rest, iter_steps, iter_steps_back}
-use Rattle.columnar_memory.specs.ZipValidityCases.{StepsEither}
-use Rattle.columnar_memory.specs.declared.ZipValidity.{ZipValidity}
-use Rattle.columnar_memory.specs.declared.ZipValidity.TheVariants.{Required, Optional}
+use Rattle.columnar_memory_core.specs.ZipValidityCases.{StepsEither}
+use Rattle.columnar_memory_core.specs.declared.ZipValidity.{ZipValidity}
+use Rattle.columnar_memory_core.specs.declared.ZipValidity.TheVariants.{Required, Optional}
 use Rattle.flat_arrays_values.proofs.WalkSlots.{all_there, walks_give_slots}
 use Rattle.flat_arrays_values.specs.Flat.{marks_of, slot_of}
 use Rattle.flat_arrays_values.specs.SlotWalks.{SlicesGiveSlots, StandsBeforeSlots}

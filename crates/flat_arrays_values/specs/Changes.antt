@@ -2,8 +2,8 @@
 use Rattle.std.specs.Prelude.{◌≡◌, ◌-◌, List, [], ◌∷◌, ◌++◌, length, Option, None, unwrap_or, slice_get, Result, MatchResult}
 use Rattle.std.specs.Iterator.{Yields}
 use Rattle.std.specs.Iterator.Runs.{WholeRun}
-use Rattle.columnar_memory.specs.declared.Error.{Error}
-use Rattle.columnar_memory.specs.Error.{IsOutOfMemory}
+use Rattle.columnar_memory_core.specs.declared.Error.{Error}
+use Rattle.columnar_memory_core.specs.Error.{IsOutOfMemory}
 use Rattle.flat_arrays_values.specs.Flat.{Flat, cut, slots_of}
 
 -- it has become another; or there is no memory, and it is as it was

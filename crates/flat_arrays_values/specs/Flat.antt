@@ -6,12 +6,12 @@ use Rattle.std.specs.List.{zip}
 use Rattle.std.specs.Option.{ForSome}
 use Rattle.std.specs.Coded.{Coded, code_by, coded×, coded_list, coded_option, coded_bool}
 use Rattle.std.proofs.Common.{refl}
-use Rattle.columnar_memory.specs.contracts.DataType as data_type
-use Rattle.columnar_memory.specs.declared.DataType.{DataType}
-use Rattle.columnar_memory.specs.declared.PhysicalType.{PhysicalType}
-use Rattle.columnar_memory.specs.Layouts.{physical_type}
-use Rattle.columnar_memory.specs.Bits.{unset_count}
-use Rattle.columnar_memory.specs.Window.{window}
+use Rattle.columnar_memory_core.specs.contracts.DataType as data_type
+use Rattle.columnar_memory_core.specs.declared.DataType.{DataType}
+use Rattle.columnar_memory_core.specs.declared.PhysicalType.{PhysicalType}
+use Rattle.columnar_memory_core.specs.Layouts.{physical_type}
+use Rattle.columnar_memory_core.specs.Bits.{unset_count}
+use Rattle.columnar_memory_core.specs.Window.{window}
 
 pub record Flat (V : Type 0) : Type 0 where
   pub data_type : DataType

@@ -5,8 +5,8 @@ use Rattle.std.specs.Bool.{Decides}
 use Rattle.std.specs.Option.{option_eq}
 use Rattle.std.specs.Cmp.{IsEquivalence, IsPartialEquivalence, partial_equiv_from_equiv, and_equiv, on_equiv, first_so, second_so}
 use Rattle.std.specs.Cmp.Lexicographic.{pointwise, pointwise_decides, lists_equiv, options_equiv}
-use Rattle.columnar_memory.specs.Equality.{same_type, same_type-Decides, same_type-equivalence}
-use Rattle.columnar_memory.specs.Sameness.{equivalence_from_Decides}
+use Rattle.columnar_memory_core.specs.Equality.{same_type, same_type-Decides, same_type-equivalence}
+use Rattle.columnar_memory_core.specs.Sameness.{equivalence_from_Decides}
 use Rattle.flat_arrays_values.specs.Flat.{Flat, slots_of}
 use mathlib.Core.Bool.{true≢false}
 

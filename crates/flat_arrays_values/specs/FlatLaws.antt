@@ -1,7 +1,7 @@
 -- What holds of every cut of an array, and of its slots.
 use Rattle.std.specs.Prelude.{◌≡◌, ℕ, ◌+◌, ◌≤◌, length, count_by, is_none}
-use Rattle.columnar_memory.specs.Bits.{unset_count}
-use Rattle.columnar_memory.specs.Window.{window}
+use Rattle.columnar_memory_core.specs.Bits.{unset_count}
+use Rattle.columnar_memory_core.specs.Window.{window}
 use Rattle.flat_arrays_values.specs.Flat.{Flat, cut, marks_of, slots_of, IsMaskOf}
 
 -- the slots of a cut are the slots from the offset on, as many

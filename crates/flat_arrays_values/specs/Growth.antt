@@ -1,7 +1,7 @@
 -- How the list of a builder grows and changes.
 use Rattle.std.specs.Prelude.{ℕ, ◌==◌, if◌then◌else◌, Bool, true, List, ◌++◌, length, map, replicate, Option, Some, None}
 use Rattle.std.specs.Prelude.{is_some, unwrap_or, slice_set}
-use Rattle.columnar_memory.specs.Bits.{unset_count}
+use Rattle.columnar_memory_core.specs.Bits.{unset_count}
 use Rattle.flat_arrays_values.specs.Flat.{Flat, flat}
 
 -- more marks behind those of n values; where there is no mask, one is made with the first false mark

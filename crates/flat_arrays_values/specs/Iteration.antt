@@ -1,8 +1,8 @@
 -- Iterators over the slots of arrays.
 use Rattle.std.specs.Prelude.{◌≡◌, Bool, List}
-use Rattle.columnar_memory.specs.Bits.{unset_count}
-use Rattle.columnar_memory.specs.declared.ZipValidity.{ZipValidity}
-use Rattle.columnar_memory.specs.declared.ZipValidity.TheVariants.{Required, Optional}
+use Rattle.columnar_memory_core.specs.Bits.{unset_count}
+use Rattle.columnar_memory_core.specs.declared.ZipValidity.{ZipValidity}
+use Rattle.columnar_memory_core.specs.declared.ZipValidity.TheVariants.{Required, Optional}
 use Rattle.flat_arrays_values.specs.Flat.{Flat, marks_of}
 
 -- The iterator stands before an array's values and marks, or before the values alone, where each mark is true.

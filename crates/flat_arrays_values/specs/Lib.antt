@@ -9,4 +9,4 @@ pub mod SlotWalks
 pub mod Changes
 pub mod Growth
 pub mod GrowthLaws
-pub use Rattle.columnar_memory.specs as columnar_memory
+pub use Rattle.columnar_memory_core.specs as columnar_memory

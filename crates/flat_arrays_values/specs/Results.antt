@@ -1,10 +1,10 @@
 -- What the calls that check parts answer.
 use Rattle.std.specs.Prelude.{◌≡◌, ◌<◌, ℕ, ℤ, pos, List, Result, MatchResult, All, Bool, Option, None, MatchOption, IsSomeAnd}
-use Rattle.columnar_memory.specs.declared.Error.{Error}
-use Rattle.columnar_memory.specs.declared.PhysicalType.{PhysicalType}
-use Rattle.columnar_memory.specs.Error.{IsOutOfSpec}
-use Rattle.columnar_memory.specs.declared.PrimitiveType.{PrimitiveType}
-use Rattle.columnar_memory.specs.Numbers.{Numbers, zeros}
+use Rattle.columnar_memory_core.specs.declared.Error.{Error}
+use Rattle.columnar_memory_core.specs.declared.PhysicalType.{PhysicalType}
+use Rattle.columnar_memory_core.specs.Error.{IsOutOfSpec}
+use Rattle.columnar_memory_core.specs.declared.PrimitiveType.{PrimitiveType}
+use Rattle.columnar_memory_core.specs.Numbers.{Numbers, zeros}
 use Rattle.flat_arrays_values.specs.Flat.{Flat, IsFlat}
 
 -- the array of these parts, if they are those of an array, or a refusal

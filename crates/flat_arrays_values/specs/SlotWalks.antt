@@ -2,7 +2,7 @@
 use Rattle.std.specs.Prelude.{◌≡◌, Bool, List, length}
 use Rattle.std.specs.Iterator.{YieldsFirst, YieldsLast}
 use Rattle.std.specs.Slice.Iter.{iter_rest, iter_steps, iter_steps_back}
-use Rattle.columnar_memory.specs.declared.ZipValidity.{ZipValidity}
+use Rattle.columnar_memory_core.specs.declared.ZipValidity.{ZipValidity}
 use Rattle.flat_arrays_values.specs.Walks.{slots_left, IsEven, GivesSlots}
 use Rattle.flat_arrays_values.specs.Flat.{Flat, slots_of, IsMaskOf}
 use Rattle.flat_arrays_values.specs.Iteration.{StandsBefore}

@@ -2,9 +2,9 @@
 use Rattle.std.specs.Prelude.{◌≡◌, Bool, List, length, map, Option, Some, None, option_map, if◌then◌else◌}
 use Rattle.std.specs.Iterator.{YieldsFirst, YieldsFirstBy, YieldsLast, YieldsLastBy}
 use Rattle.std.specs.List.{zip}
-use Rattle.columnar_memory.specs.ZipValidityCases.{StepsEither}
-use Rattle.columnar_memory.specs.declared.ZipValidity.{ZipValidity}
-use Rattle.columnar_memory.specs.declared.ZipValidity.TheVariants.{Required, Optional}
+use Rattle.columnar_memory_core.specs.ZipValidityCases.{StepsEither}
+use Rattle.columnar_memory_core.specs.declared.ZipValidity.{ZipValidity}
+use Rattle.columnar_memory_core.specs.declared.ZipValidity.TheVariants.{Required, Optional}
 
 -- a stored value where its mark is true, and null where it is false
 abbrev pub slot_of : {V : Type 0} → V × Bool → Option V

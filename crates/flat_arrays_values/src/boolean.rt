@@ -1,14 +1,14 @@
 ghost use Rattle.std.specs.Prelude.{◌≡◌, ◌+◌, ◌<◌, ◌≤◌, [], not, length, slice_get, option_copied, unwrap_or, ◌↔◌, IsTrue, Some, None, Bool, List, MatchResult};
 ghost use Rattle.std.specs.Option.{ForSome};
-ghost use Rattle.columnar_memory.specs.Bits.{unset_count};
-ghost use Rattle.columnar_memory.specs.Error.{IsOutOfMemory};
-ghost use Rattle.columnar_memory.specs.Layouts.{physical_type};
-ghost use Rattle.columnar_memory.specs.declared.PhysicalType.TheVariants as layouts;
+ghost use Rattle.columnar_memory_core.specs.Bits.{unset_count};
+ghost use Rattle.columnar_memory_core.specs.Error.{IsOutOfMemory};
+ghost use Rattle.columnar_memory_core.specs.Layouts.{physical_type};
+ghost use Rattle.columnar_memory_core.specs.declared.PhysicalType.TheVariants as layouts;
 ghost use Rattle.flat_arrays_values.specs.Flat.{flat, cut, marks_of, slots_of, IsFlat, IsMaskOf};
 ghost use Rattle.flat_arrays_values.specs.Results.{AppliesTo, IsChecked};
 
 use crate::masks::{apply_to_mask, is_mask_of, mark_at, slice_mask, unset_marks};
-use columnar_memory::{Bitmap, DataType, Error, MutableBitmap, PhysicalType, Result};
+use columnar_memory_core::{Bitmap, DataType, Error, MutableBitmap, PhysicalType, Result};
 use std::marker::Model;
 
 /// Booleans, any of which may be null (Arrow columnar format, "Fixed-size Primitive Layout", one bit a value). A contract sees its data
@@ -23,7 +23,7 @@ pub struct BooleanArray {
 impl Model for BooleanArray {
     ghost use Rattle.std.specs.Prelude.{Bool};
     ghost use Rattle.std.specs.Coded.{coded_bool};
-    ghost use Rattle.columnar_memory.specs.declared.PhysicalType.TheVariants as layouts;
+    ghost use Rattle.columnar_memory_core.specs.declared.PhysicalType.TheVariants as layouts;
     ghost use Rattle.flat_arrays_values.specs.Flat.{Flat, flat, flat_code, IsFlat};
 
     ghost Value = { Flat Bool };

@@ -2,14 +2,14 @@
 ghost use Rattle.std.specs.Prelude.{◌≡◌, [], false, length, None};
 ghost use Rattle.std.specs.Iterator.{IsFinite};
 ghost use Rattle.std.specs.Iterator.Runs.{WholeRun};
-ghost use Rattle.columnar_memory.specs.Layouts.{physical_type};
-ghost use Rattle.columnar_memory.specs.Results.{OrOutOfMemory};
-ghost use Rattle.columnar_memory.specs.declared.PhysicalType.TheVariants as layouts;
+ghost use Rattle.columnar_memory_core.specs.Layouts.{physical_type};
+ghost use Rattle.columnar_memory_core.specs.Results.{OrOutOfMemory};
+ghost use Rattle.columnar_memory_core.specs.declared.PhysicalType.TheVariants as layouts;
 ghost use Rattle.flat_arrays_values.specs.Flat.{flat, mask_of, nulls, of_slots};
 
 use crate::boolean::BooleanArray;
 use crate::masks::mask_from;
-use columnar_memory::{BitGatherer, Bitmap, DataType, Error, MutableBitmap, Result};
+use columnar_memory_core::{BitGatherer, Bitmap, DataType, Error, MutableBitmap, Result};
 use std::alloc::Global;
 
 impl BooleanArray {

@@ -1,8 +1,8 @@
 ghost use Rattle.std.specs.Prelude.{◌≡◌, MatchResult};
-ghost use Rattle.columnar_memory.specs.Error.{IsOutOfMemory};
+ghost use Rattle.columnar_memory_core.specs.Error.{IsOutOfMemory};
 ghost use Rattle.either.specs.Either.{MatchEither};
 
-use columnar_memory::Result;
+use columnar_memory_core::Result;
 use either::Either;
 
 /// An array that its builder `M` may take over, to change it in place. `builds` says which builder holds what an array does.

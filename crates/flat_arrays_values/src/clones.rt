@@ -3,7 +3,7 @@ ghost use Rattle.std.specs.Prelude.{◌≡◌, IfOk};
 
 use crate::boolean::BooleanArray;
 use crate::primitive::PrimitiveArray;
-use columnar_memory::{DataType, NativeType};
+use columnar_memory_core::{DataType, NativeType};
 use std::alloc::AllocError;
 
 impl<T: NativeType> Clone for PrimitiveArray<T> {

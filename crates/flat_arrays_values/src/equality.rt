@@ -7,7 +7,7 @@ ghost use Rattle.flat_arrays_values.specs.FlatEqual.{same_flat, same_flat-per, s
 
 use crate::boolean::BooleanArray;
 use crate::primitive::PrimitiveArray;
-use columnar_memory::NativeType;
+use columnar_memory_core::NativeType;
 
 impl<T: NativeType> PrimitiveArray<T> {
     /// Whether a slot is the same as another's at its place.

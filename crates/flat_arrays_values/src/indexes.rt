@@ -2,7 +2,7 @@
 ghost use Rattle.std.specs.Prelude.{◌≡◌, ◌↔◌, ◌<◌, pos, IsTrue, MatchOption};
 ghost use Rattle.flat_arrays_values.specs.Results.{AreChecked, IsPlaceBelow};
 
-use columnar_memory::{Error, Index, Result};
+use columnar_memory_core::{Error, Index, Result};
 
 /// Whether each key is a place below a length. Takes no memory.
 ///

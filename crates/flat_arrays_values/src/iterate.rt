@@ -5,7 +5,7 @@ ghost use Rattle.flat_arrays_values.specs.Iteration.{StandsBefore};
 
 use crate::boolean::BooleanArray;
 use crate::primitive::PrimitiveArray;
-use columnar_memory::{BitmapIter, NativeType, ZipValidity};
+use columnar_memory_core::{BitmapIter, NativeType, ZipValidity};
 use std::slice::Iter;
 
 impl<T: NativeType> PrimitiveArray<T> {

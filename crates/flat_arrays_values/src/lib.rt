@@ -25,7 +25,7 @@ mod walk_laws;
 pub use accessor::{ArrayAccessor, ArrayValuesIter};
 pub use boolean::BooleanArray;
 pub use builders::IntoMut;
-pub use columnar_memory;
+pub use columnar_memory_core as columnar_memory;
 pub use growth_laws::{a_grown_list_has_the_slots_of_both, added_slots_come_behind_the_others};
 pub use indexes::check_indexes;
 pub use laws::{

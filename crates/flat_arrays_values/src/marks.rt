@@ -2,14 +2,14 @@
 //! "Validity bitmaps").
 ghost use Rattle.std.specs.Prelude.{◌≡◌, ◌<◌, ◌≤◌, ℕ, Bool, List, [], ◌∷◌, ◌++◌, false, length, replicate, true, slice_get, take, ◌↔◌, IsTrue, Some};
 ghost use Rattle.std.specs.Option.{ForSome};
-ghost use Rattle.columnar_memory.specs.Results.{OrOutOfMemory};
+ghost use Rattle.columnar_memory_core.specs.Results.{OrOutOfMemory};
 ghost use Rattle.flat_arrays_values.specs.Flat.{cut_mask, marks, needed_mask, IsMaskOf};
 ghost use Rattle.either.specs.Either.{MatchEither};
 ghost use Rattle.flat_arrays_values.specs.Results.{AppliesTo};
 ghost use Rattle.flat_arrays_values.specs.Growth.{with_mark, with_marks};
 ghost use Rattle.flat_arrays_values.specs.Changes.{Changes};
 
-use columnar_memory::{Bitmap, MutableBitmap, Result};
+use columnar_memory_core::{Bitmap, MutableBitmap, Result};
 use either::Either;
 use std::alloc::Global;
 use std::mem;

@@ -2,12 +2,12 @@
 //! "Validity bitmaps").
 ghost use Rattle.std.specs.Prelude.{◌≡◌, ◌+◌, ◌<◌, ◌≤◌, ℕ, Bool, List, length, slice_get, ◌↔◌, IsTrue, IfOk, Some};
 ghost use Rattle.std.specs.Option.{ForSome};
-ghost use Rattle.columnar_memory.specs.Bits.{unset_count};
-ghost use Rattle.columnar_memory.specs.Results.{OrOutOfMemory};
+ghost use Rattle.columnar_memory_core.specs.Bits.{unset_count};
+ghost use Rattle.columnar_memory_core.specs.Results.{OrOutOfMemory};
 ghost use Rattle.flat_arrays_values.specs.Results.{AppliesTo};
 ghost use Rattle.flat_arrays_values.specs.Flat.{cut_mask, marks, mask_of, IsMaskOf};
 
-use columnar_memory::{Bitmap, MutableBitmap, Result};
+use columnar_memory_core::{Bitmap, MutableBitmap, Result};
 
 /// Whether a mask, if there is one, has `len` marks.
 pub fn is_mask_of(validity: &Option<Bitmap>, len: usize) -> bool

@@ -1,6 +1,6 @@
 //! The primitive arrays by their values.
 use crate::primitive::PrimitiveArray;
-use columnar_memory::{days_ms, i256, months_days_ns};
+use columnar_memory_core::{days_ms, i256, months_days_ns};
 
 pub type Int8Array = PrimitiveArray<i8>;
 

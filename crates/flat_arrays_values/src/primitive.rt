@@ -2,15 +2,15 @@ ghost use Rattle.std.specs.Prelude.{◌≡◌, ◌+◌, ◌<◌, ◌≤◌, [], 
 ghost use Rattle.std.specs.Option.{ForSome};
 ghost use Rattle.std.specs.declared.alloc.Global.{Global};
 ghost use Rattle.std.specs.declared.vec.Vec.{Vec};
-ghost use Rattle.columnar_memory.specs.Bits.{unset_count};
-ghost use Rattle.columnar_memory.specs.Error.{IsOutOfMemory};
-ghost use Rattle.columnar_memory.specs.Layouts.{physical_type};
-ghost use Rattle.columnar_memory.specs.declared.PhysicalType.TheVariants as layouts;
+ghost use Rattle.columnar_memory_core.specs.Bits.{unset_count};
+ghost use Rattle.columnar_memory_core.specs.Error.{IsOutOfMemory};
+ghost use Rattle.columnar_memory_core.specs.Layouts.{physical_type};
+ghost use Rattle.columnar_memory_core.specs.declared.PhysicalType.TheVariants as layouts;
 ghost use Rattle.flat_arrays_values.specs.Flat.{flat, cut, marks_of, slots_of, IsFlat, IsMaskOf};
 ghost use Rattle.flat_arrays_values.specs.Results.{AppliesTo, IsChecked};
 
 use crate::masks::{apply_to_mask, is_mask_of, mark_at, slice_mask, unset_marks};
-use columnar_memory::{Bitmap, Buffer, DataType, Error, NativeType, Result};
+use columnar_memory_core::{Bitmap, Buffer, DataType, Error, NativeType, Result};
 use std::marker::Model;
 
 /// Values of one width, any of which may be null (Arrow columnar format, "Fixed-size Primitive Layout"). A contract sees its data type, its
@@ -23,7 +23,7 @@ pub struct PrimitiveArray<T: NativeType> {
 }
 
 impl<T: NativeType> Model for PrimitiveArray<T> {
-    ghost use Rattle.columnar_memory.specs.declared.PhysicalType.TheVariants as layouts;
+    ghost use Rattle.columnar_memory_core.specs.declared.PhysicalType.TheVariants as layouts;
     ghost use Rattle.flat_arrays_values.specs.Flat.{Flat, flat, flat_code, IsFlat};
 
     ghost Value = { Flat T };

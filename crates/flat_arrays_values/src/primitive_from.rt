@@ -2,16 +2,16 @@
 ghost use Rattle.std.specs.Prelude.{◌≡◌, [], length, None};
 ghost use Rattle.std.specs.Iterator.{IsFinite};
 ghost use Rattle.std.specs.Iterator.Runs.{WholeRun};
-ghost use Rattle.columnar_memory.specs.Conversions.{type_of_primitive};
-ghost use Rattle.columnar_memory.specs.Layouts.{physical_type};
-ghost use Rattle.columnar_memory.specs.Results.{OrOutOfMemory};
-ghost use Rattle.columnar_memory.specs.declared.PhysicalType.TheVariants as layouts;
+ghost use Rattle.columnar_memory_core.specs.Conversions.{type_of_primitive};
+ghost use Rattle.columnar_memory_core.specs.Layouts.{physical_type};
+ghost use Rattle.columnar_memory_core.specs.Results.{OrOutOfMemory};
+ghost use Rattle.columnar_memory_core.specs.declared.PhysicalType.TheVariants as layouts;
 ghost use Rattle.flat_arrays_values.specs.Flat.{flat, mask_of, nulls, of_slots};
 ghost use Rattle.flat_arrays_values.specs.Results.{ForZero};
 
 use crate::masks::mask_from;
 use crate::primitive::PrimitiveArray;
-use columnar_memory::{
+use columnar_memory_core::{
     BitGatherer, Bitmap, Buffer, DataType, Error, MutableBitmap, NativeType, Result,
 };
 use std::alloc::Global;

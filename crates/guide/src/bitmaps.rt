@@ -1,7 +1,5 @@
 //! Bitmaps and kernels.
-use nested_arrays::columnar_memory::{
-    Bitmap, Error, MutableBitmap, and, ternary, unary, unary_assign,
-};
+use columnar_memory::{Bitmap, Error, MutableBitmap, and, ternary, unary, unary_assign};
 use std::alloc::Global;
 use std::test::Fail;
 

@@ -1,7 +1,7 @@
 -- Types and fields with what is shown of each, for inductions over types.
-use Rattle.columnar_memory.specs.declared.DataType.{DataType, map-DataType}
-use Rattle.columnar_memory.specs.declared.DataType.TheOpen as layer
-use Rattle.columnar_memory.specs.declared.Field.{Field}
+use Rattle.columnar_memory_core.specs.declared.DataType.{DataType, map-DataType}
+use Rattle.columnar_memory_core.specs.declared.DataType.TheOpen as layer
+use Rattle.columnar_memory_core.specs.declared.Field.{Field}
 
 -- a type, and a field, with what is shown of it
 abbrev pub TypeWith : (DataType → Type 0) → Type 0

@@ -4,9 +4,9 @@ use Rattle.std.specs.Prelude.{min, ◌/◌, ◌&&◌, ◌==◌, Some, None, nat_
 use Rattle.std.specs.List.{list_all}
 use Rattle.std.proofs.lemmas.Bool.{and_parts, leb-true, false≢true}
 use Rattle.std.proofs.Math.Nat.{mul-div_cancel_left}
-use Rattle.columnar_memory.specs.declared.PhysicalType.{PhysicalType}
-use Rattle.columnar_memory.specs.declared.PhysicalType.TheVariants as physical
-use Rattle.columnar_memory.specs.Layouts.{physical_type}
+use Rattle.columnar_memory_core.specs.declared.PhysicalType.{PhysicalType}
+use Rattle.columnar_memory_core.specs.declared.PhysicalType.TheVariants as physical
+use Rattle.columnar_memory_core.specs.Layouts.{physical_type}
 use Rattle.nested_arrays_columns.specs.Kinds.{most_offset}
 use Rattle.nested_arrays_columns.specs.StoredColumns.{Stored, bits, numbers, pairs, triples, texts, byte_strings, fixed_bytes, Column, nulls, flat}
 use Rattle.nested_arrays_columns.specs.StoredColumns.{lists, fixed_lists, records, unions, dictionary, cut_list, cut_stored, stored_len}

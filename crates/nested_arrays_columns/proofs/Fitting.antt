@@ -8,10 +8,10 @@ use Rattle.std.proofs.lemmas.List.Elements.{filter-append}
 use Rattle.std.proofs.lemmas.Grind.{flat_map-append}
 use Rattle.std.proofs.lemmas.List.Folds.{list_all-append}
 use Rattle.std.proofs.lemmas.Bool.{and_parts, and_from, le-leb, leb-true}
-use Rattle.columnar_memory.specs.declared.DataType.{DataType, map-DataType}
-use Rattle.columnar_memory.specs.declared.DataType.TheOpen as layer
-use Rattle.columnar_memory.specs.declared.IntegerType.{IntegerType}
-use Rattle.columnar_memory.specs.declared.IntervalUnit.TheVariants as intervals
+use Rattle.columnar_memory_core.specs.declared.DataType.{DataType, map-DataType}
+use Rattle.columnar_memory_core.specs.declared.DataType.TheOpen as layer
+use Rattle.columnar_memory_core.specs.declared.IntegerType.{IntegerType}
+use Rattle.columnar_memory_core.specs.declared.IntervalUnit.TheVariants as intervals
 use Rattle.nested_arrays_columns.specs.Cells.{is_null, fits_step, fits_cell}
 use Rattle.nested_arrays_columns.specs.Children.{items_of, fixed_items_of, field_of, joined_items, joined_fixed_items, field_slots, dictionary_values}
 use Rattle.nested_arrays_columns.specs.Kinds.{most_slots, most_values}

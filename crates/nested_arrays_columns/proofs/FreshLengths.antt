@@ -6,15 +6,15 @@ use Rattle.std.specs.List.{list_all, flat_map}
 use Rattle.std.proofs.Math.Nat.{mul-div_cancel_left}
 use Rattle.std.proofs.lemmas.Bool.{and_parts, eqb-true, leb-true}
 use Rattle.std.proofs.lemmas.List.{length-map, length-replicate}
-use Rattle.columnar_memory.specs.declared.DataType.{DataType, map-DataType}
-use Rattle.columnar_memory.specs.declared.DataType.TheOpen as layer
-use Rattle.columnar_memory.specs.declared.DataType.TheFolds.{fold-Field, para-Field, fold-roll-DataType, para-roll-DataType, fold-roll-Field}
-use Rattle.columnar_memory.specs.declared.DataType.TheFolds.{para-roll-Field, ind-DataType}
-use Rattle.columnar_memory.specs.declared.DataType.TheViews.{roll-DataType, roll-Field}
-use Rattle.columnar_memory.specs.declared.Field.{Field, map-Field}
-use Rattle.columnar_memory.specs.declared.IntervalUnit.TheVariants as intervals
-use Rattle.columnar_memory.specs.declared.PrimitiveType.{PrimitiveType}
-use Rattle.columnar_memory.specs.declared.PrimitiveType.TheVariants as kinds
+use Rattle.columnar_memory_core.specs.declared.DataType.{DataType, map-DataType}
+use Rattle.columnar_memory_core.specs.declared.DataType.TheOpen as layer
+use Rattle.columnar_memory_core.specs.declared.DataType.TheFolds.{fold-Field, para-Field, fold-roll-DataType, para-roll-DataType, fold-roll-Field}
+use Rattle.columnar_memory_core.specs.declared.DataType.TheFolds.{para-roll-Field, ind-DataType}
+use Rattle.columnar_memory_core.specs.declared.DataType.TheViews.{roll-DataType, roll-Field}
+use Rattle.columnar_memory_core.specs.declared.Field.{Field, map-Field}
+use Rattle.columnar_memory_core.specs.declared.IntervalUnit.TheVariants as intervals
+use Rattle.columnar_memory_core.specs.declared.PrimitiveType.{PrimitiveType}
+use Rattle.columnar_memory_core.specs.declared.PrimitiveType.TheVariants as kinds
 use Rattle.nested_arrays_columns.specs.Cells.{is_bytes_of, is_list_of_size, fits_step, fits_cell}
 use Rattle.nested_arrays_columns.specs.Children.{joined_fixed_items, fixed_items_of}
 use Rattle.nested_arrays_columns.specs.FreshColumns.{fixed_content_of, sums_from, numbers_as, Maker, MakerUnder, fresh_step, fresh_field_step}

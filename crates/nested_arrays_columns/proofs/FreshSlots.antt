@@ -8,15 +8,15 @@ use Rattle.std.proofs.Math.ListN.{get_or-map}
 use Rattle.std.proofs.lemmas.Bool.{and_parts}
 use Rattle.std.proofs.lemmas.List.{length-map}
 use Rattle.std.proofs.lemmas.Option.{get_or_from_slice_get}
-use Rattle.columnar_memory.specs.declared.DataType.{DataType}
-use Rattle.columnar_memory.specs.declared.DataType.TheOpen as layer
-use Rattle.columnar_memory.specs.declared.DataType.TheFolds.{fold-roll-DataType, para-roll-DataType, fold-roll-Field}
-use Rattle.columnar_memory.specs.declared.DataType.TheFolds.{para-roll-Field, ind-DataType}
-use Rattle.columnar_memory.specs.declared.DataType.TheViews.{roll-DataType, roll-Field}
-use Rattle.columnar_memory.specs.declared.Field.{Field, map-Field}
-use Rattle.columnar_memory.specs.declared.IntervalUnit.TheVariants as intervals
-use Rattle.columnar_memory.specs.declared.PrimitiveType.{PrimitiveType}
-use Rattle.columnar_memory.specs.declared.PrimitiveType.TheVariants as kinds
+use Rattle.columnar_memory_core.specs.declared.DataType.{DataType}
+use Rattle.columnar_memory_core.specs.declared.DataType.TheOpen as layer
+use Rattle.columnar_memory_core.specs.declared.DataType.TheFolds.{fold-roll-DataType, para-roll-DataType, fold-roll-Field}
+use Rattle.columnar_memory_core.specs.declared.DataType.TheFolds.{para-roll-Field, ind-DataType}
+use Rattle.columnar_memory_core.specs.declared.DataType.TheViews.{roll-DataType, roll-Field}
+use Rattle.columnar_memory_core.specs.declared.Field.{Field, map-Field}
+use Rattle.columnar_memory_core.specs.declared.IntervalUnit.TheVariants as intervals
+use Rattle.columnar_memory_core.specs.declared.PrimitiveType.{PrimitiveType}
+use Rattle.columnar_memory_core.specs.declared.PrimitiveType.TheVariants as kinds
 use Rattle.nested_arrays_columns.specs.Cells.{is_null, is_truth, is_number_of, is_days_and_ms, is_months_days_and_ns, is_text, is_bytes, is_bytes_of}
 use Rattle.nested_arrays_columns.specs.Cells.{is_list_of, is_list_of_size, fit_each, is_record_of, fits_step, fits_cell}
 use Rattle.nested_arrays_columns.specs.Children.{items_of, fixed_items_of, slot_number, field_of, joined_items, joined_fixed_items, field_slots}

@@ -6,19 +6,19 @@ use Rattle.std.specs.List.{list_all, flat_map}
 use Rattle.std.proofs.lemmas.Bool.{and_parts, and_from, leb-true, eq-eqb}
 use Rattle.std.proofs.lemmas.List.{length-map}
 use denote.Hole.Carrier
-use Rattle.columnar_memory.specs.declared.DataType.{DataType, map-DataType}
-use Rattle.columnar_memory.specs.declared.DataType.TheOpen as layer
-use Rattle.columnar_memory.specs.declared.DataType.TheFolds.{fold-Field, fold-roll-DataType, para-roll-DataType, fold-roll-Field}
-use Rattle.columnar_memory.specs.declared.DataType.TheFolds.{para-roll-Field, ind-DataType}
-use Rattle.columnar_memory.specs.declared.DataType.TheViews.{roll-DataType, roll-Field, out-DataType}
-use Rattle.columnar_memory.specs.declared.Field.{Field, map-Field}
-use Rattle.columnar_memory.specs.declared.IntegerType.{IntegerType}
-use Rattle.columnar_memory.specs.declared.IntervalUnit.TheVariants as intervals
-use Rattle.columnar_memory.specs.declared.PhysicalType.{PhysicalType}
-use Rattle.columnar_memory.specs.declared.PhysicalType.TheVariants as physical
-use Rattle.columnar_memory.specs.declared.PrimitiveType.TheVariants as kinds
-use Rattle.columnar_memory.specs.Equality.{same_type, same_type-Decides}
-use Rattle.columnar_memory.specs.Layouts.{physical_type}
+use Rattle.columnar_memory_core.specs.declared.DataType.{DataType, map-DataType}
+use Rattle.columnar_memory_core.specs.declared.DataType.TheOpen as layer
+use Rattle.columnar_memory_core.specs.declared.DataType.TheFolds.{fold-Field, fold-roll-DataType, para-roll-DataType, fold-roll-Field}
+use Rattle.columnar_memory_core.specs.declared.DataType.TheFolds.{para-roll-Field, ind-DataType}
+use Rattle.columnar_memory_core.specs.declared.DataType.TheViews.{roll-DataType, roll-Field, out-DataType}
+use Rattle.columnar_memory_core.specs.declared.Field.{Field, map-Field}
+use Rattle.columnar_memory_core.specs.declared.IntegerType.{IntegerType}
+use Rattle.columnar_memory_core.specs.declared.IntervalUnit.TheVariants as intervals
+use Rattle.columnar_memory_core.specs.declared.PhysicalType.{PhysicalType}
+use Rattle.columnar_memory_core.specs.declared.PhysicalType.TheVariants as physical
+use Rattle.columnar_memory_core.specs.declared.PrimitiveType.TheVariants as kinds
+use Rattle.columnar_memory_core.specs.Equality.{same_type, same_type-Decides}
+use Rattle.columnar_memory_core.specs.Layouts.{physical_type}
 use Rattle.nested_arrays_columns.specs.Cells.{is_text, is_bytes, is_bytes_of, is_list_of_size, fits_step, fits_cell}
 use Rattle.nested_arrays_columns.specs.Children.{items_of, fixed_items_of, joined_items, joined_fixed_items, field_of, field_slots, dictionary_values}
 use Rattle.nested_arrays_columns.specs.FreshColumns.{is_true, number_of, pair_of, triple_of, content_of, fixed_content_of, key_among, mask_of}

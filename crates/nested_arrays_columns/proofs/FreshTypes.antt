@@ -1,10 +1,10 @@
 -- The column that stores some slots has the type that it was made for.
 use Rattle.std.proofs.Common.{◌≡◌, List, refl, subst}
-use Rattle.columnar_memory.specs.declared.DataType.{DataType}
-use Rattle.columnar_memory.specs.declared.DataType.TheOpen as layer
-use Rattle.columnar_memory.specs.declared.DataType.TheFolds.{para-roll-DataType, ind-DataType}
-use Rattle.columnar_memory.specs.declared.DataType.TheViews.{roll-DataType}
-use Rattle.columnar_memory.specs.declared.IntervalUnit.TheVariants as intervals
+use Rattle.columnar_memory_core.specs.declared.DataType.{DataType}
+use Rattle.columnar_memory_core.specs.declared.DataType.TheOpen as layer
+use Rattle.columnar_memory_core.specs.declared.DataType.TheFolds.{para-roll-DataType, ind-DataType}
+use Rattle.columnar_memory_core.specs.declared.DataType.TheViews.{roll-DataType}
+use Rattle.columnar_memory_core.specs.declared.IntervalUnit.TheVariants as intervals
 use Rattle.nested_arrays_columns.specs.FreshColumns.{Maker, MakerUnder, fresh_step, fresh_field_step, fresh_under}
 use Rattle.nested_arrays_columns.specs.FreshLaws.{FreshTypes}
 use Rattle.nested_arrays_columns.specs.Slots.{Slot}

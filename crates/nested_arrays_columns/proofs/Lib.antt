@@ -38,4 +38,4 @@ pub mod TypeLayers
 pub mod TypeSteps
 pub mod Values
 pub mod Windows
-pub use Rattle.columnar_memory.proofs as columnar_memory_lemmas
+pub use Rattle.columnar_memory_core.proofs as columnar_memory_lemmas

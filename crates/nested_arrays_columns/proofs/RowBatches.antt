@@ -2,7 +2,7 @@
 use Rattle.std.proofs.Common.{◌≡◌, ℕ, ◌+◌, true, List, [], ◌∷◌, length, map, refl}
 use Rattle.std.specs.List.{list_all}
 use Rattle.std.proofs.lemmas.Bool.{and_parts, and_from}
-use Rattle.columnar_memory.specs.declared.Field.{Field}
+use Rattle.columnar_memory_core.specs.declared.Field.{Field}
 use Rattle.nested_arrays_columns.specs.FreshColumns.{fresh}
 use Rattle.nested_arrays_columns.specs.FreshLaws.{is_buildable, are_buildable, BatchesOfRows}
 use Rattle.nested_arrays_columns.specs.OpenBatch.{fits}

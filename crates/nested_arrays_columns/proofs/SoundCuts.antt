@@ -3,12 +3,12 @@ use Rattle.std.proofs.Common.{◌≡◌, ℕ, zero, suc, ◌+◌, ◌-◌, ◌*�
 use Rattle.std.specs.Prelude.{Bool, ℤ, pos, min, ◌/◌, ◌&&◌, ◌||◌, not, ◌==◌, Option, Some, None, nat_le, nat_lt, int_le, slice_index, slice_index_or}
 use Rattle.std.specs.List.{list_all}
 use Rattle.std.proofs.lemmas.Bool.{and_parts, and_from, eq-eqb, eqb-true, leb-true, lt-ltb, ltb-true, false≢true}
-use Rattle.columnar_memory.specs.declared.DataType.{DataType}
-use Rattle.columnar_memory.specs.declared.DataType.TheOpen as layer
-use Rattle.columnar_memory.specs.declared.Field.{Field}
-use Rattle.columnar_memory.specs.declared.UnionMode.TheVariants as modes
-use Rattle.columnar_memory.specs.Equality.{same_type}
-use Rattle.columnar_memory.specs.Layouts.{physical_type}
+use Rattle.columnar_memory_core.specs.declared.DataType.{DataType}
+use Rattle.columnar_memory_core.specs.declared.DataType.TheOpen as layer
+use Rattle.columnar_memory_core.specs.declared.Field.{Field}
+use Rattle.columnar_memory_core.specs.declared.UnionMode.TheVariants as modes
+use Rattle.columnar_memory_core.specs.Equality.{same_type}
+use Rattle.columnar_memory_core.specs.Layouts.{physical_type}
 use Rattle.nested_arrays_columns.specs.Kinds.{is_signed, is_key, most_offset}
 use Rattle.nested_arrays_columns.specs.StoredColumns.{Column, Columns, nulls, flat, lists, fixed_lists, records, unions, dictionary, no_column}
 use Rattle.nested_arrays_columns.specs.StoredColumns.{column_then, cut_list, cut_mask, cut_stored, stored_len, column_type, column_len, type_layer}

@@ -2,8 +2,8 @@
 use Rattle.std.proofs.Common.{◌≡◌, ℕ, ◌+◌, ◌*◌, ◌-◌, ◌<◌, ◌≤◌, List, [], ◌∷◌, length, Bool, true, arith}
 use Rattle.std.specs.Prelude.{min, Option, Some, ◌/◌, ◌==◌, nat_le}
 use Rattle.std.proofs.lemmas.Bool.{and_parts, leb-true, eqb-true}
-use Rattle.columnar_memory.specs.declared.DataType.{DataType}
-use Rattle.columnar_memory.specs.Layouts.{physical_type}
+use Rattle.columnar_memory_core.specs.declared.DataType.{DataType}
+use Rattle.columnar_memory_core.specs.Layouts.{physical_type}
 use Rattle.nested_arrays_columns.specs.Kinds.{most_offset}
 use Rattle.nested_arrays_columns.specs.StoredColumns.{Column, lists, fixed_lists, column_type, column_len, column_size, columns_size, in_columns, type_layer}
 use Rattle.nested_arrays_columns.specs.SoundColumns.{mask_fits, are_offsets, are_pieces, has_item_type, has_fixed_item_type, is_sound}

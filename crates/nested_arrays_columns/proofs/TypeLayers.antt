@@ -1,13 +1,13 @@
 -- A type's layer, once its extensions are taken off; its layout is that of this layer.
 use Rattle.std.proofs.Common.{◌≡◌, ◌∙◌, ℕ, List, Bool, true, false, refl, sym, ap, subst}
 use Rattle.std.specs.Prelude.{Option, unwrap_or}
-use Rattle.columnar_memory.specs.declared.DataType.{DataType, map-DataType}
-use Rattle.columnar_memory.specs.declared.DataType.TheOpen as layer
-use Rattle.columnar_memory.specs.declared.DataType.TheViews.{out-DataType, roll-DataType, out-roll-DataType}
-use Rattle.columnar_memory.specs.declared.DataType.TheFolds.{fold-roll-DataType, para-roll-DataType, ind-DataType}
-use Rattle.columnar_memory.specs.declared.Field.{Field}
-use Rattle.columnar_memory.specs.declared.PhysicalType.{PhysicalType}
-use Rattle.columnar_memory.specs.Layouts.{stored_step, physical_step, physical_type}
+use Rattle.columnar_memory_core.specs.declared.DataType.{DataType, map-DataType}
+use Rattle.columnar_memory_core.specs.declared.DataType.TheOpen as layer
+use Rattle.columnar_memory_core.specs.declared.DataType.TheViews.{out-DataType, roll-DataType, out-roll-DataType}
+use Rattle.columnar_memory_core.specs.declared.DataType.TheFolds.{fold-roll-DataType, para-roll-DataType, ind-DataType}
+use Rattle.columnar_memory_core.specs.declared.Field.{Field}
+use Rattle.columnar_memory_core.specs.declared.PhysicalType.{PhysicalType}
+use Rattle.columnar_memory_core.specs.Layouts.{stored_step, physical_step, physical_type}
 use Rattle.nested_arrays_columns.specs.StoredColumns.{type_layer}
 use Rattle.nested_arrays_columns.proofs.Claims.{LayerWith, NoClaim, bare_layer}
 use denote.Hole.Carrier

@@ -1,11 +1,11 @@
 -- What holds of the column that stores some slots, where they fit its type.
 use Rattle.std.specs.Prelude.{◌≡◌, Bool, true, false, ◌&&◌, List, length, map, nat_le}
 use Rattle.std.specs.List.{list_all}
-use Rattle.columnar_memory.specs.declared.DataType.{DataType}
-use Rattle.columnar_memory.specs.declared.DataType.TheOpen as layer
-use Rattle.columnar_memory.specs.declared.DataType.TheFolds.{para-DataType}
-use Rattle.columnar_memory.specs.declared.DataType.TheViews.{out-DataType}
-use Rattle.columnar_memory.specs.declared.Field.{Field}
+use Rattle.columnar_memory_core.specs.declared.DataType.{DataType}
+use Rattle.columnar_memory_core.specs.declared.DataType.TheOpen as layer
+use Rattle.columnar_memory_core.specs.declared.DataType.TheFolds.{para-DataType}
+use Rattle.columnar_memory_core.specs.declared.DataType.TheViews.{out-DataType}
+use Rattle.columnar_memory_core.specs.declared.Field.{Field}
 use Rattle.nested_arrays_columns.specs.FreshColumns.{fresh}
 use Rattle.nested_arrays_columns.specs.OpenBatch.{fits}
 use Rattle.nested_arrays_columns.specs.Rows.{columns_of_rows, columns_fit, batch_of_rows}

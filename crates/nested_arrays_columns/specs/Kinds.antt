@@ -1,13 +1,13 @@
 -- The whole numbers of the physical kinds (Arrow columnar format, "Data Types"), and the limits of lengths and keys.
 use Rattle.std.specs.Prelude.{ℕ, ◌-◌, ◌^◌, ℤ, pos, negsuc, Bool, false, ◌==◌, nat_lt, Option, Some, None}
-use Rattle.columnar_memory.specs.declared.DataType.TheOpen as layer
-use Rattle.columnar_memory.specs.declared.IntervalUnit.TheVariants as intervals
-use Rattle.columnar_memory.specs.declared.PrimitiveType.{PrimitiveType}
-use Rattle.columnar_memory.specs.declared.PrimitiveType.TheVariants as kinds
-use Rattle.columnar_memory.specs.declared.IntegerType.{IntegerType}
-use Rattle.columnar_memory.specs.declared.IntegerType.TheVariants as integers
-use Rattle.columnar_memory.specs.declared.PhysicalType.{PhysicalType}
-use Rattle.columnar_memory.specs.declared.PhysicalType.TheVariants as physical
+use Rattle.columnar_memory_core.specs.declared.DataType.TheOpen as layer
+use Rattle.columnar_memory_core.specs.declared.IntervalUnit.TheVariants as intervals
+use Rattle.columnar_memory_core.specs.declared.PrimitiveType.{PrimitiveType}
+use Rattle.columnar_memory_core.specs.declared.PrimitiveType.TheVariants as kinds
+use Rattle.columnar_memory_core.specs.declared.IntegerType.{IntegerType}
+use Rattle.columnar_memory_core.specs.declared.IntegerType.TheVariants as integers
+use Rattle.columnar_memory_core.specs.declared.PhysicalType.{PhysicalType}
+use Rattle.columnar_memory_core.specs.declared.PhysicalType.TheVariants as physical
 
 -- a number of so many bits, one of them for the sign
 abbrev pub is_signed : ℕ → ℤ → Bool

@@ -23,4 +23,4 @@ pub mod TableLaws
 pub mod Tables
 pub mod TypeLayouts
 pub mod ValueLaws
-pub use Rattle.columnar_memory.specs as columnar_memory
+pub use Rattle.columnar_memory_core.specs as columnar_memory

@@ -1,10 +1,10 @@
 -- Which slots fit a column together: each by itself, and all within the limits of lengths, offsets and keys.
 use Rattle.std.specs.Prelude.{ℕ, suc, ◌-◌, ◌^◌, Bool, true, ◌&&◌, List, [], ◌∷◌, length, sum_by, nat_le}
 use Rattle.std.specs.List.{list_all}
-use Rattle.columnar_memory.specs.declared.DataType.{DataType}
-use Rattle.columnar_memory.specs.declared.DataType.TheOpen as layer
-use Rattle.columnar_memory.specs.declared.DataType.TheFolds.{fold-DataType}
-use Rattle.columnar_memory.specs.declared.IntegerType.{IntegerType}
+use Rattle.columnar_memory_core.specs.declared.DataType.{DataType}
+use Rattle.columnar_memory_core.specs.declared.DataType.TheOpen as layer
+use Rattle.columnar_memory_core.specs.declared.DataType.TheFolds.{fold-DataType}
+use Rattle.columnar_memory_core.specs.declared.IntegerType.{IntegerType}
 use Rattle.nested_arrays_columns.specs.Cells.{fits_cell}
 use Rattle.nested_arrays_columns.specs.Children.{joined_items, joined_fixed_items, field_slots, dictionary_values}
 use Rattle.nested_arrays_columns.specs.Kinds.{most_slots, most_values}

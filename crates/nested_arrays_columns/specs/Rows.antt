@@ -1,8 +1,8 @@
 -- Rows of cells, as they are pushed into open columns: which are accepted, and what a batch of them becomes.
 use Rattle.std.specs.Prelude.{ℕ, ℤ, Bool, true, ◌&&◌, ◌==◌, List, [], ◌∷◌, ◌++◌, length, map, nat_lt, slice_index_or}
-use Rattle.columnar_memory.specs.declared.Field.{Field}
-use Rattle.columnar_memory.specs.declared.PrimitiveType.{PrimitiveType}
-use Rattle.columnar_memory.specs.declared.PrimitiveType.TheVariants as kinds
+use Rattle.columnar_memory_core.specs.declared.Field.{Field}
+use Rattle.columnar_memory_core.specs.declared.PrimitiveType.{PrimitiveType}
+use Rattle.columnar_memory_core.specs.declared.PrimitiveType.TheVariants as kinds
 use Rattle.nested_arrays_columns.specs.FreshColumns.{fresh}
 use Rattle.nested_arrays_columns.specs.OpenBatch.{fits}
 use Rattle.nested_arrays_columns.specs.Slots.{Slot, Slots, null, truth, number, pair, triple, text, bytes, items, fields, no_slot, slot_then, window}

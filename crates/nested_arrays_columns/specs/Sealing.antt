@@ -1,11 +1,11 @@
 -- What keeps a schema from being sealed.
 use Rattle.std.specs.Prelude.{Bool, true, false, ◌||◌, List, [], ◌∷◌, Option, Some, None, if◌then◌else◌}
 use Rattle.std.specs.List.{list_any}
-use Rattle.columnar_memory.specs.declared.DataType.{DataType}
-use Rattle.columnar_memory.specs.declared.DataType.TheOpen as layer
-use Rattle.columnar_memory.specs.declared.DataType.TheFolds.{fold-DataType}
-use Rattle.columnar_memory.specs.declared.Field.{Field}
-use Rattle.columnar_memory.specs.declared.Schema.{Schema}
+use Rattle.columnar_memory_core.specs.declared.DataType.{DataType}
+use Rattle.columnar_memory_core.specs.declared.DataType.TheOpen as layer
+use Rattle.columnar_memory_core.specs.declared.DataType.TheFolds.{fold-DataType}
+use Rattle.columnar_memory_core.specs.declared.Field.{Field}
+use Rattle.columnar_memory_core.specs.declared.Schema.{Schema}
 
 -- the bars, in the order in which they are named
 pub data Bar : Type 0 where

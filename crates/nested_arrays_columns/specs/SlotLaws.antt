@@ -1,7 +1,7 @@
 -- What holds of all slots and types.
 use Rattle.std.specs.Prelude.{◌≡◌, ◌++◌, List, Some, true, slice_get}
 use Rattle.std.specs.Bool.{Decides}
-use Rattle.columnar_memory.specs.declared.DataType.{DataType}
+use Rattle.columnar_memory_core.specs.declared.DataType.{DataType}
 use Rattle.nested_arrays_columns.specs.Cells.{fits_cell}
 use Rattle.nested_arrays_columns.specs.OpenBatch.{fits}
 use Rattle.nested_arrays_columns.specs.SameSlots.{same_slot, distinct, is_among, place_among, are_distinct}

@@ -1,8 +1,8 @@
 -- The values of columns, whatever their layout in memory (Arrow columnar format, "Physical memory layout").
 use Rattle.std.specs.Prelude.{ℕ, ℤ, Bool, List, [], ◌∷◌}
-use Rattle.columnar_memory.specs.declared.DataType.{DataType}
-use Rattle.columnar_memory.specs.declared.PrimitiveType.{PrimitiveType}
-pub use Rattle.columnar_memory.specs.Windows.{window}
+use Rattle.columnar_memory_core.specs.declared.DataType.{DataType}
+use Rattle.columnar_memory_core.specs.declared.PrimitiveType.{PrimitiveType}
+pub use Rattle.columnar_memory_core.specs.Windows.{window}
 
 mutual
   -- one value of a column

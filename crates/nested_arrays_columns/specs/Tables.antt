@@ -1,7 +1,7 @@
 -- Tables: rows of values under a schema, and what is made of them.
 use Rattle.std.specs.Prelude.{ℕ, ◌+◌, ◌<◌, ◌^◌, List, [], ◌∷◌, ◌++◌, length, map, take, Option, Some, None, slice_get, slice_range, slice_index_or}
 use Rattle.std.specs.List.{filter_map, flat_map}
-use Rattle.columnar_memory.specs.declared.Schema.{Schema}
+use Rattle.columnar_memory_core.specs.declared.Schema.{Schema}
 use Rattle.nested_arrays_columns.specs.Slots.{Slot, null, window}
 
 -- a schema, and rows with one value a field

@@ -13,7 +13,7 @@ mod slot_laws;
 mod table_laws;
 mod value_laws;
 
-pub use columnar_memory;
+pub use columnar_memory_core as columnar_memory;
 pub use cut_laws::{
     a_column_has_a_size, a_column_has_its_length, a_cut_has_a_range_of_the_slots,
     a_cut_has_its_length, a_cut_is_sound, a_cut_keeps_its_size, a_cut_of_a_cut_is_one_cut,

@@ -3,8 +3,8 @@ ghost use Rattle.std.specs.Prelude.{◌+◌, ◌*◌, ◌^◌, ◌≤◌, ◌<�
 
 use crate::memory::data::{bitmap_checksum, noise, noise_bitmap};
 use benches_timing::{Work, bytes_checksum};
+use columnar_memory::{Bitmap, MutableBitmap, SlicesIterator, and, count_zeros};
 use columnar_memory_types::{Error, Result};
-use nested_arrays::columnar_memory::{Bitmap, MutableBitmap, SlicesIterator, and, count_zeros};
 use std::alloc::Global;
 
 /// The offset of bits that begin amid a byte.

@@ -1,5 +1,5 @@
 use Rattle.std.proofs.Common.{◌≡◌, ◌∙◌, ◌≤◌, sym, arith}
-use Rattle.columnar_memory_bitmap.proofs.bits_lemmas.Chunks.{word_fits}
+use Rattle.columnar_memory_kernels.proofs.Chunks.{word_fits}
 use Rattle.columnar_memory_kernels.proofs.InPlace.{none_written, step_behind, step_written, end_written}
 use Rattle.columnar_memory_kernels.proofs.assign.assign_one.Goals as goal
 

@@ -1,6 +1,6 @@
 use Rattle.std.proofs.Common.{◌∙◌, ◌≤◌, ap, sym, take, length, arith}
-use Rattle.columnar_memory.specs.Bits.{bit_at}
-use Rattle.columnar_memory.proofs.bits_lemmas.Windows.{take_window}
+use Rattle.columnar_memory_core.specs.Bits.{bit_at}
+use Rattle.columnar_memory_core.proofs.bits_lemmas.Windows.{take_window}
 use Rattle.flat_arrays_values.proofs.marks.truncate_bits.Goals as goal
 
 pub returns : goal.returns

@@ -1,7 +1,7 @@
 use Rattle.std.proofs.Common.{◌∙◌, false}
 use Rattle.std.proofs.lemmas.Result.{MatchResult-weaker}
 use Rattle.std.proofs.iter.runs.Made.{run_of_exit}
-use Rattle.columnar_memory.specs.declared.DataType.TheVariants as types
+use Rattle.columnar_memory_core.specs.declared.DataType.TheVariants as types
 use Rattle.flat_arrays_values.proofs.MarkPlaces.{gathered_slots}
 use Rattle.flat_arrays_values.proofs.boolean.BooleanArray.from_iter.Goals as goal
 

@@ -1,6 +1,6 @@
 use Rattle.std.proofs.Common.{◌≡◌, ◌∙◌, sym, rules}
 use Rattle.std.proofs.lemmas.Bool.Decides.{same_from_decides}
-use Rattle.columnar_memory.specs.Equality.{same_type, same_type-Decides}
+use Rattle.columnar_memory_core.specs.Equality.{same_type, same_type-Decides}
 use Rattle.flat_arrays_values.specs.FlatEqual.{same_flat, same_flat-Decides}
 use Rattle.flat_arrays_values.proofs.SameSlots.{equal_then, equal_else}
 use Rattle.flat_arrays_values.proofs.equality.PrimitiveArrayPartialEq.eq.Goals as goal

@@ -1,7 +1,7 @@
 use Rattle.std.proofs.Common.{◌∙◌}
 use Rattle.std.proofs.lemmas.Result.{MatchResult-weaker}
 use Rattle.std.proofs.iter.runs.Made.{run_of_exit}
-use Rattle.columnar_memory.specs.Conversions.{type_of_primitive}
+use Rattle.columnar_memory_core.specs.Conversions.{type_of_primitive}
 use Rattle.flat_arrays_values.proofs.MarkPlaces.{gathered_slots}
 use Rattle.flat_arrays_values.proofs.primitive.PrimitiveArray.from_iter.Goals as goal
 

@@ -1,7 +1,7 @@
 use Rattle.std.proofs.Common.{◌∙◌, ap}
 use Rattle.std.specs.Prelude.{None}
 use Rattle.std.proofs.lemmas.Result.{MatchResult-weaker}
-use Rattle.columnar_memory.specs.Conversions.{type_of_primitive}
+use Rattle.columnar_memory_core.specs.Conversions.{type_of_primitive}
 use Rattle.flat_arrays_values.specs.Flat.{flat}
 use Rattle.flat_arrays_values.proofs.primitive.PrimitiveArray.from_values.Goals as goal
 

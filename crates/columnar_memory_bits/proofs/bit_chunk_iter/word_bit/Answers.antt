@@ -1,8 +1,0 @@
-use Rattle.std.proofs.Common.{ap, ◌==◌}
-use Rattle.std.proofs.lemmas.Nat.Bits.{shr_and_one}
-use Rattle.columnar_memory_bits.specs.Bits.{bit}
-use Rattle.columnar_memory_bits.proofs.bit_chunk_iter.word_bit.Goals as goal
-
-pub returns : goal.returns
-unfolding bit
-returns c = ap (λ n. n == 1) (shr_and_one c.args.word c.args.i)
