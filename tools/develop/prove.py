@@ -116,9 +116,8 @@ def is_alive(pid):
 
 
 def begin(packages, name, jobs):
-    remove = shutil.rmtree if os.path.isdir(packages.begun(name)) else os.remove
-    if os.path.exists(packages.begun(name)):
-        remove(packages.begun(name))
+    if os.path.isdir(packages.begun(name)):
+        shutil.rmtree(packages.begun(name))
     with open(f'{packages.libs}/{name}.log', 'w', encoding='utf-8') as log:
         command, folder = packages.command(name, jobs), f'{ROOT}/crates/{name}'
         process = subprocess.Popen(command, cwd=folder, stdout=log, stderr=subprocess.STDOUT, start_new_session=True)
