@@ -7,10 +7,11 @@ usage: pass_on.py [ROOT]      at the top of the repository; rewrites src/lib.rt 
 columns that are written had 42,000 of them, which cost minutes and gigabytes. So a package passes on what some package above uses, and nothing
 else. In src/lib.rt that is a module of this form, which this script makes anew from all `use` items above it:
 
-    /// What `lower::path` has, as far as packages above use it.
-    pub mod name { pub use lower::path::{..}; }
+    /// What `lower` has, as far as packages above use it.
+    pub mod name { pub use lower::{..}; }
 
-To use one more item of a package far below, write its `use`, and run this. A module that a facade offers to callers keeps all its items.
+and a package above passes such a module on as it is, by `pub use lower::name;`. To use one more item of a package far below, write its `use`, and
+run this. A module that a facade offers to callers keeps all its items. Some packages at the bottom still have lists where this passes modules.
 """
 import collections, os, re, sys
 
@@ -124,6 +125,20 @@ class Packages:
         found = self.exports[name].get(path[0])
         return self.package_at(found[0], found[1] + tuple(path[1:])) if found else None
 
+    def is_made(self, to):
+        """Whether a path of a package below is a module that this script makes or passes on there."""
+        return len(to[1]) == 1 and is_treated(to[0]) and self.exports[to[0]].get(to[1][0]) is not None and to[1][0] not in self.below
+
+    def with_modules_whole(self, lower, groups):
+        """Items of a package below by their paths, where what stands in a module that it makes or passes on is that module."""
+        whole = collections.defaultdict(set)
+        for path, items in groups.items():
+            if path and self.is_made((lower, path[:1])):
+                whole[()].add(path[0])
+            else:
+                whole[path] |= items
+        return dict(whole)
+
     def own_items(self, name): return [it for it in sorted(self.exports[name]) if self.package_at(name, (it,)) is None]
 
     def passes_modules(self, name): return len(self.own_items(name)) < len(self.exports[name])
@@ -182,7 +197,7 @@ class Packages:
         return found
 
 
-def is_treated(name): return name.startswith(LAYERS) and not name.endswith('_tests') and name not in ('nested_arrays', 'nested_arrays_core', 'nested_arrays_cells')
+def is_treated(name): return name.startswith(LAYERS) and not name.endswith('_tests') and name != 'nested_arrays'
 
 
 def module(source, groups, path, name, doc, indent=''):
@@ -215,9 +230,22 @@ def rewritten(packages, name, found):
 
     text = re.sub(r'(?m)^(pub(?:\([^)]*\))?\s+)use\s+([^;]+);\n', kept, packages.texts[name])
     text = re.sub(r'\n{3,}', '\n\n', text).rstrip('\n') + '\n'
+    whole = collections.defaultdict(list)
     for own in sorted(set(found) - stays):
         to = packages.exports[name][own]
+        if packages.is_made(to) and own not in WHOLE.get(name, ()):
+            whole[to[0]].append(to[1][0] if own == to[1][0] else f'{to[1][0]} as {own}')
+    for lower, its in whole.items():
+        line = f'pub use {lower}::{{{", ".join(its)}}};\n' if its[1:] else f'pub use {lower}::{its[0]};\n'
+        behind = [m.end() for m in re.finditer(r'(?m)^pub use [^;]+;\n', text)]
+        text = text[:behind[-1]] + line + text[behind[-1]:] if behind else text + '\n' + line
+    for own in sorted(set(found) - stays):
+        to = packages.exports[name][own]
+        if packages.is_made(to) and own not in WHOLE.get(name, ()):
+            continue
         source = [to[0], *to[1]]
+        if not to[1] and own not in WHOLE.get(name, ()):
+            found[own] = packages.with_modules_whole(to[0], found[own])
         part = '' if own in WHOLE.get(name, ()) else ', as far as packages above use it'
         text += '\n' + module(source, found[own], (), own, f'What `{"::".join(source)}` has{part}.') + '\n'
     return text

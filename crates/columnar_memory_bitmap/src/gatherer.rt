@@ -91,7 +91,7 @@ impl BitGatherer {
 }
 
 /// A word of some bits, the first in its lowest bit, with one more bit behind them.
-fn with_bit(word: u64, count: usize, value: bool) -> u64
+pub(crate) fn with_bit(word: u64, count: usize, value: bool) -> u64
     requires few { count < 64 }
     requires small { word < 2 ^ count }
     ensures small { result < 2 ^ (count + 1) }

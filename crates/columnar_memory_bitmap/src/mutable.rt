@@ -13,6 +13,7 @@ ghost use Rattle.columnar_memory_bitmap.specs.Edits.{Writes};
 ghost use Rattle.columnar_memory_bitmap.specs.Results.{TakesBits, Grows, OrOutOfMemory};
 
 use crate::equal::same_bits;
+use crate::gatherer::with_bit;
 use crate::operators::{Operator, combine_bits, invert_bytes};
 use crate::{BitGatherer, Bitmap};
 use columnar_memory_bits::{
@@ -129,11 +130,20 @@ impl MutableBitmap {
         requires ends { IsFinite (I.remaining iter) }
         ensures { OrOutOfMemory result (λ b. WholeRun I.next_gives iter (λ p. b ≡ p.items)) }
     {
-        let mut bits = BitGatherer::new(alloc);
+        // A word and its count by themselves stay in registers, where those of a gatherer are written at each bit.
+        let mut bitmap = MutableBitmap::new(alloc);
+        let mut word = 0;
+        let mut count = 0;
         for bit in iter {
-            bits.push(bit)?;
+            word = with_bit(word, count, bit);
+            count += 1;
+            if count == 64 {
+                bitmap.extend_word(word, 64)?;
+                word = 0;
+                count = 0;
+            }
         }
-        let bitmap = bits.finish()?;
+        bitmap.extend_word(word, count)?;
         Ok(bitmap)
     }
 
@@ -147,7 +157,9 @@ impl MutableBitmap {
         let mut packed = BitGatherer::new(alloc);
         packed.reserve(bits.len())?;
         for bit in bits {
-            packed.push(*bit)?;
+            if packed.push(*bit).is_err() {
+                return Err(Error::OutOfMemory);
+            }
         }
         packed.finish()
     }

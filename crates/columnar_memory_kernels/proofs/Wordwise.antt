@@ -1,15 +1,18 @@
 -- Words that are answered one after the other.
-use Rattle.std.proofs.Common.{◌≡◌, ◌∙◌, ℕ, zero, suc, ◌+◌, ◌-◌, ◌*◌, ◌≤◌, ◌<◌, Bool, List, [], ◌∷◌, ◌++◌, length, take, slice_index}
-use Rattle.std.proofs.Common.{refl, ap, ap₂, sym, arith, length-append, length-drop, min, drop, ◌⊎◌, inl, inr, Result, Ok, Err}
-use Rattle.std.proofs.lemmas.List.{append-nil, take_all}
+use Rattle.std.proofs.Common.{◌≡◌, ◌∙◌, ℕ, zero, suc, ◌+◌, ◌-◌, ◌*◌, ◌^◌, ◌≤◌, ◌<◌, Bool, List, [], ◌∷◌, ◌++◌, length, take, slice_index}
+use Rattle.std.proofs.Common.{refl, ap, ap₂, sym, arith, length-append, length-drop, min, drop, get_or, ◌⊎◌, inl, inr, Result, Ok, Err}
+use Rattle.std.proofs.lemmas.List.{append-nil, append_assoc, take_all, take_more}
+use Rattle.std.proofs.Math.Seq.{take-length}
+use Rattle.std.specs.Int.{w64, to_le_bytes}
 use Rattle.std.proofs.lemmas.Grind.{flat_map-append}
 use Rattle.std.proofs.lemmas.Bool.{cases_lt}
+use Rattle.columnar_memory_bitmap.specs.bits.Appends.{AppendsBits}
 use Rattle.columnar_memory_bitmap.specs.bits.Bits.{bit, bit_at, IsPacked}
 use Rattle.columnar_memory_bitmap.specs.types.declared.error.Error.{Error}
 use Rattle.columnar_memory_bitmap.specs.Results.{OrOutOfMemory}
 use Rattle.columnar_memory_bitmap.specs.bits.Words.{word, word_at, word_bits, words_bits, words_for}
 use Rattle.columnar_memory_bitmap.proofs.bits_lemmas.Windows.{take_window}
-use Rattle.columnar_memory_bitmap.proofs.bits_lemmas.Appends.{bit_at_beyond}
+use Rattle.columnar_memory_bitmap.proofs.bits_lemmas.Appends.{bit_at_beyond, appends_at, appends_word}
 use Rattle.columnar_memory_kernels.specs.Kernels.{IsWordwise, part}
 use Rattle.columnar_memory_kernels.proofs.WordLists.{length_words, more_each}
 
@@ -106,3 +109,20 @@ packed_none bytes e = record {
   counted = ap length e;
   zeros = λ i h. ap (λ bs. bit_at bs i) e ∙ bit_at_beyond [] i (omega arith);
 }
+
+-- ---- the bytes of a word behind those of others
+
+-- one byte more
+pub one_byte_more : (xs : List ℕ) (i : ℕ) (x : ℕ) (old mid new : List ℕ) → i < length xs → mid ≡ old ++ take i xs →
+    new ≡ mid ++ get_or xs i x ∷ [] → new ≡ old ++ take (i + 1) xs
+one_byte_more xs i x old mid new inside so_far added =
+    added ∙ ap (λ (front : List ℕ). front ++ get_or xs i x ∷ []) so_far ∙ append_assoc old (take i xs) (get_or xs i x ∷ [])
+    ∙ ap (λ (ys : List ℕ). old ++ ys) (sym (take_more xs i x inside))
+
+-- a word behind whole words
+pub word_appended : (old new : List ℕ) (k y : ℕ) → IsPacked old (64 * k) → y < 2 ^ 64 → new ≡ old ++ to_le_bytes w64 y →
+    AppendsBits old new (64 * k) (bit y) 64
+word_appended old new k y packed small e =
+    let place : 8 * length old ≡ 64 * k = omega (arith, packed.counted) in
+    appends_at old new (bit y) (8 * length old) (64 * k) 64 64 place refl
+    (appends_word old new y 64 (omega arith) small (e ∙ ap (λ (bytes : List ℕ). old ++ bytes) (sym (take-length (to_le_bytes w64 y)))))

@@ -41,24 +41,7 @@ pub use null::read_null;
 
 /// What `ipc_format_column_writing` has, as far as packages above use it.
 pub mod column_writing {
-    pub use ipc_format_column_writing::{write_struct, write_union};
-
-    /// Of `column_reading`.
-    pub mod column_reading {
-        pub use ipc_format_column_writing::column_reading::{
-            read_binary, read_bitmap, read_boolean, read_buffer, read_bytes, read_primitive,
-            read_utf8, read_validity, skip, skip_binary, skip_boolean, skip_dictionary,
-            skip_fixed_size_binary, skip_fixed_size_list, skip_list, skip_map, skip_null,
-            skip_primitive, skip_struct, skip_union, skip_utf8,
-        };
-
-        /// Of `column_bytes`.
-        pub mod column_bytes {
-            pub use ipc_format_column_writing::column_reading::column_bytes::{
-                Body, Lengths, write_binary, write_boolean, write_primitive, write_utf8,
-            };
-        }
-    }
+    pub use ipc_format_column_writing::{column_reading, write_struct, write_union};
 }
 
 /// What `ipc_format_column_writing::column_reading::column_bytes::streams` has, as far as packages above use it.

@@ -9,6 +9,14 @@ pub mod Fitted
 pub mod Forms
 pub mod Passed
 pub mod PlacedBodies
+pub mod Bars
+pub mod Batches
+pub mod Delivered
+pub mod ShortColumns
+pub mod Runs
+pub mod Writes
+pub mod Opened
+pub mod PutMessages
 pub use Rattle.ipc_format_batch_reading.proofs.Appending
 pub use Rattle.ipc_format_batch_reading.proofs.Claims
 pub use Rattle.ipc_format_batch_reading.proofs.ColumnSizes
@@ -17,3 +25,4 @@ pub use Rattle.ipc_format_batch_reading.proofs.Cuts
 pub use Rattle.ipc_format_batch_reading.proofs.Windows
 pub use Rattle.ipc_format_batch_reading.proofs.Conditions
 pub use Rattle.ipc_format_batch_reading.proofs.PutBack
+pub use Rattle.ipc_format_reading_laws.proofs as reading_laws_lemmas

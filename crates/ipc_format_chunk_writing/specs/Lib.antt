@@ -6,6 +6,15 @@ pub mod Records
 pub mod Telling
 pub mod Tracking
 pub mod Types
+pub mod Objections
+pub mod Opening
+pub mod Phases
+pub mod ShortColumns
+pub mod Runs
+pub mod Sending
+pub mod Streams
+pub mod WriterCodes
+pub mod Writing
 pub use Rattle.ipc_format_batch_reading.specs.columnar_memory
 pub use Rattle.ipc_format_batch_reading.specs.flatbuffers
 pub use Rattle.ipc_format_batch_reading.specs.columns
@@ -29,3 +38,4 @@ pub use Rattle.ipc_format_batch_reading.specs.ArrayReads
 pub use Rattle.ipc_format_batch_reading.specs.streams
 pub use Rattle.ipc_format_batch_reading.specs.reading
 pub use Rattle.ipc_format_batch_reading.specs.reading.array_reading.column_writing.column_reading.column_bytes
+pub use Rattle.ipc_format_reading_laws.specs as reading_laws

@@ -11,7 +11,7 @@ use Rattle.ipc_format_batch_reading.specs.columns.StoredColumns.{Column}
 use Rattle.ipc_format_batch_reading.specs.metadata.Sameness.{same_ids, same_ids-equivalence}
 use Rattle.ipc_format_batch_reading.specs.metadata.contracts.ipc_schema.IpcField as ids
 use Rattle.ipc_format_batch_reading.specs.metadata.declared.ipc_schema.IpcField.{IpcField}
-use Rattle.ipc_format_batch_reading.specs.nested_arrays.generic.flat.SameArrays.{same_column, same_column-equivalence}
+use Rattle.ipc_format_batch_reading.specs.nested_arrays.flat.SameArrays.{same_column, same_column-equivalence}
 
 -- the columns of a batch, and the ids beside them, if these are given
 pub record GivenBatch : Type 0 where

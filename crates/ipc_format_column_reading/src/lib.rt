@@ -28,7 +28,7 @@ pub use deserialize::skip;
 pub use dictionary::skip_dictionary;
 pub use fixed_size_binary::skip_fixed_size_binary;
 pub use fixed_size_list::skip_fixed_size_list;
-pub use ipc_format_column_bytes::columnar_memory;
+pub use ipc_format_column_bytes::{columnar_memory, messages, metadata};
 pub use list::skip_list;
 pub use map::skip_map;
 pub use marked::{Marked, read_marked};
@@ -105,17 +105,4 @@ pub mod column_bytes {
             }
         }
     }
-}
-
-/// What `ipc_format_column_bytes::messages` has, as far as packages above use it.
-pub mod messages {
-    pub use ipc_format_column_bytes::messages::{
-        BodyCompressionRef, Buffer, DictionaryBatchRef, FieldNode, MessageHeaderRef,
-        MetadataVersion, RecordBatchRef, dictionary_batch_in, message_in,
-    };
-}
-
-/// What `ipc_format_column_bytes::metadata` has, as far as packages above use it.
-pub mod metadata {
-    pub use ipc_format_column_bytes::metadata::{IpcField, IpcSchema};
 }

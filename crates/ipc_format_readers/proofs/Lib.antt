@@ -36,4 +36,4 @@ pub mod Rooms
 pub mod Starts
 pub mod Unread
 pub use Rattle.ipc_format_chunk_writing.proofs as chunk_lemmas
-pub use Rattle.ipc_format_reading_laws.proofs as reading_laws_lemmas
+pub use Rattle.ipc_format_chunk_writing.proofs.reading_laws_lemmas

@@ -15,7 +15,7 @@ use Rattle.ipc_format_chunk_writing.specs.grammar.Tables.{file}
 use Rattle.ipc_format_chunk_writing.specs.grammar.Writable.{is_writable}
 use Rattle.ipc_format_chunk_writing.specs.grammar.WrittenStreams.{is_written_with}
 use Rattle.ipc_format_chunk_writing.specs.metadata.Reading.{Reads}
-use Rattle.ipc_format_reading_laws.proofs.AppendedIds.{schemas_read_have_ids}
+use Rattle.ipc_format_chunk_writing.proofs.reading_laws_lemmas.AppendedIds.{schemas_read_have_ids}
 use Rattle.ipc_format_readers.specs.FileReads.{IsUnreadFile, ReadsMetadata, RefusesOf}
 use Rattle.ipc_format_readers.specs.FileStarts.{start_in, start_view}
 use Rattle.ipc_format_readers.specs.Footers.{HasFloatIn, TakesFooter, start_of_footer}

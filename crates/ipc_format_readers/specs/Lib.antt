@@ -22,4 +22,4 @@ pub mod ReaderCodes
 pub mod ReaderSteps
 pub use Rattle.ipc_format_chunk_writing.specs as chunk_writing
 pub use Rattle.ipc_format_chunk_writing.specs.streams
-pub use Rattle.ipc_format_reading_laws.specs as reading_laws
+pub use Rattle.ipc_format_chunk_writing.specs.reading_laws

@@ -4,22 +4,22 @@ use Rattle.std.specs.Prelude.{◌&&◌, ◌==◌}
 use Rattle.std.specs.List.{list_all}
 use Rattle.std.specs.Str.{is_utf8}
 use Rattle.std.proofs.lemmas.Bool.{and_from, and_parts, false≢true}
-use Rattle.nested_arrays_generic.specs.arrays.columnar_memory.declared.PrimitiveType.{PrimitiveType}
-use Rattle.nested_arrays_generic.specs.arrays.columnar_memory.declared.PrimitiveType.TheVariants as kinds
-use Rattle.nested_arrays_generic.specs.arrays.columnar_memory.Numbers.{Numbers, one, two, three, zeros, IsNative}
-use Rattle.nested_arrays_generic.specs.arrays.columns.Cells.{is_null, is_truth, is_text, is_bytes, is_bytes_of}
-use Rattle.nested_arrays_generic.specs.arrays.columns.FreshColumns.{is_true, content_of}
-use Rattle.nested_arrays_generic.specs.arrays.columns.Kinds.{in_kind, is_signed, same_kind}
-use Rattle.nested_arrays_generic.specs.arrays.columns.Slots.{Slot, null, truth, number, pair, triple, text, bytes, items, fields, pick}
-use Rattle.nested_arrays_generic.specs.arrays.columns.SoundColumns.{is_byte}
+use Rattle.nested_arrays_core.specs.arrays.columnar_memory.declared.PrimitiveType.{PrimitiveType}
+use Rattle.nested_arrays_core.specs.arrays.columnar_memory.declared.PrimitiveType.TheVariants as kinds
+use Rattle.nested_arrays_core.specs.arrays.columnar_memory.Numbers.{Numbers, one, two, three, zeros, IsNative}
+use Rattle.nested_arrays_core.specs.arrays.columns.Cells.{is_null, is_truth, is_text, is_bytes, is_bytes_of}
+use Rattle.nested_arrays_core.specs.arrays.columns.FreshColumns.{is_true, content_of}
+use Rattle.nested_arrays_core.specs.arrays.columns.Kinds.{in_kind, is_signed, same_kind}
+use Rattle.nested_arrays_core.specs.arrays.columns.Slots.{Slot, null, truth, number, pair, triple, text, bytes, items, fields, pick}
+use Rattle.nested_arrays_core.specs.arrays.columns.SoundColumns.{is_byte}
 use Rattle.nested_arrays_builder_parts.specs.AnyNumbers.{kind_of_number, numbers_of_number, slot_of_number}
 use Rattle.nested_arrays_builder_parts.specs.CellParts.{is_nested}
-use Rattle.nested_arrays_generic.specs.arrays.flat.FlatColumns.{is_native}
+use Rattle.nested_arrays_core.specs.arrays.flat.FlatColumns.{is_native}
 use Rattle.nested_arrays_builder_parts.specs.Growing.{numbers_for}
-use Rattle.nested_arrays_generic.specs.columns.OpenParts.{is_of_kind}
+use Rattle.nested_arrays_core.specs.columns.OpenParts.{is_of_kind}
 use Rattle.nested_arrays_builder_parts.specs.declared.numbers.AnyNumber.{AnyNumber}
 use Rattle.nested_arrays_builder_parts.specs.declared.numbers.AnyNumber.TheVariants as variant
-use Rattle.nested_arrays_generic.proofs.arrays_lemmas.flat_lemmas.InRange.{native_in_range}
+use Rattle.nested_arrays_core.proofs.arrays_lemmas.flat_lemmas.InRange.{native_in_range}
 
 -- ---- slots of other parts
 

@@ -2,17 +2,17 @@
 use Rattle.std.proofs.Common.{◌≡◌, ◌∙◌, ℕ, List, [], ◌∷◌, ◌++◌, Bool, true, false, length, map, refl, sym, ap}
 use Rattle.std.specs.Prelude.{Option, Some, None, is_some, unwrap_or, pos}
 use Rattle.std.specs.List.{concat, flat_map}
-use Rattle.nested_arrays_generic.specs.arrays.columnar_memory.declared.DataType.{DataType}
-use Rattle.nested_arrays_generic.specs.arrays.columnar_memory.declared.DataType.TheOpen as layer
-use Rattle.nested_arrays_generic.specs.arrays.columnar_memory.declared.IntervalUnit.TheVariants as intervals
-use Rattle.nested_arrays_generic.specs.arrays.columnar_memory.declared.PhysicalType.{PhysicalType}
-use Rattle.nested_arrays_generic.specs.arrays.columnar_memory.declared.PhysicalType.TheVariants as physical
-use Rattle.nested_arrays_generic.specs.arrays.columnar_memory.declared.PrimitiveType.{PrimitiveType}
-use Rattle.nested_arrays_generic.specs.arrays.columnar_memory.declared.PrimitiveType.TheVariants as kinds
-use Rattle.nested_arrays_generic.specs.arrays.columnar_memory.Layouts.{physical_type}
-use Rattle.nested_arrays_generic.specs.arrays.columnar_memory.Numbers.{Numbers, one, two, three, first_number, second_number, third_number}
-use Rattle.nested_arrays_generic.specs.arrays.columns.Cells.{fits_cell}
-use Rattle.nested_arrays_generic.specs.arrays.columns.FreshColumns.{
+use Rattle.nested_arrays_core.specs.arrays.columnar_memory.declared.DataType.{DataType}
+use Rattle.nested_arrays_core.specs.arrays.columnar_memory.declared.DataType.TheOpen as layer
+use Rattle.nested_arrays_core.specs.arrays.columnar_memory.declared.IntervalUnit.TheVariants as intervals
+use Rattle.nested_arrays_core.specs.arrays.columnar_memory.declared.PhysicalType.{PhysicalType}
+use Rattle.nested_arrays_core.specs.arrays.columnar_memory.declared.PhysicalType.TheVariants as physical
+use Rattle.nested_arrays_core.specs.arrays.columnar_memory.declared.PrimitiveType.{PrimitiveType}
+use Rattle.nested_arrays_core.specs.arrays.columnar_memory.declared.PrimitiveType.TheVariants as kinds
+use Rattle.nested_arrays_core.specs.arrays.columnar_memory.Layouts.{physical_type}
+use Rattle.nested_arrays_core.specs.arrays.columnar_memory.Numbers.{Numbers, one, two, three, first_number, second_number, third_number}
+use Rattle.nested_arrays_core.specs.arrays.columns.Cells.{fits_cell}
+use Rattle.nested_arrays_core.specs.arrays.columns.FreshColumns.{
   is_true,
   number_of,
   pair_of,
@@ -24,19 +24,19 @@ use Rattle.nested_arrays_generic.specs.arrays.columns.FreshColumns.{
   sums_from,
   fresh,
 }
-use Rattle.nested_arrays_generic.specs.arrays.columns.Kinds.{kind_of}
-use Rattle.nested_arrays_generic.specs.arrays.columns.OpenBatch.{is_length, bytes_within, is_within}
-use Rattle.nested_arrays_generic.specs.arrays.columns.Slots.{Slot}
-use Rattle.nested_arrays_generic.specs.arrays.columns.StoredColumns.{Stored, bits, numbers, pairs, triples, texts, byte_strings, fixed_bytes, flat, type_layer}
-use Rattle.nested_arrays_generic.proofs.arrays_lemmas.columns_lemmas.FreshLengths.{Layer, cell_layer, unlike}
-use Rattle.nested_arrays_generic.proofs.arrays_lemmas.columns_lemmas.TypeLayers.{is_extension, layer_layout}
-use Rattle.nested_arrays_generic.specs.columns.OpenParts.{is_of_kind, kind_in}
-use Rattle.nested_arrays_generic.proofs.columns_lemmas.LayerParts.{fresh_nulls, fresh_booleans, fresh_binary, fresh_large_binary, fresh_texts}
-use Rattle.nested_arrays_generic.proofs.columns_lemmas.LayerParts.{fresh_large_texts, fresh_fixed_binary, fresh_primitive, kind_by_layout}
-use Rattle.nested_arrays_generic.proofs.columns_lemmas.TypeSteps.{within_layer, cell_by_layer, within_by_layer, layout_by_layer, not_extended}
+use Rattle.nested_arrays_core.specs.arrays.columns.Kinds.{kind_of}
+use Rattle.nested_arrays_core.specs.arrays.columns.OpenBatch.{is_length, bytes_within, is_within}
+use Rattle.nested_arrays_core.specs.arrays.columns.Slots.{Slot}
+use Rattle.nested_arrays_core.specs.arrays.columns.StoredColumns.{Stored, bits, numbers, pairs, triples, texts, byte_strings, fixed_bytes, flat, type_layer}
+use Rattle.nested_arrays_core.proofs.arrays_lemmas.columns_lemmas.FreshLengths.{Layer, cell_layer, unlike}
+use Rattle.nested_arrays_core.proofs.arrays_lemmas.columns_lemmas.TypeLayers.{is_extension, layer_layout}
+use Rattle.nested_arrays_core.specs.columns.OpenParts.{is_of_kind, kind_in}
+use Rattle.nested_arrays_core.proofs.columns_lemmas.LayerParts.{fresh_nulls, fresh_booleans, fresh_binary, fresh_large_binary, fresh_texts}
+use Rattle.nested_arrays_core.proofs.columns_lemmas.LayerParts.{fresh_large_texts, fresh_fixed_binary, fresh_primitive, kind_by_layout}
+use Rattle.nested_arrays_core.proofs.columns_lemmas.TypeSteps.{within_layer, cell_by_layer, within_by_layer, layout_by_layer, not_extended}
 use Rattle.nested_arrays_builder_parts.specs.Growing.{Growing, nothing, truths, whole, strings, sized, numbers_for, values_of, takes, most_bytes}
 use Rattle.nested_arrays_builder_parts.specs.Growing.{numbers_stored, layout_of, width_of, grown_column}
-use Rattle.nested_arrays_generic.specs.arrays.flat.FlatColumns.{layer_width, byte_width}
+use Rattle.nested_arrays_core.specs.arrays.flat.FlatColumns.{layer_width, byte_width}
 
 -- ---- layers by how they lie in memory
 

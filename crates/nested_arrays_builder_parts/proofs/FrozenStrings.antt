@@ -6,20 +6,20 @@ use Rattle.std.specs.Str.{is_utf8}
 use Rattle.std.proofs.lemmas.Bool.{and_parts, eqb-true}
 use Rattle.std.proofs.lemmas.Str.{IsUtf8-from_is_utf8}
 use Rattle.std.proofs.lemmas.List.{length-map}
-use Rattle.nested_arrays_generic.specs.arrays.columnar_memory.declared.DataType.{DataType}
-use Rattle.nested_arrays_generic.specs.arrays.columnar_memory.Layouts.{physical_type}
-use Rattle.nested_arrays_generic.specs.arrays.columnar_memory.Spans.{Spans, last_of, offsets_of}
-use Rattle.nested_arrays_generic.specs.arrays.flat_arrays.ByteStrings.{ByteStrings, byte_strings}
-use Rattle.nested_arrays_generic.specs.arrays.flat_arrays.Fits.{binary_layout, text_layout, IsBinary, IsMaskOf, IsText}
-use Rattle.nested_arrays_generic.specs.arrays.flat_arrays.Texts.{AllTexts}
-use Rattle.nested_arrays_generic.specs.arrays.flat.FlatColumns.{binary_column, text_column}
-use Rattle.nested_arrays_generic.specs.arrays.columns.FreshColumns.{sums_from}
-use Rattle.nested_arrays_generic.specs.arrays.columns.SoundColumns.{mask_fits}
-use Rattle.nested_arrays_generic.specs.arrays.columns.StoredColumns as stored
-use Rattle.nested_arrays_generic.specs.arrays.columns.StoredColumns.{flat}
+use Rattle.nested_arrays_core.specs.arrays.columnar_memory.declared.DataType.{DataType}
+use Rattle.nested_arrays_core.specs.arrays.columnar_memory.Layouts.{physical_type}
+use Rattle.nested_arrays_core.specs.arrays.columnar_memory.Spans.{Spans, last_of, offsets_of}
+use Rattle.nested_arrays_core.specs.arrays.flat_arrays.ByteStrings.{ByteStrings, byte_strings}
+use Rattle.nested_arrays_core.specs.arrays.flat_arrays.Fits.{binary_layout, text_layout, IsBinary, IsMaskOf, IsText}
+use Rattle.nested_arrays_core.specs.arrays.flat_arrays.Texts.{AllTexts}
+use Rattle.nested_arrays_core.specs.arrays.flat.FlatColumns.{binary_column, text_column}
+use Rattle.nested_arrays_core.specs.arrays.columns.FreshColumns.{sums_from}
+use Rattle.nested_arrays_core.specs.arrays.columns.SoundColumns.{mask_fits}
+use Rattle.nested_arrays_core.specs.arrays.columns.StoredColumns as stored
+use Rattle.nested_arrays_core.specs.arrays.columns.StoredColumns.{flat}
 use Rattle.nested_arrays_builder_parts.specs.Growing.{strings, grown_column}
-use Rattle.nested_arrays_generic.specs.arrays.flat_arrays.ByteStrings.{cut_by, packed}
-use Rattle.nested_arrays_generic.proofs.columns_lemmas.Pieces.{offsets_are_sums}
+use Rattle.nested_arrays_core.specs.arrays.flat_arrays.ByteStrings.{cut_by, packed}
+use Rattle.nested_arrays_core.proofs.columns_lemmas.Pieces.{offsets_are_sums}
 use Rattle.nested_arrays_builder_parts.proofs.StringLists.{last_packed, strings_back}
 
 mask_is : (mask : Option (List Bool)) (n m : ℕ) → n ≡ m → mask_fits mask n ≡ true → IsMaskOf m mask

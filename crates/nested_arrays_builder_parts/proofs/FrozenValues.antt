@@ -5,13 +5,13 @@ use Rattle.std.specs.List.{list_all}
 use Rattle.std.specs.Str.{is_utf8}
 use Rattle.std.proofs.lemmas.Bool.{and_parts, and_from}
 use Rattle.std.proofs.lemmas.Str.{is_utf8-from_IsUtf8}
-use Rattle.nested_arrays_generic.specs.arrays.columnar_memory.declared.DataType.{DataType}
-use Rattle.nested_arrays_generic.specs.arrays.columns.Cells.{is_text}
-use Rattle.nested_arrays_generic.specs.arrays.columns.FreshColumns.{content_of, mask_of}
-use Rattle.nested_arrays_generic.specs.arrays.columns.Slots.{Slot, null, text}
-use Rattle.nested_arrays_generic.specs.arrays.columns.SoundColumns.{mask_fits}
-use Rattle.nested_arrays_generic.specs.arrays.columns.StoredColumns.{Column, slots}
-use Rattle.nested_arrays_generic.proofs.arrays_lemmas.columns_lemmas.FreshParts.{mask_sound}
+use Rattle.nested_arrays_core.specs.arrays.columnar_memory.declared.DataType.{DataType}
+use Rattle.nested_arrays_core.specs.arrays.columns.Cells.{is_text}
+use Rattle.nested_arrays_core.specs.arrays.columns.FreshColumns.{content_of, mask_of}
+use Rattle.nested_arrays_core.specs.arrays.columns.Slots.{Slot, null, text}
+use Rattle.nested_arrays_core.specs.arrays.columns.SoundColumns.{mask_fits}
+use Rattle.nested_arrays_core.specs.arrays.columns.StoredColumns.{Column, slots}
+use Rattle.nested_arrays_core.proofs.arrays_lemmas.columns_lemmas.FreshParts.{mask_sound}
 use Rattle.nested_arrays_builder_parts.specs.Freezing.{AreTexts, IsFreezable}
 use Rattle.nested_arrays_builder_parts.specs.Growing.{Growing, nothing, truths, whole, strings, sized, values_of, takes, grown_column}
 use Rattle.nested_arrays_builder_parts.specs.KeptValues.{kept_column, AreKeptAs}

@@ -1,9 +1,9 @@
 -- Masks of columns that grow, and of which nothing is stored.
 use Rattle.std.proofs.Common.{◌≡◌, ◌∙◌, ℕ, List, length, Bool, true, false, refl, sym, ap}
 use Rattle.std.specs.Prelude.{Option, None}
-use Rattle.nested_arrays_generic.specs.arrays.columnar_memory.declared.DataType.{DataType}
-use Rattle.nested_arrays_generic.specs.arrays.columns.StoredColumns.{slots}
-use Rattle.nested_arrays_generic.specs.arrays.flat.ColumnMasks.{column_mask}
+use Rattle.nested_arrays_core.specs.arrays.columnar_memory.declared.DataType.{DataType}
+use Rattle.nested_arrays_core.specs.arrays.columns.StoredColumns.{slots}
+use Rattle.nested_arrays_core.specs.arrays.flat.ColumnMasks.{column_mask}
 use Rattle.nested_arrays_builder_parts.specs.Growing.{Growing, nothing, truths, whole, strings, sized, grown_column, is_nothing}
 use Rattle.nested_arrays_builder_parts.specs.GrowingNodes.{growing_of}
 use Rattle.nested_arrays_builder_parts.specs.KeptValues.{kept_column, open_of, AreKeptAs}

@@ -33,24 +33,24 @@ use Rattle.std.proofs.lemmas.List.{length-append, length-map, map-append, take-m
 use Rattle.std.proofs.lemmas.List.Folds.{list_all-append}
 use Rattle.std.proofs.lemmas.List.Sums.{sum_by-cons, sum_by-append}
 use mathlib.Core.Logic.{inl, inr}
-use Rattle.nested_arrays_generic.specs.arrays.columnar_memory.Bits.{unset_count}
-use Rattle.nested_arrays_generic.specs.arrays.columnar_memory.declared.DataType.{DataType}
-use Rattle.nested_arrays_generic.specs.arrays.columnar_memory.declared.Error.{Error}
-use Rattle.nested_arrays_generic.specs.arrays.columnar_memory.Error.{IsInvalidArgument, IsOutOfMemory, IsOverflow}
-use Rattle.nested_arrays_generic.specs.arrays.columnar_memory.Layouts.{physical_type}
-use Rattle.nested_arrays_generic.specs.arrays.columns.Cells.{is_null, is_bytes_of, fits_cell}
-use Rattle.nested_arrays_generic.specs.arrays.columns.FreshColumns.{is_valid, is_true, content_of, fixed_content_of, mask_of, fresh}
-use Rattle.nested_arrays_generic.specs.arrays.columns.FreshLaws.{is_buildable}
-use Rattle.nested_arrays_generic.specs.arrays.columns.Kinds.{most_slots}
-use Rattle.nested_arrays_generic.specs.arrays.columns.OpenBatch.{byte_count, is_length, bytes_within, is_within, fits}
-use Rattle.nested_arrays_generic.specs.arrays.columns.Slots.{Slot, null, truth, number, pair, triple, text, bytes, items, fields, pick}
-use Rattle.nested_arrays_generic.specs.arrays.columns.SoundColumns.{is_sound}
-use Rattle.nested_arrays_generic.specs.arrays.columns.StoredColumns.{Column, slots}
-use Rattle.nested_arrays_generic.proofs.arrays_lemmas.columns_lemmas.Conditions.{list_all-take}
-use Rattle.nested_arrays_generic.proofs.arrays_lemmas.columns_lemmas.Fitting.{beginnings_fit}
-use Rattle.nested_arrays_generic.proofs.arrays_lemmas.columns_lemmas.FreshLengths.{content_piece}
-use Rattle.nested_arrays_generic.proofs.arrays_lemmas.columns_lemmas.FreshSlots.{fresh_slots}
-use Rattle.nested_arrays_generic.proofs.arrays_lemmas.columns_lemmas.FreshSound.{fresh_is_sound}
+use Rattle.nested_arrays_core.specs.arrays.columnar_memory.Bits.{unset_count}
+use Rattle.nested_arrays_core.specs.arrays.columnar_memory.declared.DataType.{DataType}
+use Rattle.nested_arrays_core.specs.arrays.columnar_memory.declared.Error.{Error}
+use Rattle.nested_arrays_core.specs.arrays.columnar_memory.Error.{IsInvalidArgument, IsOutOfMemory, IsOverflow}
+use Rattle.nested_arrays_core.specs.arrays.columnar_memory.Layouts.{physical_type}
+use Rattle.nested_arrays_core.specs.arrays.columns.Cells.{is_null, is_bytes_of, fits_cell}
+use Rattle.nested_arrays_core.specs.arrays.columns.FreshColumns.{is_valid, is_true, content_of, fixed_content_of, mask_of, fresh}
+use Rattle.nested_arrays_core.specs.arrays.columns.FreshLaws.{is_buildable}
+use Rattle.nested_arrays_core.specs.arrays.columns.Kinds.{most_slots}
+use Rattle.nested_arrays_core.specs.arrays.columns.OpenBatch.{byte_count, is_length, bytes_within, is_within, fits}
+use Rattle.nested_arrays_core.specs.arrays.columns.Slots.{Slot, null, truth, number, pair, triple, text, bytes, items, fields, pick}
+use Rattle.nested_arrays_core.specs.arrays.columns.SoundColumns.{is_sound}
+use Rattle.nested_arrays_core.specs.arrays.columns.StoredColumns.{Column, slots}
+use Rattle.nested_arrays_core.proofs.arrays_lemmas.columns_lemmas.Conditions.{list_all-take}
+use Rattle.nested_arrays_core.proofs.arrays_lemmas.columns_lemmas.Fitting.{beginnings_fit}
+use Rattle.nested_arrays_core.proofs.arrays_lemmas.columns_lemmas.FreshLengths.{content_piece}
+use Rattle.nested_arrays_core.proofs.arrays_lemmas.columns_lemmas.FreshSlots.{fresh_slots}
+use Rattle.nested_arrays_core.proofs.arrays_lemmas.columns_lemmas.FreshSound.{fresh_is_sound}
 use Rattle.nested_arrays_builder_parts.specs.Growing.{
   Growing,
   nothing,
@@ -67,12 +67,12 @@ use Rattle.nested_arrays_builder_parts.specs.Growing.{takes, has_room, most_byte
 use Rattle.nested_arrays_builder_parts.specs.KeptValues.{kept_column, IsTyped, AreKeptAs, open_of, TakesSlot}
 use Rattle.nested_arrays_builder_parts.specs.Marks.{mask_of_marks}
 use Rattle.nested_arrays_builder_parts.specs.Open.{opened, first_slots, IsPushed, IsRefusal}
-use Rattle.nested_arrays_generic.specs.arrays.flat.FlatColumns.{byte_width}
+use Rattle.nested_arrays_core.specs.arrays.flat.FlatColumns.{byte_width}
 use Rattle.nested_arrays_builder_parts.proofs.FlatLayers.{values_within, AreValuesOf, values_of_type}
 use Rattle.nested_arrays_builder_parts.proofs.MarkLists.{positive, unset-first}
-use Rattle.nested_arrays_generic.proofs.columns_lemmas.Masks.{mask_is}
-use Rattle.nested_arrays_generic.proofs.columns_lemmas.Pieces.{joined_one_more, sized_cut, sized_length}
-use Rattle.nested_arrays_generic.specs.columns.OpenParts.{marks_of, mask_from}
+use Rattle.nested_arrays_core.proofs.columns_lemmas.Masks.{mask_is}
+use Rattle.nested_arrays_core.proofs.columns_lemmas.Pieces.{joined_one_more, sized_cut, sized_length}
+use Rattle.nested_arrays_core.specs.columns.OpenParts.{marks_of, mask_from}
 
 -- ---- masks
 

@@ -8,6 +8,6 @@ pub mod MarkLists
 pub mod NewNodes
 pub mod StringLists
 pub mod StringSlots
-pub use Rattle.nested_arrays_generic.proofs.arrays_lemmas
-pub use Rattle.nested_arrays_generic.proofs.columns_lemmas
-pub use Rattle.nested_arrays_generic.proofs as generic_lemmas
+pub use Rattle.nested_arrays_core.proofs.arrays_lemmas
+pub use Rattle.nested_arrays_core.proofs.columns_lemmas
+pub use Rattle.nested_arrays_core.proofs as generic_lemmas

@@ -5,11 +5,11 @@ use Rattle.std.proofs.Math.Dec.{eqb-suc-zero}
 use Rattle.std.proofs.lemmas.List.{length-replicate, length-take-le}
 use Rattle.std.proofs.lemmas.List.Sums.{sum_by-cons}
 use Rattle.std.specs.Prelude.{Option, Some, None, if◌then◌else◌, ◌==◌}
-use Rattle.nested_arrays_generic.proofs.arrays_lemmas.columnar_memory_lemmas.bits_lemmas.Counts.{unset_count_append}
-use Rattle.nested_arrays_generic.proofs.arrays_lemmas.columnar_memory_lemmas.bits_lemmas.Windows.{take_window, window_append}
-use Rattle.nested_arrays_generic.specs.arrays.columnar_memory.Bits.{bit_at, bits_of, unset_count}
+use Rattle.nested_arrays_core.proofs.arrays_lemmas.columnar_memory_lemmas.bits_lemmas.Counts.{unset_count_append}
+use Rattle.nested_arrays_core.proofs.arrays_lemmas.columnar_memory_lemmas.bits_lemmas.Windows.{take_window, window_append}
+use Rattle.nested_arrays_core.specs.arrays.columnar_memory.Bits.{bit_at, bits_of, unset_count}
 use Rattle.nested_arrays_builder_parts.specs.Marks.{marks, mask_of_marks, AreKept}
-use Rattle.nested_arrays_generic.specs.arrays.columns.Kinds.{most_slots}
+use Rattle.nested_arrays_core.specs.arrays.columns.Kinds.{most_slots}
 
 -- the first of some bits that stand in bytes
 pub bits_begin : (bytes : List ℕ) (bits : List Bool) (n len : ℕ) → bits_of bytes 0 len ≡ bits → n ≤ len → bits_of bytes 0 n ≡ take n bits

@@ -2,26 +2,26 @@
 use Rattle.std.proofs.Common.{◌≡◌, ◌∙◌, ◌<◌, ℕ, zero, suc, [], Bool, true, false, refl, sym, ap, arith}
 use Rattle.std.specs.Prelude.{Some, None, is_some, unwrap_or, nat_le}
 use Rattle.std.proofs.lemmas.Bool.{false≢true, le-leb}
-use Rattle.nested_arrays_generic.specs.arrays.columnar_memory.declared.DataType.{DataType}
-use Rattle.nested_arrays_generic.specs.arrays.columnar_memory.declared.DataType.TheOpen as layer
-use Rattle.nested_arrays_generic.specs.arrays.columnar_memory.declared.IntervalUnit.TheVariants as intervals
-use Rattle.nested_arrays_generic.specs.arrays.columnar_memory.declared.PhysicalType.{PhysicalType}
-use Rattle.nested_arrays_generic.specs.arrays.columnar_memory.declared.PhysicalType.TheVariants as physical
-use Rattle.nested_arrays_generic.specs.arrays.columnar_memory.declared.PrimitiveType.{PrimitiveType}
-use Rattle.nested_arrays_generic.specs.arrays.columnar_memory.declared.PrimitiveType.TheVariants as kinds
-use Rattle.nested_arrays_generic.specs.arrays.columnar_memory.Layouts.{physical_type}
-use Rattle.nested_arrays_generic.specs.arrays.columns.FreshLaws.{is_buildable}
-use Rattle.nested_arrays_generic.specs.arrays.columns.Kinds.{kind_of}
-use Rattle.nested_arrays_generic.specs.arrays.columns.StoredColumns.{type_layer}
-use Rattle.nested_arrays_generic.proofs.arrays_lemmas.columns_lemmas.FreshLengths.{Layer, buildable_layer, unlike}
-use Rattle.nested_arrays_generic.specs.arrays.parts.Childless.{is_childless}
-use Rattle.nested_arrays_generic.specs.columns.OpenParts.{kind_in}
-use Rattle.nested_arrays_generic.proofs.columns_lemmas.LayerParts.{kind_by_layout}
-use Rattle.nested_arrays_generic.proofs.columns_lemmas.TypeSteps.{buildable_by_layer}
+use Rattle.nested_arrays_core.specs.arrays.columnar_memory.declared.DataType.{DataType}
+use Rattle.nested_arrays_core.specs.arrays.columnar_memory.declared.DataType.TheOpen as layer
+use Rattle.nested_arrays_core.specs.arrays.columnar_memory.declared.IntervalUnit.TheVariants as intervals
+use Rattle.nested_arrays_core.specs.arrays.columnar_memory.declared.PhysicalType.{PhysicalType}
+use Rattle.nested_arrays_core.specs.arrays.columnar_memory.declared.PhysicalType.TheVariants as physical
+use Rattle.nested_arrays_core.specs.arrays.columnar_memory.declared.PrimitiveType.{PrimitiveType}
+use Rattle.nested_arrays_core.specs.arrays.columnar_memory.declared.PrimitiveType.TheVariants as kinds
+use Rattle.nested_arrays_core.specs.arrays.columnar_memory.Layouts.{physical_type}
+use Rattle.nested_arrays_core.specs.arrays.columns.FreshLaws.{is_buildable}
+use Rattle.nested_arrays_core.specs.arrays.columns.Kinds.{kind_of}
+use Rattle.nested_arrays_core.specs.arrays.columns.StoredColumns.{type_layer}
+use Rattle.nested_arrays_core.proofs.arrays_lemmas.columns_lemmas.FreshLengths.{Layer, buildable_layer, unlike}
+use Rattle.nested_arrays_core.specs.arrays.parts.Childless.{is_childless}
+use Rattle.nested_arrays_core.specs.columns.OpenParts.{kind_in}
+use Rattle.nested_arrays_core.proofs.columns_lemmas.LayerParts.{kind_by_layout}
+use Rattle.nested_arrays_core.proofs.columns_lemmas.TypeSteps.{buildable_by_layer}
 use Rattle.nested_arrays_builder_parts.specs.Growing.{Growing, nothing, truths, whole, strings, sized, layout_of, width_of}
 use Rattle.nested_arrays_builder_parts.specs.KeptValues.{IsTyped}
 use Rattle.nested_arrays_builder_parts.specs.NewValues.{is_float, is_of_floats, IsEmptyFor}
-use Rattle.nested_arrays_generic.specs.arrays.flat.FlatColumns.{layer_width, byte_width}
+use Rattle.nested_arrays_core.specs.arrays.flat.FlatColumns.{layer_width, byte_width}
 use Rattle.nested_arrays_builder_parts.proofs.FlatLayers.{null_layer, boolean_layer, binary_layer, large_binary_layer, text_layer, large_text_layer}
 use Rattle.nested_arrays_builder_parts.proofs.FlatLayers.{at_layout, at_width}
 

@@ -39,12 +39,12 @@ use Rattle.std.proofs.lemmas.List.{
 use Rattle.std.proofs.lemmas.List.Sums.{sum_by-cons}
 use Rattle.std.specs.List.{concat}
 use Rattle.std.proofs.Common.{subst, ◌⊎◌, inl, inr}
-use Rattle.nested_arrays_generic.specs.arrays.columnar_memory.declared.Error.{Error}
-use Rattle.nested_arrays_generic.specs.arrays.columnar_memory.declared.Error.TheVariants.{Overflow, OutOfMemory}
-use Rattle.nested_arrays_generic.specs.arrays.columnar_memory.Error.{IsOutOfMemory, IsOverflow}
-use Rattle.nested_arrays_generic.specs.arrays.columnar_memory.Growth.{IsGrowthFault}
-use Rattle.nested_arrays_generic.specs.arrays.columnar_memory.Spans.{Spans, extended, first_spans, last_of, shortened}
-use Rattle.nested_arrays_generic.specs.arrays.flat_arrays.ByteStrings.{cut_by, packed}
+use Rattle.nested_arrays_core.specs.arrays.columnar_memory.declared.Error.{Error}
+use Rattle.nested_arrays_core.specs.arrays.columnar_memory.declared.Error.TheVariants.{Overflow, OutOfMemory}
+use Rattle.nested_arrays_core.specs.arrays.columnar_memory.Error.{IsOutOfMemory, IsOverflow}
+use Rattle.nested_arrays_core.specs.arrays.columnar_memory.Growth.{IsGrowthFault}
+use Rattle.nested_arrays_core.specs.arrays.columnar_memory.Spans.{Spans, extended, first_spans, last_of, shortened}
+use Rattle.nested_arrays_core.specs.arrays.flat_arrays.ByteStrings.{cut_by, packed}
 use Rattle.nested_arrays_builder_parts.specs.Strings.{ArePacked}
 
 -- byte strings are cut out of their bytes by their lengths

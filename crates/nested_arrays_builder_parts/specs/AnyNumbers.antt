@@ -1,10 +1,10 @@
 -- Numbers of any kind by themselves.
 use Rattle.std.specs.Prelude.{◌≡◌, ℤ, pos, false, Option, MatchOption}
-use Rattle.nested_arrays_generic.specs.arrays.columnar_memory.Numbers.{Numbers, one, two, three}
-use Rattle.nested_arrays_generic.specs.arrays.columnar_memory.declared.PrimitiveType.{PrimitiveType}
-use Rattle.nested_arrays_generic.specs.arrays.columnar_memory.declared.PrimitiveType.TheVariants as kinds
-use Rattle.nested_arrays_generic.specs.arrays.columns.Kinds.{same_kind}
-use Rattle.nested_arrays_generic.specs.arrays.columns.Slots.{Slot, number, pair, triple}
+use Rattle.nested_arrays_core.specs.arrays.columnar_memory.Numbers.{Numbers, one, two, three}
+use Rattle.nested_arrays_core.specs.arrays.columnar_memory.declared.PrimitiveType.{PrimitiveType}
+use Rattle.nested_arrays_core.specs.arrays.columnar_memory.declared.PrimitiveType.TheVariants as kinds
+use Rattle.nested_arrays_core.specs.arrays.columns.Kinds.{same_kind}
+use Rattle.nested_arrays_core.specs.arrays.columns.Slots.{Slot, number, pair, triple}
 use Rattle.nested_arrays_builder_parts.specs.declared.numbers.AnyNumber.{AnyNumber}
 use Rattle.nested_arrays_builder_parts.specs.declared.numbers.AnyNumber.TheVariants as variant
 

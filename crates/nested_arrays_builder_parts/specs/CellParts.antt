@@ -1,7 +1,7 @@
 -- Cells without what stands inside them.
 use Rattle.std.specs.Prelude.{◌≡◌, Bool, true, false}
 use Rattle.std.specs.Str.{is_utf8}
-use Rattle.nested_arrays_generic.specs.arrays.columns.Slots.{Slot, null, truth, text, bytes, items, fields}
+use Rattle.nested_arrays_core.specs.arrays.columns.Slots.{Slot, null, truth, text, bytes, items, fields}
 use Rattle.nested_arrays_builder_parts.specs.AnyNumbers.{slot_of_number}
 use Rattle.nested_arrays_builder_parts.specs.declared.parts.CellPart.{CellPart}
 use Rattle.nested_arrays_builder_parts.specs.declared.parts.CellPart.TheVariants as variant

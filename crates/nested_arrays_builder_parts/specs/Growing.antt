@@ -2,20 +2,20 @@
 use Rattle.std.specs.Prelude.{◌≡◌, ◌⊎◌, ◌+◌, ◌*◌, ◌≤◌, ℕ, Bool, true, false, if◌then◌else◌, List, [], ◌∷◌, ◌++◌, length, map, take, sum_by, nat_le}
 use Rattle.std.specs.Prelude.{Option, Result, MatchOption, MatchResult}
 use Rattle.std.specs.List.{concat, flat_map}
-use Rattle.nested_arrays_generic.specs.arrays.columnar_memory.declared.DataType.{DataType}
-use Rattle.nested_arrays_generic.specs.arrays.columnar_memory.declared.Error.{Error}
-use Rattle.nested_arrays_generic.specs.arrays.columnar_memory.declared.PhysicalType.{PhysicalType}
-use Rattle.nested_arrays_generic.specs.arrays.columnar_memory.declared.PhysicalType.TheVariants as physical
-use Rattle.nested_arrays_generic.specs.arrays.columnar_memory.declared.PrimitiveType.{PrimitiveType}
-use Rattle.nested_arrays_generic.specs.arrays.columnar_memory.declared.PrimitiveType.TheVariants as kinds
-use Rattle.nested_arrays_generic.specs.arrays.columnar_memory.Error.{IsInvalidArgument, IsOutOfMemory, IsOverflow}
-use Rattle.nested_arrays_generic.specs.arrays.columnar_memory.Numbers.{Numbers, one, two, three, first_number, second_number, third_number}
-use Rattle.nested_arrays_generic.specs.arrays.flat_arrays.Fits.{binary_layout, text_layout}
-use Rattle.nested_arrays_generic.specs.arrays.columns.Cells.{is_null, is_truth, is_text, is_bytes, is_bytes_of}
-use Rattle.nested_arrays_generic.specs.arrays.columns.FreshColumns.{is_true, number_of, pair_of, triple_of, content_of, fixed_content_of, sums_from}
-use Rattle.nested_arrays_generic.specs.arrays.columns.OpenBatch.{most_short, most_long}
-use Rattle.nested_arrays_generic.specs.arrays.columns.Slots.{Slot}
-use Rattle.nested_arrays_generic.specs.arrays.columns.StoredColumns.{
+use Rattle.nested_arrays_core.specs.arrays.columnar_memory.declared.DataType.{DataType}
+use Rattle.nested_arrays_core.specs.arrays.columnar_memory.declared.Error.{Error}
+use Rattle.nested_arrays_core.specs.arrays.columnar_memory.declared.PhysicalType.{PhysicalType}
+use Rattle.nested_arrays_core.specs.arrays.columnar_memory.declared.PhysicalType.TheVariants as physical
+use Rattle.nested_arrays_core.specs.arrays.columnar_memory.declared.PrimitiveType.{PrimitiveType}
+use Rattle.nested_arrays_core.specs.arrays.columnar_memory.declared.PrimitiveType.TheVariants as kinds
+use Rattle.nested_arrays_core.specs.arrays.columnar_memory.Error.{IsInvalidArgument, IsOutOfMemory, IsOverflow}
+use Rattle.nested_arrays_core.specs.arrays.columnar_memory.Numbers.{Numbers, one, two, three, first_number, second_number, third_number}
+use Rattle.nested_arrays_core.specs.arrays.flat_arrays.Fits.{binary_layout, text_layout}
+use Rattle.nested_arrays_core.specs.arrays.columns.Cells.{is_null, is_truth, is_text, is_bytes, is_bytes_of}
+use Rattle.nested_arrays_core.specs.arrays.columns.FreshColumns.{is_true, number_of, pair_of, triple_of, content_of, fixed_content_of, sums_from}
+use Rattle.nested_arrays_core.specs.arrays.columns.OpenBatch.{most_short, most_long}
+use Rattle.nested_arrays_core.specs.arrays.columns.Slots.{Slot}
+use Rattle.nested_arrays_core.specs.arrays.columns.StoredColumns.{
   Column,
   nulls,
   flat,
@@ -28,7 +28,7 @@ use Rattle.nested_arrays_generic.specs.arrays.columns.StoredColumns.{
   byte_strings,
   fixed_bytes,
 }
-use Rattle.nested_arrays_generic.specs.columns.OpenParts.{is_of_kind}
+use Rattle.nested_arrays_core.specs.columns.OpenParts.{is_of_kind}
 
 pub data Growing : Type 0 where
   -- of nulls alone nothing is stored

@@ -1,7 +1,7 @@
 -- The values that grow in a node.
 use Rattle.std.specs.Prelude.{true, false, map, pos}
-use Rattle.nested_arrays_generic.specs.arrays.columnar_memory.declared.PrimitiveType.TheVariants as kinds
-use Rattle.nested_arrays_generic.specs.arrays.columnar_memory.Numbers.{one, two, three}
+use Rattle.nested_arrays_core.specs.arrays.columnar_memory.declared.PrimitiveType.TheVariants as kinds
+use Rattle.nested_arrays_core.specs.arrays.columnar_memory.Numbers.{one, two, three}
 use Rattle.nested_arrays_builder_parts.specs.Growing.{Growing, nothing, truths, whole, strings, sized}
 use Rattle.nested_arrays_builder_parts.specs.declared.values.ValuesNode.{ValuesNode}
 use Rattle.nested_arrays_builder_parts.specs.declared.values.ValuesNode.TheVariants as variant

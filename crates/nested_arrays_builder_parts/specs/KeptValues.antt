@@ -1,19 +1,19 @@
 -- Slots of a type without children as they are kept: marks and values.
 use Rattle.std.specs.Prelude.{◌≡◌, ◌<◌, ◌⊎◌, Bool, true, false, List, [], ◌∷◌, ◌++◌, length, map, Result, MatchResult}
-use Rattle.nested_arrays_generic.specs.arrays.columnar_memory.declared.Error.{Error}
-use Rattle.nested_arrays_generic.specs.arrays.columnar_memory.Error.{IsInvalidArgument, IsOutOfMemory, IsOverflow}
-use Rattle.nested_arrays_generic.specs.arrays.columnar_memory.declared.DataType.{DataType}
-use Rattle.nested_arrays_generic.specs.arrays.columnar_memory.Layouts.{physical_type}
-use Rattle.nested_arrays_generic.specs.arrays.columns.FreshColumns.{is_valid}
-use Rattle.nested_arrays_generic.specs.arrays.columns.FreshLaws.{is_buildable}
-use Rattle.nested_arrays_generic.specs.arrays.columns.OpenBatch.{fits}
-use Rattle.nested_arrays_generic.specs.arrays.columns.Slots.{Slot}
-use Rattle.nested_arrays_generic.specs.arrays.columns.StoredColumns.{Column, slots}
+use Rattle.nested_arrays_core.specs.arrays.columnar_memory.declared.Error.{Error}
+use Rattle.nested_arrays_core.specs.arrays.columnar_memory.Error.{IsInvalidArgument, IsOutOfMemory, IsOverflow}
+use Rattle.nested_arrays_core.specs.arrays.columnar_memory.declared.DataType.{DataType}
+use Rattle.nested_arrays_core.specs.arrays.columnar_memory.Layouts.{physical_type}
+use Rattle.nested_arrays_core.specs.arrays.columns.FreshColumns.{is_valid}
+use Rattle.nested_arrays_core.specs.arrays.columns.FreshLaws.{is_buildable}
+use Rattle.nested_arrays_core.specs.arrays.columns.OpenBatch.{fits}
+use Rattle.nested_arrays_core.specs.arrays.columns.Slots.{Slot}
+use Rattle.nested_arrays_core.specs.arrays.columns.StoredColumns.{Column, slots}
 use Rattle.nested_arrays_builder_parts.specs.Growing.{Growing, takes, has_room, with_value, values_of, layout_of, width_of, grown_column}
 use Rattle.nested_arrays_builder_parts.specs.Marks.{mask_of_marks}
-use Rattle.nested_arrays_generic.specs.arrays.columns.Kinds.{most_slots}
+use Rattle.nested_arrays_core.specs.arrays.columns.Kinds.{most_slots}
 use Rattle.nested_arrays_builder_parts.specs.Open.{Open, opened}
-use Rattle.nested_arrays_generic.specs.arrays.flat.FlatColumns.{byte_width}
+use Rattle.nested_arrays_core.specs.arrays.flat.FlatColumns.{byte_width}
 
 -- the column of these marks and values
 abbrev pub kept_column : DataType → List Bool → Growing → Column

@@ -9,6 +9,6 @@ pub mod NewValues
 pub mod Open
 pub mod Scalars
 pub mod Strings
-pub use Rattle.nested_arrays_generic.specs.arrays
-pub use Rattle.nested_arrays_generic.specs.columns
-pub use Rattle.nested_arrays_generic.specs as generic
+pub use Rattle.nested_arrays_core.specs.arrays
+pub use Rattle.nested_arrays_core.specs.columns
+pub use Rattle.nested_arrays_core.specs as generic

@@ -1,10 +1,10 @@
 -- Validity marks: true where a slot has a value, false where it is null (Arrow columnar format, "Validity bitmaps").
 use Rattle.std.specs.Prelude.{◌≡◌, ◌<◌, ◌≤◌, ◌-◌, ◌^◌, ◌⊎◌, ◌==◌, if◌then◌else◌, ℕ, Bool, true, List, [], ◌∷◌, ◌++◌, length, replicate}
 use Rattle.std.specs.Prelude.{Option, Some, None, Result, MatchResult}
-use Rattle.nested_arrays_generic.specs.arrays.columnar_memory.Bits.{unset_count}
-use Rattle.nested_arrays_generic.specs.arrays.columnar_memory.Error.{IsOutOfMemory, IsOverflow}
-use Rattle.nested_arrays_generic.specs.arrays.columnar_memory.declared.Error.{Error}
-use Rattle.nested_arrays_generic.specs.arrays.columns.Kinds.{most_slots}
+use Rattle.nested_arrays_core.specs.arrays.columnar_memory.Bits.{unset_count}
+use Rattle.nested_arrays_core.specs.arrays.columnar_memory.Error.{IsOutOfMemory, IsOverflow}
+use Rattle.nested_arrays_core.specs.arrays.columnar_memory.declared.Error.{Error}
+use Rattle.nested_arrays_core.specs.arrays.columns.Kinds.{most_slots}
 
 -- the mark of each of n slots, where without a bitmap no slot is null
 abbrev pub marks : ℕ → Option (List Bool) → List Bool

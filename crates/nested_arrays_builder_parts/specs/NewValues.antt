@@ -1,15 +1,15 @@
 -- Values of a type before any slot is pushed.
 use Rattle.std.specs.Prelude.{◌≡◌, ◌⊎◌, Bool, true, false, [], Result, MatchResult}
-use Rattle.nested_arrays_generic.specs.arrays.columnar_memory.declared.DataType.{DataType}
-use Rattle.nested_arrays_generic.specs.arrays.columnar_memory.declared.Error.{Error}
-use Rattle.nested_arrays_generic.specs.arrays.columnar_memory.declared.PhysicalType.{PhysicalType}
-use Rattle.nested_arrays_generic.specs.arrays.columnar_memory.declared.PhysicalType.TheVariants as physical
-use Rattle.nested_arrays_generic.specs.arrays.columnar_memory.declared.PrimitiveType.{PrimitiveType}
-use Rattle.nested_arrays_generic.specs.arrays.columnar_memory.declared.PrimitiveType.TheVariants as kinds
-use Rattle.nested_arrays_generic.specs.arrays.columnar_memory.Error.{IsInvalidArgument, IsNotYetImplemented, IsOutOfMemory}
-use Rattle.nested_arrays_generic.specs.arrays.columnar_memory.Layouts.{physical_type}
-use Rattle.nested_arrays_generic.specs.arrays.columns.FreshLaws.{is_buildable}
-use Rattle.nested_arrays_generic.specs.arrays.parts.Childless.{is_childless}
+use Rattle.nested_arrays_core.specs.arrays.columnar_memory.declared.DataType.{DataType}
+use Rattle.nested_arrays_core.specs.arrays.columnar_memory.declared.Error.{Error}
+use Rattle.nested_arrays_core.specs.arrays.columnar_memory.declared.PhysicalType.{PhysicalType}
+use Rattle.nested_arrays_core.specs.arrays.columnar_memory.declared.PhysicalType.TheVariants as physical
+use Rattle.nested_arrays_core.specs.arrays.columnar_memory.declared.PrimitiveType.{PrimitiveType}
+use Rattle.nested_arrays_core.specs.arrays.columnar_memory.declared.PrimitiveType.TheVariants as kinds
+use Rattle.nested_arrays_core.specs.arrays.columnar_memory.Error.{IsInvalidArgument, IsNotYetImplemented, IsOutOfMemory}
+use Rattle.nested_arrays_core.specs.arrays.columnar_memory.Layouts.{physical_type}
+use Rattle.nested_arrays_core.specs.arrays.columns.FreshLaws.{is_buildable}
+use Rattle.nested_arrays_core.specs.arrays.parts.Childless.{is_childless}
 use Rattle.nested_arrays_builder_parts.specs.Growing.{Growing, values_of}
 use Rattle.nested_arrays_builder_parts.specs.GrowingNodes.{growing_of}
 use Rattle.nested_arrays_builder_parts.specs.KeptValues.{IsTyped}

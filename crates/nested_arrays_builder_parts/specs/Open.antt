@@ -3,15 +3,15 @@ use Rattle.std.specs.Prelude.{◌≡◌, ◌⊎◌, Bool, true, false, ℕ, List
 use Rattle.std.specs.Coded.{Coded, code_by, coded×, coded_list}
 use Rattle.std.proofs.Common.{refl}
 use Rattle.columnar_memory_types.specs.contracts.data_type.DataType as data_type
-use Rattle.nested_arrays_generic.specs.arrays.columnar_memory.declared.DataType.{DataType}
-use Rattle.nested_arrays_generic.specs.arrays.columnar_memory.declared.Error.{Error}
-use Rattle.nested_arrays_generic.specs.arrays.columnar_memory.Error.{IsInvalidArgument, IsOutOfMemory, IsOverflow}
-use Rattle.nested_arrays_generic.specs.arrays.columns.Cells.{fits_cell}
-use Rattle.nested_arrays_generic.specs.arrays.columns.FreshColumns.{fresh}
-use Rattle.nested_arrays_generic.specs.arrays.columns.OpenBatch.{fits}
-use Rattle.nested_arrays_generic.specs.arrays.columns.SlotCodes.{slot_code}
-use Rattle.nested_arrays_generic.specs.arrays.columns.Slots.{Slot, null}
-use Rattle.nested_arrays_generic.specs.arrays.columns.StoredColumns.{Column}
+use Rattle.nested_arrays_core.specs.arrays.columnar_memory.declared.DataType.{DataType}
+use Rattle.nested_arrays_core.specs.arrays.columnar_memory.declared.Error.{Error}
+use Rattle.nested_arrays_core.specs.arrays.columnar_memory.Error.{IsInvalidArgument, IsOutOfMemory, IsOverflow}
+use Rattle.nested_arrays_core.specs.arrays.columns.Cells.{fits_cell}
+use Rattle.nested_arrays_core.specs.arrays.columns.FreshColumns.{fresh}
+use Rattle.nested_arrays_core.specs.arrays.columns.OpenBatch.{fits}
+use Rattle.nested_arrays_core.specs.arrays.columns.SlotCodes.{slot_code}
+use Rattle.nested_arrays_core.specs.arrays.columns.Slots.{Slot, null}
+use Rattle.nested_arrays_core.specs.arrays.columns.StoredColumns.{Column}
 
 pub record Open : Type 0 where
   pub data_type : DataType

@@ -1,7 +1,7 @@
 -- Cells of any type as they are pushed, and the slots that they become.
 use Rattle.std.specs.Prelude.{ℕ, ℤ, pos, List, [], ◌∷◌}
-use Rattle.nested_arrays_generic.specs.arrays.columnar_memory.declared.PrimitiveType.TheVariants as kinds
-use Rattle.nested_arrays_generic.specs.arrays.columns.Rows.{
+use Rattle.nested_arrays_core.specs.arrays.columnar_memory.declared.PrimitiveType.TheVariants as kinds
+use Rattle.nested_arrays_core.specs.arrays.columns.Rows.{
   Cell,
   Cells,
   null_cell,
@@ -12,8 +12,8 @@ use Rattle.nested_arrays_generic.specs.arrays.columns.Rows.{
   text_cell,
   bytes_cell,
 }
-use Rattle.nested_arrays_generic.specs.arrays.columns.Rows.{list_cell, record_cell, no_cell, cell_then, cell_slot}
-use Rattle.nested_arrays_generic.specs.arrays.columns.Slots.{Slot}
+use Rattle.nested_arrays_core.specs.arrays.columns.Rows.{list_cell, record_cell, no_cell, cell_then, cell_slot}
+use Rattle.nested_arrays_core.specs.arrays.columns.Slots.{Slot}
 use Rattle.nested_arrays_scalars.specs.declared.scalars.AnyScalar.{AnyScalar}
 use Rattle.nested_arrays_scalars.specs.declared.scalars.AnyScalar.TheOpen as layer
 use Rattle.nested_arrays_scalars.specs.declared.scalars.AnyScalar.TheFolds.{fold-AnyScalar}

@@ -1,10 +1,10 @@
 -- Byte strings that stand one after another.
 use Rattle.std.specs.Prelude.{◌≡◌, ◌<◌, ◌≤◌, ◌+◌, ◌⊎◌, ℕ, List, [], ◌∷◌, ◌++◌, length, map, take, drop, Result, MatchResult}
 use Rattle.std.specs.List.{concat}
-use Rattle.nested_arrays_generic.specs.arrays.columnar_memory.declared.Error.{Error}
-use Rattle.nested_arrays_generic.specs.arrays.columnar_memory.Error.{IsOutOfMemory, IsOverflow}
-use Rattle.nested_arrays_generic.specs.arrays.columnar_memory.Spans.{Spans}
-use Rattle.nested_arrays_generic.specs.arrays.flat_arrays.ByteStrings.{packed}
+use Rattle.nested_arrays_core.specs.arrays.columnar_memory.declared.Error.{Error}
+use Rattle.nested_arrays_core.specs.arrays.columnar_memory.Error.{IsOutOfMemory, IsOverflow}
+use Rattle.nested_arrays_core.specs.arrays.columnar_memory.Spans.{Spans}
+use Rattle.nested_arrays_core.specs.arrays.flat_arrays.ByteStrings.{packed}
 
 -- these offsets and bytes are those of byte strings from 0 on, without gaps
 pub record ArePacked (values : List (List ℕ)) (offsets : Spans) (bytes : List ℕ) : Type 0 where

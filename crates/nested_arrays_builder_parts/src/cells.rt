@@ -1,16 +1,16 @@
 //! What a cell stores among values of one kind: nothing where it is of another.
 ghost use Rattle.std.specs.Prelude.{◌≡◌, true};
 ghost use Rattle.std.specs.List.{list_all};
-ghost use Rattle.nested_arrays_generic.specs.arrays.columns.Cells.{is_bytes, is_null, is_text, is_truth};
-ghost use Rattle.nested_arrays_generic.specs.arrays.columns.FreshColumns.{content_of, is_true};
-ghost use Rattle.nested_arrays_generic.specs.columns.OpenParts.{is_of_kind};
+ghost use Rattle.nested_arrays_core.specs.arrays.columns.Cells.{is_bytes, is_null, is_text, is_truth};
+ghost use Rattle.nested_arrays_core.specs.arrays.columns.FreshColumns.{content_of, is_true};
+ghost use Rattle.nested_arrays_core.specs.columns.OpenParts.{is_of_kind};
 ghost use Rattle.nested_arrays_builder_parts.specs.Growing.{IsStoredFor, numbers_for};
 ghost use Rattle.nested_arrays_builder_parts.specs.Scalars.{scalar_slot};
 ghost use Rattle.nested_arrays_builder_parts.specs.AnyNumbers.{slot_of_number};
 
 use crate::numbers::{AnyNumber, NumberKind};
 use crate::parts::{CellPart, part_of};
-use nested_arrays_generic::arrays::flat::read_bytes;
+use nested_arrays_core::arrays::flat::read_bytes;
 use nested_arrays_scalars::AnyScalar;
 
 /// Whether a cell is no value.

@@ -1,12 +1,12 @@
 //! Builders of arrays without children.
 ghost use Rattle.std.specs.Prelude.{◌≡◌, ◌<◌, ◌≤◌, [], length, MatchResult, IfErr, not, slice_index_or, true, option_copied};
-ghost use Rattle.nested_arrays_generic.specs.arrays.columnar_memory.Error.{IsOutOfMemory};
-ghost use Rattle.nested_arrays_generic.specs.arrays.columns.Cells.{is_null};
-ghost use Rattle.nested_arrays_generic.specs.arrays.columnar_memory.Results.{OrOutOfMemory};
-ghost use Rattle.nested_arrays_generic.specs.arrays.columns.FreshLaws.{is_buildable};
-ghost use Rattle.nested_arrays_generic.specs.arrays.columns.Slots.{null};
-ghost use Rattle.nested_arrays_generic.specs.arrays.columns.StoredColumns.{slots};
-ghost use Rattle.nested_arrays_generic.specs.arrays.flat.ColumnMasks.{column_mask};
+ghost use Rattle.nested_arrays_core.specs.arrays.columnar_memory.Error.{IsOutOfMemory};
+ghost use Rattle.nested_arrays_core.specs.arrays.columns.Cells.{is_null};
+ghost use Rattle.nested_arrays_core.specs.arrays.columnar_memory.Results.{OrOutOfMemory};
+ghost use Rattle.nested_arrays_core.specs.arrays.columns.FreshLaws.{is_buildable};
+ghost use Rattle.nested_arrays_core.specs.arrays.columns.Slots.{null};
+ghost use Rattle.nested_arrays_core.specs.arrays.columns.StoredColumns.{slots};
+ghost use Rattle.nested_arrays_core.specs.arrays.flat.ColumnMasks.{column_mask};
 ghost use Rattle.nested_arrays_builder_parts.specs.Growing.{HoldsAll};
 ghost use Rattle.nested_arrays_builder_parts.specs.KeptValues.{kept_column, AreKeptAs, TakesSlot};
 ghost use Rattle.nested_arrays_builder_parts.specs.NewValues.{IsNoGrowth};
@@ -16,8 +16,8 @@ ghost use Rattle.nested_arrays_builder_parts.specs.Scalars.{scalar_slot};
 use crate::cells::is_null;
 use crate::marks::Marks;
 use crate::values::Values;
-use nested_arrays_generic::arrays::columnar_memory::{DataType, MutableBitmap, Result};
-use nested_arrays_generic::arrays::parts::FlatArray;
+use nested_arrays_core::arrays::columnar_memory::{DataType, MutableBitmap, Result};
+use nested_arrays_core::arrays::parts::FlatArray;
 use nested_arrays_scalars::AnyScalar;
 use std::alloc::Global;
 use std::marker::Model;
@@ -34,7 +34,7 @@ pub struct FlatBuilder {
 }
 
 impl Model for FlatBuilder {
-    ghost use Rattle.nested_arrays_generic.specs.arrays.columns.StoredColumns.{slots};
+    ghost use Rattle.nested_arrays_core.specs.arrays.columns.StoredColumns.{slots};
     ghost use Rattle.nested_arrays_builder_parts.specs.KeptValues.{kept_column, open_of, AreKeptAs};
     ghost use Rattle.nested_arrays_builder_parts.specs.Open.{Open, open_code};
 

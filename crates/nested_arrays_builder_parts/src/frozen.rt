@@ -2,28 +2,28 @@
 ghost use Rattle.std.specs.Prelude.{◌≡◌, false, true, length};
 ghost use Rattle.std.specs.List.{list_all};
 ghost use Rattle.std.specs.Str.{is_utf8};
-ghost use Rattle.nested_arrays_generic.specs.arrays.columnar_memory.Layouts.{physical_type};
-ghost use Rattle.nested_arrays_generic.specs.arrays.columnar_memory.Results.{OrOutOfMemory};
-ghost use Rattle.nested_arrays_generic.specs.arrays.columnar_memory.declared.PhysicalType.TheVariants as physical;
-ghost use Rattle.nested_arrays_generic.specs.arrays.flat_arrays.Flat.{flat, IsFlat};
-ghost use Rattle.nested_arrays_generic.specs.arrays.flat.FlatColumns.{binary_column, boolean_column, byte_width, fixed_column, primitive_column, text_column};
-ghost use Rattle.nested_arrays_generic.specs.arrays.columns.SoundColumns.{is_sound, mask_fits};
+ghost use Rattle.nested_arrays_core.specs.arrays.columnar_memory.Layouts.{physical_type};
+ghost use Rattle.nested_arrays_core.specs.arrays.columnar_memory.Results.{OrOutOfMemory};
+ghost use Rattle.nested_arrays_core.specs.arrays.columnar_memory.declared.PhysicalType.TheVariants as physical;
+ghost use Rattle.nested_arrays_core.specs.arrays.flat_arrays.Flat.{flat, IsFlat};
+ghost use Rattle.nested_arrays_core.specs.arrays.flat.FlatColumns.{binary_column, boolean_column, byte_width, fixed_column, primitive_column, text_column};
+ghost use Rattle.nested_arrays_core.specs.arrays.columns.SoundColumns.{is_sound, mask_fits};
 ghost use Rattle.nested_arrays_builder_parts.specs.Freezing.{IsFreezable};
 ghost use Rattle.nested_arrays_builder_parts.specs.Growing as growing;
 ghost use Rattle.nested_arrays_builder_parts.specs.Growing.{grown_column};
-ghost use Rattle.nested_arrays_generic.specs.arrays.flat_arrays.Fits.{binary_layout, text_layout};
+ghost use Rattle.nested_arrays_core.specs.arrays.flat_arrays.Fits.{binary_layout, text_layout};
 
 use crate::numbers::NumberKind;
 use crate::strings::Strings;
 use crate::values::{Values, ValuesNode};
-use nested_arrays_generic::arrays::columnar_memory::{
+use nested_arrays_core::arrays::columnar_memory::{
     Bitmap, Buffer, DataType, MutableBitmap, Offset, Result,
 };
-use nested_arrays_generic::arrays::flat::{AnyPrimitive, FixedSizeBinaryArray, NullArray};
-use nested_arrays_generic::arrays::flat_arrays::{
+use nested_arrays_core::arrays::flat::{AnyPrimitive, FixedSizeBinaryArray, NullArray};
+use nested_arrays_core::arrays::flat_arrays::{
     BinaryArray, BooleanArray, PrimitiveArray, Utf8Array,
 };
-use nested_arrays_generic::arrays::parts::FlatArray;
+use nested_arrays_core::arrays::parts::FlatArray;
 
 impl Values {
     /// The array of the values of `len` slots with a mask.

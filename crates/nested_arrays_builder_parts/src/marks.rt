@@ -1,13 +1,13 @@
 //! Validity marks that grow: no bitmap while no slot is null (Arrow columnar format, "Validity bitmaps").
 ghost use Rattle.std.specs.Prelude.{◌≡◌, ◌+◌, ◌<◌, ◌≤◌, [], length, take, slice_get, Some, IfErr, ◌↔◌, IsTrue, ◌++◌, ◌∷◌, replicate, true, false};
 ghost use Rattle.std.specs.Option.{option_copied};
-ghost use Rattle.nested_arrays_generic.specs.arrays.columnar_memory.Bits.{unset_count};
-ghost use Rattle.nested_arrays_generic.specs.arrays.columnar_memory.Results.{OrOutOfMemory};
-ghost use Rattle.nested_arrays_generic.specs.arrays.columnar_memory.Error.{IsOutOfMemory};
+ghost use Rattle.nested_arrays_core.specs.arrays.columnar_memory.Bits.{unset_count};
+ghost use Rattle.nested_arrays_core.specs.arrays.columnar_memory.Results.{OrOutOfMemory};
+ghost use Rattle.nested_arrays_core.specs.arrays.columnar_memory.Error.{IsOutOfMemory};
 ghost use Rattle.nested_arrays_builder_parts.specs.Marks.{marks, mask_of_marks, AreKept, TakesMark};
-ghost use Rattle.nested_arrays_generic.specs.arrays.columns.Kinds.{most_slots};
+ghost use Rattle.nested_arrays_core.specs.arrays.columns.Kinds.{most_slots};
 
-use nested_arrays_generic::arrays::columnar_memory::{
+use nested_arrays_core::arrays::columnar_memory::{
     Bitmap, Error, MutableBitmap, Result, count_zeros,
 };
 use std::alloc::Global;

@@ -1,18 +1,18 @@
 //! Values of a type before any slot is pushed.
 ghost use Rattle.std.specs.Prelude.{◌≡◌, ◌⊎◌, [], MatchResult, true, false};
-ghost use Rattle.nested_arrays_generic.specs.arrays.columnar_memory.Error.{IsInvalidArgument, IsNotYetImplemented, IsOutOfMemory};
-ghost use Rattle.nested_arrays_generic.specs.arrays.columnar_memory.Layouts.{physical_type};
-ghost use Rattle.nested_arrays_generic.specs.arrays.columnar_memory.declared.PhysicalType.TheVariants as physical;
+ghost use Rattle.nested_arrays_core.specs.arrays.columnar_memory.Error.{IsInvalidArgument, IsNotYetImplemented, IsOutOfMemory};
+ghost use Rattle.nested_arrays_core.specs.arrays.columnar_memory.Layouts.{physical_type};
+ghost use Rattle.nested_arrays_core.specs.arrays.columnar_memory.declared.PhysicalType.TheVariants as physical;
 ghost use Rattle.nested_arrays_builder_parts.specs.Growing.{whole};
 ghost use Rattle.nested_arrays_builder_parts.specs.GrowingNodes.{growing_of};
 ghost use Rattle.nested_arrays_builder_parts.specs.NewValues.{is_float, BeginsFor, IsNodeFor};
 
 use crate::strings::Strings;
 use crate::values::{Values, ValuesNode};
-use nested_arrays_generic::arrays::columnar_memory::{
+use nested_arrays_core::arrays::columnar_memory::{
     DataType, Error, MutableBitmap, PhysicalType, PrimitiveType, Result,
 };
-use nested_arrays_generic::arrays::flat::FixedSizeBinaryArray;
+use nested_arrays_core::arrays::flat::FixedSizeBinaryArray;
 use std::alloc::Global;
 
 impl Values {

@@ -1,11 +1,11 @@
 //! Numbers of any kind by themselves.
 ghost use Rattle.std.specs.Prelude.{pos, MatchOption};
-ghost use Rattle.nested_arrays_generic.specs.arrays.columnar_memory.Numbers.{one, two, three};
-ghost use Rattle.nested_arrays_generic.specs.arrays.columnar_memory.declared.PrimitiveType.TheVariants as kinds;
+ghost use Rattle.nested_arrays_core.specs.arrays.columnar_memory.Numbers.{one, two, three};
+ghost use Rattle.nested_arrays_core.specs.arrays.columnar_memory.declared.PrimitiveType.TheVariants as kinds;
 ghost use Rattle.nested_arrays_builder_parts.specs.AnyNumbers.{IsTakenOut};
 
-use nested_arrays_generic::arrays::columnar_memory::{days_ms, i256, months_days_ns};
-use nested_arrays_generic::arrays::flat::PrimitiveKind;
+use nested_arrays_core::arrays::columnar_memory::{days_ms, i256, months_days_ns};
+use nested_arrays_core::arrays::flat::PrimitiveKind;
 
 /// A number, by its kind.
 #[derive(Clone, Copy, Debug)]

@@ -1,6 +1,6 @@
 //! Cells without what stands inside them.
 ghost use Rattle.std.specs.Prelude.{◌≡◌};
-ghost use Rattle.nested_arrays_generic.specs.arrays.columns.Cells.{is_null};
+ghost use Rattle.nested_arrays_core.specs.arrays.columns.Cells.{is_null};
 ghost use Rattle.nested_arrays_builder_parts.specs.CellParts.{IsPart};
 ghost use Rattle.nested_arrays_builder_parts.specs.Scalars.{scalar_slot};
 

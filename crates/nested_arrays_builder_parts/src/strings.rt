@@ -1,13 +1,13 @@
 //! Byte strings that grow, by offsets of one width (Arrow columnar format, "Variable-size Binary Layout").
 ghost use Rattle.std.specs.Prelude.{◌≡◌, ◌<◌, ◌≤◌, [], ◌∷◌, ◌++◌, length, take, IfErr};
 ghost use Rattle.std.specs.List.{concat};
-ghost use Rattle.nested_arrays_generic.specs.arrays.columnar_memory.Error.{IsOutOfMemory};
-ghost use Rattle.nested_arrays_generic.specs.arrays.columnar_memory.Results.{OrOutOfMemory};
-ghost use Rattle.nested_arrays_generic.specs.arrays.columnar_memory.Spans.{first_spans, last_of, shortened};
-ghost use Rattle.nested_arrays_generic.specs.arrays.flat_arrays.ByteStrings.{packed};
+ghost use Rattle.nested_arrays_core.specs.arrays.columnar_memory.Error.{IsOutOfMemory};
+ghost use Rattle.nested_arrays_core.specs.arrays.columnar_memory.Results.{OrOutOfMemory};
+ghost use Rattle.nested_arrays_core.specs.arrays.columnar_memory.Spans.{first_spans, last_of, shortened};
+ghost use Rattle.nested_arrays_core.specs.arrays.flat_arrays.ByteStrings.{packed};
 ghost use Rattle.nested_arrays_builder_parts.specs.Strings.{TakesString};
 
-use nested_arrays_generic::arrays::columnar_memory::{
+use nested_arrays_core::arrays::columnar_memory::{
     Buffer, Error, Index, Offset, Offsets, OffsetsBuffer, Result,
 };
 use std::alloc::Global;
@@ -24,7 +24,7 @@ pub struct Strings<O: Offset> {
 
 impl<O: Offset> Model for Strings<O> {
     ghost use Rattle.std.specs.Prelude.{ℕ, List};
-    ghost use Rattle.nested_arrays_generic.specs.arrays.flat_arrays.ByteStrings.{cut_by};
+    ghost use Rattle.nested_arrays_core.specs.arrays.flat_arrays.ByteStrings.{cut_by};
     ghost use Rattle.nested_arrays_builder_parts.specs.Strings.{ArePacked};
 
     ghost Value = { List (List ℕ) };

@@ -1,8 +1,8 @@
 //! Values of a type without children that grow, one for each slot: zeros or no bytes under a null.
 ghost use Rattle.std.specs.Prelude.{◌≡◌, ◌⊎◌, ◌*◌, ◌≤◌, [], ◌∷◌, ◌++◌, length, replicate, map, take, MatchResult, IfErr, true, false};
-ghost use Rattle.nested_arrays_generic.specs.arrays.columnar_memory.Error.{IsInvalidArgument, IsNotYetImplemented, IsOutOfMemory};
-ghost use Rattle.nested_arrays_generic.specs.arrays.columnar_memory.Layouts.{physical_type};
-ghost use Rattle.nested_arrays_generic.specs.arrays.columns.Slots as slot;
+ghost use Rattle.nested_arrays_core.specs.arrays.columnar_memory.Error.{IsInvalidArgument, IsNotYetImplemented, IsOutOfMemory};
+ghost use Rattle.nested_arrays_core.specs.arrays.columnar_memory.Layouts.{physical_type};
+ghost use Rattle.nested_arrays_core.specs.arrays.columns.Slots as slot;
 ghost use Rattle.nested_arrays_builder_parts.specs.Growing.{first_values, is_nothing, nothing, sized, strings, truths, whole, HoldsFirst, TakesValue, values_of};
 ghost use Rattle.nested_arrays_builder_parts.specs.KeptValues.{IsTyped};
 ghost use Rattle.nested_arrays_builder_parts.specs.Scalars.{scalar_slot};
@@ -12,11 +12,11 @@ use crate::marks::truncate_bits;
 use crate::numbers::NumberKind;
 use crate::parts::{CellPart, part_of};
 use crate::strings::Strings;
-use nested_arrays_generic::arrays::columnar_memory::{
+use nested_arrays_core::arrays::columnar_memory::{
     DataType, Error, MutableBitmap, Offset, PhysicalType, PrimitiveType, Result, days_ms, i256,
     months_days_ns,
 };
-use nested_arrays_generic::arrays::flat::read_bytes;
+use nested_arrays_core::arrays::flat::read_bytes;
 use nested_arrays_scalars::AnyScalar;
 use std::alloc::Global;
 use std::marker::Model;

@@ -19,45 +19,15 @@ pub use cells::{copy_of_cell, same_cell};
 pub use flat_arrays;
 pub use hashes::{hash_of, hash_of_bytes};
 pub use keys::{MutableKeys, add_use, learn, most_values_of, needed};
-pub use nested_arrays_builder_parts::columnar_memory;
+pub use nested_arrays_builder_parts::{arrays, columnar_memory};
 pub use places::Places;
 pub use uses::SlotUses;
 pub use values::CellMap;
 
-/// What `nested_arrays_builder_parts::arrays` has, as far as packages above use it.
-pub mod arrays {
-    pub use nested_arrays_builder_parts::arrays::{
-        AnyArray, DictionaryNode, FixedSizeListArray, ListNode, MapArray, Node, StructArray,
-        UnionArray, columnar_memory, flat_arrays,
-    };
-
-    /// Of `flat`.
-    pub mod flat {
-        pub use nested_arrays_builder_parts::arrays::flat::{
-            AnyPrimitive, PrimitiveKind, PrimitiveNode, mark_at,
-        };
-    }
-
-    /// Of `parts`.
-    pub mod parts {
-        pub use nested_arrays_builder_parts::arrays::parts::{
-            FlatArray, FlatNode, ListOffsets, holds_values, is_valid,
-        };
-    }
-}
-
 /// What `nested_arrays_builder_parts` has, as far as packages above use it.
 pub mod parts {
     pub use nested_arrays_builder_parts::{
-        AnyNumber, AnyScalar, CellPart, FlatBuilder, Marks, Strings, columnar_memory, is_null,
-        part_of,
+        AnyNumber, AnyScalar, CellPart, FlatBuilder, Marks, Strings, arrays, columnar_memory,
+        is_null, part_of,
     };
-
-    /// Of `arrays`.
-    pub mod arrays {
-        /// Of `flat`.
-        pub mod flat {
-            pub use nested_arrays_builder_parts::arrays::flat::read_bytes;
-        }
-    }
 }

@@ -14,35 +14,8 @@ mod room;
 
 pub use any::{AnyMutableArray, Head, MutableChildren, MutableNode};
 pub use fitting::is_cell_of;
-pub use nested_arrays_builder_values::{columnar_memory, flat_arrays};
+pub use nested_arrays_builder_values::{arrays, columnar_memory, flat_arrays, parts};
 pub use offsets::MutableListOffsets;
-
-/// What `nested_arrays_builder_values::arrays` has, as far as packages above use it.
-pub mod arrays {
-    pub use nested_arrays_builder_values::arrays::{
-        AnyArray, DictionaryNode, FixedSizeListArray, ListNode, MapArray, Node, StructArray,
-        UnionArray, columnar_memory, flat_arrays,
-    };
-
-    /// Of `flat`.
-    pub mod flat {
-        pub use nested_arrays_builder_values::arrays::flat::{
-            AnyPrimitive, PrimitiveKind, PrimitiveNode, mark_at,
-        };
-    }
-
-    /// Of `parts`.
-    pub mod parts {
-        pub use nested_arrays_builder_values::arrays::parts::{
-            FlatArray, FlatNode, ListOffsets, holds_values, is_valid,
-        };
-    }
-}
-
-/// What `nested_arrays_builder_values::parts` has, as far as packages above use it.
-pub mod parts {
-    pub use nested_arrays_builder_values::parts::{AnyNumber, AnyScalar, Marks, Strings};
-}
 
 /// What `nested_arrays_builder_values` has, as far as packages above use it.
 pub mod values {

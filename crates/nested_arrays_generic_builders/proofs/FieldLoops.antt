@@ -12,9 +12,9 @@ use Rattle.nested_arrays_nulls.specs.columnar_memory.declared.Error.{Error}
 use Rattle.nested_arrays_nulls.specs.columnar_memory.Error.{IsOutOfMemory, IsOverflow}
 use Rattle.nested_arrays_nulls.specs.columns.Slots.{null}
 use Rattle.nested_arrays_nulls.specs.columns.StoredColumns.{Column}
-use Rattle.nested_arrays_builder_cells.specs.parts.Open.{Open, column_of, first_slots, opened, IsPushed, IsRefusal}
-use Rattle.nested_arrays_builder_cells.proofs.columns_lemmas.Fitting.{null_fits}
-use Rattle.nested_arrays_builder_cells.proofs.taken_lemmas.builders_lemmas.CutParts.{length_over}
+use Rattle.nested_arrays_cells.specs.parts.Open.{Open, column_of, first_slots, opened, IsPushed, IsRefusal}
+use Rattle.nested_arrays_cells.proofs.columns_lemmas.Fitting.{null_fits}
+use Rattle.nested_arrays_cells.proofs.taken_lemmas.builders_lemmas.CutParts.{length_over}
 use Rattle.nested_arrays_generic_builders.specs.StructBuilders.{emptied, takes_null, with_null, TakesNull}
 use Rattle.nested_arrays_generic_builders.specs.TakenBack.{without_last, HaveOneMore}
 

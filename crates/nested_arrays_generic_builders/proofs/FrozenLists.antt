@@ -10,7 +10,7 @@ use Rattle.nested_arrays_nulls.specs.columns.SoundColumns.{is_sound}
 use Rattle.nested_arrays_nulls.specs.columns.StoredColumns.{Column, column_type, type_layer}
 use Rattle.nested_arrays_nulls.specs.arrays.Answers.{IsCheckedAs}
 use Rattle.nested_arrays_nulls.specs.generic.ListTypes.{items_field, list_layout}
-use Rattle.nested_arrays_builder_cells.specs.taken.OpenColumns.{IsFrozen}
+use Rattle.nested_arrays_cells.specs.taken.OpenColumns.{IsFrozen}
 use Rattle.nested_arrays_nulls.proofs.flat_lemmas.Layers.{layer_layout, type_lies}
 use Rattle.nested_arrays_generic_builders.proofs.ListsStored.{layered, list_layer, there}
 

@@ -11,4 +11,4 @@ pub mod StructMakes
 pub mod StructRows
 pub mod StructsStored
 pub use Rattle.nested_arrays_nulls.proofs as nulls_lemmas
-pub use Rattle.nested_arrays_builder_cells.proofs as cells_lemmas
+pub use Rattle.nested_arrays_cells.proofs as cells_lemmas

@@ -11,12 +11,12 @@ use Rattle.nested_arrays_nulls.specs.columnar_memory.Spans.{Spans, extended, fir
 use Rattle.nested_arrays_nulls.specs.columns.Slots.{Slot, null, items, in_slots, window}
 use Rattle.nested_arrays_nulls.specs.columns.SoundColumns.{mask_fits}
 use Rattle.nested_arrays_nulls.specs.columns.StoredColumns.{Column, is_valid_at, lists, slot_at, slots}
-use Rattle.nested_arrays_builder_cells.specs.parts.Marks.{marks, mask_of_marks}
-use Rattle.nested_arrays_builder_cells.proofs.columns_lemmas.Windows.{window_same}
+use Rattle.nested_arrays_cells.specs.parts.Marks.{marks, mask_of_marks}
+use Rattle.nested_arrays_cells.proofs.columns_lemmas.Windows.{window_same}
 use Rattle.nested_arrays_nulls.proofs.arrays_lemmas.flat_lemmas.Offsets.{get_or-offsets_of, spans_count}
 use Rattle.nested_arrays_nulls.proofs.arrays_lemmas.columnar_memory_lemmas.buffer_lemmas.Runs.{offset_at-le-last_of}
 use Rattle.nested_arrays_nulls.proofs.arrays_lemmas.columnar_memory_lemmas.buffer_lemmas.Runs.{offset_at-more}
-use Rattle.nested_arrays_builder_cells.proofs.parts_lemmas.MarkLists.{marks_back}
+use Rattle.nested_arrays_cells.proofs.parts_lemmas.MarkLists.{marks_back}
 
 -- ---- marks
 

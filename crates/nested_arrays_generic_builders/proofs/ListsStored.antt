@@ -25,21 +25,21 @@ use Rattle.nested_arrays_nulls.specs.columns.StoredColumns.{Column, column_len, 
 use Rattle.nested_arrays_nulls.specs.flat.ColumnMasks.{column_mask}
 use Rattle.nested_arrays_nulls.specs.generic.ListTypes.{has_list_item_type, items_field, items_in, list_type}
 use Rattle.nested_arrays_nulls.specs.arrays.ItemTypes.{item_field}
-use Rattle.nested_arrays_builder_cells.specs.parts.Marks.{marks, mask_of_marks}
-use Rattle.nested_arrays_builder_cells.specs.taken.builders.columns.OpenParts.{is_list, item_of, item_spans, marks_of, most_items}
-use Rattle.nested_arrays_builder_cells.proofs.columns_lemmas.Conditions.{parts_of_4}
-use Rattle.nested_arrays_builder_cells.proofs.columns_lemmas.FreshLengths.{Layer}
-use Rattle.nested_arrays_builder_cells.proofs.columns_lemmas.TypeLayers.{layer_itself}
-use Rattle.nested_arrays_builder_cells.proofs.columns_lemmas.Below.{buildable_large_list, buildable_list, items_few, items_fit_below}
-use Rattle.nested_arrays_builder_cells.proofs.columns_lemmas.LayerParts.{fresh_items}
-use Rattle.nested_arrays_builder_cells.proofs.columns_lemmas.Laws.{large_lists_fit_by_items, lists_fit_by_items, one_more_list, one_more_large_list}
-use Rattle.nested_arrays_builder_cells.proofs.columns_lemmas.Masks.{mask_by_count, mask_is}
-use Rattle.nested_arrays_builder_cells.proofs.columns_lemmas.Pieces.{item_spans_are}
+use Rattle.nested_arrays_cells.specs.parts.Marks.{marks, mask_of_marks}
+use Rattle.nested_arrays_cells.specs.taken.builders.columns.OpenParts.{is_list, item_of, item_spans, marks_of, most_items}
+use Rattle.nested_arrays_cells.proofs.columns_lemmas.Conditions.{parts_of_4}
+use Rattle.nested_arrays_cells.proofs.columns_lemmas.FreshLengths.{Layer}
+use Rattle.nested_arrays_cells.proofs.columns_lemmas.TypeLayers.{layer_itself}
+use Rattle.nested_arrays_cells.proofs.columns_lemmas.Below.{buildable_large_list, buildable_list, items_few, items_fit_below}
+use Rattle.nested_arrays_cells.proofs.columns_lemmas.LayerParts.{fresh_items}
+use Rattle.nested_arrays_cells.proofs.columns_lemmas.Laws.{large_lists_fit_by_items, lists_fit_by_items, one_more_list, one_more_large_list}
+use Rattle.nested_arrays_cells.proofs.columns_lemmas.Masks.{mask_by_count, mask_is}
+use Rattle.nested_arrays_cells.proofs.columns_lemmas.Pieces.{item_spans_are}
 use Rattle.nested_arrays_nulls.proofs.arrays_lemmas.ListParts.{lists_parts, lists_whole}
 use Rattle.nested_arrays_nulls.proofs.arrays_lemmas.parts_lemmas.OffsetLists.{offsets_end_within}
 use Rattle.nested_arrays_nulls.proofs.arrays_lemmas.columns_lemmas.SoundParts.{sound_items}
 use Rattle.nested_arrays_nulls.proofs.arrays_lemmas.columnar_memory_lemmas.buffer_lemmas.Runs.{spans_of-offsets_of}
-use Rattle.nested_arrays_builder_cells.proofs.parts_lemmas.MarkLists.{marks_back}
+use Rattle.nested_arrays_cells.proofs.parts_lemmas.MarkLists.{marks_back}
 use Rattle.nested_arrays_generic_builders.specs.ListBuilders.{lists_of}
 
 -- ---- types

@@ -23,18 +23,18 @@ use Rattle.nested_arrays_nulls.specs.columns.Slots.{Slot, null, window}
 use Rattle.nested_arrays_nulls.specs.columns.SoundColumns.{has_item_type, is_sound}
 use Rattle.nested_arrays_nulls.specs.columns.StoredColumns.{Column, column_len, column_type, lists, slot_at, slots, type_layer}
 use Rattle.nested_arrays_nulls.specs.generic.ListTypes.{items_field}
-use Rattle.nested_arrays_builder_cells.specs.parts.Marks.{mask_of_marks}
-use Rattle.nested_arrays_builder_cells.specs.parts.Open.{opened}
-use Rattle.nested_arrays_builder_cells.specs.taken.OpenColumns.{AddsNull, Becomes, IsEmptied, IsFresh, IsFrozen, KeepsFirst, TakesColumn, slots_and}
-use Rattle.nested_arrays_builder_cells.specs.taken.builders.columns.OpenParts.{item_spans, marks_of}
-use Rattle.nested_arrays_builder_cells.proofs.taken_lemmas.OpenColumns.{open_fresh, open_slots, open_sound, open_type}
-use Rattle.nested_arrays_builder_cells.proofs.columns_lemmas.ColumnSizes.{slots_lengths}
-use Rattle.nested_arrays_builder_cells.proofs.columns_lemmas.FreshPlaces.{at_window}
-use Rattle.nested_arrays_builder_cells.proofs.columns_lemmas.Below.{buildable_list, buildable_large_list, items_fit_below}
-use Rattle.nested_arrays_builder_cells.proofs.columns_lemmas.FirstOnes.{items_cut}
-use Rattle.nested_arrays_builder_cells.proofs.columns_lemmas.Limits.{first_ones_fit}
-use Rattle.nested_arrays_builder_cells.proofs.columns_lemmas.Masks.{marks_cut, marks_one_more}
-use Rattle.nested_arrays_builder_cells.proofs.columns_lemmas.Pieces.{item_spans_cut, item_spans_one_more, joined_one_more}
+use Rattle.nested_arrays_cells.specs.parts.Marks.{mask_of_marks}
+use Rattle.nested_arrays_cells.specs.parts.Open.{opened}
+use Rattle.nested_arrays_cells.specs.taken.OpenColumns.{AddsNull, Becomes, IsEmptied, IsFresh, IsFrozen, KeepsFirst, TakesColumn, slots_and}
+use Rattle.nested_arrays_cells.specs.taken.builders.columns.OpenParts.{item_spans, marks_of}
+use Rattle.nested_arrays_cells.proofs.taken_lemmas.OpenColumns.{open_fresh, open_slots, open_sound, open_type}
+use Rattle.nested_arrays_cells.proofs.columns_lemmas.ColumnSizes.{slots_lengths}
+use Rattle.nested_arrays_cells.proofs.columns_lemmas.FreshPlaces.{at_window}
+use Rattle.nested_arrays_cells.proofs.columns_lemmas.Below.{buildable_list, buildable_large_list, items_fit_below}
+use Rattle.nested_arrays_cells.proofs.columns_lemmas.FirstOnes.{items_cut}
+use Rattle.nested_arrays_cells.proofs.columns_lemmas.Limits.{first_ones_fit}
+use Rattle.nested_arrays_cells.proofs.columns_lemmas.Masks.{marks_cut, marks_one_more}
+use Rattle.nested_arrays_cells.proofs.columns_lemmas.Pieces.{item_spans_cut, item_spans_one_more, joined_one_more}
 use Rattle.nested_arrays_nulls.proofs.generic_lemmas.ListParts.{list_whole}
 use Rattle.nested_arrays_nulls.proofs.arrays_lemmas.flat_lemmas.Offsets.{spans_count}
 use Rattle.nested_arrays_nulls.proofs.arrays_lemmas.columnar_memory_lemmas.buffer_lemmas.Runs.{offset_at-le-last_of}

@@ -16,12 +16,12 @@ use Rattle.nested_arrays_nulls.specs.columns.OpenBatch.{fits}
 use Rattle.nested_arrays_nulls.specs.columns.Slots.{Slot, null, window}
 use Rattle.nested_arrays_nulls.specs.columns.SoundColumns.{are_sound, has_field_types, have_len, is_sound, mask_fits}
 use Rattle.nested_arrays_nulls.specs.columns.StoredColumns.{Column, Columns, column_type, slots, slots_at, type_layer}
-use Rattle.nested_arrays_builder_cells.specs.parts.Marks.{mask_of_marks}
-use Rattle.nested_arrays_builder_cells.specs.parts.Open.{Open, first_slots}
-use Rattle.nested_arrays_builder_cells.specs.taken.OpenColumns.{AddsNull, Becomes, IsEmptied, IsFresh, KeepsFirst, TakesColumn, slots_and}
-use Rattle.nested_arrays_builder_cells.proofs.columns_lemmas.ColumnSizes.{slots_lengths}
-use Rattle.nested_arrays_builder_cells.proofs.columns_lemmas.Conditions.{parts_of_4}
-use Rattle.nested_arrays_builder_cells.proofs.columns_lemmas.Limits.{first_ones_fit}
+use Rattle.nested_arrays_cells.specs.parts.Marks.{mask_of_marks}
+use Rattle.nested_arrays_cells.specs.parts.Open.{Open, first_slots}
+use Rattle.nested_arrays_cells.specs.taken.OpenColumns.{AddsNull, Becomes, IsEmptied, IsFresh, KeepsFirst, TakesColumn, slots_and}
+use Rattle.nested_arrays_cells.proofs.columns_lemmas.ColumnSizes.{slots_lengths}
+use Rattle.nested_arrays_cells.proofs.columns_lemmas.Conditions.{parts_of_4}
+use Rattle.nested_arrays_cells.proofs.columns_lemmas.Limits.{first_ones_fit}
 use Rattle.nested_arrays_generic_builders.specs.StructBuilders.{AddsMark, AddsNullRecord, AddsRow, ClosesRow, HasRow, StructParts}
 use Rattle.nested_arrays_generic_builders.specs.StructBuilders.{emptied, field_columns, first_records, is_stored, next_record, no_records}
 use Rattle.nested_arrays_generic_builders.specs.StructBuilders.{struct_parts, structs_column}

@@ -13,12 +13,12 @@ use Rattle.nested_arrays_nulls.specs.columns.FreshLaws.{is_buildable}
 use Rattle.nested_arrays_nulls.specs.columns.Kinds.{most_slots}
 use Rattle.nested_arrays_nulls.specs.columns.SoundColumns.{are_sound, has_field_types, have_len, is_sound, mask_fits}
 use Rattle.nested_arrays_nulls.specs.columns.StoredColumns.{Column, Columns, column_len, in_columns, records, type_layer}
-use Rattle.nested_arrays_builder_cells.specs.parts.Marks.{TakesMark}
-use Rattle.nested_arrays_builder_cells.specs.parts.Open.{IsWithin, Open, column_of}
-use Rattle.nested_arrays_builder_cells.proofs.taken_lemmas.OpenColumns.{open_long}
-use Rattle.nested_arrays_builder_cells.proofs.columns_lemmas.Conditions.{parts_of_4}
-use Rattle.nested_arrays_builder_cells.proofs.columns_lemmas.FreshLengths.{Layer}
-use Rattle.nested_arrays_builder_cells.proofs.columns_lemmas.Limits.{fits_length}
+use Rattle.nested_arrays_cells.specs.parts.Marks.{TakesMark}
+use Rattle.nested_arrays_cells.specs.parts.Open.{IsWithin, Open, column_of}
+use Rattle.nested_arrays_cells.proofs.taken_lemmas.OpenColumns.{open_long}
+use Rattle.nested_arrays_cells.proofs.columns_lemmas.Conditions.{parts_of_4}
+use Rattle.nested_arrays_cells.proofs.columns_lemmas.FreshLengths.{Layer}
+use Rattle.nested_arrays_cells.proofs.columns_lemmas.Limits.{fits_length}
 use Rattle.nested_arrays_generic_builders.specs.StructBuilders.{AddsMark, AddsNullRecord, AddsNulls, field_columns, has_fields, is_stored}
 use Rattle.nested_arrays_generic_builders.specs.StructBuilders.{struct_parts, structs_column}
 use Rattle.nested_arrays_generic_builders.proofs.ListsStored.{marks_fit}

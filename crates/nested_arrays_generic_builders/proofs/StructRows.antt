@@ -15,13 +15,13 @@ use Rattle.nested_arrays_nulls.specs.columns.Slots.{Slot, null, fields, slot_the
 use Rattle.nested_arrays_nulls.specs.columns.SoundColumns.{are_sound, has_field_types, have_len, have_types, is_sound, mask_fits}
 use Rattle.nested_arrays_nulls.specs.columns.StoredColumns.{Columns, column_len, column_type, slot_at, slots, slots_at}
 use Rattle.nested_arrays_nulls.specs.columns.StoredColumns.{type_layer}
-use Rattle.nested_arrays_builder_cells.specs.parts.Marks.{mask_of_marks}
-use Rattle.nested_arrays_builder_cells.specs.parts.Open.{Open, column_of, IsWithin}
-use Rattle.nested_arrays_builder_cells.proofs.taken_lemmas.OpenColumns.{open_long, open_slots, open_sound, open_type}
-use Rattle.nested_arrays_builder_cells.proofs.columns_lemmas.Conditions.{parts_of_4}
-use Rattle.nested_arrays_builder_cells.proofs.columns_lemmas.FreshLengths.{Layer}
-use Rattle.nested_arrays_builder_cells.proofs.columns_lemmas.FreshPlaces.{at_window}
-use Rattle.nested_arrays_builder_cells.proofs.columns_lemmas.Windows.{window_same}
+use Rattle.nested_arrays_cells.specs.parts.Marks.{mask_of_marks}
+use Rattle.nested_arrays_cells.specs.parts.Open.{Open, column_of, IsWithin}
+use Rattle.nested_arrays_cells.proofs.taken_lemmas.OpenColumns.{open_long, open_slots, open_sound, open_type}
+use Rattle.nested_arrays_cells.proofs.columns_lemmas.Conditions.{parts_of_4}
+use Rattle.nested_arrays_cells.proofs.columns_lemmas.FreshLengths.{Layer}
+use Rattle.nested_arrays_cells.proofs.columns_lemmas.FreshPlaces.{at_window}
+use Rattle.nested_arrays_cells.proofs.columns_lemmas.Windows.{window_same}
 use Rattle.nested_arrays_generic_builders.specs.StructBuilders.{field_columns, is_stored, struct_parts, structs_column}
 use Rattle.nested_arrays_generic_builders.proofs.ListSlots.{valid_mark, window_first, window_more}
 use Rattle.nested_arrays_generic_builders.proofs.ListsStored.{marks_fit}

@@ -22,26 +22,26 @@ use Rattle.nested_arrays_nulls.specs.columns.SoundColumns.{has_field_types, have
 use Rattle.nested_arrays_nulls.specs.columns.StoredColumns.{Column, Columns, column_then, column_type, in_columns, no_column}
 use Rattle.nested_arrays_nulls.specs.columns.StoredColumns.{records, slots, type_layer}
 use Rattle.nested_arrays_nulls.specs.flat.ColumnMasks.{column_mask}
-use Rattle.nested_arrays_builder_cells.specs.builders.KeptColumns.{column_kept}
-use Rattle.nested_arrays_builder_cells.specs.builders.Parts.{HoldsParts, IsKept, has_room, is_fitting, of_fields, opened_each}
-use Rattle.nested_arrays_builder_cells.specs.builders.Parts.{with_each}
-use Rattle.nested_arrays_builder_cells.specs.parts.Marks.{marks, mask_of_marks}
-use Rattle.nested_arrays_builder_cells.specs.parts.Open.{Open, column_of, first_slots, opened}
-use Rattle.nested_arrays_builder_cells.specs.taken.OpenColumns.{IsFresh, slots_and}
-use Rattle.nested_arrays_builder_cells.specs.taken.builders.columns.OpenParts.{marks_of, slots_of_fields}
-use Rattle.nested_arrays_builder_cells.proofs.taken_lemmas.KeptArrays.{record_is}
-use Rattle.nested_arrays_builder_cells.proofs.taken_lemmas.OpenColumns.{open_fresh, open_slots, open_sound, open_type}
-use Rattle.nested_arrays_builder_cells.proofs.taken_lemmas.builders_lemmas.CutParts.{kept_first}
-use Rattle.nested_arrays_builder_cells.proofs.taken_lemmas.builders_lemmas.MoreFits.{fits_more}
-use Rattle.nested_arrays_builder_cells.proofs.taken_lemmas.builders_lemmas.MoreParts.{kept_more}
-use Rattle.nested_arrays_builder_cells.proofs.columns_lemmas.ColumnSizes.{slots_lengths}
-use Rattle.nested_arrays_builder_cells.proofs.columns_lemmas.FreshSlots.{fresh_slots}
-use Rattle.nested_arrays_builder_cells.proofs.columns_lemmas.FreshTypes.{fresh_types}
-use Rattle.nested_arrays_builder_cells.proofs.columns_lemmas.Below.{buildable_struct, fields_fit_below}
-use Rattle.nested_arrays_builder_cells.proofs.columns_lemmas.Fields.{fields_count}
-use Rattle.nested_arrays_builder_cells.proofs.columns_lemmas.LayerParts.{fresh_struct}
-use Rattle.nested_arrays_builder_cells.proofs.columns_lemmas.Masks.{mask_by_count, mask_is}
-use Rattle.nested_arrays_builder_cells.proofs.parts_lemmas.MarkLists.{marks_back}
+use Rattle.nested_arrays_cells.specs.builders.KeptColumns.{column_kept}
+use Rattle.nested_arrays_cells.specs.builders.Parts.{HoldsParts, IsKept, has_room, is_fitting, of_fields, opened_each}
+use Rattle.nested_arrays_cells.specs.builders.Parts.{with_each}
+use Rattle.nested_arrays_cells.specs.parts.Marks.{marks, mask_of_marks}
+use Rattle.nested_arrays_cells.specs.parts.Open.{Open, column_of, first_slots, opened}
+use Rattle.nested_arrays_cells.specs.taken.OpenColumns.{IsFresh, slots_and}
+use Rattle.nested_arrays_cells.specs.taken.builders.columns.OpenParts.{marks_of, slots_of_fields}
+use Rattle.nested_arrays_cells.proofs.taken_lemmas.KeptArrays.{record_is}
+use Rattle.nested_arrays_cells.proofs.taken_lemmas.OpenColumns.{open_fresh, open_slots, open_sound, open_type}
+use Rattle.nested_arrays_cells.proofs.taken_lemmas.builders_lemmas.CutParts.{kept_first}
+use Rattle.nested_arrays_cells.proofs.taken_lemmas.builders_lemmas.MoreFits.{fits_more}
+use Rattle.nested_arrays_cells.proofs.taken_lemmas.builders_lemmas.MoreParts.{kept_more}
+use Rattle.nested_arrays_cells.proofs.columns_lemmas.ColumnSizes.{slots_lengths}
+use Rattle.nested_arrays_cells.proofs.columns_lemmas.FreshSlots.{fresh_slots}
+use Rattle.nested_arrays_cells.proofs.columns_lemmas.FreshTypes.{fresh_types}
+use Rattle.nested_arrays_cells.proofs.columns_lemmas.Below.{buildable_struct, fields_fit_below}
+use Rattle.nested_arrays_cells.proofs.columns_lemmas.Fields.{fields_count}
+use Rattle.nested_arrays_cells.proofs.columns_lemmas.LayerParts.{fresh_struct}
+use Rattle.nested_arrays_cells.proofs.columns_lemmas.Masks.{mask_by_count, mask_is}
+use Rattle.nested_arrays_cells.proofs.parts_lemmas.MarkLists.{marks_back}
 use Rattle.nested_arrays_generic_builders.specs.StructBuilders.{emptied, field_columns, first_records, is_stored, no_records, struct_parts}
 use Rattle.nested_arrays_generic_builders.specs.StructBuilders.{structs_column}
 use Rattle.nested_arrays_generic_builders.specs.StructBuilders.{takes_null, with_null, with_nulls}

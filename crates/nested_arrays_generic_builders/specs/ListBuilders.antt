@@ -15,8 +15,8 @@ use Rattle.nested_arrays_nulls.specs.columns.Slots.{Slot, in_slots, items}
 use Rattle.nested_arrays_nulls.specs.columns.SoundColumns.{is_sound}
 use Rattle.nested_arrays_nulls.specs.columns.StoredColumns.{Column, column_len, column_type, lists, slots, type_layer}
 use Rattle.nested_arrays_nulls.specs.generic.ListTypes.{items_field}
-use Rattle.nested_arrays_builder_cells.specs.parts.Marks.{mask_of_marks}
-use Rattle.nested_arrays_builder_cells.specs.taken.OpenColumns.{IsEmptied, IsFrozen, slots_and}
+use Rattle.nested_arrays_cells.specs.parts.Marks.{mask_of_marks}
+use Rattle.nested_arrays_cells.specs.taken.OpenColumns.{IsEmptied, IsFrozen, slots_and}
 
 -- The data type, a mark for each list, the span of each among the items, and the builder of these.
 pub record ListParts (M : Type 0) : Type 0 where

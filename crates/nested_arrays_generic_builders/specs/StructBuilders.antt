@@ -20,9 +20,9 @@ use Rattle.nested_arrays_nulls.specs.columns.SoundColumns.{is_sound}
 use Rattle.nested_arrays_nulls.specs.columns.StoredColumns.{Column, Columns, column_len, column_type, in_columns, records, slots}
 use Rattle.nested_arrays_nulls.specs.columns.StoredColumns.{slots_at}
 use Rattle.nested_arrays_nulls.specs.columns.StoredColumns.{type_layer}
-use Rattle.nested_arrays_builder_cells.specs.parts.Marks.{marks, mask_of_marks}
-use Rattle.nested_arrays_builder_cells.specs.parts.Open.{Open, column_of, first_slots, opened, open_code, with_slot}
-use Rattle.nested_arrays_builder_cells.specs.taken.OpenColumns.{slots_and}
+use Rattle.nested_arrays_cells.specs.parts.Marks.{marks, mask_of_marks}
+use Rattle.nested_arrays_cells.specs.parts.Open.{Open, column_of, first_slots, opened, open_code, with_slot}
+use Rattle.nested_arrays_cells.specs.taken.OpenColumns.{slots_and}
 
 -- The data type, a mark for each record, and the open column of each field.
 pub record StructParts : Type 0 where

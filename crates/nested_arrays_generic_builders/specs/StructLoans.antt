@@ -1,8 +1,8 @@
 -- What a builder of structs holds once the loan of the builder of a field ends.
 use Rattle.std.specs.Prelude.{ℕ}
 use Rattle.std.specs.Borrow.{Lends, MutBor, Fml}
-use Rattle.nested_arrays_builder_cells.specs.builders.contracts.any.AnyMutableArray as builder
-use Rattle.nested_arrays_builder_cells.specs.parts.Open.{Open}
+use Rattle.nested_arrays_cells.specs.builders.contracts.any.AnyMutableArray as builder
+use Rattle.nested_arrays_cells.specs.parts.Open.{Open}
 use Rattle.nested_arrays_generic_builders.specs.StructBuilders.{StructParts, with_field}
 use Rattle.nested_arrays_generic_builders.specs.contracts.structs.MutableStructArray.{the_row}
 

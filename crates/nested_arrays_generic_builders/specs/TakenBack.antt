@@ -1,6 +1,6 @@
 -- Slots that are taken back off the first of several builders.
 use Rattle.std.specs.Prelude.{ℕ, ◌<◌, ◌≤◌, ◌-◌, List, length, take, All}
-use Rattle.nested_arrays_builder_cells.specs.parts.Open.{Open, first_slots}
+use Rattle.nested_arrays_cells.specs.parts.Open.{Open, first_slots}
 
 -- an open column without its last slot
 abbrev pub without_last : Open → Open

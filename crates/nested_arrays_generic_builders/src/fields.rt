@@ -8,13 +8,13 @@ ghost use Rattle.nested_arrays_nulls.specs.columnar_memory.Results.{OrOutOfMemor
 ghost use Rattle.nested_arrays_nulls.specs.columns.Kinds.{most_slots};
 ghost use Rattle.nested_arrays_nulls.specs.columns.SoundColumns.{has_field_types, have_len, have_types};
 ghost use Rattle.nested_arrays_nulls.specs.columns.StoredColumns.{type_layer};
-ghost use Rattle.nested_arrays_builder_cells.specs.parts.Open.{column_of, first_slots};
+ghost use Rattle.nested_arrays_cells.specs.parts.Open.{column_of, first_slots};
 ghost use Rattle.nested_arrays_generic_builders.specs.FieldLoans.{LendsField};
 ghost use Rattle.nested_arrays_generic_builders.specs.StructBuilders.{emptied, field_columns, is_stored, TakeNulls, TakesNull};
 ghost use Rattle.nested_arrays_generic_builders.specs.TakenBack.{without_last, HaveOneMore};
 
-use nested_arrays_builder_cells::builders::AnyMutableArray;
-use nested_arrays_builder_cells::taken::MutableArray;
+use nested_arrays_cells::builders::AnyMutableArray;
+use nested_arrays_cells::taken::MutableArray;
 use nested_arrays_nulls::arrays::AnyArray;
 use nested_arrays_nulls::columnar_memory::{DataType, Field, Result};
 use std::alloc::Global;
@@ -29,7 +29,7 @@ pub struct MutableFields {
 impl Model for MutableFields {
     ghost use Rattle.std.specs.Prelude.{List};
     ghost use Rattle.std.specs.Coded.{coded_list};
-    ghost use Rattle.nested_arrays_builder_cells.specs.parts.Open.{Open, open_code};
+    ghost use Rattle.nested_arrays_cells.specs.parts.Open.{Open, open_code};
 
     ghost Value = { List Open };
 

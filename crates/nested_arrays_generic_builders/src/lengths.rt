@@ -3,8 +3,8 @@ ghost use Rattle.nested_arrays_nulls.specs.columns.StoredColumns.{column_len};
 ghost use Rattle.nested_arrays_generic_builders.specs.ListBuilders.{AddsLength, AddsLengths, ClosesLists};
 
 use crate::lists::{MutableListArray, push_list};
-use nested_arrays_builder_cells::parts::Marks;
-use nested_arrays_builder_cells::taken::MutableArray;
+use nested_arrays_cells::parts::Marks;
+use nested_arrays_cells::taken::MutableArray;
 use nested_arrays_nulls::columnar_memory::{Error, Offset, Offsets, Result};
 
 impl<O: Offset, M: MutableArray> MutableListArray<O, M> {

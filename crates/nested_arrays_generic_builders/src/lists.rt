@@ -8,15 +8,15 @@ ghost use Rattle.nested_arrays_nulls.specs.columns.Kinds.{most_slots};
 ghost use Rattle.nested_arrays_nulls.specs.columns.SoundColumns.{mask_fits};
 ghost use Rattle.nested_arrays_nulls.specs.columns.StoredColumns.{column_len, column_type, lists, type_layer};
 ghost use Rattle.nested_arrays_nulls.specs.generic.ListTypes.{items_field, list_type};
-ghost use Rattle.nested_arrays_builder_cells.specs.parts.Marks.{marks, mask_of_marks};
-ghost use Rattle.nested_arrays_builder_cells.specs.taken.OpenColumns.{AddsNull, IsFrozen, KeepsFirst, TakesColumn};
+ghost use Rattle.nested_arrays_cells.specs.parts.Marks.{marks, mask_of_marks};
+ghost use Rattle.nested_arrays_cells.specs.taken.OpenColumns.{AddsNull, IsFrozen, KeepsFirst, TakesColumn};
 ghost use Rattle.nested_arrays_generic_builders.specs.ListBuilders.{list_parts, lists_column, lists_of, no_lists, with_values};
 ghost use Rattle.nested_arrays_generic_builders.specs.ListBuilders.{AreLists, JoinsLists, JoinsMarks, JoinsSpans};
 ghost use Rattle.nested_arrays_generic_builders.specs.ListBuilders.{AddsNullList, AddsSpan, ClosesColumn, ClosesList, FreezesParts, KeepsParts, LeavesNone};
 
 use crate::lending::MutValues;
-use nested_arrays_builder_cells::parts::Marks;
-use nested_arrays_builder_cells::taken::MutableArray;
+use nested_arrays_cells::parts::Marks;
+use nested_arrays_cells::taken::MutableArray;
 use nested_arrays_nulls::arrays::AnyArray;
 use nested_arrays_nulls::columnar_memory::{
     Boxed, DataType, Error, Field, MutableBitmap, Offset, Offsets, Result, Text,

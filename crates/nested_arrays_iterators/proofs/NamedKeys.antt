@@ -4,13 +4,13 @@ use Rattle.std.specs.Prelude.{◌↔◌, ℤ, pos, negsuc, ◌≤ℤ◌, IsTrue,
 use Rattle.std.specs.List.{All}
 use Rattle.std.proofs.lemmas.Bool.{false≢true}
 use Rattle.std.proofs.lemmas.List.{length-map}
-use Rattle.nested_arrays_generic.proofs.columnar_memory_lemmas.buffer_lemmas.Runs.{nonnegative}
-use Rattle.nested_arrays_generic.specs.columnar_memory.declared.DataType.{DataType}
-use Rattle.nested_arrays_generic.specs.columnar_memory.declared.Error.{Error}
-use Rattle.nested_arrays_generic.specs.flat_arrays.Flat.{Flat}
-use Rattle.nested_arrays_generic.specs.flat_arrays.Results.{AreChecked, IsPlaceBelow}
-use Rattle.nested_arrays_generic.specs.columns.StoredColumns.{Column, column_len, place_of}
-use Rattle.nested_arrays_generic.specs.Dictionaries.{keyed_by}
+use Rattle.nested_arrays_core.proofs.columnar_memory_lemmas.buffer_lemmas.Runs.{nonnegative}
+use Rattle.nested_arrays_core.specs.columnar_memory.declared.DataType.{DataType}
+use Rattle.nested_arrays_core.specs.columnar_memory.declared.Error.{Error}
+use Rattle.nested_arrays_core.specs.flat_arrays.Flat.{Flat}
+use Rattle.nested_arrays_core.specs.flat_arrays.Results.{AreChecked, IsPlaceBelow}
+use Rattle.nested_arrays_core.specs.columns.StoredColumns.{Column, column_len, place_of}
+use Rattle.nested_arrays_core.specs.Dictionaries.{keyed_by}
 use Rattle.nested_arrays_iterators.specs.NamedValues.{AreNamed}
 
 -- a number below a length, as a key

@@ -2,14 +2,14 @@
 use Rattle.std.proofs.Common.{◌≡◌, ◌∙◌, ℕ, ◌<◌, List, length, refl, sym, ap, subst, arith, true, false}
 use Rattle.std.specs.Prelude.{ℤ, pos, Bool, ◌&&◌, ◌||◌, not, Option, Some, None, MatchOption, if◌then◌else◌, int_le, nat_lt, slice_index_or}
 use Rattle.std.proofs.lemmas.Bool.{and_parts, ltb-true}
-use Rattle.nested_arrays_generic.specs.columnar_memory.declared.DataType.{DataType}
-use Rattle.nested_arrays_generic.proofs.columns_lemmas.Conditions.{holds_at, parts_of_4}
-use Rattle.nested_arrays_generic.specs.columns.SoundColumns.{has_value_at, has_value_type, holds_below, is_sound, mask_fits}
-use Rattle.nested_arrays_generic.specs.columns.Slots.{null}
-use Rattle.nested_arrays_generic.specs.columns.StoredColumns.{Column, dictionary, column_len, column_type, is_valid_at, place_of, slot_at, type_layer}
-use Rattle.nested_arrays_generic.proofs.parts_lemmas.SameForms.{valid_slot, null_slot}
-use Rattle.nested_arrays_generic.specs.flat.ColumnMasks.{column_mask}
-use Rattle.nested_arrays_generic.specs.Dictionaries.{key_at, raw_key}
+use Rattle.nested_arrays_core.specs.columnar_memory.declared.DataType.{DataType}
+use Rattle.nested_arrays_core.proofs.columns_lemmas.Conditions.{holds_at, parts_of_4}
+use Rattle.nested_arrays_core.specs.columns.SoundColumns.{has_value_at, has_value_type, holds_below, is_sound, mask_fits}
+use Rattle.nested_arrays_core.specs.columns.Slots.{null}
+use Rattle.nested_arrays_core.specs.columns.StoredColumns.{Column, dictionary, column_len, column_type, is_valid_at, place_of, slot_at, type_layer}
+use Rattle.nested_arrays_core.proofs.parts_lemmas.SameForms.{valid_slot, null_slot}
+use Rattle.nested_arrays_core.specs.flat.ColumnMasks.{column_mask}
+use Rattle.nested_arrays_core.specs.Dictionaries.{key_at, raw_key}
 use Rattle.nested_arrays_iterators.specs.NamedValues.{IsNamed}
 use Rattle.nested_arrays_iterators.specs.ReadValues.{IsRead, value_at}
 

@@ -4,18 +4,18 @@ use Rattle.std.proofs.Common.{true}
 use Rattle.std.specs.Prelude.{Bool, Option, Some, None, ◌==◌, slice_get}
 use Rattle.std.specs.List.{All}
 use Rattle.std.proofs.lemmas.Bool.{and_parts, eqb-true}
-use Rattle.nested_arrays_generic.proofs.columnar_memory_lemmas.bitmap_lemmas.Lists.{slice_get-window, slice_get-window_past}
-use Rattle.nested_arrays_generic.specs.columnar_memory.Spans.{Spans, offsets_of, offset_at, last_of}
-use Rattle.nested_arrays_generic.specs.columnar_memory.declared.DataType.{DataType}
-use Rattle.nested_arrays_generic.proofs.columns_lemmas.Conditions.{parts_of_4}
-use Rattle.nested_arrays_generic.proofs.columns_lemmas.CutLengths.{column_len-cut}
-use Rattle.nested_arrays_generic.proofs.columns_lemmas.Cuts.{slot_at-cut}
-use Rattle.nested_arrays_generic.proofs.columns_lemmas.Windows.{window_same}
-use Rattle.nested_arrays_generic.specs.columns.Slots.{Slot, items, fields, slot_then, in_slots, window}
-use Rattle.nested_arrays_generic.specs.columns.SoundColumns.{are_sound, has_field_types, have_len, is_sound, mask_fits}
-use Rattle.nested_arrays_generic.specs.columns.StoredColumns.{Column, lists, fixed_lists, records, column_len, cut, in_columns, slot_at, slots, slots_at}
-use Rattle.nested_arrays_generic.specs.columns.StoredColumns.{type_layer}
-use Rattle.nested_arrays_generic.proofs.flat_lemmas.Offsets.{get_or-offsets_of}
+use Rattle.nested_arrays_core.proofs.columnar_memory_lemmas.bitmap_lemmas.Lists.{slice_get-window, slice_get-window_past}
+use Rattle.nested_arrays_core.specs.columnar_memory.Spans.{Spans, offsets_of, offset_at, last_of}
+use Rattle.nested_arrays_core.specs.columnar_memory.declared.DataType.{DataType}
+use Rattle.nested_arrays_core.proofs.columns_lemmas.Conditions.{parts_of_4}
+use Rattle.nested_arrays_core.proofs.columns_lemmas.CutLengths.{column_len-cut}
+use Rattle.nested_arrays_core.proofs.columns_lemmas.Cuts.{slot_at-cut}
+use Rattle.nested_arrays_core.proofs.columns_lemmas.Windows.{window_same}
+use Rattle.nested_arrays_core.specs.columns.Slots.{Slot, items, fields, slot_then, in_slots, window}
+use Rattle.nested_arrays_core.specs.columns.SoundColumns.{are_sound, has_field_types, have_len, is_sound, mask_fits}
+use Rattle.nested_arrays_core.specs.columns.StoredColumns.{Column, lists, fixed_lists, records, column_len, cut, in_columns, slot_at, slots, slots_at}
+use Rattle.nested_arrays_core.specs.columns.StoredColumns.{type_layer}
+use Rattle.nested_arrays_core.proofs.flat_lemmas.Offsets.{get_or-offsets_of}
 use Rattle.nested_arrays_iterators.specs.ReadValues.{IsList, IsListBetween, IsRow}
 
 -- ---- parts

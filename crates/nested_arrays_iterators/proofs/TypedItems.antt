@@ -4,24 +4,24 @@ use Rattle.std.specs.Prelude.{ℤ, Bool, cond, not, Option, Some, None, Result, 
 use Rattle.std.specs.Borrow.{Bor}
 use Rattle.std.proofs.lemmas.Bool.{eqb-true}
 use Rattle.std.proofs.lemmas.List.Sums.{sum_by-cons}
-use Rattle.nested_arrays_generic.specs.columnar_memory.Bits.{unset_count}
-use Rattle.nested_arrays_generic.specs.columnar_memory.declared.DataType.{DataType}
-use Rattle.nested_arrays_generic.specs.columnar_memory.declared.Error.{Error}
-use Rattle.nested_arrays_generic.specs.columnar_memory.declared.PhysicalType.{PhysicalType}
-use Rattle.nested_arrays_generic.specs.flat_arrays.ByteStrings as strings
-use Rattle.nested_arrays_generic.specs.flat_arrays.ByteStrings.{ByteStrings, len_of}
-use Rattle.nested_arrays_generic.specs.columns.Slots.{Slot, text}
-use Rattle.nested_arrays_generic.specs.columns.SoundColumns.{is_sound, mask_fits}
-use Rattle.nested_arrays_generic.specs.columns.StoredColumns.{Column, dictionary, column_len, is_valid_at, place_of, slot_at}
-use Rattle.nested_arrays_generic.proofs.flat_lemmas.ColumnParts.{sound_mask}
-use Rattle.nested_arrays_generic.proofs.flat_lemmas.SoundStrings.{texts_len}
-use Rattle.nested_arrays_generic.specs.flat.ColumnMasks.{column_mask, unset_in}
-use Rattle.nested_arrays_generic.specs.flat.FlatColumns.{text_column}
-use Rattle.nested_arrays_generic.proofs.parts_lemmas.SameForms.{null_slot, valid_slot}
-use Rattle.nested_arrays_generic.proofs.parts_lemmas.StoredForms.{text_there}
-use Rattle.nested_arrays_generic.specs.parts.FlatLayouts.{layout_in}
-use Rattle.nested_arrays_generic.specs.access.Nulls.{null_count_of}
-use Rattle.nested_arrays_generic.specs.Dictionaries.{key_at, raw_key, values_of}
+use Rattle.nested_arrays_core.specs.columnar_memory.Bits.{unset_count}
+use Rattle.nested_arrays_core.specs.columnar_memory.declared.DataType.{DataType}
+use Rattle.nested_arrays_core.specs.columnar_memory.declared.Error.{Error}
+use Rattle.nested_arrays_core.specs.columnar_memory.declared.PhysicalType.{PhysicalType}
+use Rattle.nested_arrays_core.specs.flat_arrays.ByteStrings as strings
+use Rattle.nested_arrays_core.specs.flat_arrays.ByteStrings.{ByteStrings, len_of}
+use Rattle.nested_arrays_core.specs.columns.Slots.{Slot, text}
+use Rattle.nested_arrays_core.specs.columns.SoundColumns.{is_sound, mask_fits}
+use Rattle.nested_arrays_core.specs.columns.StoredColumns.{Column, dictionary, column_len, is_valid_at, place_of, slot_at}
+use Rattle.nested_arrays_core.proofs.flat_lemmas.ColumnParts.{sound_mask}
+use Rattle.nested_arrays_core.proofs.flat_lemmas.SoundStrings.{texts_len}
+use Rattle.nested_arrays_core.specs.flat.ColumnMasks.{column_mask, unset_in}
+use Rattle.nested_arrays_core.specs.flat.FlatColumns.{text_column}
+use Rattle.nested_arrays_core.proofs.parts_lemmas.SameForms.{null_slot, valid_slot}
+use Rattle.nested_arrays_core.proofs.parts_lemmas.StoredForms.{text_there}
+use Rattle.nested_arrays_core.specs.parts.FlatLayouts.{layout_in}
+use Rattle.nested_arrays_core.specs.access.Nulls.{null_count_of}
+use Rattle.nested_arrays_core.specs.Dictionaries.{key_at, raw_key, values_of}
 use Rattle.nested_arrays_iterators.proofs.NamedSlots.{key_shows, key_within, place_or_none}
 use Rattle.nested_arrays_iterators.specs.NamedValues.{AreNamed}
 use Rattle.nested_arrays_iterators.specs.TextItems.{AreThere}

@@ -2,8 +2,8 @@
 use Rattle.std.proofs.Common.{◌≡◌, ◌∙◌, ℕ, zero, suc, ◌+◌, ◌-◌, ◌<◌, List, [], ◌∷◌, ◌++◌, refl, sym, ap, arith}
 use Rattle.std.specs.Prelude.{Option, Some, None}
 use Rattle.std.specs.Iterator.{YieldsFirstBy, YieldsLastBy}
-use Rattle.nested_arrays_generic.specs.flat_arrays.Places.{PlacesLeft, StepsFirst, StepsLast}
-use Rattle.nested_arrays_generic.specs.columns.Slots.{window}
+use Rattle.nested_arrays_core.specs.flat_arrays.Places.{PlacesLeft, StepsFirst, StepsLast}
+use Rattle.nested_arrays_core.specs.columns.Slots.{window}
 use Rattle.nested_arrays_iterators.specs.WalkLaws.{GivesEach, WalksGiveEach, values_left}
 
 -- values at n places and one more

@@ -1,8 +1,8 @@
 -- The values that the keys of dictionaries name (Arrow columnar format, "Dictionary-encoded Layout").
 use Rattle.std.specs.Prelude.{◌≡◌, ◌<◌, ◌≤ℤ◌, ℕ, pos}
-use Rattle.nested_arrays_generic.specs.columns.Slots.{Slot}
-use Rattle.nested_arrays_generic.specs.columns.StoredColumns.{Column, column_len, place_of}
-use Rattle.nested_arrays_generic.specs.Dictionaries.{raw_key, values_of}
+use Rattle.nested_arrays_core.specs.columns.Slots.{Slot}
+use Rattle.nested_arrays_core.specs.columns.StoredColumns.{Column, column_len, place_of}
+use Rattle.nested_arrays_core.specs.Dictionaries.{raw_key, values_of}
 use Rattle.nested_arrays_iterators.specs.ReadValues.{value_at}
 
 -- a slot is what a key names

@@ -1,11 +1,11 @@
 -- The values that stand at the places of arrays (Arrow columnar format, "Variable-size List Layout" to "Union Layout").
 use Rattle.std.specs.Prelude.{◌≡◌, ◌+◌, ◌-◌, ◌*◌, ◌<◌, ℕ, Bool, true, false, List, Option, Some, None, slice_index}
 use Rattle.std.specs.Borrow.{Bor}
-use Rattle.nested_arrays_generic.specs.columnar_memory.Spans.{Spans, offsets_of}
-use Rattle.nested_arrays_generic.specs.columnar_memory.declared.DataType.{DataType}
-use Rattle.nested_arrays_generic.specs.columns.Slots.{Slot, null, bytes, items, fields, pick, in_slots}
-use Rattle.nested_arrays_generic.specs.columns.StoredColumns.{Column, lists, fixed_lists, column_len, cut, is_valid_at, slot_at, slots}
-use Rattle.nested_arrays_generic.specs.flat.ColumnMasks.{column_mask, with_mask}
+use Rattle.nested_arrays_core.specs.columnar_memory.Spans.{Spans, offsets_of}
+use Rattle.nested_arrays_core.specs.columnar_memory.declared.DataType.{DataType}
+use Rattle.nested_arrays_core.specs.columns.Slots.{Slot, null, bytes, items, fields, pick, in_slots}
+use Rattle.nested_arrays_core.specs.columns.StoredColumns.{Column, lists, fixed_lists, column_len, cut, is_valid_at, slot_at, slots}
+use Rattle.nested_arrays_core.specs.flat.ColumnMasks.{column_mask, with_mask}
 
 -- the value at a place, whatever the mask says
 abbrev pub value_at : Column → ℕ → Slot

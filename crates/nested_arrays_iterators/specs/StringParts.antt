@@ -1,6 +1,6 @@
 -- The offsets and bytes of arrays of byte strings and texts (Arrow columnar format, "Variable-size Binary Layout").
 use Rattle.std.specs.Prelude.{ℕ, List, []}
-use Rattle.nested_arrays_generic.specs.columns.StoredColumns.{Column, flat, texts, byte_strings, fixed_bytes}
+use Rattle.nested_arrays_core.specs.columns.StoredColumns.{Column, flat, texts, byte_strings, fixed_bytes}
 
 -- where byte strings or texts begin, and the last one ends
 abbrev pub string_offsets : Column → List ℕ

@@ -1,14 +1,14 @@
 -- Arrays of texts, as items.
 use Rattle.std.specs.Prelude.{◌≡◌, Option, Result, MatchOption, MatchResult}
 use Rattle.std.specs.Borrow.{Bor}
-use Rattle.nested_arrays_generic.specs.columnar_memory.Error.{IsInvalidArgument}
-use Rattle.nested_arrays_generic.specs.columnar_memory.declared.Error.{Error}
-use Rattle.nested_arrays_generic.specs.columnar_memory.declared.PhysicalType.{PhysicalType}
-use Rattle.nested_arrays_generic.specs.flat_arrays.ByteStrings.{ByteStrings}
-use Rattle.nested_arrays_generic.specs.columns.StoredColumns.{Column}
-use Rattle.nested_arrays_generic.specs.flat.FlatColumns.{text_column}
-use Rattle.nested_arrays_generic.specs.parts.FlatLayouts.{layout_in}
-use Rattle.nested_arrays_generic.specs.access.Nulls.{null_count_of}
+use Rattle.nested_arrays_core.specs.columnar_memory.Error.{IsInvalidArgument}
+use Rattle.nested_arrays_core.specs.columnar_memory.declared.Error.{Error}
+use Rattle.nested_arrays_core.specs.columnar_memory.declared.PhysicalType.{PhysicalType}
+use Rattle.nested_arrays_core.specs.flat_arrays.ByteStrings.{ByteStrings}
+use Rattle.nested_arrays_core.specs.columns.StoredColumns.{Column}
+use Rattle.nested_arrays_core.specs.flat.FlatColumns.{text_column}
+use Rattle.nested_arrays_core.specs.parts.FlatLayouts.{layout_in}
+use Rattle.nested_arrays_core.specs.access.Nulls.{null_count_of}
 
 -- the texts of an array, or none where it lies in memory otherwise
 abbrev pub ShowsTexts : PhysicalType → Column → Option (Bor ByteStrings) → Type 0

@@ -1,14 +1,14 @@
 -- The values that the keys of dictionaries name, as items of one kind (Arrow columnar format, "Dictionary-encoded Layout").
 use Rattle.std.specs.Prelude.{◌≡◌, ◌<◌, ℕ, true, false, Option, Some, None, Result, MatchResult}
-use Rattle.nested_arrays_generic.specs.columnar_memory.Error.{IsInvalidArgument}
-use Rattle.nested_arrays_generic.specs.columnar_memory.declared.Error.{Error}
-use Rattle.nested_arrays_generic.specs.columnar_memory.declared.PhysicalType.{PhysicalType}
-use Rattle.nested_arrays_generic.specs.columns.Slots.{Slot}
-use Rattle.nested_arrays_generic.specs.columns.StoredColumns.{Column, column_len, is_valid_at, place_of, slot_at}
-use Rattle.nested_arrays_generic.specs.flat.ColumnMasks.{column_mask}
-use Rattle.nested_arrays_generic.specs.parts.FlatLayouts.{layout_in}
-use Rattle.nested_arrays_generic.specs.access.Nulls.{null_count_of}
-use Rattle.nested_arrays_generic.specs.Dictionaries.{raw_key, values_of}
+use Rattle.nested_arrays_core.specs.columnar_memory.Error.{IsInvalidArgument}
+use Rattle.nested_arrays_core.specs.columnar_memory.declared.Error.{Error}
+use Rattle.nested_arrays_core.specs.columnar_memory.declared.PhysicalType.{PhysicalType}
+use Rattle.nested_arrays_core.specs.columns.Slots.{Slot}
+use Rattle.nested_arrays_core.specs.columns.StoredColumns.{Column, column_len, is_valid_at, place_of, slot_at}
+use Rattle.nested_arrays_core.specs.flat.ColumnMasks.{column_mask}
+use Rattle.nested_arrays_core.specs.parts.FlatLayouts.{layout_in}
+use Rattle.nested_arrays_core.specs.access.Nulls.{null_count_of}
+use Rattle.nested_arrays_core.specs.Dictionaries.{raw_key, values_of}
 use Rattle.nested_arrays_iterators.specs.ReadValues.{IsRead, value_at}
 
 -- ---- arrays as items

@@ -1,8 +1,8 @@
 -- What walks over the places of arrays give.
 use Rattle.std.specs.Prelude.{◌≡◌, ◌-◌, ℕ, List, Option}
 use Rattle.std.specs.Iterator.{YieldsFirstBy, YieldsLastBy}
-use Rattle.nested_arrays_generic.specs.flat_arrays.Places.{PlacesLeft, StepsFirst, StepsLast}
-use Rattle.nested_arrays_generic.specs.columns.Slots.{window}
+use Rattle.nested_arrays_core.specs.flat_arrays.Places.{PlacesLeft, StepsFirst, StepsLast}
+use Rattle.nested_arrays_core.specs.columns.Slots.{window}
 
 -- what stands at the places that a walk has left
 abbrev pub values_left : {A V : Type 0} → (A → ℕ → V) → PlacesLeft A → List V

@@ -1,12 +1,12 @@
 //! Parts of arrays.
 ghost use Rattle.std.specs.Prelude.{◌≡◌, ◌+◌, ◌<◌, ◌≤◌, ◌↔◌, IfOk, IsTrue, true, slice_get};
-ghost use Rattle.nested_arrays_generic.specs.columns.SoundColumns.{is_sound};
-ghost use Rattle.nested_arrays_generic.specs.columns.StoredColumns.{column_len, column_type, cut, slot_at, slots};
+ghost use Rattle.nested_arrays_core.specs.columns.SoundColumns.{is_sound};
+ghost use Rattle.nested_arrays_core.specs.columns.StoredColumns.{column_len, column_type, cut, slot_at, slots};
 
 use crate::slots::ArraySlot;
-use nested_arrays_generic::arrays::AnyArray;
-use nested_arrays_generic::columnar_memory::DataType;
-use nested_arrays_generic::flat_arrays::{ArrayAccessor, ArrayValuesIter};
+use nested_arrays_core::arrays::AnyArray;
+use nested_arrays_core::columnar_memory::DataType;
+use nested_arrays_core::flat_arrays::{ArrayAccessor, ArrayValuesIter};
 use std::alloc::AllocError;
 use std::marker::Model;
 
@@ -20,8 +20,8 @@ pub struct ArrayPart<'a> {
 
 impl<'a> Model for ArrayPart<'a> {
     ghost use Rattle.std.specs.Prelude.{◌+◌, ◌<◌, ◌≤◌, ◌^◌};
-    ghost use Rattle.nested_arrays_generic.specs.columns.ColumnCodes.{column_code};
-    ghost use Rattle.nested_arrays_generic.specs.columns.StoredColumns.{Column, column_len, cut};
+    ghost use Rattle.nested_arrays_core.specs.columns.ColumnCodes.{column_code};
+    ghost use Rattle.nested_arrays_core.specs.columns.StoredColumns.{Column, column_len, cut};
 
     ghost Value = { Column };
 

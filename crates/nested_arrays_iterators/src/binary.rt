@@ -1,14 +1,14 @@
 //! The bytes of arrays of byte strings.
 ghost use Rattle.std.specs.Prelude.{◌≡◌, ℕ, List};
-ghost use Rattle.nested_arrays_generic.specs.columnar_memory.Spans.{offsets_of};
-ghost use Rattle.nested_arrays_generic.specs.columns.StoredColumns.{column_type};
-ghost use Rattle.nested_arrays_generic.specs.flat.FlatColumns.{byte_width};
+ghost use Rattle.nested_arrays_core.specs.columnar_memory.Spans.{offsets_of};
+ghost use Rattle.nested_arrays_core.specs.columns.StoredColumns.{column_type};
+ghost use Rattle.nested_arrays_core.specs.flat.FlatColumns.{byte_width};
 ghost use Rattle.nested_arrays_iterators.specs.StringParts.{string_bytes, string_offsets};
 
-use nested_arrays_generic::access::Array;
-use nested_arrays_generic::columnar_memory::{Offset, OffsetsBuffer};
-use nested_arrays_generic::flat::FixedSizeBinaryArray;
-use nested_arrays_generic::flat_arrays::{BinaryArray, Utf8Array};
+use nested_arrays_core::access::Array;
+use nested_arrays_core::columnar_memory::{Offset, OffsetsBuffer};
+use nested_arrays_core::flat::FixedSizeBinaryArray;
+use nested_arrays_core::flat_arrays::{BinaryArray, Utf8Array};
 
 /// Byte strings or texts between offsets.
 pub trait GenericBinaryArray<O: Offset>: Array {

@@ -1,13 +1,13 @@
 //! The values that the slots of dictionaries name.
 ghost use Rattle.std.specs.Prelude.{◌≡◌, ◌<◌, ◌↔◌, IsTrue, pos};
-ghost use Rattle.nested_arrays_generic.specs.columns.StoredColumns.{Column, column_len};
-ghost use Rattle.nested_arrays_generic.specs.Dictionaries.{raw_key};
+ghost use Rattle.nested_arrays_core.specs.columns.StoredColumns.{Column, column_len};
+ghost use Rattle.nested_arrays_core.specs.Dictionaries.{raw_key};
 ghost use Rattle.nested_arrays_iterators.specs.NamedValues.{AreNamed, ArePlaces, IsNamed, NamesValue};
 ghost use Rattle.nested_arrays_iterators.specs.ReadValues.{IsRead, IsReadWithin};
 
 use crate::slots::ArraySlot;
-use nested_arrays_generic::flat_arrays::{ArrayAccessor, ArrayValuesIter, check_indexes};
-use nested_arrays_generic::{DictionaryArray, DictionaryKey};
+use nested_arrays_core::flat_arrays::{ArrayAccessor, ArrayValuesIter, check_indexes};
+use nested_arrays_core::{DictionaryArray, DictionaryKey};
 
 /// The slots of a dictionary: what its keys name, or none where a slot is null.
 #[derive(Drop)]

@@ -1,16 +1,16 @@
 //! Lists as arrays whose values are read by their places: the items of each, as a part of the child.
 ghost use Rattle.std.specs.Prelude.{◌≡◌, ◌<◌, ◌≤◌, length};
-ghost use Rattle.nested_arrays_generic.specs.columnar_memory.Spans.{last_of};
-ghost use Rattle.nested_arrays_generic.specs.columns.StoredColumns.{column_len};
+ghost use Rattle.nested_arrays_core.specs.columnar_memory.Spans.{last_of};
+ghost use Rattle.nested_arrays_core.specs.columns.StoredColumns.{column_len};
 ghost use Rattle.nested_arrays_iterators.specs.ReadValues.{IsList, IsListBetween};
 
 use crate::array_parts::ArrayPart;
 use crate::values::{ArrayValues, Values};
-use nested_arrays_generic::ListArray;
-use nested_arrays_generic::arrays::{AnyArray, FixedSizeListArray, MapArray};
-use nested_arrays_generic::columnar_memory::{Offset, OffsetsBuffer};
-use nested_arrays_generic::flat::mark_at;
-use nested_arrays_generic::flat_arrays::ArrayValuesIter;
+use nested_arrays_core::ListArray;
+use nested_arrays_core::arrays::{AnyArray, FixedSizeListArray, MapArray};
+use nested_arrays_core::columnar_memory::{Offset, OffsetsBuffer};
+use nested_arrays_core::flat::mark_at;
+use nested_arrays_core::flat_arrays::ArrayValuesIter;
 
 /// The items of lists, list by list.
 pub type ListValuesIter<'a, O> = ArrayValuesIter<Values<&'a ListArray<O>>>;

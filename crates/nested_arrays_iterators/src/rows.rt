@@ -1,10 +1,10 @@
 //! Slots of structs.
 ghost use Rattle.std.specs.Prelude.{◌≡◌, ◌<◌, All, Some, length, map, slice_get};
-ghost use Rattle.nested_arrays_generic.specs.columns.StoredColumns.{column_len, slot_at};
+ghost use Rattle.nested_arrays_core.specs.columns.StoredColumns.{column_len, slot_at};
 
 use crate::slots::ArraySlot;
-use nested_arrays_generic::arrays::AnyArray;
-use nested_arrays_generic::flat_arrays::{ArrayAccessor, ArrayValuesIter};
+use nested_arrays_core::arrays::AnyArray;
+use nested_arrays_core::flat_arrays::{ArrayAccessor, ArrayValuesIter};
 use std::marker::Model;
 
 /// The values of a struct's fields at one place. A contract sees the slot of each field.
@@ -17,9 +17,9 @@ pub struct StructSlot<'a> {
 impl<'a> Model for StructSlot<'a> {
     ghost use Rattle.std.specs.Prelude.{◌<◌, All, List, map};
     ghost use Rattle.std.specs.Coded.{coded_list};
-    ghost use Rattle.nested_arrays_generic.specs.columns.SlotCodes.{slot_code};
-    ghost use Rattle.nested_arrays_generic.specs.columns.Slots.{Slot};
-    ghost use Rattle.nested_arrays_generic.specs.columns.StoredColumns.{column_len, slot_at};
+    ghost use Rattle.nested_arrays_core.specs.columns.SlotCodes.{slot_code};
+    ghost use Rattle.nested_arrays_core.specs.columns.Slots.{Slot};
+    ghost use Rattle.nested_arrays_core.specs.columns.StoredColumns.{column_len, slot_at};
 
     ghost Value = { List Slot };
 

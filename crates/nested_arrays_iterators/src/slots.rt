@@ -1,8 +1,8 @@
 //! Single slots of arrays.
 ghost use Rattle.std.specs.Prelude.{◌≡◌, ◌<◌};
-ghost use Rattle.nested_arrays_generic.specs.columns.StoredColumns.{column_len, slot_at};
+ghost use Rattle.nested_arrays_core.specs.columns.StoredColumns.{column_len, slot_at};
 
-use nested_arrays_generic::arrays::AnyArray;
+use nested_arrays_core::arrays::AnyArray;
 use std::marker::Model;
 
 /// A slot of an array of any type: the array and the place, which is within it. A contract sees the slot there.
@@ -14,9 +14,9 @@ pub struct ArraySlot<'a> {
 
 impl<'a> Model for ArraySlot<'a> {
     ghost use Rattle.std.specs.Prelude.{◌<◌};
-    ghost use Rattle.nested_arrays_generic.specs.columns.SlotCodes.{slot_code};
-    ghost use Rattle.nested_arrays_generic.specs.columns.Slots.{Slot};
-    ghost use Rattle.nested_arrays_generic.specs.columns.StoredColumns.{column_len, slot_at};
+    ghost use Rattle.nested_arrays_core.specs.columns.SlotCodes.{slot_code};
+    ghost use Rattle.nested_arrays_core.specs.columns.Slots.{Slot};
+    ghost use Rattle.nested_arrays_core.specs.columns.StoredColumns.{column_len, slot_at};
 
     ghost Value = { Slot };
 

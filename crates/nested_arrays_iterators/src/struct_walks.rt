@@ -4,9 +4,9 @@ ghost use Rattle.nested_arrays_iterators.specs.ReadValues.{IsByteString, IsPicke
 use crate::rows::StructSlot;
 use crate::slots::ArraySlot;
 use crate::values::{ArrayValues, Values};
-use nested_arrays_generic::arrays::{StructArray, UnionArray};
-use nested_arrays_generic::flat::{FixedSizeBinaryArray, mark_at};
-use nested_arrays_generic::flat_arrays::ArrayValuesIter;
+use nested_arrays_core::arrays::{StructArray, UnionArray};
+use nested_arrays_core::flat::{FixedSizeBinaryArray, mark_at};
+use nested_arrays_core::flat_arrays::ArrayValuesIter;
 
 /// The values of the fields of structs, struct by struct.
 pub type StructValueIter<'a> = ArrayValuesIter<Values<&'a StructArray>>;

@@ -1,23 +1,23 @@
 //! Dictionaries whose values are items of one kind, slot by slot.
 ghost use Rattle.std.specs.Prelude.{◌≡◌, false, true, MatchOption};
-ghost use Rattle.nested_arrays_generic.specs.columnar_memory.declared.PhysicalType.{PhysicalType};
-ghost use Rattle.nested_arrays_generic.specs.columnar_memory.declared.PhysicalType.TheVariants as physical;
-ghost use Rattle.nested_arrays_generic.specs.columns.Slots.{Slot, text};
-ghost use Rattle.nested_arrays_generic.specs.columns.StoredColumns.{Column, column_len};
-ghost use Rattle.nested_arrays_generic.specs.parts.Childless.{is_childless};
-ghost use Rattle.nested_arrays_generic.specs.parts.FlatLayouts.{layout_in, lies_as};
-ghost use Rattle.nested_arrays_generic.specs.arrays.Variants.{is_flat_node};
-ghost use Rattle.nested_arrays_generic.specs.Dictionaries.{values_of};
+ghost use Rattle.nested_arrays_core.specs.columnar_memory.declared.PhysicalType.{PhysicalType};
+ghost use Rattle.nested_arrays_core.specs.columnar_memory.declared.PhysicalType.TheVariants as physical;
+ghost use Rattle.nested_arrays_core.specs.columns.Slots.{Slot, text};
+ghost use Rattle.nested_arrays_core.specs.columns.StoredColumns.{Column, column_len};
+ghost use Rattle.nested_arrays_core.specs.parts.Childless.{is_childless};
+ghost use Rattle.nested_arrays_core.specs.parts.FlatLayouts.{layout_in, lies_as};
+ghost use Rattle.nested_arrays_core.specs.arrays.Variants.{is_flat_node};
+ghost use Rattle.nested_arrays_core.specs.Dictionaries.{values_of};
 ghost use Rattle.nested_arrays_iterators.specs.NamedValues.{AreNamed};
 ghost use Rattle.nested_arrays_iterators.specs.TextItems.{AreThere, ShowsTexts};
 ghost use Rattle.nested_arrays_iterators.specs.TypedValues.{IsDowncast, IsKeyed, IsKeyedSlot, ShowSlotsByKeys, ShowValuesByKeys};
 
-use nested_arrays_generic::access::Array;
-use nested_arrays_generic::arrays::{AnyArray, Node};
-use nested_arrays_generic::columnar_memory::{Error, Offset, Result};
-use nested_arrays_generic::flat_arrays::{ArrayAccessor, ArrayValuesIter, Utf8Array};
-use nested_arrays_generic::parts::{FlatArray, FlatNode};
-use nested_arrays_generic::{DictionaryArray, DictionaryKey};
+use nested_arrays_core::access::Array;
+use nested_arrays_core::arrays::{AnyArray, Node};
+use nested_arrays_core::columnar_memory::{Error, Offset, Result};
+use nested_arrays_core::flat_arrays::{ArrayAccessor, ArrayValuesIter, Utf8Array};
+use nested_arrays_core::parts::{FlatArray, FlatNode};
+use nested_arrays_core::{DictionaryArray, DictionaryKey};
 
 /// Arrays, by reference, as which the values of a dictionary may be read: arrays of texts. `slot` is the slot that an item shows, and
 /// `layout` says how such arrays lie in memory.

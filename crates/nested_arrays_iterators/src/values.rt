@@ -1,10 +1,10 @@
 //! Arrays whose values are read by their places.
 ghost use Rattle.std.specs.Prelude.{◌≡◌, ◌<◌, ℕ};
-ghost use Rattle.nested_arrays_generic.specs.columns.StoredColumns.{Column, column_len, is_valid_at};
-ghost use Rattle.nested_arrays_generic.specs.flat.ColumnMasks.{column_mask};
+ghost use Rattle.nested_arrays_core.specs.columns.StoredColumns.{Column, column_len, is_valid_at};
+ghost use Rattle.nested_arrays_core.specs.flat.ColumnMasks.{column_mask};
 ghost use Rattle.nested_arrays_iterators.specs.ReadValues.{IsRead, IsReadWithin};
 
-use nested_arrays_generic::flat_arrays::{ArrayAccessor, ArrayValuesIter};
+use nested_arrays_core::flat_arrays::{ArrayAccessor, ArrayValuesIter};
 
 /// An array, by a reference to it, whose values are read by their places. `column` is what it stores, and `is_value` says what stands at a
 /// place, whatever the mask says.

@@ -16,7 +16,7 @@ use Rattle.ipc_format.specs.Writable.{normalised}
 use Rattle.ipc_format.proofs.Binding.{came_of}
 use Rattle.ipc_format.proofs.StreamParts.{fitting, fits, too_many}
 use Rattle.ipc_format.specs.ReadFiles.{ReadsFile}
-use Rattle.ipc_format.specs.files.declared.whole_files.FileBatches.{FileBatches}
+use Rattle.ipc_format.specs.declared.whole_files.FileBatches.{FileBatches}
 use Rattle.tables_chunks.specs.Faults.{fault_of}
 use Rattle.tables_chunks.specs.ReadTables.{ReadsFileTable}
 use Rattle.tables_chunks.specs.Reading.{slots_of_batches}

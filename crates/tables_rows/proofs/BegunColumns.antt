@@ -4,8 +4,8 @@ use Rattle.columnar_memory_types.specs.declared.data_type.Field.{Field}
 use Rattle.columnar_memory_types.specs.declared.schema.Schema.{Schema}
 use Rattle.tables_chunks.specs.StoredTables.{Stored}
 use Rattle.tables_chunks.specs.ipc_format.columns.Slots.{Slot}
-use Rattle.nested_arrays_cells.specs.builders.builders.Begun.{opened_none}
-use Rattle.nested_arrays_cells.specs.builders.parts.Open.{Open, opened}
+use Rattle.nested_arrays_cells.specs.builders.Begun.{opened_none}
+use Rattle.nested_arrays_cells.specs.parts.Open.{Open, opened}
 use Rattle.tables_rows.specs.Building.{empty, seen}
 use Rattle.tables_rows.specs.Columns.{field_types, open_count, rows_of, types_of, AreLong, AreOpen}
 

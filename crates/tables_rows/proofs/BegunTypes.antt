@@ -17,9 +17,9 @@ use Rattle.tables_chunks.specs.ipc_format.columnar_memory.declared.PhysicalType.
 use Rattle.tables_chunks.specs.ipc_format.columnar_memory.declared.Schema.{Schema}
 use Rattle.tables_chunks.specs.ipc_format.columnar_memory.Layouts.{physical_step, physical_type}
 use Rattle.tables_chunks.specs.ipc_format.columns.Sealing.{Bars, bars_step, bars_of, schema_bars, first_bar}
-use Rattle.nested_arrays_cells.specs.builders.builders.BuiltTypes.{floats_step, has_floats, is_keyed}
-use Rattle.nested_arrays_cells.specs.builders.builders.BuiltTypes.{invalid_step, is_invalid}
-use Rattle.nested_arrays_cells.specs.builders.builders.BuiltTypes.{has_builder, have_builders}
+use Rattle.nested_arrays_cells.specs.builders.BuiltTypes.{floats_step, has_floats, is_keyed}
+use Rattle.nested_arrays_cells.specs.builders.BuiltTypes.{invalid_step, is_invalid}
+use Rattle.nested_arrays_cells.specs.builders.BuiltTypes.{has_builder, have_builders}
 use Rattle.tables_chunks.specs.ipc_format.Seals.{is_sealable}
 use Rattle.tables_chunks.specs.ipc_format.Writable.{Report, is_dictionary, is_plain, is_size, shape_of_struct, Shape}
 use Rattle.tables_chunks.specs.ipc_format.Writable.{plain, dictionary, extension, struct_of_two}

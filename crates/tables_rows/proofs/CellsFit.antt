@@ -11,7 +11,7 @@ use Rattle.tables_chunks.specs.ipc_format.columnar_memory.declared.Field.{Field,
 use Rattle.tables_chunks.specs.ipc_format.columnar_memory.declared.IntervalUnit.TheVariants as intervals
 use Rattle.tables_chunks.specs.ipc_format.columns.Cells.{fits_step, fits_cell, fit_each, is_list_of, is_list_of_size, is_record_of}
 use Rattle.tables_chunks.specs.ipc_format.columns.Slots.{Slot, Slots, null, items, fields, no_slot, slot_then, slot_list}
-use Rattle.nested_arrays_cells.specs.builders.ArrayCells.{has_cell, has_cell_step}
+use Rattle.nested_arrays_cells.specs.ArrayCells.{has_cell, has_cell_step}
 use Rattle.tables_chunks.proofs.ipc_format_lemmas.Claims.{TypeWith, FieldWith, LayerWith, bare_layer}
 use Rattle.std.proofs.Common.{subst}
 

@@ -4,7 +4,7 @@ use Rattle.std.proofs.Common.{add-one}
 use Rattle.std.specs.Prelude.{slice_set}
 use Rattle.std.proofs.lemmas.List.{take_at, take_all, get_or_default}
 use Rattle.tables_chunks.specs.ipc_format.columns.Slots.{Slot}
-use Rattle.nested_arrays_cells.specs.builders.parts.Open.{Open, opened, first_slots}
+use Rattle.nested_arrays_cells.specs.parts.Open.{Open, opened, first_slots}
 use Rattle.tables_rows.specs.Columns.{cut_back, emptied, types_of, open_count, rows_of, with_each, AreLong}
 
 pub cut_none : (held : ℕ) (columns : List Open) → columns ≡ cut_back 0 held columns

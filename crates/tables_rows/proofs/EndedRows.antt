@@ -11,7 +11,7 @@ use Rattle.tables_chunks.specs.declared.fault.Fault.TheVariants as faults
 use Rattle.tables_chunks.specs.ipc_format.columns.Rows.{batch_of_rows, fresh_columns}
 use Rattle.tables_chunks.specs.ipc_format.columns.Slots.{Slot}
 use Rattle.tables_chunks.specs.ipc_format.columns.StoredColumns.{Column}
-use Rattle.nested_arrays_cells.specs.builders.parts.Open.{Open, column_of}
+use Rattle.nested_arrays_cells.specs.parts.Open.{Open, column_of}
 use Rattle.tables_rows.specs.Building.{seen, IsHeld}
 use Rattle.tables_rows.specs.Columns.{emptied, open_count, rows_of, AreLong, AreOpen, TakesBatch}
 use Rattle.tables_rows.specs.Ending.{with_batch, without_rows, EndsBatch}

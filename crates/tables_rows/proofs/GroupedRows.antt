@@ -12,8 +12,8 @@ use Rattle.tables_chunks.specs.ipc_format.columns.Rows.{column_of_rows, columns_
 use Rattle.tables_chunks.specs.ipc_format.columns.SlotLaws.{BeginningsFit}
 use Rattle.tables_chunks.specs.ipc_format.columns.Slots.{Slot, null, window}
 use Rattle.tables_chunks.specs.ipc_format.columns.StoredColumns.{Column}
-use Rattle.nested_arrays_cells.specs.builders.builders.Begun.{opened_none}
-use Rattle.nested_arrays_cells.specs.builders.parts.Open.{Open, column_of, opened}
+use Rattle.nested_arrays_cells.specs.builders.Begun.{opened_none}
+use Rattle.nested_arrays_cells.specs.parts.Open.{Open, column_of, opened}
 use Rattle.tables_chunks.specs.ipc_format.Seals.{groups_of}
 use Rattle.tables_rows.specs.Grouping.{with_row, all_fit, emptied, Grouped, no_rows, closed, after_row, after_rows, rows_fit, all_batches}
 use Rattle.tables_rows.proofs.RowGroups.{full_group, last_group, group_begins}

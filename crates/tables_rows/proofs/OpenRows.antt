@@ -11,7 +11,7 @@ use Rattle.tables_chunks.specs.ipc_format.columns.FreshColumns.{fresh}
 use Rattle.tables_chunks.specs.ipc_format.columns.Rows.{column_of_rows, columns_of_rows, columns_fit, fresh_columns, is_row_of}
 use Rattle.tables_chunks.specs.ipc_format.columns.Slots.{Slot, null, window}
 use Rattle.tables_chunks.specs.ipc_format.columns.Tables.{row_at, rows_of_columns, batch_rows}
-use Rattle.nested_arrays_cells.specs.builders.parts.Open.{Open, column_of, with_slot}
+use Rattle.nested_arrays_cells.specs.parts.Open.{Open, column_of, with_slot}
 use Rattle.tables_chunks.specs.ipc_format.Seals.{are_rows_of}
 use Rattle.tables_chunks.proofs.ipc_format_lemmas.Windows.{window_same, length-window}
 use Rattle.tables_rows.specs.Columns.{types_of, field_types, slots_of_each, open_count, rows_of, is_fitting, with_each, AreLong}

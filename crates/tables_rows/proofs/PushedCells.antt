@@ -15,7 +15,7 @@ use Rattle.tables_chunks.specs.ipc_format.columnar_memory.declared.DataType.{Dat
 use Rattle.tables_chunks.specs.ipc_format.columns.Cells.{fits_cell}
 use Rattle.tables_chunks.specs.ipc_format.columns.OpenBatch.{is_within}
 use Rattle.tables_chunks.specs.ipc_format.columns.Slots.{Slot, null}
-use Rattle.nested_arrays_cells.specs.builders.parts.Open.{Open, opened, with_slot, IsRefusal}
+use Rattle.nested_arrays_cells.specs.parts.Open.{Open, opened, with_slot, IsRefusal}
 use Rattle.tables_rows.specs.Columns.{are_taken, is_fitting, lowered, slots_overflow, with_each, AreLong, IsRefused, IsShort}
 use Rattle.tables_rows.proofs.CutBack.{none_each}
 

@@ -13,7 +13,7 @@ use Rattle.tables_chunks.specs.ipc_format.columns.Cells.{fits_cell}
 use Rattle.tables_chunks.specs.ipc_format.columns.OpenBatch.{fits}
 use Rattle.tables_chunks.specs.ipc_format.columns.Rows.{Cell, cell_slot, columns_of_rows, columns_fit, is_row_of}
 use Rattle.tables_chunks.specs.ipc_format.columns.Slots.{Slot}
-use Rattle.nested_arrays_cells.specs.builders.parts.Open.{Open}
+use Rattle.nested_arrays_cells.specs.parts.Open.{Open}
 use Rattle.tables_rows.specs.Building.{seen}
 use Rattle.tables_rows.specs.Columns.{are_taken, field_types, is_fitting, open_count, rows_of, slots_of_each, slots_overflow, types_of, with_each}
 use Rattle.tables_rows.specs.Columns.{AreLong, AreOpen, IsShort, PushesEach}

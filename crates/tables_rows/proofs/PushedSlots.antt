@@ -15,9 +15,9 @@ use Rattle.tables_chunks.specs.ipc_format.columns.Cells.{fits_cell}
 use Rattle.tables_chunks.specs.ipc_format.columns.OpenBatch.{is_within}
 use Rattle.tables_chunks.specs.ipc_format.columns.Slots.{Slot, null}
 use Rattle.tables_chunks.specs.ipc_format.columns.StoredColumns.{Column, column_len, column_type, slot_at}
-use Rattle.nested_arrays_cells.specs.builders.Pushes.{IsPushedIf}
-use Rattle.nested_arrays_cells.specs.builders.ArrayCells.{has_cell, has_cell_at}
-use Rattle.nested_arrays_cells.specs.builders.parts.Open.{Open, column_of, opened, with_slot}
+use Rattle.nested_arrays_cells.specs.Pushes.{IsPushedIf}
+use Rattle.nested_arrays_cells.specs.ArrayCells.{has_cell, has_cell_at}
+use Rattle.nested_arrays_cells.specs.parts.Open.{Open, column_of, opened, with_slot}
 use Rattle.tables_chunks.specs.SameRows.{stored_row}
 use Rattle.tables_rows.specs.Grouping.{all_fit, emptied, open_fits, open_types, refusal_of, with_row, IsNotTaken, PushesSlot, TakesRow}
 use Rattle.tables_rows.proofs.CellsFit.{fits_has_cell}

@@ -14,8 +14,8 @@ use Rattle.tables_chunks.specs.ipc_format.columns.Slots.{Slot, window}
 use Rattle.tables_chunks.specs.ipc_format.columns.StoredColumns.{Column, column_len, column_type, slots}
 use Rattle.tables_chunks.specs.ipc_format.columns.Tables.{batch_rows, rows_of_batches}
 use Rattle.tables_chunks.specs.ipc_format.Chunks.{rows_of, AreAsLong}
-use Rattle.nested_arrays_cells.specs.builders.builders.Begun.{opened_none}
-use Rattle.nested_arrays_cells.specs.builders.parts.Open.{Open, column_of, opened}
+use Rattle.nested_arrays_cells.specs.builders.Begun.{opened_none}
+use Rattle.nested_arrays_cells.specs.parts.Open.{Open, column_of, opened}
 use Rattle.tables_chunks.specs.declared.fault.Fault.{Fault}
 use Rattle.tables_chunks.specs.Batches.{batch_len, stored_rows}
 use Rattle.tables_chunks.specs.SameRows.{rows_from, stored_row}

@@ -17,7 +17,7 @@ use Rattle.tables_chunks.specs.ipc_format.columns.FreshLaws.{is_buildable}
 use Rattle.tables_chunks.specs.ipc_format.columns.Slots.{Slot}
 use Rattle.tables_chunks.specs.ipc_format.columns.StoredColumns.{Column, column_len, column_type, slots}
 use Rattle.tables_chunks.specs.ipc_format.columns.Tables.{batch_rows, rows_of_batches}
-use Rattle.nested_arrays_cells.specs.builders.parts.Open.{Open, column_of}
+use Rattle.nested_arrays_cells.specs.parts.Open.{Open, column_of}
 use Rattle.tables_chunks.proofs.ipc_format_lemmas.FreshSlots.{fresh_lengths, fresh_slots}
 use Rattle.tables_chunks.proofs.ipc_format_lemmas.FreshTypes.{fresh_types}
 use Rattle.tables_rows.specs.Columns.{are_fitting, is_fitting, open_count, slots_of_each, types_of, field_types, AreLong}

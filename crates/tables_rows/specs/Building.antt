@@ -15,7 +15,7 @@ use Rattle.tables_chunks.specs.ipc_format.columns.Slots.{Slot}
 use Rattle.tables_chunks.specs.ipc_format.columns.StoredColumns.{Column}
 use Rattle.tables_chunks.specs.ipc_format.Seals.{are_rows_of, is_sealable}
 use Rattle.tables_chunks.specs.ipc_format.Writable.{normalised}
-use Rattle.nested_arrays_cells.specs.builders.parts.Open.{Open}
+use Rattle.nested_arrays_cells.specs.parts.Open.{Open}
 use Rattle.tables_rows.specs.Columns.{rows_of, AreOpen}
 
 -- a schema, what each column of each ended batch stores, and the rows that are open

@@ -15,7 +15,7 @@ use Rattle.tables_chunks.specs.ipc_format.columns.OpenBatch.{fits}
 use Rattle.tables_chunks.specs.ipc_format.columns.Slots.{Slot}
 use Rattle.tables_chunks.specs.ipc_format.columns.StoredColumns.{Column}
 use Rattle.tables_chunks.specs.ipc_format.columns.Tables.{batch_rows, rows_of_columns}
-use Rattle.nested_arrays_cells.specs.builders.parts.Open.{Open, opened, column_of, first_slots, with_slot}
+use Rattle.nested_arrays_cells.specs.parts.Open.{Open, opened, column_of, first_slots, with_slot}
 
 -- ---- columns
 

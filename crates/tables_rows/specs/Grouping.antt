@@ -13,8 +13,8 @@ use Rattle.tables_chunks.specs.ipc_format.columnar_memory.declared.Field.{Field}
 use Rattle.tables_chunks.specs.ipc_format.columns.OpenBatch.{fits}
 use Rattle.tables_chunks.specs.ipc_format.columns.Slots.{Slot}
 use Rattle.tables_chunks.specs.ipc_format.columns.StoredColumns.{Column, column_len, column_type}
-use Rattle.nested_arrays_cells.specs.builders.builders.Begun.{opened_none}
-use Rattle.nested_arrays_cells.specs.builders.parts.Open.{Open, column_of, opened, with_slot}
+use Rattle.nested_arrays_cells.specs.builders.Begun.{opened_none}
+use Rattle.nested_arrays_cells.specs.parts.Open.{Open, column_of, opened, with_slot}
 
 -- ---- open columns
 

@@ -3,7 +3,7 @@ ghost use Rattle.std.specs.Prelude.{◌≡◌, length, map};
 ghost use Rattle.tables_rows.specs.Building.{IsBuilding, IsNew};
 ghost use Rattle.tables_rows.specs.Ending.{EndsBatch, Finishes};
 ghost use Rattle.tables_rows.specs.Pushing.{PushesRow};
-ghost use Rattle.nested_arrays_cells.specs.builders.parts.Scalars.{cell_of};
+ghost use Rattle.nested_arrays_cells.specs.parts.Scalars.{cell_of};
 
 use crate::bars::seal_bar;
 use crate::columns::{are_whole, count_of};

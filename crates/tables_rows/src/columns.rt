@@ -1,7 +1,7 @@
 //! Open columns: one for each field of a schema.
 ghost use Rattle.std.specs.Prelude.{◌≡◌, ◌≤◌, ◌<◌, ℕ, get_or, length, true};
 ghost use Rattle.tables_rows.specs.Columns.{are_fitting, cut_back, lowered, open_count};
-ghost use Rattle.nested_arrays_cells.specs.builders.parts.Open.{Open};
+ghost use Rattle.nested_arrays_cells.specs.parts.Open.{Open};
 
 use columnar_memory_types::Error;
 use nested_arrays_cells::AnyMutableArray;

@@ -1,8 +1,8 @@
 //! Rows that are pushed: each cell stands behind those of its column.
 ghost use Rattle.std.specs.Prelude.{◌≡◌, ◌≤◌, ◌<◌, ℕ, get_or, length, map};
 ghost use Rattle.tables_rows.specs.Columns.{AreLong, PushesAt, PushesEach};
-ghost use Rattle.nested_arrays_cells.specs.builders.parts.Open.{Open};
-ghost use Rattle.nested_arrays_cells.specs.builders.parts.Scalars.{scalar_slot};
+ghost use Rattle.nested_arrays_cells.specs.parts.Open.{Open};
+ghost use Rattle.nested_arrays_cells.specs.parts.Scalars.{scalar_slot};
 
 use crate::columns::{keep_first, lower_fault};
 use nested_arrays_cells::{AnyMutableArray, AnyScalar};

@@ -1,5 +1,5 @@
 use Rattle.std.proofs.Common.{◌∙◌, ap}
-use Rattle.nested_arrays_generic.specs.arrays.flat.FlatColumns.{binary_column}
+use Rattle.nested_arrays_core.specs.arrays.flat.FlatColumns.{binary_column}
 use Rattle.nested_arrays_builder_parts.proofs.FrozenStrings.{is_binary, binary_frozen}
 use Rattle.nested_arrays_builder_parts.proofs.frozen.freeze_bytes.Goals as goal
 

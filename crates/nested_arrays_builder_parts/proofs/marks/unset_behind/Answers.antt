@@ -1,5 +1,5 @@
 use Rattle.std.proofs.Common.{◌≡◌, ◌∙◌, ◌+◌, ◌-◌, ap, sym, length, take, arith}
-use Rattle.nested_arrays_generic.specs.arrays.columnar_memory.Bits.{bits_of, unset_count}
+use Rattle.nested_arrays_core.specs.arrays.columnar_memory.Bits.{bits_of, unset_count}
 use Rattle.nested_arrays_builder_parts.proofs.MarkLists.{bits_split}
 use Rattle.nested_arrays_builder_parts.proofs.marks.unset_behind.Goals as goal
 

@@ -1,5 +1,5 @@
 use Rattle.std.proofs.Common.{◌≡◌, ◌≤◌, length}
-use Rattle.nested_arrays_generic.specs.arrays.columnar_memory.Spans.{first_spans}
+use Rattle.nested_arrays_core.specs.arrays.columnar_memory.Spans.{first_spans}
 use Rattle.nested_arrays_builder_parts.proofs.strings.keep_spans.Given as goal
 
 abbrev pub invariant-keep : goal.invariant-keep

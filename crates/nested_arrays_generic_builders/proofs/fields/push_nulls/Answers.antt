@@ -4,7 +4,7 @@ use Rattle.std.specs.List.{list_all}
 use mathlib.Core.Logic.{inl, inr}
 use Rattle.nested_arrays_nulls.specs.columnar_memory.Error.{IsOutOfMemory, IsOverflow}
 use Rattle.nested_arrays_generic_builders.specs.StructBuilders.{takes_null, with_null}
-use Rattle.nested_arrays_builder_cells.proofs.taken_lemmas.builders_lemmas.CutParts.{length_over}
+use Rattle.nested_arrays_cells.proofs.taken_lemmas.builders_lemmas.CutParts.{length_over}
 use Rattle.nested_arrays_generic_builders.proofs.FieldLoops.{next_kept, next_over, next_same, one_more_each, taken_back, taking_more, taking_not}
 use Rattle.nested_arrays_generic_builders.proofs.fields.push_nulls.Goals as goal
 

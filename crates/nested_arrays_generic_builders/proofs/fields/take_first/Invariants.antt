@@ -1,5 +1,5 @@
 use Rattle.std.proofs.Common.{◌≡◌, ◌++◌, map, take}
-use Rattle.nested_arrays_builder_cells.specs.parts.Open.{column_of}
+use Rattle.nested_arrays_cells.specs.parts.Open.{column_of}
 use Rattle.nested_arrays_generic_builders.specs.StructBuilders.{emptied}
 use Rattle.nested_arrays_generic_builders.proofs.FieldLoops.{Over}
 use Rattle.nested_arrays_generic_builders.proofs.fields.take_first.Given as goal

@@ -1,7 +1,7 @@
 use Rattle.std.proofs.Common.{◌<◌, arith, length}
 use Rattle.std.proofs.lemmas.List.{get_or_default}
-use Rattle.nested_arrays_builder_cells.specs.parts.Open.{Open, first_slots}
-use Rattle.nested_arrays_builder_cells.proofs.taken_lemmas.builders_lemmas.CutParts.{length_over}
+use Rattle.nested_arrays_cells.specs.parts.Open.{Open, first_slots}
+use Rattle.nested_arrays_cells.proofs.taken_lemmas.builders_lemmas.CutParts.{length_over}
 use Rattle.nested_arrays_generic_builders.proofs.FieldLoops.{next_over}
 use Rattle.nested_arrays_generic_builders.proofs.fields.truncate_each.Goals as goal
 

@@ -1,4 +1,4 @@
-use Rattle.nested_arrays_builder_cells.specs.parts.Open.{first_slots}
+use Rattle.nested_arrays_cells.specs.parts.Open.{first_slots}
 use Rattle.nested_arrays_generic_builders.proofs.FieldLoops.{Over}
 use Rattle.nested_arrays_generic_builders.proofs.fields.truncate_each.Given as goal
 

@@ -4,7 +4,7 @@ use Rattle.std.proofs.lemmas.List.{length-take-le, take_all, take_more}
 use mathlib.Core.Logic.{inl, inr}
 use Rattle.nested_arrays_nulls.specs.columnar_memory.Error.{IsOutOfMemory, IsOverflow}
 use Rattle.nested_arrays_nulls.specs.columns.Kinds.{most_slots}
-use Rattle.nested_arrays_builder_cells.specs.parts.Marks.{marks}
+use Rattle.nested_arrays_cells.specs.parts.Marks.{marks}
 use Rattle.nested_arrays_generic_builders.proofs.ListSlots.{marks_many}
 use Rattle.nested_arrays_generic_builders.proofs.lists.marks_of.Goals as goal
 

@@ -1,5 +1,5 @@
 use Rattle.std.proofs.Common.{◌≡◌, take}
-use Rattle.nested_arrays_builder_cells.specs.parts.Marks.{marks}
+use Rattle.nested_arrays_cells.specs.parts.Marks.{marks}
 use Rattle.nested_arrays_generic_builders.proofs.lists.marks_of.Given as goal
 
 abbrev pub invariant-loop-place : goal.invariant-loop-place

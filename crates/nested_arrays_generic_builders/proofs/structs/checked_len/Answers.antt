@@ -2,7 +2,7 @@ use Rattle.std.proofs.Common.{◌≡◌, ◌∙◌, ap, map, sym, true}
 use Rattle.nested_arrays_nulls.specs.arrays.Lengths.{struct_len}
 use Rattle.nested_arrays_nulls.specs.columns.SoundColumns.{has_field_types, have_len, mask_fits}
 use Rattle.nested_arrays_nulls.specs.columns.StoredColumns.{type_layer}
-use Rattle.nested_arrays_builder_cells.specs.parts.Open.{column_of}
+use Rattle.nested_arrays_cells.specs.parts.Open.{column_of}
 use Rattle.nested_arrays_generic_builders.specs.StructBuilders.{field_columns}
 use Rattle.nested_arrays_generic_builders.proofs.StructMakes.{conditions_meet}
 use Rattle.nested_arrays_generic_builders.proofs.structs.checked_len.Goals as goal

@@ -1,6 +1,6 @@
 use Rattle.std.proofs.Common.{◌∙◌, ap, subst, sym}
 use Rattle.std.specs.Prelude.{◌↔◌, Bool, IsTrue}
-use Rattle.nested_arrays_generic.specs.columns.StoredColumns.{column_len}
+use Rattle.nested_arrays_core.specs.columns.StoredColumns.{column_len}
 use Rattle.nested_arrays_iterators.proofs.NamedKeys.{checked_named}
 use Rattle.nested_arrays_iterators.specs.NamedValues.{AreNamed}
 use Rattle.nested_arrays_iterators.proofs.dictionaries.keys_name_values.Goals as goal

@@ -1,5 +1,5 @@
 use Rattle.std.proofs.Common.{◌∙◌, ap, arith, sym}
-use Rattle.nested_arrays_generic.specs.columns.StoredColumns.{column_len, slot_at}
+use Rattle.nested_arrays_core.specs.columns.StoredColumns.{column_len, slot_at}
 use Rattle.nested_arrays_iterators.proofs.NamedSlots.{named_place}
 use Rattle.nested_arrays_iterators.proofs.dictionaries.slot_named.Goals as goal
 

@@ -2,7 +2,7 @@
 use Rattle.std.proofs.Common.{◌≡◌, true, take}
 use Rattle.std.specs.List.{list_all}
 use Rattle.tables_chunks.specs.ipc_format.columns.FreshLaws.{is_buildable}
-use Rattle.nested_arrays_cells.specs.builders.parts.Open.{Open}
+use Rattle.nested_arrays_cells.specs.parts.Open.{Open}
 use Rattle.tables_rows.specs.Grouping.{all_fit}
 use Rattle.tables_rows.proofs.groups.are_whole.Given as goal
 

@@ -1,7 +1,7 @@
 -- One column more is taken.
 use Rattle.std.proofs.Common.{◌<◌, ◌≤◌, ◌∙◌, length, map, ap, arith}
 use Rattle.std.proofs.lemmas.List.{take_all}
-use Rattle.nested_arrays_cells.specs.builders.parts.Open.{column_of}
+use Rattle.nested_arrays_cells.specs.parts.Open.{column_of}
 use Rattle.tables_rows.proofs.PushedSlots.{all_emptied, one_emptied, one_taken}
 use Rattle.tables_rows.proofs.groups.take_columns.Goals as goal
 

@@ -1,6 +1,6 @@
 -- The first columns are taken, and left empty.
 use Rattle.std.proofs.Common.{◌≡◌, take, map}
-use Rattle.nested_arrays_cells.specs.builders.parts.Open.{column_of}
+use Rattle.nested_arrays_cells.specs.parts.Open.{column_of}
 use Rattle.tables_rows.proofs.PushedSlots.{emptied_first}
 use Rattle.tables_rows.proofs.groups.take_columns.Given as goal
 

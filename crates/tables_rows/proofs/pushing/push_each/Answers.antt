@@ -1,8 +1,8 @@
 -- One cell more stands behind those of its column, or the columns are as they were.
 use Rattle.std.proofs.Common.{rules, ◌≡◌, ◌∙◌, ℕ, ◌<◌, ◌≤◌, length, map, get_or, true, ap, arith}
 use Rattle.std.proofs.lemmas.List.{length-map}
-use Rattle.nested_arrays_cells.specs.builders.parts.Open.{Open}
-use Rattle.nested_arrays_cells.specs.builders.parts.Scalars.{scalar_slot}
+use Rattle.nested_arrays_cells.specs.parts.Open.{Open}
+use Rattle.nested_arrays_cells.specs.parts.Scalars.{scalar_slot}
 use Rattle.tables_rows.specs.Columns.{is_fitting, with_each, IsShort}
 use Rattle.tables_rows.proofs.CutBack.{cut_again, none_each}
 use Rattle.tables_rows.proofs.OpenRows.{each_count}

@@ -1,7 +1,7 @@
 -- The first cells stand behind the others, and fit there.
 use Rattle.std.proofs.Common.{◌≡◌, ℕ, ◌<◌, map, take, get_or, true}
-use Rattle.nested_arrays_cells.specs.builders.parts.Open.{Open}
-use Rattle.nested_arrays_cells.specs.builders.parts.Scalars.{scalar_slot}
+use Rattle.nested_arrays_cells.specs.parts.Open.{Open}
+use Rattle.nested_arrays_cells.specs.parts.Scalars.{scalar_slot}
 use Rattle.tables_rows.specs.Columns.{is_fitting, with_each}
 use Rattle.tables_rows.proofs.pushing.push_each.Given as goal
 

@@ -1,6 +1,6 @@
 -- The first columns are left empty, and their arrays are taken.
 use Rattle.std.proofs.Common.{◌≡◌, map, take}
-use Rattle.nested_arrays_cells.specs.builders.parts.Open.{column_of}
+use Rattle.nested_arrays_cells.specs.parts.Open.{column_of}
 use Rattle.tables_rows.specs.Columns.{cut_back}
 use Rattle.tables_rows.proofs.taking.take_first.Given as goal
 

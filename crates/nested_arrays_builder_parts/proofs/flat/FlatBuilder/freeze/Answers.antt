@@ -1,6 +1,6 @@
 use Rattle.std.proofs.Common.{◌≡◌, ◌∙◌, ap, subst}
-use Rattle.nested_arrays_generic.specs.arrays.columnar_memory.Results.{OrOutOfMemory}
-use Rattle.nested_arrays_generic.specs.arrays.columns.StoredColumns.{Column, slots}
+use Rattle.nested_arrays_core.specs.arrays.columnar_memory.Results.{OrOutOfMemory}
+use Rattle.nested_arrays_core.specs.arrays.columns.StoredColumns.{Column, slots}
 use Rattle.nested_arrays_builder_parts.specs.KeptValues.{kept_column}
 use Rattle.nested_arrays_builder_parts.specs.Open.{Open, column_of}
 use Rattle.nested_arrays_builder_parts.proofs.KeptSlots.{kept_is_fresh}

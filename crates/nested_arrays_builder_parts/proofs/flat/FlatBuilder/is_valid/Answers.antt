@@ -1,7 +1,7 @@
 use Rattle.std.proofs.Common.{◌≡◌, ◌∙◌, ap, get_or}
-use Rattle.nested_arrays_generic.specs.arrays.columns.FreshColumns.{is_valid}
-use Rattle.nested_arrays_generic.specs.arrays.columns.Slots.{null}
-use Rattle.nested_arrays_generic.specs.arrays.columns.StoredColumns.{slots}
+use Rattle.nested_arrays_core.specs.arrays.columns.FreshColumns.{is_valid}
+use Rattle.nested_arrays_core.specs.arrays.columns.Slots.{null}
+use Rattle.nested_arrays_core.specs.arrays.columns.StoredColumns.{slots}
 use Rattle.nested_arrays_builder_parts.specs.KeptValues.{kept_column}
 use Rattle.nested_arrays_builder_parts.specs.Open.{Open}
 use Rattle.nested_arrays_builder_parts.proofs.KeptSlots.{mark_is}

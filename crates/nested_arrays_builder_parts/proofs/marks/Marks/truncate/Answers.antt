@@ -1,7 +1,7 @@
 use Rattle.std.proofs.Common.{◌≡◌, ◌∙◌, ◌≤◌, ap, sym, length, take, arith}
 use Rattle.std.proofs.lemmas.List.{length-take-le}
 use Rattle.nested_arrays_builder_parts.specs.Marks.{marks}
-use Rattle.nested_arrays_generic.specs.arrays.columns.Kinds.{most_slots}
+use Rattle.nested_arrays_core.specs.arrays.columns.Kinds.{most_slots}
 use Rattle.nested_arrays_builder_parts.proofs.MarkLists.{marks_back, kept_marks}
 use Rattle.nested_arrays_builder_parts.proofs.marks.Marks.truncate.Goals as goal
 

@@ -1,7 +1,7 @@
 use Rattle.std.proofs.Common.{◌≡◌, ◌∙◌, ◌+◌, ◌≤◌, ℕ, [], ◌∷◌, ◌++◌, ap, length, subst, sum}
 use Rattle.std.specs.List.{concat}
-use Rattle.nested_arrays_generic.specs.arrays.columnar_memory.Spans.{Spans, last_of}
-use Rattle.nested_arrays_generic.specs.arrays.flat_arrays.ByteStrings.{cut_by, packed}
+use Rattle.nested_arrays_core.specs.arrays.columnar_memory.Spans.{Spans, last_of}
+use Rattle.nested_arrays_core.specs.arrays.flat_arrays.ByteStrings.{cut_by, packed}
 use Rattle.nested_arrays_builder_parts.proofs.StringLists.{fault, one_more_end, more_kept, more_view}
 use Rattle.nested_arrays_builder_parts.proofs.strings.Strings.push.Goals as goal
 

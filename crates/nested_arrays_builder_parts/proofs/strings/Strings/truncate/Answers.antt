@@ -1,6 +1,6 @@
 use Rattle.std.proofs.Common.{◌≡◌, ◌∙◌, ap, sym, take, pos}
-use Rattle.nested_arrays_generic.specs.arrays.columnar_memory.Spans.{last_of}
-use Rattle.nested_arrays_generic.specs.arrays.flat_arrays.ByteStrings.{cut_by}
+use Rattle.nested_arrays_core.specs.arrays.columnar_memory.Spans.{last_of}
+use Rattle.nested_arrays_core.specs.arrays.flat_arrays.ByteStrings.{cut_by}
 use Rattle.nested_arrays_builder_parts.proofs.StringLists.{first_kept, first_view}
 use Rattle.nested_arrays_builder_parts.proofs.strings.Strings.truncate.Goals as goal
 

@@ -1,5 +1,5 @@
 use Rattle.std.proofs.Common.{◌∙◌, ℕ, ap, length}
-use Rattle.nested_arrays_builder_cells.specs.parts.Marks.{marks}
+use Rattle.nested_arrays_cells.specs.parts.Marks.{marks}
 use Rattle.nested_arrays_generic_builders.proofs.ListSlots.{marks_many}
 use Rattle.nested_arrays_generic_builders.proofs.ListsStored.{default_lies}
 use Rattle.nested_arrays_generic_builders.proofs.lists.MutableListArray.new_from_mutable.Goals as goal

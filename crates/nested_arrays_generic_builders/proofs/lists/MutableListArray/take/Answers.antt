@@ -1,6 +1,6 @@
 use Rattle.std.proofs.Common.{◌∙◌, subst}
 use Rattle.nested_arrays_nulls.specs.columns.StoredColumns.{Column}
-use Rattle.nested_arrays_builder_cells.specs.taken.OpenColumns.{TakesColumn}
+use Rattle.nested_arrays_cells.specs.taken.OpenColumns.{TakesColumn}
 use Rattle.nested_arrays_generic_builders.specs.ListBuilders.{ListParts, list_parts, lists_column}
 use Rattle.nested_arrays_generic_builders.proofs.OpenLists.{taken_lists}
 use Rattle.nested_arrays_generic_builders.proofs.lists.MutableListArray.take.Goals as goal

@@ -1,7 +1,7 @@
 use Rattle.std.proofs.Common.{◌≡◌, ◌≤◌, ◌∙◌, ℕ, ap, arith, length, subst}
 use Rattle.nested_arrays_nulls.specs.columnar_memory.Spans.{first_spans, last_of}
 use Rattle.nested_arrays_nulls.proofs.arrays_lemmas.flat_lemmas.Offsets.{spans_count}
-use Rattle.nested_arrays_builder_cells.specs.taken.OpenColumns.{KeepsFirst}
+use Rattle.nested_arrays_cells.specs.taken.OpenColumns.{KeepsFirst}
 use Rattle.nested_arrays_generic_builders.specs.ListBuilders.{list_parts}
 use Rattle.nested_arrays_generic_builders.proofs.OpenLists.{all_kept, kept_lists}
 use Rattle.nested_arrays_generic_builders.proofs.lists.MutableListArray.truncate.Goals as goal

@@ -3,7 +3,7 @@ use Rattle.std.specs.Prelude.{◌&&◌}
 use Rattle.std.specs.List.{list_all}
 use Rattle.nested_arrays_nulls.specs.columns.SoundColumns.{has_field_types, have_len}
 use Rattle.nested_arrays_nulls.specs.columns.StoredColumns.{type_layer}
-use Rattle.nested_arrays_builder_cells.specs.parts.Open.{Open}
+use Rattle.nested_arrays_cells.specs.parts.Open.{Open}
 use Rattle.nested_arrays_generic_builders.specs.StructBuilders.{field_columns, is_stored}
 use Rattle.nested_arrays_generic_builders.proofs.StructMakes.{whole_is}
 use Rattle.nested_arrays_generic_builders.proofs.structs.MutableStructArray.is_whole.Goals as goal

@@ -1,7 +1,7 @@
 use Rattle.std.proofs.Common.{◌≡◌, ◌∙◌, ap, subst, sym, true}
 use Rattle.nested_arrays_nulls.specs.columns.SoundColumns.{is_sound}
 use Rattle.nested_arrays_nulls.specs.columns.StoredColumns.{Column}
-use Rattle.nested_arrays_builder_cells.specs.taken.OpenColumns.{TakesColumn}
+use Rattle.nested_arrays_cells.specs.taken.OpenColumns.{TakesColumn}
 use Rattle.nested_arrays_generic_builders.specs.StructBuilders.{StructParts, struct_parts, structs_column}
 use Rattle.nested_arrays_generic_builders.proofs.OpenStructs.{taken_parts}
 use Rattle.nested_arrays_generic_builders.proofs.structs.MutableStructArray.take.Goals as goal

@@ -1,5 +1,5 @@
 use Rattle.std.proofs.Common.{sym}
-use Rattle.nested_arrays_generic.proofs.flat_lemmas.ColumnParts.{sound_after}
+use Rattle.nested_arrays_core.proofs.flat_lemmas.ColumnParts.{sound_after}
 use Rattle.nested_arrays_iterators.proofs.array_parts.ArrayPart.whole.Goals as goal
 
 pub returns : goal.returns

@@ -1,5 +1,5 @@
 use Rattle.std.proofs.Common.{◌∙◌, sym}
-use Rattle.nested_arrays_generic.specs.columns.StoredColumns.{place_of, slot_at}
+use Rattle.nested_arrays_core.specs.columns.StoredColumns.{place_of, slot_at}
 use Rattle.nested_arrays_iterators.proofs.NamedSlots.{key_shows}
 use Rattle.nested_arrays_iterators.proofs.dictionaries.DictionaryArrayDictionaryValues.value.Goals as goal
 

@@ -1,5 +1,5 @@
 use Rattle.std.proofs.Common.{option_copied}
-use Rattle.nested_arrays_generic.proofs.flat_lemmas.ColumnParts.{mark_of_slot}
+use Rattle.nested_arrays_core.proofs.flat_lemmas.ColumnParts.{mark_of_slot}
 use Rattle.nested_arrays_iterators.proofs.lists.RefFixedSizeListArrayArrayValues.has_value.Goals as goal
 
 pub mark_at-requires : goal.mark_at-requires

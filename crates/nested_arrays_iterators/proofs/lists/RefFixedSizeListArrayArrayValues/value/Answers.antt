@@ -1,7 +1,7 @@
 use Rattle.std.proofs.Common.{◌∙◌, ap, arith, sym}
-use Rattle.nested_arrays_generic.specs.columns.StoredColumns.{column_len, column_type, fixed_lists}
-use Rattle.nested_arrays_generic.proofs.flat_lemmas.FixedWidths.{string_within}
-use Rattle.nested_arrays_generic.specs.flat.ColumnMasks.{column_mask}
+use Rattle.nested_arrays_core.specs.columns.StoredColumns.{column_len, column_type, fixed_lists}
+use Rattle.nested_arrays_core.proofs.flat_lemmas.FixedWidths.{string_within}
+use Rattle.nested_arrays_core.specs.flat.ColumnMasks.{column_mask}
 use Rattle.nested_arrays_iterators.proofs.ReadSlots.{fixed_list}
 use Rattle.nested_arrays_iterators.proofs.lists.RefFixedSizeListArrayArrayValues.value.Goals as goal
 

@@ -1,9 +1,9 @@
 use Rattle.std.proofs.Common.{◌∙◌, ap, arith, subst, sym}
-use Rattle.nested_arrays_generic.specs.columns.SoundColumns.{is_sound}
-use Rattle.nested_arrays_generic.specs.columns.StoredColumns.{Column, column_len, column_type, lists}
-use Rattle.nested_arrays_generic.specs.flat.ColumnMasks.{column_mask}
-use Rattle.nested_arrays_generic.proofs.parts_lemmas.OffsetLists.{spans_count}
-use Rattle.nested_arrays_generic.proofs.arrays_lemmas.ListParts.{lists_parts}
+use Rattle.nested_arrays_core.specs.columns.SoundColumns.{is_sound}
+use Rattle.nested_arrays_core.specs.columns.StoredColumns.{Column, column_len, column_type, lists}
+use Rattle.nested_arrays_core.specs.flat.ColumnMasks.{column_mask}
+use Rattle.nested_arrays_core.proofs.parts_lemmas.OffsetLists.{spans_count}
+use Rattle.nested_arrays_core.proofs.arrays_lemmas.ListParts.{lists_parts}
 use Rattle.nested_arrays_iterators.specs.ReadValues.{IsList}
 use Rattle.nested_arrays_iterators.proofs.lists.RefMapArrayArrayValues.value.Goals as goal
 

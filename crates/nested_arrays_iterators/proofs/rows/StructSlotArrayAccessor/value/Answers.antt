@@ -2,7 +2,7 @@ use Rattle.std.proofs.Common.{◌≡◌, ◌∙◌, ◌<◌, ap, arith, length, 
 use Rattle.std.specs.Prelude.{Some, option_map, slice_get}
 use Rattle.std.proofs.lemmas.List.{length-map}
 use Rattle.std.proofs.lemmas.Option.{slice_get-map, slice_get_read}
-use Rattle.nested_arrays_generic.specs.columns.StoredColumns.{Column, slot_at}
+use Rattle.nested_arrays_core.specs.columns.StoredColumns.{Column, slot_at}
 use Rattle.nested_arrays_iterators.proofs.rows.StructSlotArrayAccessor.value.Goals as goal
 
 pub offset_bounds-fields-index : goal.offset_bounds-fields-index

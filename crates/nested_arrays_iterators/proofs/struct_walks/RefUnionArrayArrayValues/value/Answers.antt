@@ -1,7 +1,7 @@
 use Rattle.std.proofs.Common.{◌∙◌, ◌<◌, ap, length, rules, sym}
-use Rattle.nested_arrays_generic.specs.columns.Slots.{pick}
-use Rattle.nested_arrays_generic.specs.columns.StoredColumns.{column_type}
-use Rattle.nested_arrays_generic.proofs.arrays_lemmas.SlotPlaces.{child_there, place_there, union_pick}
+use Rattle.nested_arrays_core.specs.columns.Slots.{pick}
+use Rattle.nested_arrays_core.specs.columns.StoredColumns.{column_type}
+use Rattle.nested_arrays_core.proofs.arrays_lemmas.SlotPlaces.{child_there, place_there, union_pick}
 use Rattle.nested_arrays_iterators.proofs.struct_walks.RefUnionArrayArrayValues.value.Goals as goal
 
 pub bounds-fields-number : goal.bounds-fields-number

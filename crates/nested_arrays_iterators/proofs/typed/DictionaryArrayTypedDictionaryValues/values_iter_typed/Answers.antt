@@ -1,5 +1,5 @@
 use Rattle.std.proofs.Common.{refl}
-use Rattle.nested_arrays_generic.specs.Dictionaries.{values_of}
+use Rattle.nested_arrays_core.specs.Dictionaries.{values_of}
 use Rattle.nested_arrays_iterators.proofs.TypedItems.{values_shown}
 use Rattle.nested_arrays_iterators.proofs.typed.DictionaryArrayTypedDictionaryValues.values_iter_typed.Goals as goal
 

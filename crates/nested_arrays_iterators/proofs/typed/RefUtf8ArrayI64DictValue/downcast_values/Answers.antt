@@ -1,4 +1,4 @@
-use Rattle.nested_arrays_generic.specs.columnar_memory.declared.PhysicalType.TheVariants as physical
+use Rattle.nested_arrays_core.specs.columnar_memory.declared.PhysicalType.TheVariants as physical
 use Rattle.nested_arrays_iterators.proofs.TypedItems.{texts_downcast}
 use Rattle.nested_arrays_iterators.proofs.typed.RefUtf8ArrayI64DictValue.downcast_values.Goals as goal
 

@@ -1,6 +1,6 @@
 use Rattle.std.proofs.Common.{◌<◌, ◌≡◌, ℕ, ap, subst, sym}
-use Rattle.nested_arrays_generic.specs.columns.StoredColumns.{column_len, place_of}
-use Rattle.nested_arrays_generic.specs.Dictionaries.{raw_key, values_of}
+use Rattle.nested_arrays_core.specs.columns.StoredColumns.{column_len, place_of}
+use Rattle.nested_arrays_core.specs.Dictionaries.{raw_key, values_of}
 use Rattle.nested_arrays_iterators.proofs.TypedItems.{keyed_item}
 use Rattle.nested_arrays_iterators.proofs.typed.TypedValuesArrayAccessor.value.Goals as goal
 

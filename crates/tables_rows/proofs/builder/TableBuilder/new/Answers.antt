@@ -3,8 +3,8 @@ use Rattle.std.proofs.Common.{◌≡◌, ◌∙◌, ap, sym, subst}
 use Rattle.std.specs.Prelude.{None}
 use Rattle.columnar_memory_types.specs.declared.schema.Schema.{Schema}
 use Rattle.tables_rows.specs.Bars.{bar_of}
-use Rattle.nested_arrays_cells.specs.builders.builders.BuiltTypes.{have_builders}
-use Rattle.nested_arrays_cells.specs.builders.builders.Begun.{opened_none}
+use Rattle.nested_arrays_cells.specs.builders.BuiltTypes.{have_builders}
+use Rattle.nested_arrays_cells.specs.builders.Begun.{opened_none}
 use Rattle.tables_rows.proofs.BegunTypes.{sealable_begins}
 use Rattle.tables_rows.specs.Building.{empty, IsHeld}
 use Rattle.tables_rows.proofs.BegunColumns.{begun_open, begun_seen}

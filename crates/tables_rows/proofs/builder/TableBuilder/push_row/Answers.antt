@@ -1,7 +1,7 @@
 -- The row stands behind the others, or nothing changed.
 use Rattle.std.proofs.Common.{◌≡◌, ◌∙◌, ◌<◌, length, map, subst, arith}
 use Rattle.std.proofs.lemmas.List.{length-map}
-use Rattle.nested_arrays_cells.specs.builders.parts.Scalars.{cell_of, scalar_slot}
+use Rattle.nested_arrays_cells.specs.parts.Scalars.{cell_of, scalar_slot}
 use Rattle.tables_rows.specs.Building.{Building, seen}
 use Rattle.tables_rows.specs.Pushing.{PushesRow}
 use Rattle.tables_rows.proofs.PushedRows.{pushes_row, slots_of_cells, still_open}

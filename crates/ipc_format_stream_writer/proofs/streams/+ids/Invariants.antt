@@ -1,8 +1,0 @@
--- The fields that are left decide.
-use Rattle.std.proofs.Common.{◌≡◌, drop}
-use Rattle.ipc_format_readers.specs.chunk_writing.grammar.Ids.{all_are_ids}
-use Rattle.ipc_format_readers.specs.chunk_writing.metadata.Views.{ids_views}
-use Rattle.ipc_format_stream_writer.proofs.streams.+ids.Given as goal
-
-abbrev pub invariant-all_are_ids-loop-field : goal.invariant-all_are_ids-loop-field
-invariant-all_are_ids-loop-field l = all_are_ids (ids_views l.fields) ≡ all_are_ids (ids_views (drop l.field-index l.fields))

@@ -1,0 +1,20 @@
+use Rattle.std.proofs.Common.{◌∙◌, ap, option_copied, sym}
+use Rattle.nested_arrays_builder_arrays.specs.arrays.AnyColumns.{column_of}
+use Rattle.nested_arrays_builder_arrays.specs.arrays.columns.StoredColumns.{is_valid_at}
+use Rattle.nested_arrays_builder_arrays.specs.arrays.declared.any.Node.TheVariants as nodes
+use Rattle.nested_arrays_builder_arrays.proofs.arrays_lemmas.flat_lemmas.ColumnParts.{mark_of_slot}
+use Rattle.nested_arrays_builder_arrays.proofs.arrays_lemmas.parts_lemmas.SameForms.{null_slot}
+use Rattle.nested_arrays_cells.proofs.inside.list_items.Goals as goal
+
+pub mark_at-requires : goal.mark_at-requires
+mark_at-requires c =
+    mark_of_slot (column_of (nodes.List c.args.node.now)) (option_copied c.as_ref.result) c.args.i c.requires.whole.sound c.as_ref.ensures.value
+    c.requires.within
+
+pub returns-then-not-mark_at : goal.returns-then-not-mark_at
+returns-then-not-mark_at c = null_slot (column_of (nodes.List c.args.node.now)) c.args.i
+    (ap (λ mask. is_valid_at mask c.args.i) (sym c.as_ref.ensures.value) ∙ sym c.mark_at.ensures ∙ c.if-not-mark_at.true)
+
+pub set_list_items-requires-clause-set : goal.set_list_items-requires-clause-set
+set_list_items-requires-clause-set c =
+    ap (λ mask. is_valid_at mask c.args.i) (sym c.as_ref.ensures.value) ∙ sym c.mark_at.ensures ∙ c.if-not-mark_at.false
