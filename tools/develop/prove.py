@@ -9,7 +9,7 @@ idle while it loads what is below it. A line says how long each took; its output
 verdict: only the gate's is. A package that changed is proved again only once its folder in LIBS is removed, and so are those above it. Started anew,
 it takes over what a run that was stopped left running.
 """
-import os, shutil, subprocess, sys, time
+import contextlib, os, shutil, subprocess, sys, time
 
 ROOT = os.path.dirname(os.path.dirname(os.path.dirname(os.path.abspath(__file__))))
 KIT = os.path.dirname(os.path.dirname(os.path.realpath(shutil.which('rt') or 'rt')))
@@ -127,11 +127,14 @@ def begin(packages, name, jobs):
 
 
 def left_running(packages):
+    """What a run that was stopped left running. What ended meanwhile may be half a library, and is begun anew."""
     found = {}
     for name in packages.wanted:
         if os.path.isfile(f'{packages.libs}/{name}.pid'):
             with open(f'{packages.libs}/{name}.pid', encoding='utf-8') as it:
-                found[name] = int(it.read()), time.time()
+                pid = int(it.read())
+            if is_alive(pid):
+                found[name] = pid, time.time()
     return found
 
 
@@ -143,7 +146,8 @@ def main(libs, targets):
     while left or running:
         for name in [it for it in running if not is_alive(running[it][0])]:
             start = running.pop(name)[1]
-            os.remove(f'{packages.libs}/{name}.pid')
+            with contextlib.suppress(OSError):
+                os.remove(f'{packages.libs}/{name}.pid')
             failed += [] if packages.keep(name) else [name]
             say(f'{"FAILED" if name in failed else "proved"} {name} after {time.time() - start:.0f} s')
         ready = [it for it in left if all(packages.is_built(below) for below in packages.own(it))]
