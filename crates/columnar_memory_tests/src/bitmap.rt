@@ -247,7 +247,8 @@ fn bits_that_are_all_set_are_no_validity(rt: HostRuntime) -> Result<(), Fail> {
     let all = MutableBitmap::from_len_set(rt.alloc(), 9)?;
     assert!(rt; Option::<Bitmap>::try_from(all)?.is_none());
     let none = MutableBitmap::from_len_zeroed(rt.alloc(), 9)?;
-    assert!(rt; Option::<Bitmap>::try_from(none)?.map(|bits| bits.len()) == Some(9));
+    let some = Option::<Bitmap>::try_from(none)?;
+    assert!(rt; matches!(&some, Some(bits) if bits.len() == 9));
     Ok(())
 }
 

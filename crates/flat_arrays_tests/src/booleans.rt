@@ -61,7 +61,8 @@ fn roomy(alloc: Global) -> Result<BooleanArray, Error>
     let mut values = MutableBitmap::with_capacity(alloc, 1000)?;
     values.extend_constant(2, true)?;
     values.push(false)?;
-    BooleanArray::try_new(DataType::Boolean, values.freeze()?, None)
+    let values = values.freeze()?;
+    BooleanArray::try_new(DataType::Boolean, values, None)
 }
 
 // Turns each value, and says for how many of them the bytes had room that were turned.

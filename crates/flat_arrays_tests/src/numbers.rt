@@ -59,7 +59,8 @@ fn roomy(alloc: Global) -> Result<Int32Array, Error>
 {
     let mut values = Vec::with_capacity(alloc, 100)?;
     values.extend_from_slice(&[1, 2, 3])?;
-    Int32Array::try_new(DataType::Int32, Buffer::from_vec(values)?, None)
+    let values = Buffer::from_vec(values)?;
+    Int32Array::try_new(DataType::Int32, values, None)
 }
 
 // Turns the order of the values, and says for how many of them the vector had room that was turned.
