@@ -22,11 +22,21 @@ use std::rc::Rc;
 /// one bit a value). A contract sees its data type, its stored values and its mask.
 ///
 /// A call that grows it and finds no memory answers `OutOfMemory` and changes nothing.
-#[derive(Debug, Drop)]
+#[derive(Debug)]
 pub struct MutableBooleanArray {
     pub(crate) data_type: DataType,
     pub(crate) values: MutableBitmap,
     pub(crate) validity: Option<MutableBitmap>,
+}
+
+impl Drop for MutableBooleanArray {
+    fn drop(self) {
+        let MutableBooleanArray {
+            data_type: _,
+            values: _,
+            validity: _,
+        } = self;
+    }
 }
 
 impl Model for MutableBooleanArray {

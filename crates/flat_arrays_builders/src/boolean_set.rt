@@ -51,11 +51,7 @@ impl MutableBooleanArray {
         requires { physical_type data_type ≡ layouts.Boolean }
         ensures { result ≡ flat data_type self.values self.validity }
     {
-        let MutableBooleanArray {
-            data_type: _,
-            values,
-            validity,
-        } = self;
+        let (_, values, validity) = self.into_data();
         MutableBooleanArray {
             data_type,
             values,

@@ -25,11 +25,21 @@ use std::rc::Rc;
 /// A contract sees its data type, its stored values and its mask.
 ///
 /// A call that grows it and finds no memory answers `OutOfMemory` and changes nothing.
-#[derive(Debug, Drop)]
+#[derive(Debug)]
 pub struct MutablePrimitiveArray<T: NativeType> {
     pub(crate) data_type: DataType,
     pub(crate) values: Vec<T>,
     pub(crate) validity: Option<MutableBitmap>,
+}
+
+impl<T: NativeType> Drop for MutablePrimitiveArray<T> {
+    fn drop(self) {
+        let MutablePrimitiveArray {
+            data_type: _,
+            values: _,
+            validity: _,
+        } = self;
+    }
 }
 
 impl<T: NativeType> Model for MutablePrimitiveArray<T> {

@@ -54,11 +54,7 @@ impl<T: NativeType> MutablePrimitiveArray<T> {
         requires { physical_type data_type ≡ layouts.Primitive T.PRIMITIVE }
         ensures { result ≡ flat data_type self.values self.validity }
     {
-        let MutablePrimitiveArray {
-            data_type: _,
-            values,
-            validity,
-        } = self;
+        let (_, values, validity) = self.into_inner();
         MutablePrimitiveArray {
             data_type,
             values,

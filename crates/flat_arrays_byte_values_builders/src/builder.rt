@@ -33,12 +33,23 @@ pub type Parts<O> = (DataType, OffsetsBuffer<O>, Buffer<u8>, Option<Bitmap>);
 /// type, and a validity mark for each where a mask is held. No bytes stand behind the last of them.
 ///
 /// A call that is refused changes nothing.
-#[derive(Debug, Drop)]
+#[derive(Debug)]
 pub struct ByteBuilder<O: Offset> {
     pub(crate) data_type: DataType,
     pub(crate) offsets: Offsets<O>,
     pub(crate) values: Vec<u8>,
     pub(crate) validity: Option<MutableBitmap>,
+}
+
+impl<O: Offset> Drop for ByteBuilder<O> {
+    fn drop(self) {
+        let ByteBuilder {
+            data_type: _,
+            offsets: _,
+            values: _,
+            validity: _,
+        } = self;
+    }
 }
 
 impl<O: Offset> Model for ByteBuilder<O> {

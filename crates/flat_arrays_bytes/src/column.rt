@@ -20,12 +20,23 @@ use std::marker::Model;
 
 /// Byte strings, each between two neighbouring offsets, a data type, and a validity mark for each where a mask is held (Arrow columnar
 /// format, "Variable-size Binary Layout", "Validity bitmaps"). A contract sees just these parts. A cut shares the memory.
-#[derive(Debug, Drop)]
+#[derive(Debug)]
 pub struct ByteColumn<O: Offset> {
     data_type: DataType,
     offsets: OffsetsBuffer<O>,
     values: Buffer<u8>,
     validity: Option<Bitmap>,
+}
+
+impl<O: Offset> Drop for ByteColumn<O> {
+    fn drop(self) {
+        let ByteColumn {
+            data_type: _,
+            offsets: _,
+            values: _,
+            validity: _,
+        } = self;
+    }
 }
 
 impl<O: Offset> Model for ByteColumn<O> {

@@ -13,11 +13,21 @@ use std::marker::Model;
 
 /// Booleans, any of which may be null (Arrow columnar format, "Fixed-size Primitive Layout", one bit a value). A contract sees its data
 /// type, its stored values and its mask. A cut has the same memory.
-#[derive(Debug, Drop)]
+#[derive(Debug)]
 pub struct BooleanArray {
     data_type: DataType,
     values: Bitmap,
     validity: Option<Bitmap>,
+}
+
+impl Drop for BooleanArray {
+    fn drop(self) {
+        let BooleanArray {
+            data_type: _,
+            values: _,
+            validity: _,
+        } = self;
+    }
 }
 
 impl Model for BooleanArray {

@@ -15,11 +15,21 @@ use std::marker::Model;
 
 /// Values of one width, any of which may be null (Arrow columnar format, "Fixed-size Primitive Layout"). A contract sees its data type, its
 /// stored values and its mask. A clone and a cut share the memory.
-#[derive(Debug, Drop)]
+#[derive(Debug)]
 pub struct PrimitiveArray<T: NativeType> {
     data_type: DataType,
     values: Buffer<T>,
     validity: Option<Bitmap>,
+}
+
+impl<T: NativeType> Drop for PrimitiveArray<T> {
+    fn drop(self) {
+        let PrimitiveArray {
+            data_type: _,
+            values: _,
+            validity: _,
+        } = self;
+    }
 }
 
 impl<T: NativeType> Model for PrimitiveArray<T> {

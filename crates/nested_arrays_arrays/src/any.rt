@@ -2,7 +2,7 @@
 ghost use Rattle.std.specs.Prelude.{◌≡◌, ◌+◌, ◌≤◌, true};
 ghost use Rattle.nested_arrays_parts.specs.columns.SoundColumns.{is_sound};
 ghost use Rattle.nested_arrays_parts.specs.columns.StoredColumns.{column_len, column_type, cut};
-ghost use Rattle.nested_arrays_arrays.specs.AnyColumns.{FitsWidth};
+ghost use Rattle.nested_arrays_arrays.specs.AnyColumns.{column_of, FitsWidth, IsWhole};
 ghost use Rattle.nested_arrays_arrays.specs.Variants.{lies_well};
 
 use crate::fixed_lists::FixedSizeListArray;
@@ -48,9 +48,16 @@ pub struct DictionaryNode {
 
 /// An array of any type, which a contract sees as the column that it stores. It is sound at every depth.
 #[cycle(arrays)]
-#[derive(Debug, Drop)]
+#[derive(Debug)]
 pub struct AnyArray {
     pub node: Node,
+}
+
+impl Drop for AnyArray {
+    #[cycle(dropping)]
+    fn drop(self) {
+        let AnyArray { node: _ } = self;
+    }
 }
 
 impl Model for AnyArray {
@@ -94,6 +101,15 @@ impl Node {
 }
 
 impl AnyArray {
+    /// The array by its layout. Takes no memory.
+    pub fn into_node(self) -> Node
+        ensures value { column_of result ≡ self }
+        ensures whole { IsWhole result }
+    {
+        let AnyArray { node } = self;
+        node
+    }
+
     /// How many slots there are.
     #[cycle(counting)]
     #[tactic(auto, using(nested_arrays_parts::proofs::OffsetLists::spans_count))]

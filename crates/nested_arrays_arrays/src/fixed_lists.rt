@@ -20,12 +20,24 @@ use std::marker::Model;
 
 /// Lists of one size, one after another in a child (Arrow columnar format, "Fixed-Size List Layout"). A contract sees the column that it stores.
 #[cycle(arrays)]
-#[derive(Debug, Drop)]
+#[derive(Debug)]
 pub struct FixedSizeListArray {
     pub(crate) data_type: DataType,
     pub(crate) size: usize,
     pub(crate) values: Box<AnyArray>,
     pub(crate) validity: Option<Bitmap>,
+}
+
+impl Drop for FixedSizeListArray {
+    #[cycle(dropping)]
+    fn drop(self) {
+        let FixedSizeListArray {
+            data_type: _,
+            size: _,
+            values: _,
+            validity: _,
+        } = self;
+    }
 }
 
 impl Model for FixedSizeListArray {

@@ -19,12 +19,24 @@ use std::marker::Model;
 /// Maps, each a list of entries, structs of a key and a value, one after another in a child (Arrow columnar format, "Map"). A contract sees
 /// the column that it stores.
 #[cycle(arrays)]
-#[derive(Debug, Drop)]
+#[derive(Debug)]
 pub struct MapArray {
     pub(crate) data_type: DataType,
     pub(crate) offsets: OffsetsBuffer<i32>,
     pub(crate) field: Box<AnyArray>,
     pub(crate) validity: Option<Bitmap>,
+}
+
+impl Drop for MapArray {
+    #[cycle(dropping)]
+    fn drop(self) {
+        let MapArray {
+            data_type: _,
+            offsets: _,
+            field: _,
+            validity: _,
+        } = self;
+    }
 }
 
 impl Model for MapArray {

@@ -18,12 +18,24 @@ use std::marker::Model;
 
 /// Structs (Arrow columnar format, "Struct Layout").
 #[cycle(arrays)]
-#[derive(Debug, Drop)]
+#[derive(Debug)]
 pub struct StructArray {
     pub(crate) data_type: DataType,
     pub(crate) values: Vec<AnyArray>,
     pub(crate) validity: Option<Bitmap>,
     pub(crate) length: usize,
+}
+
+impl Drop for StructArray {
+    #[cycle(dropping)]
+    fn drop(self) {
+        let StructArray {
+            data_type: _,
+            values: _,
+            validity: _,
+            length: _,
+        } = self;
+    }
 }
 
 impl Model for StructArray {

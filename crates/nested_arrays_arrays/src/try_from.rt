@@ -93,7 +93,7 @@ impl TryFrom<AnyArray> for FlatArray {
     ghost try_from_gives = { TakesChildless };
 
     fn try_from(any: AnyArray) -> Result<Self, AnyArray> {
-        let AnyArray { node } = any;
+        let node = any.into_node();
         node.lies();
         match node.into_flat() {
             Ok(array) => {
@@ -111,7 +111,7 @@ impl TryFrom<AnyArray> for FixedSizeListArray {
     ghost try_from_gives = { TakesAs physical.FixedSizeList };
 
     fn try_from(any: AnyArray) -> Result<Self, AnyArray> {
-        let AnyArray { node } = any;
+        let node = any.into_node();
         node.lies();
         match node.into_fixed_size_list() {
             Ok(array) => {
@@ -129,7 +129,7 @@ impl TryFrom<AnyArray> for StructArray {
     ghost try_from_gives = { TakesAs physical.Struct };
 
     fn try_from(any: AnyArray) -> Result<Self, AnyArray> {
-        let AnyArray { node } = any;
+        let node = any.into_node();
         node.lies();
         match node.into_struct() {
             Ok(array) => {
@@ -147,7 +147,7 @@ impl TryFrom<AnyArray> for MapArray {
     ghost try_from_gives = { TakesAs physical.Map };
 
     fn try_from(any: AnyArray) -> Result<Self, AnyArray> {
-        let AnyArray { node } = any;
+        let node = any.into_node();
         node.lies();
         match node.into_map() {
             Ok(array) => {
@@ -165,7 +165,7 @@ impl TryFrom<AnyArray> for UnionArray {
     ghost try_from_gives = { TakesAs physical.Union };
 
     fn try_from(any: AnyArray) -> Result<Self, AnyArray> {
-        let AnyArray { node } = any;
+        let node = any.into_node();
         node.lies();
         match node.into_union() {
             Ok(array) => {

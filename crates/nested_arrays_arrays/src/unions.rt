@@ -20,12 +20,24 @@ use std::marker::Model;
 /// Slots each of one of several types, by its id: in a sparse union each child is as long as the union, in a dense one each slot has its
 /// place in its child (Arrow columnar format, "Union Layout"). A contract sees the column that it stores.
 #[cycle(arrays)]
-#[derive(Debug, Drop)]
+#[derive(Debug)]
 pub struct UnionArray {
     pub(crate) data_type: DataType,
     pub(crate) types: Buffer<i8>,
     pub(crate) offsets: Option<Buffer<i32>>,
     pub(crate) fields: Vec<AnyArray>,
+}
+
+impl Drop for UnionArray {
+    #[cycle(dropping)]
+    fn drop(self) {
+        let UnionArray {
+            data_type: _,
+            types: _,
+            offsets: _,
+            fields: _,
+        } = self;
+    }
 }
 
 impl Model for UnionArray {

@@ -26,11 +26,20 @@ use std::marker::Model;
 /// which all fit.
 ///
 /// A call that is refused changes nothing. Zeros or no bytes are stored for a null.
-#[derive(Drop)]
 pub struct FlatBuilder {
     data_type: DataType,
     marks: Marks,
     values: Values,
+}
+
+impl Drop for FlatBuilder {
+    fn drop(self) {
+        let FlatBuilder {
+            data_type: _,
+            marks: _,
+            values: _,
+        } = self;
+    }
 }
 
 impl Model for FlatBuilder {

@@ -3,8 +3,9 @@ use nested_arrays_dictionary_builders::cells::TryPushFrom;
 use nested_arrays_dictionary_builders::cells::builders::AnyMutableArray;
 use nested_arrays_dictionary_builders::cells::taken::MutableArray;
 use nested_arrays_dictionary_builders::flat_arrays::Utf8Array;
-use nested_arrays_dictionary_builders::nulls::arrays::{AnyArray, DictionaryNode, Node};
-use nested_arrays_dictionary_builders::nulls::parts::FlatNode;
+use nested_arrays_dictionary_builders::nulls::Downcast;
+use nested_arrays_dictionary_builders::nulls::arrays::{AnyArray, Node, StructArray};
+use nested_arrays_dictionary_builders::nulls::flat::PrimitiveKind;
 use nested_arrays_scalars::AnyScalar;
 use std::alloc::Global;
 use std::test::Fail;
@@ -20,50 +21,28 @@ fn push_text(builder: &mut AnyMutableArray, alloc: Global, text: &str) -> Result
 
 /// Whether an array is a dictionary with these keys and these texts.
 fn stores(array: AnyArray, keys: &[i8], texts: &[&str]) -> bool {
-    let Node::Dictionary(
-        DictionaryNode {
-            data_type,
-            keys: own,
-            values,
-        },
-    ) = array.node
-    else {
+    let Node::Dictionary(node) = &array.node else {
         return false;
     };
-    drop(data_type);
-    let Ok(own) = own.into_array::<i8>() else {
+    let Some(own) = i8::downcast_ref(&node.keys) else {
         return false;
     };
-    let Node::Flat(values) = Box::into_inner(values).node else {
+    let Some(values) = Utf8Array::<i32>::downcast_ref(&node.values) else {
         return false;
     };
-    let FlatNode::Utf8(values) = values.node else {
-        return false;
-    };
-    let found = own.values().as_slice() == keys && are_texts(&values, texts);
-    drop(own);
-    drop(values);
-    found
+    own.values().as_slice() == keys && are_texts(values, texts)
 }
 
 /// The last key of a dictionary whose keys have 8 bits.
 fn last_key(array: AnyArray) -> Option<i8> {
-    let Node::Dictionary(node) = array.node else {
+    let Node::Dictionary(node) = &array.node else {
         return None;
     };
-    let DictionaryNode {
-        data_type,
-        keys,
-        values,
-    } = node;
-    drop(data_type);
-    drop(values);
-    let Ok(keys) = keys.into_array::<i8>() else {
-        return None;
-    };
-    let last = keys.values().as_slice().last().copied();
-    drop(keys);
-    last
+    i8::downcast_ref(&node.keys)?
+        .values()
+        .as_slice()
+        .last()
+        .copied()
 }
 
 fn are_texts(values: &Utf8Array<i32>, texts: &[&str]) -> bool {
@@ -139,17 +118,13 @@ fn a_refused_row_leaves_no_text(rt: HostRuntime) -> Result<(), Fail> {
     drop(refused);
     builder.try_push_scalar(&row(rt.alloc(), "y", AnyScalar::Null)?)?;
     let array = builder.as_box(rt.alloc())?;
-    let Node::Struct(rows) = array.node else {
+    let Some(rows) = StructArray::downcast_ref(&array) else {
         return Err(Fail::from("an array of structs"));
     };
-    let (data_type, mut fields, validity) = rows.into_data();
-    drop(data_type);
-    drop(validity);
-    if fields.len() != 2 {
+    let [first, _] = rows.values() else {
         return Err(Fail::from("two fields"));
-    }
-    let first = fields.remove(0);
-    drop(fields);
+    };
+    let first = first.clone()?;
     assert!(rt; stores(first, &[0], &["y"]));
     drop(builder);
     Ok(())

@@ -47,7 +47,7 @@ fn push_list(
 
 /// The lists of an array of lists.
 fn lists_of(array: AnyArray) -> Option<ListNode> {
-    match array.node {
+    match array.into_node() {
         Node::List(lists) => Some(lists),
         _ => None,
     }

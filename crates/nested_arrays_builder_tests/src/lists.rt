@@ -1,8 +1,9 @@
 use columnar_memory_types::{Boxed, DataType, Error, Field, Items, Text};
 use nested_arrays_dictionary_builders::cells::builders::AnyMutableArray;
 use nested_arrays_dictionary_builders::cells::taken::MutableArray;
-use nested_arrays_dictionary_builders::nulls::arrays::{AnyArray, Node};
-use nested_arrays_dictionary_builders::nulls::parts::FlatNode;
+use nested_arrays_dictionary_builders::flat_arrays::PrimitiveArray;
+use nested_arrays_dictionary_builders::nulls::Downcast;
+use nested_arrays_dictionary_builders::nulls::arrays::{AnyArray, FixedSizeListArray, StructArray};
 use nested_arrays_scalars::AnyScalar;
 use std::alloc::Global;
 use std::test::Fail;
@@ -24,22 +25,14 @@ fn list_of(alloc: Global, count: i32) -> Result<AnyScalar, Error> {
 
 /// Whether an array is of these numbers, with these bytes as its mask.
 fn holds(array: AnyArray, values: &[i32], mask: &[u8]) -> bool {
-    let Node::Flat(flat) = array.node else {
+    let Some(numbers) = PrimitiveArray::<i32>::downcast_ref(&array) else {
         return false;
     };
-    let FlatNode::Primitive(numbers) = flat.node else {
-        return false;
-    };
-    let Ok(numbers) = numbers.into_array::<i32>() else {
-        return false;
-    };
-    let same = numbers.values().as_slice() == values;
     let masked = match numbers.validity() {
         Some(bits) => bits.as_slice().0 == mask,
         None => mask.is_empty(),
     };
-    drop(numbers);
-    same && masked
+    masked && numbers.values().as_slice() == values
 }
 
 #[test]
@@ -48,11 +41,10 @@ fn zeros_stand_under_the_items_of_a_null(rt: HostRuntime) -> Result<(), Fail> {
     builder.try_push_scalar(&list_of(rt.alloc(), 2)?)?;
     builder.push_null()?;
     let array = builder.as_box(rt.alloc())?;
-    let Node::FixedSizeList(lists) = array.node else {
+    let Some(lists) = FixedSizeListArray::downcast_ref(&array) else {
         return Err(Fail::from("an array of lists"));
     };
     let items = lists.values().clone()?;
-    drop(lists);
     assert!(rt; holds(items, &[1, 2, 0, 0], &[3]));
     drop(builder);
     Ok(())
@@ -73,19 +65,10 @@ fn numbered(alloc: Global) -> Result<DataType, Error> {
 
 /// How many slots each of the two fields of an array of structs has.
 fn field_lengths(array: AnyArray) -> Option<(usize, usize)> {
-    let Node::Struct(rows) = array.node else {
-        return None;
-    };
-    let (data_type, fields, validity) = rows.into_data();
-    drop(data_type);
-    drop(validity);
-    let found = if fields.len() == 2 {
-        Some((fields[0].len(), fields[1].len()))
-    } else {
-        None
-    };
-    drop(fields);
-    found
+    match StructArray::downcast_ref(&array)?.values() {
+        [first, second] => Some((first.len(), second.len())),
+        _ => None,
+    }
 }
 
 /// A row of a number and of a list of three.

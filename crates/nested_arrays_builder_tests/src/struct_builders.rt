@@ -78,7 +78,7 @@ fn shape(array: StructArray) -> Option<(usize, usize, usize, Option<u8>)> {
 }
 
 fn shape_of_any(array: AnyArray) -> Option<(usize, usize, usize, Option<u8>)> {
-    match array.node {
+    match array.into_node() {
         Node::Struct(rows) => shape(rows),
         _ => None,
     }

@@ -20,7 +20,7 @@ impl TryFrom<AnyArray> for ListArray<i32> {
     ghost try_from_gives = { TakesAs physical.List };
 
     fn try_from(any: AnyArray) -> Result<Self, AnyArray> {
-        let AnyArray { node } = any;
+        let node = any.into_node();
         node.lies();
         match node.into_list() {
             Ok(node) => small_lists(node),
@@ -35,7 +35,7 @@ impl TryFrom<AnyArray> for ListArray<i64> {
     ghost try_from_gives = { TakesAs physical.LargeList };
 
     fn try_from(any: AnyArray) -> Result<Self, AnyArray> {
-        let AnyArray { node } = any;
+        let node = any.into_node();
         node.lies();
         match node.into_list() {
             Ok(node) => large_lists(node),
@@ -50,7 +50,7 @@ impl<K: DictionaryKey> TryFrom<AnyArray> for DictionaryArray<K> {
     ghost try_from_gives = { TakesAs (physical.Dictionary K.KEY_TYPE) };
 
     fn try_from(any: AnyArray) -> Result<Self, AnyArray> {
-        let AnyArray { node } = any;
+        let node = any.into_node();
         node.lies();
         match node.into_dictionary() {
             Ok(node) => with_keys(node),

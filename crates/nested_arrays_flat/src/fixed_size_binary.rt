@@ -22,12 +22,23 @@ use std::marker::Model;
 
 /// Byte strings of one size, any of which may be null (Arrow columnar format, "Fixed-size Primitive Layout"). A contract sees the column
 /// that it stores. A clone and a cut share the memory.
-#[derive(Debug, Drop)]
+#[derive(Debug)]
 pub struct FixedSizeBinaryArray {
     data_type: DataType,
     size: usize,
     values: Buffer<u8>,
     validity: Option<Bitmap>,
+}
+
+impl Drop for FixedSizeBinaryArray {
+    fn drop(self) {
+        let FixedSizeBinaryArray {
+            data_type: _,
+            size: _,
+            values: _,
+            validity: _,
+        } = self;
+    }
 }
 
 impl Model for FixedSizeBinaryArray {

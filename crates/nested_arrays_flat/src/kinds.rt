@@ -27,7 +27,7 @@ impl PrimitiveKind for i8 {
     fn unwrap(any: AnyPrimitive) -> Result<Parts<i8>, AnyPrimitive>
         ensures { MatchResult result (λ parts. ArePartsOf kinds.Int8 one any parts.0 parts.1 parts.2) (IsLeft kinds.Int8 any) }
     {
-        match any.node {
+        match any.into_node() {
             PrimitiveNode::Int8(array) => Ok(array.into_inner()),
             node => Err(AnyPrimitive { node }),
         }
@@ -58,7 +58,7 @@ impl PrimitiveKind for i16 {
     fn unwrap(any: AnyPrimitive) -> Result<Parts<i16>, AnyPrimitive>
         ensures { MatchResult result (λ parts. ArePartsOf kinds.Int16 one any parts.0 parts.1 parts.2) (IsLeft kinds.Int16 any) }
     {
-        match any.node {
+        match any.into_node() {
             PrimitiveNode::Int16(array) => Ok(array.into_inner()),
             node => Err(AnyPrimitive { node }),
         }
@@ -89,7 +89,7 @@ impl PrimitiveKind for i32 {
     fn unwrap(any: AnyPrimitive) -> Result<Parts<i32>, AnyPrimitive>
         ensures { MatchResult result (λ parts. ArePartsOf kinds.Int32 one any parts.0 parts.1 parts.2) (IsLeft kinds.Int32 any) }
     {
-        match any.node {
+        match any.into_node() {
             PrimitiveNode::Int32(array) => Ok(array.into_inner()),
             node => Err(AnyPrimitive { node }),
         }
@@ -120,7 +120,7 @@ impl PrimitiveKind for i64 {
     fn unwrap(any: AnyPrimitive) -> Result<Parts<i64>, AnyPrimitive>
         ensures { MatchResult result (λ parts. ArePartsOf kinds.Int64 one any parts.0 parts.1 parts.2) (IsLeft kinds.Int64 any) }
     {
-        match any.node {
+        match any.into_node() {
             PrimitiveNode::Int64(array) => Ok(array.into_inner()),
             node => Err(AnyPrimitive { node }),
         }
@@ -151,7 +151,7 @@ impl PrimitiveKind for i128 {
     fn unwrap(any: AnyPrimitive) -> Result<Parts<i128>, AnyPrimitive>
         ensures { MatchResult result (λ parts. ArePartsOf kinds.Int128 one any parts.0 parts.1 parts.2) (IsLeft kinds.Int128 any) }
     {
-        match any.node {
+        match any.into_node() {
             PrimitiveNode::Int128(array) => Ok(array.into_inner()),
             node => Err(AnyPrimitive { node }),
         }
@@ -182,7 +182,7 @@ impl PrimitiveKind for i256 {
     fn unwrap(any: AnyPrimitive) -> Result<Parts<i256>, AnyPrimitive>
         ensures { MatchResult result (λ parts. ArePartsOf kinds.Int256 one any parts.0 parts.1 parts.2) (IsLeft kinds.Int256 any) }
     {
-        match any.node {
+        match any.into_node() {
             PrimitiveNode::Int256(array) => Ok(array.into_inner()),
             node => Err(AnyPrimitive { node }),
         }
@@ -213,7 +213,7 @@ impl PrimitiveKind for u8 {
     fn unwrap(any: AnyPrimitive) -> Result<Parts<u8>, AnyPrimitive>
         ensures { MatchResult result (λ parts. ArePartsOf kinds.UInt8 (λ x. one (pos x)) any parts.0 parts.1 parts.2) (IsLeft kinds.UInt8 any) }
     {
-        match any.node {
+        match any.into_node() {
             PrimitiveNode::UInt8(array) => Ok(array.into_inner()),
             node => Err(AnyPrimitive { node }),
         }
@@ -244,7 +244,7 @@ impl PrimitiveKind for u16 {
     fn unwrap(any: AnyPrimitive) -> Result<Parts<u16>, AnyPrimitive>
         ensures { MatchResult result (λ parts. ArePartsOf kinds.UInt16 (λ x. one (pos x)) any parts.0 parts.1 parts.2) (IsLeft kinds.UInt16 any) }
     {
-        match any.node {
+        match any.into_node() {
             PrimitiveNode::UInt16(array) => Ok(array.into_inner()),
             node => Err(AnyPrimitive { node }),
         }
@@ -275,7 +275,7 @@ impl PrimitiveKind for u32 {
     fn unwrap(any: AnyPrimitive) -> Result<Parts<u32>, AnyPrimitive>
         ensures { MatchResult result (λ parts. ArePartsOf kinds.UInt32 (λ x. one (pos x)) any parts.0 parts.1 parts.2) (IsLeft kinds.UInt32 any) }
     {
-        match any.node {
+        match any.into_node() {
             PrimitiveNode::UInt32(array) => Ok(array.into_inner()),
             node => Err(AnyPrimitive { node }),
         }
@@ -306,7 +306,7 @@ impl PrimitiveKind for u64 {
     fn unwrap(any: AnyPrimitive) -> Result<Parts<u64>, AnyPrimitive>
         ensures { MatchResult result (λ parts. ArePartsOf kinds.UInt64 (λ x. one (pos x)) any parts.0 parts.1 parts.2) (IsLeft kinds.UInt64 any) }
     {
-        match any.node {
+        match any.into_node() {
             PrimitiveNode::UInt64(array) => Ok(array.into_inner()),
             node => Err(AnyPrimitive { node }),
         }
@@ -337,7 +337,7 @@ impl PrimitiveKind for days_ms {
     fn unwrap(any: AnyPrimitive) -> Result<Parts<days_ms>, AnyPrimitive>
         ensures { MatchResult result (λ parts. ArePartsOf kinds.DaysMs (λ x. two x.0 x.1) any parts.0 parts.1 parts.2) (IsLeft kinds.DaysMs any) }
     {
-        match any.node {
+        match any.into_node() {
             PrimitiveNode::DaysMs(array) => Ok(array.into_inner()),
             node => Err(AnyPrimitive { node }),
         }
@@ -373,7 +373,7 @@ impl PrimitiveKind for months_days_ns {
         ensures { MatchResult result (λ parts. ArePartsOf kinds.MonthDayNano (λ x. three x.0 x.1 x.2) any parts.0 parts.1 parts.2)
             (IsLeft kinds.MonthDayNano any) }
     {
-        match any.node {
+        match any.into_node() {
             PrimitiveNode::MonthsDaysNs(array) => Ok(array.into_inner()),
             node => Err(AnyPrimitive { node }),
         }

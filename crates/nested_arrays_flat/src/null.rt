@@ -14,10 +14,19 @@ use std::alloc::AllocError;
 use std::marker::Model;
 
 /// Nulls alone, which take no memory (Arrow columnar format, "Null Layout"). A contract sees the column that it stores.
-#[derive(Debug, Drop)]
+#[derive(Debug)]
 pub struct NullArray {
     data_type: DataType,
     length: usize,
+}
+
+impl Drop for NullArray {
+    fn drop(self) {
+        let NullArray {
+            data_type: _,
+            length: _,
+        } = self;
+    }
 }
 
 impl Model for NullArray {

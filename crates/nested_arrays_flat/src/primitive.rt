@@ -7,7 +7,7 @@ ghost use Rattle.nested_arrays_columns.specs.SoundColumns.{is_sound, mask_fits};
 ghost use Rattle.nested_arrays_columns.specs.StoredColumns.{column_len, column_type, cut, is_valid_at};
 ghost use Rattle.nested_arrays_flat.specs.ColumnMasks.{column_mask, unset_in, with_mask, ReplacesMask};
 ghost use Rattle.nested_arrays_flat.specs.FlatColumns.{primitive_column};
-ghost use Rattle.nested_arrays_flat.specs.Primitives.{is_primitive};
+ghost use Rattle.nested_arrays_flat.specs.Primitives.{column_of, is_primitive};
 ghost use Rattle.nested_arrays_flat.specs.Taken.{ArePartsOf, IsInside, IsLeft, Shows, Takes};
 
 use crate::masks::{is_mask_of, mark_at, unset_marks};
@@ -56,9 +56,15 @@ macro_rules! with_array {
 }
 
 /// An array of numbers of any kind (Arrow columnar format, "Fixed-size Primitive Layout"). A contract sees the column that it stores.
-#[derive(Debug, Drop)]
+#[derive(Debug)]
 pub struct AnyPrimitive {
     pub node: PrimitiveNode,
+}
+
+impl Drop for AnyPrimitive {
+    fn drop(self) {
+        let AnyPrimitive { node: _ } = self;
+    }
 }
 
 impl Model for AnyPrimitive {
@@ -79,6 +85,15 @@ impl Model for AnyPrimitive {
 }
 
 impl AnyPrimitive {
+    /// The array by its kind.
+    pub(crate) fn into_node(self) -> PrimitiveNode
+        ensures value { column_of result ≡ self }
+        ensures whole { is_sound (column_of result) ≡ true }
+    {
+        let AnyPrimitive { node } = self;
+        node
+    }
+
     /// An array of numbers as one of any kind. Takes no memory.
     pub fn from_array<T: PrimitiveKind>(array: PrimitiveArray<T>) -> Self
         ensures { result ≡ primitive_column T.PRIMITIVE T.numbers array }

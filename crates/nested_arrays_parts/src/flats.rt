@@ -5,6 +5,7 @@ ghost use Rattle.nested_arrays_flat.specs.columns.SoundColumns.{is_sound};
 ghost use Rattle.nested_arrays_flat.specs.columns.StoredColumns.{column_len, column_type, cut};
 ghost use Rattle.nested_arrays_flat.specs.FlatColumns.{binary_column, boolean_column, text_column};
 ghost use Rattle.nested_arrays_parts.specs.Childless.{is_childless};
+ghost use Rattle.nested_arrays_parts.specs.FlatNodes.{flat_column};
 
 use nested_arrays_flat::columnar_memory::{DataType, Offset};
 use nested_arrays_flat::flat_arrays::{BinaryArray, BooleanArray, Utf8Array};
@@ -25,9 +26,15 @@ pub enum FlatNode {
 }
 
 /// An array of any type without children, which a contract sees as the column that it stores.
-#[derive(Debug, Drop)]
+#[derive(Debug)]
 pub struct FlatArray {
     pub node: FlatNode,
+}
+
+impl Drop for FlatArray {
+    fn drop(self) {
+        let FlatArray { node: _ } = self;
+    }
 }
 
 impl Model for FlatArray {
@@ -48,6 +55,15 @@ impl Model for FlatArray {
 }
 
 impl FlatArray {
+    /// The array by its layout.
+    pub(crate) fn into_node(self) -> FlatNode
+        ensures value { flat_column result ≡ self }
+        ensures whole { is_sound (flat_column result) ≡ true }
+    {
+        let FlatArray { node } = self;
+        node
+    }
+
     /// How many slots there are.
     #[tactic(auto, using(crate::proofs::FlatCuts::strings_len, crate::proofs::FlatCuts::texts_len))]
     pub fn len(&self) -> usize

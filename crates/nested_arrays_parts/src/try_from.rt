@@ -116,7 +116,7 @@ impl TryFrom<FlatArray> for AnyPrimitive {
     ghost try_from_gives = { TakesNumbers };
 
     fn try_from(flat: FlatArray) -> Result<Self, FlatArray> {
-        let FlatArray { node } = flat;
+        let node = flat.into_node();
         node.lies();
         match node.into_primitive() {
             Ok(array) => {
@@ -150,7 +150,7 @@ impl TryFrom<FlatArray> for NullArray {
     ghost try_from_gives = { TakesKind (λ array. array) physical.Null };
 
     fn try_from(flat: FlatArray) -> Result<Self, FlatArray> {
-        let FlatArray { node } = flat;
+        let node = flat.into_node();
         node.lies();
         match node.into_null() {
             Ok(array) => {
@@ -168,7 +168,7 @@ impl TryFrom<FlatArray> for BooleanArray {
     ghost try_from_gives = { TakesKind boolean_column physical.Boolean };
 
     fn try_from(flat: FlatArray) -> Result<Self, FlatArray> {
-        let FlatArray { node } = flat;
+        let node = flat.into_node();
         node.lies();
         match node.into_boolean() {
             Ok(array) => {
@@ -186,7 +186,7 @@ impl TryFrom<FlatArray> for BinaryArray<i32> {
     ghost try_from_gives = { TakesKind binary_column physical.Binary };
 
     fn try_from(flat: FlatArray) -> Result<Self, FlatArray> {
-        let FlatArray { node } = flat;
+        let node = flat.into_node();
         node.lies();
         match node.into_binary() {
             Ok(array) => {
@@ -204,7 +204,7 @@ impl TryFrom<FlatArray> for BinaryArray<i64> {
     ghost try_from_gives = { TakesKind binary_column physical.LargeBinary };
 
     fn try_from(flat: FlatArray) -> Result<Self, FlatArray> {
-        let FlatArray { node } = flat;
+        let node = flat.into_node();
         node.lies();
         match node.into_large_binary() {
             Ok(array) => {
@@ -222,7 +222,7 @@ impl TryFrom<FlatArray> for FixedSizeBinaryArray {
     ghost try_from_gives = { TakesKind (λ array. array) physical.FixedSizeBinary };
 
     fn try_from(flat: FlatArray) -> Result<Self, FlatArray> {
-        let FlatArray { node } = flat;
+        let node = flat.into_node();
         node.lies();
         match node.into_fixed_size_binary() {
             Ok(array) => {
@@ -240,7 +240,7 @@ impl TryFrom<FlatArray> for Utf8Array<i32> {
     ghost try_from_gives = { TakesKind text_column physical.Utf8 };
 
     fn try_from(flat: FlatArray) -> Result<Self, FlatArray> {
-        let FlatArray { node } = flat;
+        let node = flat.into_node();
         node.lies();
         match node.into_utf8() {
             Ok(array) => {
@@ -258,7 +258,7 @@ impl TryFrom<FlatArray> for Utf8Array<i64> {
     ghost try_from_gives = { TakesKind text_column physical.LargeUtf8 };
 
     fn try_from(flat: FlatArray) -> Result<Self, FlatArray> {
-        let FlatArray { node } = flat;
+        let node = flat.into_node();
         node.lies();
         match node.into_large_utf8() {
             Ok(array) => {

@@ -16,11 +16,20 @@ use std::marker::Model;
 
 /// A schema, and rows under it, batch by batch: a contract sees the schema, and what each column of each batch stores. Arrays are shared between
 /// a table and what is made of it. The schema may be written, and is in its one form. Without fields there are no rows.
-#[derive(Drop)]
 pub struct Table {
     schema: Schema,
     batches: Vec<Chunk<AnyArray>>,
     rows: usize,
+}
+
+impl Drop for Table {
+    fn drop(self) {
+        let Table {
+            schema: _,
+            batches: _,
+            rows: _,
+        } = self;
+    }
 }
 
 impl Model for Table {

@@ -21,10 +21,18 @@ use tables_chunks::{Fault, GrowingTable, Table};
 /// rows that are open, as lists of slots.
 ///
 /// The schema may be sealed, and is in its one form. A row that is pushed is open until its batch is ended.
-#[derive(Drop)]
 pub struct TableBuilder {
     table: GrowingTable,
     columns: Vec<AnyMutableArray>,
+}
+
+impl Drop for TableBuilder {
+    fn drop(self) {
+        let TableBuilder {
+            table: _,
+            columns: _,
+        } = self;
+    }
 }
 
 impl Model for TableBuilder {
