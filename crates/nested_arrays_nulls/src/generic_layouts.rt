@@ -7,8 +7,9 @@ ghost use Rattle.nested_arrays_iterators.specs.generic.ListTypes.{list_layout};
 ghost use Rattle.nested_arrays_nulls.specs.NullAnswers.{IsMade};
 ghost use Rattle.nested_arrays_nulls.specs.NullColumns.{no_items, no_marks};
 
+use crate::layouts::no_lists;
 use nested_arrays_iterators::arrays::AnyArray;
-use nested_arrays_iterators::columnar_memory::{Bitmap, DataType, Offset, Offsets, Result};
+use nested_arrays_iterators::columnar_memory::{DataType, Offset, Result};
 use nested_arrays_iterators::flat_arrays::PrimitiveArray;
 use nested_arrays_iterators::generic::{DictionaryArray, DictionaryKey, ListArray};
 use std::alloc::Global;
@@ -23,9 +24,10 @@ pub(crate) fn lists<O: Offset>(
     requires { physical_type data_type ≡ list_layout O.IS_LARGE }
     ensures { IsMade (lists data_type (no_marks length) (no_items length) items) result }
 {
-    let offsets = Offsets::<O>::new_zeroed(alloc, length)?.freeze()?;
-    let mask = Bitmap::new_zeroed(alloc, length)?;
-    ListArray::try_new(data_type, offsets, Box::new(alloc, items)?, Some(mask))
+    let parts = no_lists(alloc, length)?;
+    let items = Box::new(alloc, items)?;
+    let (offsets, mask) = parts;
+    ListArray::try_new(data_type, offsets, items, Some(mask))
 }
 
 /// So many nulls in place of keys of these values.

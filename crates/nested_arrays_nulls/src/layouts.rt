@@ -1,5 +1,5 @@
 //! Nulls with children, which are given.
-ghost use Rattle.std.specs.Prelude.{◌≡◌, ◌≤◌, ◌^◌, All, pos, replicate};
+ghost use Rattle.std.specs.Prelude.{◌≡◌, ◌≤◌, ◌^◌, All, false, pos, replicate};
 ghost use Rattle.nested_arrays_iterators.specs.columnar_memory.Layouts.{physical_type};
 ghost use Rattle.nested_arrays_iterators.specs.columnar_memory.Results.{OrOutOfMemory};
 ghost use Rattle.nested_arrays_iterators.specs.columnar_memory.declared.PhysicalType.TheVariants as physical;
@@ -13,12 +13,24 @@ use nested_arrays_iterators::arrays::{
     AnyArray, FixedSizeListArray, MapArray, StructArray, UnionArray,
 };
 use nested_arrays_iterators::columnar_memory::{
-    Bitmap, Buffer, DataType, Error, Offsets, Result, UnionMode,
+    Bitmap, Buffer, DataType, Error, Offset, Offsets, OffsetsBuffer, Result, UnionMode,
 };
 use std::alloc::Global;
 
 /// How many slots a dense union may have, whose offsets have 31 bits.
 const DENSE_SLOTS: usize = 0x8000_0000;
+
+/// The offsets of so many lists without items, and a mask without a value.
+pub(crate) fn no_lists<O: Offset>(
+    alloc: Global,
+    length: usize,
+) -> Result<(OffsetsBuffer<O>, Bitmap)>
+    ensures { OrOutOfMemory result (λ parts. (parts.0 ≡ record { start = 0; lengths = replicate length 0 }) × (parts.1 ≡ replicate length false)) }
+{
+    let offsets = Offsets::<O>::new_zeroed(alloc, length)?.freeze()?;
+    let mask = Bitmap::new_zeroed(alloc, length)?;
+    Ok((offsets, mask))
+}
 
 /// So many nulls in place of maps of these entries.
 pub(crate) fn maps(
@@ -30,9 +42,10 @@ pub(crate) fn maps(
     requires { physical_type data_type ≡ physical.Map }
     ensures { IsMade (lists data_type (no_marks length) (no_items length) entries) result }
 {
-    let offsets = Offsets::<i32>::new_zeroed(alloc, length)?.freeze()?;
-    let mask = Bitmap::new_zeroed(alloc, length)?;
-    MapArray::try_new(data_type, offsets, Box::new(alloc, entries)?, Some(mask))
+    let parts = no_lists(alloc, length)?;
+    let entries = Box::new(alloc, entries)?;
+    let (offsets, mask) = parts;
+    MapArray::try_new(data_type, offsets, entries, Some(mask))
 }
 
 /// So many nulls in place of lists of one size, of these items.
