@@ -54,15 +54,6 @@ impl<T: NativeType> Eq for PrimitiveArray<T> {
 }
 
 impl BooleanArray {
-    /// Whether a slot is the same as another's at its place.
-    fn has_slot_of(&self, other: &BooleanArray, i: usize) -> bool
-        requires inside { i < length self.now.values }
-        requires inside_other { i < length other.now.values }
-        ensures { IsTrue result ↔ (slice_get (slots_of self.now) i ≡ slice_get (slots_of other.now) i) }
-    {
-        self.slot(i) == other.slot(i)
-    }
-
     /// Whether the slots are the same as another's.
     #[tactic(auto, using(crate::proofs::SameSlots::same_slots))]
     fn has_slots_of(&self, other: &BooleanArray) -> bool
@@ -72,7 +63,7 @@ impl BooleanArray {
             return false;
         }
         for i in 0..self.len() {
-            if !self.has_slot_of(other, i) {
+            if self.slot(i) != other.slot(i) {
                 return false;
             }
         }

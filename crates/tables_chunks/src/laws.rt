@@ -24,8 +24,7 @@ pub fn cuts_and_choices_commute()
     ensures { CutsAndChoicesCommute }
 {}
 
-/// Batches of one width, with a column, have the same rows exactly where each of their columns has the same slots, wherever the batches are
-/// divided.
+/// Batches of one width, with a column, have the same rows exactly where each column has the same slots, wherever they are divided.
 #[tactic(auto, using(crate::proofs::ColumnsOfRows::rows_are_columns))]
 pub fn rows_are_columns()
     ensures { RowsAreColumns }

@@ -69,8 +69,7 @@ fn behind(batches: &[Chunk<AnyArray>], place: Place, count: usize) -> Place
     }
 }
 
-/// Whether batches have the same rows as others, of which there are as many: window by window, each as long as the shorter of what two
-/// batches have left.
+/// Whether batches have the rows of others with as many: window by window, each as long as the shorter of what two batches have left.
 fn same_rows(left: &[Chunk<AnyArray>], right: &[Chunk<AnyArray>], steps: &mut Steps) -> bool
     requires { AreAlike left.now right.now }
     ensures same { IsTrue result ↔ (stored_rows left.now ≡ stored_rows right.now) }

@@ -49,8 +49,7 @@ impl Model for Table {
 impl Table {
     /// The table of some batches under a schema, in order, empty ones too. No memory is taken.
     ///
-    /// The schema may be written and is in its one form, which `is_table_schema` tests, and each batch has a column a field, of the field's type,
-    /// which `fits_schema` tests.
+    /// The schema may be written and is in its one form, as `is_table_schema` tests; each batch has a column a field, as `fits_schema` tests.
     ///
     /// # Errors
     /// - `TooManyRows`: the number of rows doesn't fit 64 bits.

@@ -279,8 +279,7 @@ fn write_whole<W: Write + Faults>(
     outcome(written, is_memory, before, writer.faults())
 }
 
-/// Writes a schema and batches as a file, with the faults of tables. What is written reads as these batches, also as a stream without its first eight
-/// bytes.
+/// Writes a schema and batches as a file, with the faults of tables. It reads as these batches, also as a stream without its first eight bytes.
 fn write_batches<W: Write + Faults>(
     alloc: Global,
     writer: &mut W,
