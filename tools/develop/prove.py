@@ -19,7 +19,7 @@ LANES = int(os.environ.get('LANES') or len(os.sched_getaffinity(0)))
 FIXED = 1500
 FREE = 8_000_000
 # How much of the processors packages get that stand side by side, by the `nice` of their sessions: what most others wait for, and what comes next.
-SHARES = -10, -5, 19
+SHARES = -10, -5, 5, 19
 
 
 class Packages:
