@@ -62,8 +62,7 @@ fn second_text(alloc: Global) -> Result<MutableUtf8Array<i32>, Error> {
     places.push(1)?;
     places.push(2)?;
     bytes.extend_from_slice(b"ab")?;
-    let offsets = Offsets::try_from(places)?;
-    MutableUtf8Array::try_new(DataType::Utf8, offsets, bytes, None)
+    MutableUtf8Array::try_new(DataType::Utf8, Offsets::try_from(places)?, bytes, None)
 }
 
 /// How many bytes the column of that text has, and whether it is that text.

@@ -9,11 +9,10 @@ use std::test::*;
 #[test]
 fn lists_of_numbers(rt: HostRuntime) -> Result<(), Fail> {
     let alloc = rt.alloc();
-    let ids = no_ids(alloc)?;
     let found = column(
         alloc,
         list(alloc, DataType::Int8)?,
-        &ids,
+        &no_ids(alloc)?,
         &Dictionaries::new(alloc),
         MetadataVersion::V5,
         &[(2, 1), (3, 0)],
@@ -30,11 +29,10 @@ fn union_of(
     version: MetadataVersion,
     buffers: &[(i64, i64)],
 ) -> Result<AnyArray, Error> {
-    let ids = no_ids(alloc)?;
     column(
         alloc,
         DataType::Union(one_field(alloc, DataType::Int32)?, None, UnionMode::Sparse),
-        &ids,
+        &no_ids(alloc)?,
         &Dictionaries::new(alloc),
         version,
         &[(1, 0), (1, 0)],
@@ -59,11 +57,11 @@ fn lists_of_nulls_are_as_many_as_their_nodes_say(rt: HostRuntime) -> Result<(), 
     let (ids, none) = (no_ids(alloc)?, Dictionaries::new(alloc));
     let version = MetadataVersion::V5;
     let item = Boxed::new(alloc, field(alloc, DataType::Null)?)?;
-    let lists = Box::new(alloc, DataType::FixedSizeList(item, 2_147_483_647))?;
+    let lists = DataType::FixedSizeList(item, 2_147_483_647);
     let many = &[(4_294_967_296, 0), (9_223_372_032_559_808_512, 0)];
     let found = column(
         alloc,
-        (*lists).clone()?,
+        lists.clone()?,
         &ids,
         &none,
         version,
@@ -73,7 +71,6 @@ fn lists_of_nulls_are_as_many_as_their_nodes_say(rt: HostRuntime) -> Result<(), 
     )?;
     assert_eq!(rt; found.len(), 4_294_967_296);
     let more = &[(8_589_934_592, 0), (9_223_372_036_854_775_807, 0)];
-    let lists = Box::into_inner(lists);
     let refused = column(alloc, lists, &ids, &none, version, more, &[(0, 0)], &[]);
     assert!(rt; matches!(refused, Err(Error::OutOfSpec(_))));
     Ok(())
@@ -84,12 +81,11 @@ fn a_struct_has_a_validity_buffer(rt: HostRuntime) -> Result<(), Fail> {
     let alloc = rt.alloc();
     let (ids, none) = (no_ids(alloc)?, Dictionaries::new(alloc));
     let version = MetadataVersion::V5;
-    let fields = one_field(alloc, DataType::Null)?;
-    let records = Box::new(alloc, DataType::Struct(fields))?;
+    let records = DataType::Struct(one_field(alloc, DataType::Null)?);
     let lengths = &[(2, 0), (2, 2)];
     let refused = column(
         alloc,
-        (*records).clone()?,
+        records.clone()?,
         &ids,
         &none,
         version,
@@ -100,7 +96,7 @@ fn a_struct_has_a_validity_buffer(rt: HostRuntime) -> Result<(), Fail> {
     assert!(rt; matches!(refused, Err(Error::OutOfSpec(_))));
     let found = column(
         alloc,
-        Box::into_inner(records),
+        records,
         &ids,
         &none,
         version,

@@ -48,15 +48,13 @@ fn records_of_a_dictionary_in_a_dictionary(rt: HostRuntime) -> Result<(), Fail> 
     let mut below = Items::new(alloc);
     below.push(id(1, Items::new(alloc)))?;
     let values = DataType::Struct(one_field(alloc, keyed(alloc, DataType::Utf8)?)?);
-    let values = Box::new(alloc, values)?;
-    let inside = below.clone()?;
-    let first = records(alloc, (*values).clone()?, inside, &standing)?;
+    let first = records(alloc, values.clone()?, below.clone()?, &standing)?;
     standing.insert(0, first)?;
-    let data_type = Box::new(alloc, keyed(alloc, Box::into_inner(values))?)?;
-    let (ids, place, one) = (id(0, below), &[(0, 0), (0, 1)], &[(1, 0)]);
+    let (data_type, ids, place) = (keyed(alloc, values)?, id(0, below), &[(0, 0), (0, 1)]);
+    let one = &[(1, 0)];
     let found = column(
         alloc,
-        (*data_type).clone()?,
+        data_type.clone()?,
         &ids,
         &standing,
         version,
@@ -65,7 +63,6 @@ fn records_of_a_dictionary_in_a_dictionary(rt: HostRuntime) -> Result<(), Fail> 
         &[0],
     )?;
     assert_eq!(rt; found.len(), 1);
-    let data_type = Box::into_inner(data_type);
     let refused = column(alloc, data_type, &ids, &standing, version, one, place, &[1]);
     assert!(rt; matches!(refused, Err(Error::OutOfSpec(_))));
     Ok(())

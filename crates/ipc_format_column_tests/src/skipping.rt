@@ -23,26 +23,16 @@ fn left(
     Ok((n.len(), b.len()))
 }
 
-/// The same of a type that is made for it.
-fn left_of(
-    alloc: Global,
-    data_type: DataType,
-    version: MetadataVersion,
-) -> Result<(usize, usize), Fail> {
-    let data_type = Box::new(alloc, data_type)?;
-    left(alloc, &data_type, version)
-}
-
 #[test]
 fn plain_columns(rt: HostRuntime) -> Result<(), Fail> {
     let alloc = rt.alloc();
     let v5 = MetadataVersion::V5;
-    assert_eq!(rt; left_of(alloc, DataType::Null, v5)?, (7, 8));
-    assert_eq!(rt; left_of(alloc, DataType::Boolean, v5)?, (7, 6));
-    assert_eq!(rt; left_of(alloc, DataType::Date32, v5)?, (7, 6));
-    assert_eq!(rt; left_of(alloc, DataType::LargeBinary, v5)?, (7, 5));
-    assert_eq!(rt; left_of(alloc, DataType::Utf8, v5)?, (7, 5));
-    assert_eq!(rt; left_of(alloc, DataType::FixedSizeBinary(3), v5)?, (7, 6));
+    assert_eq!(rt; left(alloc, &DataType::Null, v5)?, (7, 8));
+    assert_eq!(rt; left(alloc, &DataType::Boolean, v5)?, (7, 6));
+    assert_eq!(rt; left(alloc, &DataType::Date32, v5)?, (7, 6));
+    assert_eq!(rt; left(alloc, &DataType::LargeBinary, v5)?, (7, 5));
+    assert_eq!(rt; left(alloc, &DataType::Utf8, v5)?, (7, 5));
+    assert_eq!(rt; left(alloc, &DataType::FixedSizeBinary(3), v5)?, (7, 6));
     Ok(())
 }
 
@@ -51,24 +41,25 @@ fn nested_columns(rt: HostRuntime) -> Result<(), Fail> {
     let alloc = rt.alloc();
     let v5 = MetadataVersion::V5;
     let lists = list(alloc, list(alloc, DataType::Utf8)?)?;
-    assert_eq!(rt; left_of(alloc, lists, v5)?, (5, 1));
-    let fields = pair(alloc, DataType::Null, DataType::Int8)?;
-    assert_eq!(rt; left_of(alloc, DataType::Struct(fields), v5)?, (5, 5));
-    let fields = pair(alloc, DataType::Null, DataType::Int8)?;
-    let inner = Boxed::new(alloc, DataType::Struct(fields))?;
+    assert_eq!(rt; left(alloc, &lists, v5)?, (5, 1));
+    drop(lists);
+    let structs = DataType::Struct(pair(alloc, DataType::Null, DataType::Int8)?);
+    assert_eq!(rt; left(alloc, &structs, v5)?, (5, 5));
+    let inner = Boxed::new(alloc, structs)?;
     let extension = DataType::Extension(Text::from_str(alloc, "e")?, inner, None);
-    assert_eq!(rt; left_of(alloc, extension, v5)?, (5, 5));
+    assert_eq!(rt; left(alloc, &extension, v5)?, (5, 5));
+    drop(extension);
     Ok(())
 }
 
 #[test]
 fn unions_of_both_versions(rt: HostRuntime) -> Result<(), Fail> {
     let alloc = rt.alloc();
-    let sparse = Box::new(alloc, union(alloc, UnionMode::Sparse)?)?;
+    let sparse = union(alloc, UnionMode::Sparse)?;
     assert_eq!(rt; left(alloc, &sparse, MetadataVersion::V5)?, (5, 2));
     assert_eq!(rt; left(alloc, &sparse, MetadataVersion::V4)?, (5, 1));
     drop(sparse);
-    let dense = Box::new(alloc, union(alloc, UnionMode::Dense)?)?;
+    let dense = union(alloc, UnionMode::Dense)?;
     assert_eq!(rt; left(alloc, &dense, MetadataVersion::V5)?, (5, 1));
     assert_eq!(rt; left(alloc, &dense, MetadataVersion::V1)?, (5, 0));
     drop(dense);
@@ -80,7 +71,7 @@ fn short_queues(rt: HostRuntime) -> Result<(), Fail> {
     let alloc = rt.alloc();
     let mut n = nodes(alloc, &[(1, 0)])?;
     let mut b = buffers(alloc, &[(0, 0), (0, 0), (0, 0), (0, 0)])?;
-    let lists = Box::new(alloc, list(alloc, DataType::Int32)?)?;
+    let lists = list(alloc, DataType::Int32)?;
     assert!(rt; skip(&mut n, &lists, &mut b, MetadataVersion::V5).is_err());
     drop(lists);
     assert!(rt; skip_null(&mut n).is_err());
@@ -101,25 +92,24 @@ fn each_kind_by_its_own_call(rt: HostRuntime) -> Result<(), Fail> {
     let v5 = MetadataVersion::V5;
     let mut n = nodes(alloc, &[(1, 0); 12])?;
     let mut b = buffers(alloc, &[(0, 8); 20])?;
-    let lists = Box::new(alloc, list(alloc, DataType::Int32)?)?;
+    let lists = list(alloc, DataType::Int32)?;
     assert!(rt; skip_list::<i32>(&mut n, &lists, &mut b, v5).is_ok());
     assert!(rt; skip_list::<i64>(&mut n, &lists, &mut b, v5).is_err());
     assert!(rt; skip_map(&mut n, &lists, &mut b, v5).is_err());
     drop(lists);
     assert_eq!(rt; (n.len(), b.len()), (10, 16));
-    let fields = pair(alloc, DataType::Null, DataType::Int8)?;
-    let structs = Box::new(alloc, DataType::Struct(fields))?;
+    let structs = DataType::Struct(pair(alloc, DataType::Null, DataType::Int8)?);
     assert!(rt; skip_struct(&mut n, &structs, &mut b, v5).is_ok());
     assert!(rt; skip_union(&mut n, &structs, &mut b, v5).is_err());
     assert_eq!(rt; (n.len(), b.len()), (7, 13));
-    let entry = Boxed::new(alloc, field(alloc, Box::into_inner(structs))?)?;
-    let map = Box::new(alloc, DataType::Map(entry, false))?;
+    let entry = Boxed::new(alloc, field(alloc, structs)?)?;
+    let map = DataType::Map(entry, false);
     assert!(rt; skip_map(&mut n, &map, &mut b, v5).is_ok());
     assert!(rt; skip_struct(&mut n, &map, &mut b, v5).is_err());
     drop(map);
     assert_eq!(rt; (n.len(), b.len()), (3, 8));
     let item = Boxed::new(alloc, field(alloc, DataType::Boolean)?)?;
-    let fixed = Box::new(alloc, DataType::FixedSizeList(item, 2))?;
+    let fixed = DataType::FixedSizeList(item, 2);
     assert!(rt; skip_fixed_size_list(&mut n, &fixed, &mut b, v5).is_ok());
     assert!(rt; skip_fixed_size_list(&mut n, &DataType::Int8, &mut b, v5).is_err());
     drop(fixed);

@@ -1,6 +1,6 @@
 //! Columns of one kind.
 use crate::cases::{buffers, field, no_id, no_ids, nodes, one_field};
-use ipc_format_reading::columnar_memory::{Boxed, DataType, Error, Field, Items, UnionMode};
+use ipc_format_reading::columnar_memory::{Boxed, DataType, Error, Items, UnionMode};
 use ipc_format_reading::nested_arrays_core::Array;
 use ipc_format_reading::{
     Buffer, Dictionaries, FieldNode, InMemory, IpcField, MetadataVersion, read_fixed_size_list,
@@ -30,30 +30,29 @@ impl Sent {
     }
 }
 
-/// The entries of a map of numbers by numbers, and no ids beside its fields.
-fn map_of(alloc: Global) -> Result<(Boxed<Field>, IpcField), Error> {
+/// A map of numbers by numbers, and no ids beside its fields.
+fn map_of(alloc: Global) -> Result<(DataType, IpcField), Error> {
     let mut fields = one_field(alloc, DataType::Int8)?;
     fields.push(field(alloc, DataType::Int8)?)?;
-    let entry = Boxed::new(alloc, field(alloc, DataType::Struct(fields))?)?;
+    let entry = field(alloc, DataType::Struct(fields))?;
     let mut below = Items::new(alloc);
     below.push(no_id(Items::new(alloc)))?;
     below.push(no_id(Items::new(alloc)))?;
     let mut ids = Items::new(alloc);
     ids.push(no_id(below))?;
-    Ok((entry, no_id(ids)))
+    Ok((DataType::Map(Boxed::new(alloc, entry)?, false), no_id(ids)))
 }
 
 #[test]
 fn a_list_of_two_numbers(rt: HostRuntime) -> Result<(), Fail> {
     let alloc = rt.alloc();
     let item = Boxed::new(alloc, field(alloc, DataType::Int8)?)?;
-    let ids = no_ids(alloc)?;
     let mut sent = Sent::new(alloc, &[(1, 0), (2, 0)], &[(0, 0), (0, 0), (0, 2)])?;
     let found = read_fixed_size_list(
         alloc,
         &mut sent.nodes,
         DataType::FixedSizeList(item, 2),
-        &ids,
+        &no_ids(alloc)?,
         &mut sent.buffers,
         &mut InMemory { bytes: &[7, 8] },
         &sent.none,
@@ -72,13 +71,12 @@ fn a_list_of_two_numbers(rt: HostRuntime) -> Result<(), Fail> {
 fn a_list_of_two(rt: HostRuntime) -> Result<(), Fail> {
     let alloc = rt.alloc();
     let item = Boxed::new(alloc, field(alloc, DataType::Int8)?)?;
-    let ids = no_ids(alloc)?;
     let mut sent = Sent::new(alloc, &[(1, 0), (2, 0)], &[(0, 0), (0, 8), (0, 0), (8, 2)])?;
     let found = read_list(
         alloc,
         &mut sent.nodes,
         DataType::List(item),
-        &ids,
+        &no_ids(alloc)?,
         &mut sent.buffers,
         &mut InMemory {
             bytes: &[0, 0, 0, 0, 2, 0, 0, 0, 7, 8],
@@ -99,7 +97,6 @@ fn a_list_of_two(rt: HostRuntime) -> Result<(), Fail> {
 fn a_large_list_of_one(rt: HostRuntime) -> Result<(), Fail> {
     let alloc = rt.alloc();
     let item = Boxed::new(alloc, field(alloc, DataType::Int8)?)?;
-    let ids = no_ids(alloc)?;
     let mut sent = Sent::new(
         alloc,
         &[(1, 0), (1, 0)],
@@ -109,7 +106,7 @@ fn a_large_list_of_one(rt: HostRuntime) -> Result<(), Fail> {
         alloc,
         &mut sent.nodes,
         DataType::LargeList(item),
-        &ids,
+        &no_ids(alloc)?,
         &mut sent.buffers,
         &mut InMemory {
             bytes: &[0, 0, 0, 0, 0, 0, 0, 0, 1, 0, 0, 0, 0, 0, 0, 0, 7],
@@ -129,14 +126,14 @@ fn a_large_list_of_one(rt: HostRuntime) -> Result<(), Fail> {
 #[test]
 fn a_map_of_one_entry(rt: HostRuntime) -> Result<(), Fail> {
     let alloc = rt.alloc();
-    let (entry, ids) = map_of(alloc)?;
+    let (data_type, ids) = map_of(alloc)?;
     let lengths = &[(1, 0), (1, 0), (1, 0), (1, 0)];
     let places = &[(0, 0), (0, 8), (0, 0), (0, 0), (8, 1), (0, 0), (9, 1)];
     let mut sent = Sent::new(alloc, lengths, places)?;
     let found = read_map(
         alloc,
         &mut sent.nodes,
-        DataType::Map(entry, false),
+        data_type,
         &ids,
         &mut sent.buffers,
         &mut InMemory {
@@ -157,13 +154,12 @@ fn a_map_of_one_entry(rt: HostRuntime) -> Result<(), Fail> {
 #[test]
 fn a_record_of_a_number(rt: HostRuntime) -> Result<(), Fail> {
     let alloc = rt.alloc();
-    let ids = no_ids(alloc)?;
     let mut sent = Sent::new(alloc, &[(1, 0), (1, 0)], &[(0, 0), (0, 0), (0, 1)])?;
     let found = read_struct(
         alloc,
         &mut sent.nodes,
         DataType::Struct(one_field(alloc, DataType::Int8)?),
-        &ids,
+        &no_ids(alloc)?,
         &mut sent.buffers,
         &mut InMemory { bytes: &[5] },
         &sent.none,
@@ -181,13 +177,12 @@ fn a_record_of_a_number(rt: HostRuntime) -> Result<(), Fail> {
 #[test]
 fn a_sparse_union_of_numbers(rt: HostRuntime) -> Result<(), Fail> {
     let alloc = rt.alloc();
-    let ids = no_ids(alloc)?;
     let mut sent = Sent::new(alloc, &[(1, 0), (1, 0)], &[(0, 1), (0, 0), (1, 4)])?;
     let found = read_union(
         alloc,
         &mut sent.nodes,
         DataType::Union(one_field(alloc, DataType::Int32)?, None, UnionMode::Sparse),
-        &ids,
+        &no_ids(alloc)?,
         &mut sent.buffers,
         &mut InMemory {
             bytes: &[0, 7, 0, 0, 0],

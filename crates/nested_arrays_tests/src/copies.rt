@@ -40,38 +40,33 @@ fn maps(alloc: Global) -> Result<MapArray, Error> {
     columns.push(numbers(alloc, &[1, 2, 3])?)?;
     columns.push(numbers(alloc, &[4, 5, 6])?)?;
     let entries = AnyArray::from(struct_of(alloc, columns, None)?);
-    let name = unnamed(alloc)?;
-    let entry = Field::new(alloc, name, entries.data_type().clone()?, false);
-    let entry = Boxed::new(alloc, entry)?;
-    let offsets = OffsetsBuffer::try_from(Vec::from_slice(alloc, &[0i32, 1, 3])?)?;
-    let mask = Bitmap::from_u8_slice(alloc, &[2], 2)?;
-    let entries = Box::new(alloc, entries)?;
-    MapArray::try_new(DataType::Map(entry, false), offsets, entries, Some(mask))
-}
-
-/// A field of numbers without a name.
-fn numbered(alloc: Global) -> Result<Boxed<Field>, Error> {
-    Boxed::new(
-        alloc,
-        Field::new(alloc, unnamed(alloc)?, DataType::Int32, true),
+    let entry = Field::new(alloc, unnamed(alloc)?, entries.data_type().clone()?, false);
+    MapArray::try_new(
+        DataType::Map(Boxed::new(alloc, entry)?, false),
+        OffsetsBuffer::try_from(Vec::from_slice(alloc, &[0i32, 1, 3])?)?,
+        Box::new(alloc, entries)?,
+        Some(Bitmap::from_u8_slice(alloc, &[2], 2)?),
     )
 }
 
 /// Two pairs of numbers, of which the first is null.
 fn pairs(alloc: Global) -> Result<FixedSizeListArray, Error> {
-    let mask = Bitmap::from_u8_slice(alloc, &[2], 2)?;
-    let items = Box::new(alloc, numbers(alloc, &[1, 2, 3, 4])?)?;
+    let item = Field::new(alloc, unnamed(alloc)?, DataType::Int32, true);
     FixedSizeListArray::try_new(
-        DataType::FixedSizeList(numbered(alloc)?, 2),
-        items,
-        Some(mask),
+        DataType::FixedSizeList(Boxed::new(alloc, item)?, 2),
+        Box::new(alloc, numbers(alloc, &[1, 2, 3, 4])?)?,
+        Some(Bitmap::from_u8_slice(alloc, &[2], 2)?),
     )
 }
 
 fn large_lists(alloc: Global) -> Result<ListArray<i64>, Error> {
-    let offsets = OffsetsBuffer::try_from(Vec::from_slice(alloc, &[0i64, 2, 3])?)?;
-    let items = Box::new(alloc, numbers(alloc, &[1, 2, 3])?)?;
-    ListArray::try_new(DataType::LargeList(numbered(alloc)?), offsets, items, None)
+    let item = Field::new(alloc, unnamed(alloc)?, DataType::Int32, true);
+    ListArray::try_new(
+        DataType::LargeList(Boxed::new(alloc, item)?),
+        OffsetsBuffer::try_from(Vec::from_slice(alloc, &[0i64, 2, 3])?)?,
+        Box::new(alloc, numbers(alloc, &[1, 2, 3])?)?,
+        None,
+    )
 }
 
 /// Structs of a value of each layout, of which the second is null.

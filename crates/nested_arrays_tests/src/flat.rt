@@ -64,8 +64,7 @@ fn long(alloc: Global, hidden: i32, seen: i32, last: i32) -> Result<AnyArray, Er
     let values = (0..LONG)
         .map(|k| number_at(k, hidden, seen, last))
         .collect(alloc)?;
-    let values = Buffer::from_vec(values)?;
-    let array = PrimitiveArray::try_new(DataType::Int32, values, Some(marks))?;
+    let array = PrimitiveArray::try_new(DataType::Int32, Buffer::from_vec(values)?, Some(marks))?;
     Ok(AnyArray::from(FlatArray::from(AnyPrimitive::from_array(array))))
 }
 

@@ -30,8 +30,8 @@ fn offsets(alloc: Global, offsets: &[i32]) -> Result<OffsetsBuffer<i32>, Error> 
 }
 
 fn structs(alloc: Global, columns: Vec<AnyArray>) -> Result<AnyArray, Error> {
-    let fields = fields_of(alloc, &columns)?;
-    Ok(AnyArray::from(StructArray::try_new(DataType::Struct(fields), columns, None)?))
+    let data_type = DataType::Struct(fields_of(alloc, &columns)?);
+    Ok(AnyArray::from(StructArray::try_new(data_type, columns, None)?))
 }
 
 fn pair(alloc: Global, first: AnyArray, second: AnyArray) -> Result<Vec<AnyArray>, Error> {
@@ -42,10 +42,9 @@ fn pair(alloc: Global, first: AnyArray, second: AnyArray) -> Result<Vec<AnyArray
 }
 
 fn lists(alloc: Global, places: &[i32], items: AnyArray) -> Result<AnyArray, Error> {
-    let field = Boxed::new(alloc, field_of(alloc, &items)?)?;
-    let offsets = offsets(alloc, places)?;
+    let data_type = DataType::List(Boxed::new(alloc, field_of(alloc, &items)?)?);
     let items = Box::new(alloc, items)?;
-    Ok(AnyArray::from(ListArray::try_new(DataType::List(field), offsets, items, None)?))
+    Ok(AnyArray::from(ListArray::try_new(data_type, offsets(alloc, places)?, items, None)?))
 }
 
 fn dictionary(alloc: Global, keys: &[i8], values: AnyArray) -> Result<AnyArray, Error> {
@@ -58,28 +57,25 @@ fn dictionary(alloc: Global, keys: &[i8], values: AnyArray) -> Result<AnyArray, 
 fn maps(alloc: Global, places: &[i32], keys: &[i32], values: &[i32]) -> Result<AnyArray, Error> {
     let columns = pair(alloc, numbers(alloc, keys)?, numbers(alloc, values)?)?;
     let entries = structs(alloc, columns)?;
-    let field = Boxed::new(alloc, field_of(alloc, &entries)?)?;
-    let offsets = offsets(alloc, places)?;
+    let data_type = DataType::Map(Boxed::new(alloc, field_of(alloc, &entries)?)?, false);
     let entries = Box::new(alloc, entries)?;
-    let data_type = DataType::Map(field, false);
-    Ok(AnyArray::from(MapArray::try_new(data_type, offsets, entries, None)?))
+    Ok(AnyArray::from(MapArray::try_new(data_type, offsets(alloc, places)?, entries, None)?))
 }
 
 /// Numbers of two columns, picked in turn.
 fn unions(alloc: Global, even: &[i32], odd: &[i32]) -> Result<AnyArray, Error> {
     let columns = pair(alloc, numbers(alloc, even)?, numbers(alloc, odd)?)?;
-    let types = Buffer::from_vec(Vec::from_slice(alloc, &[0i8, 1, 0, 1])?)?;
     let data_type = DataType::Union(fields_of(alloc, &columns)?, None, UnionMode::Sparse);
+    let types = Buffer::from_vec(Vec::from_slice(alloc, &[0i8, 1, 0, 1])?)?;
     Ok(AnyArray::from(UnionArray::try_new(data_type, types, columns, None)?))
 }
 
 /// Four pairs of numbers, the second of which is null.
 fn pairs(alloc: Global, items: &[i32]) -> Result<AnyArray, Error> {
     let items = numbers(alloc, items)?;
-    let field = Boxed::new(alloc, field_of(alloc, &items)?)?;
+    let data_type = DataType::FixedSizeList(Boxed::new(alloc, field_of(alloc, &items)?)?, 2);
     let mask = Bitmap::from_u8_slice(alloc, &[0b1101], 4)?;
     let items = Box::new(alloc, items)?;
-    let data_type = DataType::FixedSizeList(field, 2);
     Ok(AnyArray::from(FixedSizeListArray::try_new(data_type, items, Some(mask))?))
 }
 
