@@ -4,7 +4,7 @@
 usage: prove.py LIBS PACKAGE..      LIBS: a folder for what is built, as NAME/NAME.rlib; what is there is taken as it is
 
 `rt ci` gives a proof more than one job only where it reckons memory for it, so near the top it proves one package at a time with one job. Here the
-package that most others wait for gets all processors (LANES, or those of the machine), and two at most stand beside it, with what processors are
+package that most others wait for gets all processors (LANES, or those of the machine), and three at most stand beside it, with what processors are
 idle while it loads what is below it. A line says how long each took; its output is LIBS/NAME.log, and a program is linked as LIBS/NAME/NAME. It is no
 verdict: only the gate's is. A package that changed is proved again only once its folder in LIBS is removed, and so are those above it. Started anew,
 it takes over what a run that was stopped left running.
